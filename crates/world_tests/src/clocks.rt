@@ -1,12 +1,12 @@
 //! Masks of states, and clocks.
 
+use crate::events::is;
 use cpu_clock::Clock;
 use psi_base::State;
 use state_mask::{Counts, Mask, STATES, mask_of};
-use std::test::Fail;
 
 /// Counts in the order of their fields.
-fn counts(io: u32, stalled: u32, running: u32, stalled_running: u32) -> Counts {
+fn counts([io, stalled, running, stalled_running]: [u32; 4]) -> Counts {
     Counts {
         io,
         stalled,
@@ -15,96 +15,87 @@ fn counts(io: u32, stalled: u32, running: u32, stalled_running: u32) -> Counts {
     }
 }
 
-// Counts, whether the running task is among them and in a stall, and the states that hold: IO some
-// and full, memory some and full, CPU some and full, nonidle.
+const N: bool = false;
+
+const Y: bool = true;
+
+/// Counts, whether the running task is among them and in a stall, and the states that hold: IO some
+/// and full, memory some and full, CPU some and full, nonidle.
+const STATES_HELD: [([u32; 4], bool, bool, [bool; 7]); 13] = [
+    ([0, 0, 0, 0], N, N, [N, N, N, N, N, N, N]),
+    ([1, 0, 0, 0], N, N, [Y, Y, N, N, N, N, Y]),
+    ([1, 0, 1, 0], N, N, [Y, N, N, N, Y, Y, Y]),
+    ([1, 0, 1, 0], Y, N, [Y, N, N, N, N, N, Y]),
+    ([0, 1, 0, 0], N, N, [N, N, Y, Y, N, N, Y]),
+    ([0, 1, 1, 0], N, N, [N, N, Y, N, Y, Y, Y]),
+    ([0, 2, 1, 1], N, N, [N, N, Y, Y, Y, Y, Y]),
+    ([0, 0, 1, 0], Y, N, [N, N, N, N, N, N, Y]),
+    ([0, 0, 1, 0], N, N, [N, N, N, N, Y, Y, Y]),
+    ([0, 0, 2, 0], Y, N, [N, N, N, N, Y, N, Y]),
+    // The running task is in a stall: memory full, which the counts alone deny.
+    ([0, 1, 2, 1], Y, Y, [N, N, Y, Y, Y, N, Y]),
+    ([0, 1, 2, 1], Y, N, [N, N, Y, N, Y, N, Y]),
+    // The running task is in a stall elsewhere.
+    ([0, 1, 2, 1], N, Y, [N, N, Y, N, Y, Y, Y]),
+];
+
 #[test]
-fn states_by_counts(rt: HostRuntime) -> Result<(), Fail> {
-    let (n, y) = (false, true);
-    let rows = [
-        (counts(0, 0, 0, 0), n, n, [n, n, n, n, n, n, n]),
-        (counts(1, 0, 0, 0), n, n, [y, y, n, n, n, n, y]),
-        (counts(1, 0, 1, 0), n, n, [y, n, n, n, y, y, y]),
-        (counts(1, 0, 1, 0), y, n, [y, n, n, n, n, n, y]),
-        (counts(0, 1, 0, 0), n, n, [n, n, y, y, n, n, y]),
-        (counts(0, 1, 1, 0), n, n, [n, n, y, n, y, y, y]),
-        (counts(0, 2, 1, 1), n, n, [n, n, y, y, y, y, y]),
-        (counts(0, 0, 1, 0), y, n, [n, n, n, n, n, n, y]),
-        (counts(0, 0, 1, 0), n, n, [n, n, n, n, y, y, y]),
-        (counts(0, 0, 2, 0), y, n, [n, n, n, n, y, n, y]),
-        // The running task is in a stall: memory full, which the counts alone deny.
-        (counts(0, 1, 2, 1), y, y, [n, n, y, y, y, n, y]),
-        (counts(0, 1, 2, 1), y, n, [n, n, y, n, y, n, y]),
-        // The running task is in a stall elsewhere.
-        (counts(0, 1, 2, 1), n, y, [n, n, y, n, y, y, y]),
-    ];
-    for (counts, on_cpu, current_stalled, want) in rows {
-        let mask = mask_of(&counts, on_cpu, current_stalled);
+fn states_by_counts(rt: HostRuntime) {
+    for row in &STATES_HELD {
+        let (numbers, on_cpu, current_stalled, _) = *row;
+        let mask = mask_of(&counts(numbers), on_cpu, current_stalled);
         let held = STATES.map(|state| mask.holds(state));
-        assert_eq!(rt; held, want, "{counts:?} {on_cpu} {current_stalled}");
-        assert_eq!(rt; Mask::from_bits(mask.bits()), mask);
+        let found = (numbers, on_cpu, current_stalled, held);
+        is(&rt, found, *row, "states by counts");
+        is(&rt, Mask::from_bits(mask.bits()), mask, "by bits");
     }
-    assert_eq!(rt;
-        mask_of(&counts(1, 0, 0, 0), false, false).bits(),
-        0b100_0011
-    );
-    assert_eq!(rt; mask_of(&counts(0, 1, 2, 1), true, true).bits(), 0b101_1100);
+    let waiting = mask_of(&counts([1, 0, 0, 0]), false, false);
+    is(&rt, waiting.bits(), 0b100_0011, "one task waits for IO");
+    let stalled = mask_of(&counts([0, 1, 2, 1]), true, true);
+    is(&rt, stalled.bits(), 0b101_1100, "the running task stalls");
     assert!(rt; !Mask::empty().holds(State::Nonidle));
-    Ok(())
 }
 
 // A task forks and starts at 0, and waits for IO from 500,000,000 ns on.
 #[test]
-fn clock_of_three_changes(rt: HostRuntime) -> Result<(), Fail> {
+fn clock_of_three_changes(rt: HostRuntime) {
     let mut clock = Clock::zero();
-    clock.advance(0, mask_of(&counts(0, 0, 1, 0), false, false));
-    clock.advance(0, mask_of(&counts(0, 0, 1, 0), true, false));
-    let waits = mask_of(&counts(1, 0, 0, 0), false, false);
+    clock.advance(0, mask_of(&counts([0, 0, 1, 0]), false, false));
+    clock.advance(0, mask_of(&counts([0, 0, 1, 0]), true, false));
+    let waits = mask_of(&counts([1, 0, 0, 0]), false, false);
     clock.advance(500_000_000, waits);
-    assert_eq!(rt; clock.times, [0, 0, 0, 0, 0, 0, 500_000_000]);
-    assert_eq!(rt; clock.mask, waits);
-    assert_eq!(rt; clock.start, 500_000_000);
-    assert_eq!(rt;
-        clock.opened(2_000_000_000),
-        [1_500_000_000, 1_500_000_000, 0, 0, 0, 0, 2_000_000_000]
-    );
+    is(&rt, clock.times, [0, 0, 0, 0, 0, 0, 500_000_000], "times");
+    is(&rt, clock.mask, waits, "mask");
+    is(&rt, clock.start, 500_000_000, "start");
+    let opened = [1_500_000_000, 1_500_000_000, 0, 0, 0, 0, 2_000_000_000];
+    is(&rt, clock.opened(2_000_000_000), opened, "times at 2 s");
 
     let words = clock.to_words();
-    assert_eq!(rt;
-        words,
-        [0, 0, 0, 0, 0, 0, 500_000_000, 0b100_0011, 500_000_000]
-    );
-    assert_eq!(rt; Clock::from_words(words).to_words(), words);
-    Ok(())
+    let want = [0, 0, 0, 0, 0, 0, 500_000_000, 0b100_0011, 500_000_000];
+    is(&rt, words, want, "words");
+    let again = Clock::from_words(words).to_words();
+    is(&rt, again, words, "words of the clock of the words");
 }
 
-// A task runs from 10 ns on. Each row: counts at 35 ns, whether the running task is among them, and
-// the clock's words then. Where the states stay the clock does too, and else it goes on from there.
+/// Counts at 35 ns of a task that runs from 10 ns on, whether the running task is among them, and
+/// the words of the clock then. Where the states stay the clock does too, and else it goes on from
+/// there.
+const TURNS: [([u32; 4], bool, [u64; 9]); 4] = [
+    ([0, 0, 1, 0], true, [0, 0, 0, 0, 0, 0, 0, 0b100_0000, 10]),
+    ([0, 0, 2, 0], true, [0, 0, 0, 0, 0, 0, 25, 0b101_0000, 35]),
+    ([1, 0, 0, 0], false, [0, 0, 0, 0, 0, 0, 25, 0b100_0011, 35]),
+    ([0, 0, 0, 0], false, [0, 0, 0, 0, 0, 0, 25, 0, 35]),
+];
+
 #[test]
-fn turns_of_a_clock(rt: HostRuntime) -> Result<(), Fail> {
+fn turns_of_a_clock(rt: HostRuntime) {
     let mut clock = Clock::zero();
-    clock.advance(10, mask_of(&counts(0, 0, 1, 0), true, false));
-    let rows = [
-        (
-            counts(0, 0, 1, 0),
-            true,
-            [0, 0, 0, 0, 0, 0, 0, 0b100_0000, 10],
-        ),
-        (
-            counts(0, 0, 2, 0),
-            true,
-            [0, 0, 0, 0, 0, 0, 25, 0b101_0000, 35],
-        ),
-        (
-            counts(1, 0, 0, 0),
-            false,
-            [0, 0, 0, 0, 0, 0, 25, 0b100_0011, 35],
-        ),
-        (counts(0, 0, 0, 0), false, [0, 0, 0, 0, 0, 0, 25, 0, 35]),
-    ];
-    for (counts, on_cpu, want) in rows {
+    clock.advance(10, mask_of(&counts([0, 0, 1, 0]), true, false));
+    for row in &TURNS {
+        let (numbers, on_cpu, _) = *row;
         let mut turned = clock;
-        turned.turn(35, mask_of(&counts, on_cpu, false));
-        assert_eq!(rt; turned.to_words(), want, "{counts:?} {on_cpu}");
+        turned.turn(35, mask_of(&counts(numbers), on_cpu, false));
+        let found = (numbers, on_cpu, turned.to_words());
+        is(&rt, found, *row, "words at 35 ns");
     }
-    Ok(())
 }

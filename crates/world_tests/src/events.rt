@@ -1,4 +1,4 @@
-//! Events from lines.
+//! What tests share: events and plans from lines, and how a value is held against another.
 
 ghost use Rattle.std.specs.Prelude.{◌≡◌, ◌≤◌, length, IfOk};
 ghost use Rattle.psi_spec.specs.Trace.{AllFit, IsCpuCount};
@@ -8,7 +8,8 @@ use proc_plan::Plans;
 use psi_base::{Cause, Event, Fault, Ns};
 use psi_trace::read_event;
 use std::alloc::Global;
-use std::test::Fail;
+use std::fmt::Debug;
+use std::process::Abort;
 
 /// A task waits for IO for one second, and then for a processor.
 pub const WAITS: [&[u8]; 5] = [
@@ -43,11 +44,25 @@ pub fn events_of(alloc: Global, lines: &[&[u8]]) -> Result<Vec<Event>, Fault<Cau
 }
 
 /// The plans of lines.
-pub fn plans_of(alloc: Global, cpus: u32, latest: Ns, lines: &[&[u8]]) -> Result<Plans, Fail>
+pub fn plans_of(rt: &impl Abort, alloc: Global, cpus: u32, latest: Ns, lines: &[&[u8]]) -> Plans
     requires counted { IsCpuCount cpus }
     requires short { latest ≤ last_moment }
-    ensures { IfOk result (λ plans. length plans.plans ≡ cpus) }
+    ensures { length result.plans ≡ cpus }
 {
-    let events = events_of(alloc, lines)?;
-    Ok(Plans::build(alloc, cpus, latest, &events)?)
+    let events = events_of(alloc, lines).expect(rt, "events");
+    Plans::build(alloc, cpus, latest, &events).expect(rt, "plans")
+}
+
+/// Ends the test where what was found isn't what is wanted, and tells of which case. It stands here
+/// once, since a check that formats what it tells is dear to prove at each place.
+pub fn is<T: Copy + PartialEq + Debug, C: Copy + Debug>(
+    rt: &impl Abort,
+    found: T,
+    wanted: T,
+    case: C,
+) {
+    assert!(rt;
+        found == wanted,
+        "{case:?}: found {found:?}, wanted {wanted:?}"
+    );
 }

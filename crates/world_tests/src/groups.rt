@@ -1,35 +1,27 @@
 //! The tree of groups.
 
+use crate::events::is;
 use group_tree::Tree;
-use psi_base::{Cause, Fault, NoMemory, Ns, Path, Slot};
+use psi_base::{Cause, Fault, Ns, Path, Slot};
 use std::alloc::Global;
 use std::process::Abort;
-use std::test::Fail;
 
-fn path(alloc: Global, text: &str) -> Result<Path, NoMemory> {
-    match Path::read(alloc, text.as_bytes())? {
-        Some(path) => Ok(path),
-        None => Path::root(alloc),
-    }
+fn path(rt: &impl Abort, alloc: Global, text: &str) -> Path {
+    let read = Path::read(alloc, text.as_bytes()).expect(rt, "memory");
+    read.expect(rt, "a path")
 }
 
 /// Makes a group, or tells the cause that refuses it, which is the one that is asked for before it.
-fn add(
-    rt: &impl Abort,
-    alloc: Global,
-    tree: &mut Tree,
-    text: &str,
-    at: Ns,
-) -> Result<Result<Slot, Cause>, NoMemory> {
-    let path = path(alloc, text)?;
+fn add(rt: &impl Abort, alloc: Global, tree: &mut Tree, text: &str, at: Ns) -> Result<Slot, Cause> {
+    let path = path(rt, alloc, text);
     let asked = tree.add_cause(&path);
     let given = match tree.add(&path, at) {
         Ok(slot) => Ok(slot),
         Err(Fault::Refused(cause)) => Err(cause),
-        Err(Fault::NoMemory(none)) => return Err(none),
+        Err(Fault::NoMemory(none)) => panic!(rt; "{none:?}"),
     };
-    assert_eq!(rt; given.err(), asked, "{text}");
-    Ok(given)
+    is(rt, given.err(), asked, text);
+    given
 }
 
 /// Removes a group, or tells the cause that refuses it, which is the one that is asked for before
@@ -40,12 +32,12 @@ fn remove(
     tree: &mut Tree,
     text: &str,
     at: Ns,
-) -> Result<Result<Slot, Cause>, NoMemory> {
-    let path = path(alloc, text)?;
+) -> Result<Slot, Cause> {
+    let path = path(rt, alloc, text);
     let asked = tree.remove_cause(&path);
     let given = tree.remove(&path, at);
-    assert_eq!(rt; given.err(), asked, "{text}");
-    Ok(given)
+    is(rt, given.err(), asked, text);
+    given
 }
 
 /// Switches an account, or tells the cause that refuses it, which is the one that is asked for
@@ -56,61 +48,58 @@ fn switch(
     tree: &mut Tree,
     text: &str,
     on: bool,
-) -> Result<Result<Slot, Cause>, NoMemory> {
-    let path = path(alloc, text)?;
+) -> Result<Slot, Cause> {
+    let path = path(rt, alloc, text);
     let asked = tree.pressure_cause(&path);
     let given = tree.switch(&path, on);
-    assert_eq!(rt; given.err(), asked, "{text}");
-    Ok(given)
+    is(rt, given.err(), asked, text);
+    given
 }
 
 /// Groups that are made, and made again under the same paths.
-fn small_forest(rt: &impl Abort, alloc: Global) -> Result<Tree, NoMemory> {
-    let mut tree = Tree::new(alloc)?;
-    for text in ["/a", "/a/b", "/b"] {
-        assert!(rt; add(rt, alloc, &mut tree, text, 1)?.is_ok(), "{text}");
+fn small_forest(rt: &impl Abort, alloc: Global) -> Tree {
+    let mut tree = Tree::new(alloc).expect(rt, "memory");
+    for text in &["/a", "/a/b", "/b"] {
+        add(rt, alloc, &mut tree, text, 1).expect(rt, text);
     }
-    for text in ["/a/b", "/a"] {
-        assert!(rt; remove(rt, alloc, &mut tree, text, 2)?.is_ok(), "{text}");
+    for text in &["/a/b", "/a"] {
+        remove(rt, alloc, &mut tree, text, 2).expect(rt, text);
     }
-    for text in ["/a", "/a/b", "/a.b", "/a/b/c"] {
-        assert!(rt; add(rt, alloc, &mut tree, text, 3)?.is_ok(), "{text}");
+    for text in &["/a", "/a/b", "/a.b", "/a/b/c"] {
+        add(rt, alloc, &mut tree, text, 3).expect(rt, text);
     }
-    Ok(tree)
+    tree
 }
+
+/// The groups of the forest: the path, the group above, and from when to when (ns) it is live.
+const LIVES: [(&str, Option<Slot>, Ns, Option<Ns>); 8] = [
+    ("/", None, 0, None),
+    ("/a", Some(Slot(0)), 1, Some(2)),
+    ("/a/b", Some(Slot(1)), 1, Some(2)),
+    ("/b", Some(Slot(0)), 1, None),
+    ("/a", Some(Slot(0)), 3, None),
+    ("/a/b", Some(Slot(4)), 3, None),
+    ("/a.b", Some(Slot(0)), 3, None),
+    ("/a/b/c", Some(Slot(5)), 3, None),
+];
 
 // A path that is made again has a new slot, and what was removed stays in its own.
 #[test]
-fn lives_of_groups(rt: HostRuntime) -> Result<(), Fail> {
-    let tree = small_forest(&rt, rt.alloc())?;
-    let lives = [
-        ("/", None, 0, None),
-        ("/a", Some(Slot(0)), 1, Some(2)),
-        ("/a/b", Some(Slot(1)), 1, Some(2)),
-        ("/b", Some(Slot(0)), 1, None),
-        ("/a", Some(Slot(0)), 3, None),
-        ("/a/b", Some(Slot(4)), 3, None),
-        ("/a.b", Some(Slot(0)), 3, None),
-        ("/a/b/c", Some(Slot(5)), 3, None),
-    ];
-    assert_eq!(rt; tree.len(), lives.len());
-    for (life, want) in tree.lives().iter().zip(lives.iter()) {
-        assert!(rt; life.path.text() == want.0);
-        assert_eq!(rt;
-            (life.parent, life.made, life.gone),
-            (want.1, want.2, want.3)
-        );
+fn lives_of_groups(rt: HostRuntime) {
+    let tree = small_forest(&rt, rt.alloc());
+    is(&rt, tree.len(), LIVES.len(), "groups");
+    for (life, want) in tree.lives().iter().zip(&LIVES) {
+        let found = (life.path.text(), life.parent, life.made, life.gone);
+        is(&rt, found, *want, want.0);
     }
-    Ok(())
 }
 
 // An account is that of the live group alone: not of one that went, nor of the groups above and
 // below. A new group is on.
 #[test]
-fn accounts_of_groups(rt: HostRuntime) -> Result<(), Fail> {
-    let alloc = rt.alloc();
-    let mut tree = small_forest(&rt, alloc)?;
-    for (text, on, want) in [
+fn accounts_of_groups(rt: HostRuntime) {
+    let mut tree = small_forest(&rt, rt.alloc());
+    for &(text, on, want) in &[
         ("/", false, Err(Cause::RootPressure)),
         ("/c", false, Err(Cause::UnknownGroup)),
         ("/a", false, Ok(Slot(4))),
@@ -119,77 +108,65 @@ fn accounts_of_groups(rt: HostRuntime) -> Result<(), Fail> {
         ("/b", true, Ok(Slot(3))),
         ("/b", true, Ok(Slot(3))),
     ] {
-        let given = switch(&rt, alloc, &mut tree, text, on)?;
-        assert_eq!(rt; given, want, "{text}");
+        let given = switch(&rt, rt.alloc(), &mut tree, text, on);
+        is(&rt, given, want, text);
     }
-    assert!(rt; add(&rt, alloc, &mut tree, "/a/d", 4)?.is_ok());
+    add(&rt, rt.alloc(), &mut tree, "/a/d", 4).expect(&rt, "/a/d");
     let on = tree.lives().iter().map(|life| life.on);
     assert!(rt; on.eq([true, true, true, true, false, true, true, false, true]));
-    Ok(())
 }
 
 #[test]
-fn refused_groups(rt: HostRuntime) -> Result<(), Fail> {
-    let mut tree = small_forest(&rt, rt.alloc())?;
-    for (text, want) in [
+fn refused_groups(rt: HostRuntime) {
+    let mut tree = small_forest(&rt, rt.alloc());
+    for &(text, want) in &[
         ("/a", Cause::GroupExists),
         ("/", Cause::GroupExists),
         ("/c/d", Cause::NoParent),
     ] {
-        assert_eq!(rt;
-            add(&rt, rt.alloc(), &mut tree, text, 4)?,
-            Err(want),
-            "{text}"
-        );
+        let given = add(&rt, rt.alloc(), &mut tree, text, 4);
+        is(&rt, given, Err(want), text);
     }
-    for (text, want) in [
-        ("/", Cause::GroupBusy),
-        ("/a", Cause::GroupBusy),
-        ("/a/b", Cause::GroupBusy),
-        ("/c", Cause::UnknownGroup),
+    for &(text, want) in &[
+        ("/", Err(Cause::GroupBusy)),
+        ("/a", Err(Cause::GroupBusy)),
+        ("/a/b", Err(Cause::GroupBusy)),
+        ("/c", Err(Cause::UnknownGroup)),
+        ("/a/b/c", Ok(Slot(7))),
+        ("/a/b", Ok(Slot(5))),
     ] {
-        assert_eq!(rt;
-            remove(&rt, rt.alloc(), &mut tree, text, 4)?,
-            Err(want),
-            "{text}"
-        );
+        let given = remove(&rt, rt.alloc(), &mut tree, text, 4);
+        is(&rt, given, want, text);
     }
-    assert_eq!(rt;
-        remove(&rt, rt.alloc(), &mut tree, "/a/b/c", 4)?,
-        Ok(Slot(7))
-    );
-    assert_eq!(rt; remove(&rt, rt.alloc(), &mut tree, "/a/b", 4)?, Ok(Slot(5)));
-    Ok(())
 }
 
 #[test]
-fn found_groups(rt: HostRuntime) -> Result<(), Fail> {
-    let tree = small_forest(&rt, rt.alloc())?;
-    for (text, want) in [
+fn found_groups(rt: HostRuntime) {
+    let tree = small_forest(&rt, rt.alloc());
+    for &(text, want) in &[
         ("/", Some(Slot(0))),
         ("/a", Some(Slot(4))),
         ("/a/b", Some(Slot(5))),
         ("/c", None),
     ] {
-        assert_eq!(rt; tree.find(&path(rt.alloc(), text)?), want, "{text}");
+        is(&rt, tree.find(&path(&rt, rt.alloc(), text)), want, text);
     }
-    Ok(())
 }
 
-/// The slots from one up to the root's.
-fn chain(rt: &impl Abort, alloc: Global, tree: &Tree, slot: Slot) -> Result<Vec<Slot>, NoMemory> {
+/// These are the slots from one up to the root's.
+fn has_above(rt: &impl Abort, alloc: Global, tree: &Tree, slot: Slot, want: &[Slot]) {
     assert!(rt; (slot.0 as usize) < tree.len());
-    Ok(tree.chain(slot).collect(alloc)?)
+    let up: Vec<Slot> = tree.chain(slot).collect(alloc).expect(rt, "memory");
+    is(rt, up.as_slice(), want, "above");
 }
 
 #[test]
-fn groups_above(rt: HostRuntime) -> Result<(), Fail> {
-    let tree = small_forest(&rt, rt.alloc())?;
-    let up = chain(&rt, rt.alloc(), &tree, Slot(7))?;
-    assert!(rt; up.as_slice() == [Slot(7), Slot(5), Slot(4), Slot(0)].as_slice());
-    let up = chain(&rt, rt.alloc(), &tree, Slot(0))?;
-    assert!(rt; up.as_slice() == [Slot(0)].as_slice());
-    for (low, high, want) in [
+fn groups_above(rt: HostRuntime) {
+    let tree = small_forest(&rt, rt.alloc());
+    let up = [Slot(7), Slot(5), Slot(4), Slot(0)];
+    has_above(&rt, rt.alloc(), &tree, Slot(7), &up);
+    has_above(&rt, rt.alloc(), &tree, Slot(0), &[Slot(0)]);
+    for &(low, high, want) in &[
         (7, 4, true),
         (7, 7, true),
         (7, 1, false),
@@ -198,58 +175,53 @@ fn groups_above(rt: HostRuntime) -> Result<(), Fail> {
         (9, 9, true),
         (9, 0, false),
     ] {
-        assert_eq!(rt;
-            tree.is_under(Slot(low), Slot(high)),
-            want,
-            "{low} under {high}"
-        );
+        let is_under = tree.is_under(Slot(low), Slot(high));
+        is(&rt, is_under, want, (low, high));
     }
-    Ok(())
 }
 
 // In the order of bytes `.` comes before `/`.
 #[test]
-fn live_groups_by_path(rt: HostRuntime) -> Result<(), Fail> {
-    let tree = small_forest(&rt, rt.alloc())?;
-    let order = tree.live_order(rt.alloc())?;
+fn live_groups_by_path(rt: HostRuntime) {
+    let tree = small_forest(&rt, rt.alloc());
+    let order = tree.live_order(rt.alloc()).expect(&rt, "memory");
     let want = [Slot(0), Slot(4), Slot(6), Slot(5), Slot(7), Slot(3)];
-    assert!(rt; order.as_slice() == want.as_slice());
-    Ok(())
+    is(&rt, order.as_slice(), want.as_slice(), "order");
+}
+
+/// The groups of these slots have these paths.
+fn have_paths(rt: &impl Abort, tree: &Tree, slots: &[Slot], paths: &[&str]) {
+    is(rt, slots.len(), paths.len(), "groups");
+    for (slot, path) in slots.iter().zip(paths) {
+        let life = tree.lives().get(slot.0 as usize).expect(rt, path);
+        is(rt, life.path.text(), *path, *slot);
+    }
 }
 
 // Removed groups stand beside those that have their paths now.
 #[test]
-fn all_groups_by_path(rt: HostRuntime) -> Result<(), Fail> {
-    let tree = small_forest(&rt, rt.alloc())?;
-    let order = tree.path_order(rt.alloc())?;
+fn all_groups_by_path(rt: HostRuntime) {
+    let tree = small_forest(&rt, rt.alloc());
+    let order = tree.path_order(rt.alloc()).expect(&rt, "memory");
     let want = ["/", "/a", "/a", "/a.b", "/a/b", "/a/b", "/a/b/c", "/b"];
-    assert_eq!(rt; order.len(), want.len());
-    for (slot, path) in order.iter().zip(want.iter()) {
-        let Some(life) = tree.lives().get(slot.0 as usize) else {
-            panic!(rt; "no group has the slot {}", slot.0);
-        };
-        assert!(rt; life.path.text() == *path);
-    }
-    Ok(())
+    have_paths(&rt, &tree, &order, &want);
+}
+
+/// A group that is made again and again under one path has this slot now.
+fn made_and_gone(rt: &impl Abort, alloc: Global, tree: &mut Tree, slot: Slot) {
+    is(rt, add(rt, alloc, tree, "/g", 1), Ok(slot), "made");
+    is(rt, remove(rt, alloc, tree, "/g", 1), Ok(slot), "gone");
 }
 
 // 1,024 groups are made, the root among them, and none more, whatever else stands against it.
 #[test]
-fn at_most_1024_groups(rt: HostRuntime) -> Result<(), Fail> {
-    let mut tree = Tree::new(rt.alloc())?;
+fn at_most_1024_groups(rt: HostRuntime) {
+    let mut tree = Tree::new(rt.alloc()).expect(&rt, "memory");
     for slot in 1..1024u32 {
-        assert_eq!(rt; add(&rt, rt.alloc(), &mut tree, "/g", 1)?, Ok(Slot(slot)));
-        assert_eq!(rt;
-            remove(&rt, rt.alloc(), &mut tree, "/g", 1)?,
-            Ok(Slot(slot))
-        );
+        made_and_gone(&rt, rt.alloc(), &mut tree, Slot(slot));
     }
-    for text in ["/g", "/", "/x/y"] {
-        assert_eq!(rt;
-            add(&rt, rt.alloc(), &mut tree, text, 2)?,
-            Err(Cause::TooManyGroups),
-            "{text}"
-        );
+    for text in &["/g", "/", "/x/y"] {
+        let given = add(&rt, rt.alloc(), &mut tree, text, 2);
+        is(&rt, given, Err(Cause::TooManyGroups), text);
     }
-    Ok(())
 }

@@ -1,9 +1,11 @@
 //! The clocks of a processor.
 
+use crate::events::is;
 use crate::processor::Processor;
 use psi_base::{Ns, Slot};
 use psi_counts::Counts;
-use std::test::Fail;
+use std::alloc::Global;
+use std::process::Abort;
 
 /// One task that is ready or runs.
 const READY: Counts = Counts {
@@ -141,45 +143,72 @@ const ROWS: [Row; 7] = [
     },
 ];
 
-#[test]
-fn changes_of_a_processor(rt: HostRuntime) -> Result<(), Fail> {
-    let alloc = rt.alloc();
-    let parents = vec![in alloc; None, Some(Slot(0)), Some(Slot(1)), Some(Slot(0))]?;
-    let mut processor = Processor::new(alloc, parents, 3)?;
-    for row in ROWS {
-        let is_made = processor.change(row.at, row.task, row.now, row.current);
-        assert!(rt; is_made, "at {}", row.at);
-        let clocks = [Slot(0), Slot(1), Slot(2), Slot(3)];
-        let clocks = clocks.map(|slot| processor.clock(slot).to_words());
-        assert_eq!(rt; clocks, row.clocks, "at {}", row.at);
+/// A processor with so many tasks over groups with these parents.
+fn processor(
+    rt: &impl Abort,
+    alloc: Global,
+    parents: Vec<Option<Slot>>,
+    tasks: usize,
+) -> Processor {
+    match Processor::new(alloc, parents, tasks) {
+        Ok(processor) => processor,
+        Err(_) => panic!(rt; "no processor over these groups"),
     }
-    // Up to a moment after the last change.
-    assert_eq!(rt;
-        processor.opened(Slot(2), 170),
-        Some([100, 100, 135, 135, 10, 10, 160])
-    );
-    Ok(())
 }
 
-// Groups each in the one before, of which a change reaches all at once. A slot beyond them has the
-// zero clock.
+/// The words of the clocks of the first four groups.
+fn words(processor: &Processor) -> [[u64; 9]; 4] {
+    [Slot(0), Slot(1), Slot(2), Slot(3)].map(|slot| processor.clock(slot).to_words())
+}
+
 #[test]
-fn groups_that_a_change_first_reaches(rt: HostRuntime) -> Result<(), Fail> {
-    let alloc = rt.alloc();
-    let mut parents = vec![in alloc; None]?;
-    for slot in 0..99u32 {
-        parents.push(Some(Slot(slot)))?;
+fn changes_of_a_processor(rt: HostRuntime) {
+    let parents = [None, Some(Slot(0)), Some(Slot(1)), Some(Slot(0))];
+    let parents = Vec::from_array(rt.alloc(), parents).expect(&rt, "memory");
+    let mut processor = processor(&rt, rt.alloc(), parents, 3);
+    for row in &ROWS {
+        let is_made = processor.change(row.at, row.task, row.now, row.current);
+        is(&rt, is_made, true, row.at);
+        is(&rt, words(&processor), row.clocks, row.at);
     }
-    let mut processor = Processor::new(alloc, parents, 1)?;
-    assert!(rt; processor.change(5, 0, Some((Slot(0), READY)), None));
-    assert!(rt; !processor.change(5, 0, Some((Slot(100), READY)), None));
-    assert_eq!(rt; processor.clock(Slot(99)).start, 0);
-    assert!(rt; processor.change(7, 0, Some((Slot(99), READY)), None));
-    assert_eq!(rt; processor.clock(Slot(0)).start, 5);
+    // Up to a moment after the last change.
+    let opened = processor.opened(Slot(2), 170);
+    is(
+        &rt,
+        opened,
+        Some([100, 100, 135, 135, 10, 10, 160]),
+        "opened",
+    );
+}
+
+/// A hundred groups, each in the one before.
+fn nested(rt: &impl Abort, alloc: Global) -> Vec<Option<Slot>> {
+    let mut parents = Vec::new(alloc);
+    parents.push(None).expect(rt, "memory");
+    for slot in 0..99u32 {
+        parents.push(Some(Slot(slot))).expect(rt, "memory");
+    }
+    parents
+}
+
+/// In all groups but the root a task has waited for the processor since 7 ns.
+fn wait_since_seven(rt: &impl Abort, processor: &Processor) {
     for slot in 1..100u32 {
         let words = processor.clock(Slot(slot)).to_words();
-        assert_eq!(rt; words, [0, 0, 0, 0, 0, 0, 0, 0b111_0000, 7], "slot {slot}");
+        is(rt, words, [0, 0, 0, 0, 0, 0, 0, 0b111_0000, 7], Slot(slot));
     }
-    assert_eq!(rt; processor.clock(Slot(100)).to_words(), [0; 9]);
-    Ok(())
+}
+
+// A change reaches all of them at once. A slot beyond them has the zero clock.
+#[test]
+fn groups_that_a_change_first_reaches(rt: HostRuntime) {
+    let parents = nested(&rt, rt.alloc());
+    let mut processor = processor(&rt, rt.alloc(), parents, 1);
+    assert!(rt; processor.change(5, 0, Some((Slot(0), READY)), None));
+    assert!(rt; !processor.change(5, 0, Some((Slot(100), READY)), None));
+    is(&rt, processor.clock(Slot(99)).start, 0, Slot(99));
+    assert!(rt; processor.change(7, 0, Some((Slot(99), READY)), None));
+    is(&rt, processor.clock(Slot(0)).start, 5, Slot(0));
+    wait_since_seven(&rt, &processor);
+    is(&rt, processor.clock(Slot(100)).to_words(), ZERO, Slot(100));
 }

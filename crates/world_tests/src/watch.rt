@@ -1,11 +1,12 @@
 //! A watch over a whole trace.
 
-use crate::events::events_of;
+use crate::events::{is, plans_of};
 use kill_spec::HostReading;
 use proc_plan::Plans;
 use psi_base::{Preference, Slot};
 use side_watch::{GroupMemory, SideWatch};
-use std::test::Fail;
+use std::alloc::Global;
+use std::process::Abort;
 
 /// A task in a group of a group, which moves up and exits, and a path that is made again.
 const LINES: [&[u8]; 16] = [
@@ -79,37 +80,54 @@ const HOST: HostReading = HostReading {
     swap_free: 250,
 };
 
-#[test]
-fn moments_of_a_trace(rt: HostRuntime) -> Result<(), Fail> {
-    let alloc = rt.alloc();
-    let events = events_of(alloc, &LINES)?;
-    let plans = Plans::build(alloc, 1, 12, &events)?;
-    let mut watch = SideWatch::make(alloc, plans.lives())?;
-
+// At 1 nobody is alive yet. At 3 each group above has the task too, and the last of two samples at
+// the moment stands. The host is told of at 5.
+fn first_moments(rt: &impl Abort, watch: &mut SideWatch, plans: &Plans) {
+    let plain = Preference::Plain;
     watch.advance(plans.sides(), 1);
-    assert_eq!(rt; populated(&watch), [false; 4]);
-    assert_eq!(rt; preferences(&watch), [Preference::Plain; 4]);
-    assert_eq!(rt; memories(&watch), [NONE; 2]);
+    is(rt, populated(watch), [false; 4], "populated at 1");
+    is(rt, preferences(watch), [plain; 4], "preferences at 1");
+    is(rt, memories(watch), [NONE; 2], "memories at 1");
 
-    // Each group above has the task too, and the last of two samples at the moment stands.
     watch.advance(plans.sides(), 3);
-    assert_eq!(rt; populated(&watch), [true, true, true, false]);
-    assert_eq!(rt; memories(&watch), [memory(100, 200, 9), NONE]);
+    let alive = [true, true, true, false];
+    is(rt, populated(watch), alive, "populated at 3");
+    let told = [memory(100, 200, 9), NONE];
+    is(rt, memories(watch), told, "memories at 3");
 
     watch.advance(plans.sides(), 4);
-    assert_eq!(rt; watch.host(), NO_HOST);
-    watch.advance(plans.sides(), 8);
-    assert_eq!(rt; watch.host(), HOST);
-    assert_eq!(rt; populated(&watch), [true, true, false, false]);
+    is(rt, watch.host(), NO_HOST, "the host at 4");
+}
 
-    // The path has a group of its own again, of which nothing is told yet.
+// At 8 the path has a group of its own again, of which nothing is told yet. At 12 the task is gone.
+fn last_moments(rt: &impl Abort, watch: &mut SideWatch, plans: &Plans) {
     let [plain, avoid, prefer] = [Preference::Plain, Preference::Avoid, Preference::Prefer];
-    assert_eq!(rt; preferences(&watch), [plain, avoid, prefer, plain]);
-    assert_eq!(rt; memories(&watch), [memory(100, 200, 9), NONE]);
+    watch.advance(plans.sides(), 8);
+    is(rt, watch.host(), HOST, "the host at 8");
+    let alive = [true, true, false, false];
+    is(rt, populated(watch), alive, "populated at 8");
+    let preferred = [plain, avoid, prefer, plain];
+    is(rt, preferences(watch), preferred, "preferences at 8");
+    let told = [memory(100, 200, 9), NONE];
+    is(rt, memories(watch), told, "memories at 8");
 
     watch.advance(plans.sides(), 12);
-    assert_eq!(rt; populated(&watch), [false; 4]);
-    assert_eq!(rt; preferences(&watch), [plain, plain, prefer, plain]);
-    assert_eq!(rt; memories(&watch), [memory(100, 200, 9), memory(1, 2, 3)]);
-    Ok(())
+    is(rt, populated(watch), [false; 4], "populated at 12");
+    let preferred = [plain, plain, prefer, plain];
+    is(rt, preferences(watch), preferred, "preferences at 12");
+    let told = [memory(100, 200, 9), memory(1, 2, 3)];
+    is(rt, memories(watch), told, "memories at 12");
+}
+
+// The watch over the trace, at all of its moments.
+fn at_all_moments(rt: &impl Abort, alloc: Global, plans: &Plans) {
+    let mut watch = SideWatch::make(alloc, plans.lives()).expect(rt, "memory");
+    first_moments(rt, &mut watch, plans);
+    last_moments(rt, &mut watch, plans);
+}
+
+#[test]
+fn moments_of_a_trace(rt: HostRuntime) {
+    let plans = plans_of(&rt, rt.alloc(), 1, 12, &LINES);
+    at_all_moments(&rt, rt.alloc(), &plans);
 }

@@ -2,12 +2,12 @@
 
 ghost use Rattle.psi_spec.specs.Trace.{AllFit};
 
-use crate::events::events_of;
+use crate::events::{events_of, is};
 use proc_plan::Plans;
-use psi_base::{Event, NoMemory, Slot};
+use psi_base::{Event, Slot};
 use psi_trace::write_event;
 use std::alloc::Global;
-use std::test::Fail;
+use std::process::Abort;
 use whatif_trace::without;
 
 /// How many processors each trace has.
@@ -98,56 +98,46 @@ const MANY_LEFT: [&[u8]; 31] = [
 ];
 
 /// The lines of events, each with a newline behind it.
-fn text_of(alloc: Global, events: &[Event]) -> Result<Vec<u8>, NoMemory>
+fn text_of(rt: &impl Abort, alloc: Global, events: &[Event]) -> Vec<u8>
     requires { AllFit events.now }
 {
     let mut text: Vec<u8> = Vec::new(alloc);
     let mut at = 0;
     'events: while at < events.len() {
-        write_event(&events[at], &mut text)?;
-        text.push(b'\n')?;
+        write_event(&events[at], &mut text).expect(rt, "memory");
+        text.push(b'\n').expect(rt, "memory");
         at += 1;
     }
-    Ok(text)
+    text
 }
 
-/// The lines that are left of a trace without the tasks of a group at a moment (ns), if it is one.
-fn left_of(alloc: Global, lines: &[&[u8]], at: u64, victim: Slot) -> Option<Vec<u8>> {
-    let events = events_of(alloc, lines).ok()?;
-    match Plans::build(alloc, CPUS, LATEST, &events) {
-        Ok(_) => {
-            let left = without(alloc, CPUS, LATEST, &events, at, victim).ok()?;
-            text_of(alloc, &left).ok()
-        }
-        Err(_) => None,
-    }
+/// The lines that are left of a trace without the tasks of a group at a moment (ns).
+fn left_of(rt: &impl Abort, alloc: Global, lines: &[&[u8]], at: u64, victim: Slot) -> Vec<u8> {
+    let events = events_of(alloc, lines).expect(rt, "events");
+    drop(Plans::build(alloc, CPUS, LATEST, &events).expect(rt, "a legal trace"));
+    let left = without(alloc, CPUS, LATEST, &events, at, victim).expect(rt, "what is left");
+    text_of(rt, alloc, &left)
 }
 
 /// Exactly these lines are left without the tasks of a group at a moment (ns).
-fn leaves(alloc: Global, lines: &[&[u8]], at: u64, victim: Slot, want: &[&[u8]]) -> bool {
-    let Ok(wanted) = events_of(alloc, want) else {
-        return false;
-    };
-    match (left_of(alloc, lines, at, victim), text_of(alloc, &wanted)) {
-        (Some(left), Ok(text)) => left.as_slice() == text.as_slice(),
-        _ => false,
-    }
+fn leaves(rt: &impl Abort, alloc: Global, lines: &[&[u8]], at: u64, victim: Slot, want: &[&[u8]]) {
+    let wanted = events_of(alloc, want).expect(rt, "events");
+    let wanted = text_of(rt, alloc, &wanted);
+    let left = left_of(rt, alloc, lines, at, victim);
+    is(rt, left.as_slice(), wanted.as_slice(), at);
 }
 
 #[test]
-fn a_ready_task(rt: HostRuntime) -> Result<(), Fail> {
-    assert!(rt; leaves(rt.alloc(), &READY, 5, Slot(2), &READY_LEFT));
-    Ok(())
+fn a_ready_task(rt: HostRuntime) {
+    leaves(&rt, rt.alloc(), &READY, 5, Slot(2), &READY_LEFT);
 }
 
 #[test]
-fn the_end_moment(rt: HostRuntime) -> Result<(), Fail> {
-    assert!(rt; leaves(rt.alloc(), &READY, 36, Slot(2), &READY));
-    Ok(())
+fn the_end_moment(rt: HostRuntime) {
+    leaves(&rt, rt.alloc(), &READY, 36, Slot(2), &READY);
 }
 
 #[test]
-fn tasks_of_every_kind(rt: HostRuntime) -> Result<(), Fail> {
-    assert!(rt; leaves(rt.alloc(), &MANY, 10, Slot(2), &MANY_LEFT));
-    Ok(())
+fn tasks_of_every_kind(rt: HostRuntime) {
+    leaves(&rt, rt.alloc(), &MANY, 10, Slot(2), &MANY_LEFT);
 }

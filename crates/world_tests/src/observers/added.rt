@@ -2,24 +2,23 @@
 
 ghost use Rattle.std.specs.Prelude.{◌≡◌, length};
 
-use crate::events::{WAITS, plans_of};
+use crate::events::{WAITS, is, plans_of};
 use crate::observers::entries::{entry_after, one_look};
 use crate::observers::journals::{add_both, ordered};
-use observer_log::AddFault;
+use observer_log::{AddFault, Entry, Own};
 use proc_plan::Plans;
 use psi_base::Cpu;
 use std::alloc::Global;
 use std::marker::Brand;
 use std::process::Abort;
 use std::sync::ledger::Blank;
-use std::test::Fail;
 
 // An entry with fewer changes than the last one of its observer and processor is refused, with the
 // count of that one.
 #[test]
-fn counts_never_fall(rt: HostRuntime) -> Result<(), Fail> {
-    let plans = plans_of(rt.alloc(), 1, 2_000_000_000, &WAITS)?;
-    falls(&rt, rt.alloc(), &plans)
+fn counts_never_fall(rt: HostRuntime) {
+    let plans = plans_of(&rt, rt.alloc(), 1, 2_000_000_000, &WAITS);
+    falls(&rt, rt.alloc(), &plans);
 }
 
 // Whether an entry was refused since this count is greater.
@@ -30,68 +29,83 @@ fn is_fall_from(added: Result<(), AddFault>, last: u64) -> bool {
     }
 }
 
-fn falls<R: Abort>(rt: &R, alloc: Global, plans: &Plans) -> Result<(), Fail>
+fn falls(rt: &impl Abort, alloc: Global, plans: &Plans)
     requires { length plans.now.plans ≡ 1 }
 {
     let plan = plans.plan(Cpu(0));
-    assert_eq!(rt; plans.lives().len(), 1);
-    assert_eq!(rt; plan.len(), 4);
-    let late = entry_after(alloc, 0, plan, 3)?;
-    let early = entry_after(alloc, 0, plan, 2)?;
-    assert_eq!(rt; late.at, 500_000_000);
-    assert_eq!(rt; late.seven, [0, 0, 0, 0, 0, 0, 500_000_000]);
+    assert!(rt; plans.lives().len() == 1);
+    assert!(rt; plan.len() == 4);
+    let late = entry_after(rt, alloc, 0, plan, 3);
+    let early = entry_after(rt, alloc, 0, plan, 2);
+    is(rt, late.at, 500_000_000, "the moment of the third change");
+    let times = [0, 0, 0, 0, 0, 0, 500_000_000];
+    is(rt, late.seven, times, "times at the third change");
     let added = add_both::<Brand>(alloc, Blank::new(1), late, early);
-    assert_eq!(rt; added.first, Ok(()));
+    is(rt, added.first, Ok(()), "the first entry");
     assert!(rt; is_fall_from(added.second, 3));
-    assert_eq!(rt; added.entries, 1);
-    Ok(())
+    is(rt, added.entries, 1, "entries");
 }
 
 // The same entries of two observers stand beside each other, whichever comes first.
 #[test]
-fn counts_are_each_observers_own(rt: HostRuntime) -> Result<(), Fail> {
-    let plans = plans_of(rt.alloc(), 1, 2_000_000_000, &WAITS)?;
-    both_added(&rt, rt.alloc(), &plans)
+fn counts_are_each_observers_own(rt: HostRuntime) {
+    let plans = plans_of(&rt, rt.alloc(), 1, 2_000_000_000, &WAITS);
+    both_added(&rt, rt.alloc(), &plans);
 }
 
-fn both_added<R: Abort>(rt: &R, alloc: Global, plans: &Plans) -> Result<(), Fail>
+fn both_added(rt: &impl Abort, alloc: Global, plans: &Plans)
     requires { length plans.now.plans ≡ 1 }
 {
     let plan = plans.plan(Cpu(0));
-    assert_eq!(rt; plans.lives().len(), 1);
-    assert_eq!(rt; plan.len(), 4);
-    let late = entry_after(alloc, 0, plan, 3)?;
-    let early = entry_after(alloc, 1, plan, 2)?;
+    assert!(rt; plans.lives().len() == 1);
+    assert!(rt; plan.len() == 4);
+    let late = entry_after(rt, alloc, 0, plan, 3);
+    let early = entry_after(rt, alloc, 1, plan, 2);
     let added = add_both::<Brand>(alloc, Blank::new(1), late, early);
-    assert_eq!(rt; added.first, Ok(()));
-    assert_eq!(rt; added.second, Ok(()));
-    assert_eq!(rt; added.entries, 2);
-    Ok(())
+    is(rt, added.first, Ok(()), "the first entry");
+    is(rt, added.second, Ok(()), "the second entry");
+    is(rt, added.entries, 2, "entries");
 }
 
 // A journal that doesn't agree with the lists gives list after list; one that agrees gives its own
 // order.
 #[test]
-fn entries_in_the_order_of_the_journal(rt: HostRuntime) -> Result<(), Fail> {
-    let plans = plans_of(rt.alloc(), 1, 2_000_000_000, &WAITS)?;
-    in_order(&rt, rt.alloc(), &plans)
+fn entries_in_the_order_of_the_journal(rt: HostRuntime) {
+    let plans = plans_of(&rt, rt.alloc(), 1, 2_000_000_000, &WAITS);
+    list_after_list(&rt, rt.alloc(), &plans);
+    in_order(&rt, rt.alloc(), &plans);
 }
 
-fn in_order<R: Abort>(rt: &R, alloc: Global, plans: &Plans) -> Result<(), Fail>
+// The only entry of a list.
+fn only_entry<'a>(rt: &impl Abort, own: &Own<'a>) -> Entry<'a> {
+    assert!(rt; own.entries().len() == 1);
+    own.entries()[0]
+}
+
+// The entries are one of each of two observers, in this order.
+fn are_by(rt: &impl Abort, entries: &[Entry<'_>], observers: [u32; 2]) {
+    assert!(rt; entries.len() == 2);
+    let found = [entries[0].observer, entries[1].observer];
+    is(rt, found, observers, "observers");
+}
+
+fn list_after_list(rt: &impl Abort, alloc: Global, plans: &Plans)
     requires { length plans.now.plans ≡ 1 }
 {
-    assert_eq!(rt; plans.lives().len(), 1);
-    let first = one_look(alloc, 0, plans)?;
-    let second = one_look(alloc, 1, plans)?;
-    assert_eq!(rt; first.entries().len(), 1);
-    assert_eq!(rt; second.entries().len(), 1);
-    let added = [second.entries()[0], first.entries()[0]];
-    let again = (one_look(alloc, 0, plans)?, one_look(alloc, 1, plans)?);
-    let entries = ordered::<Brand>(alloc, Blank::new(1), &[], again.0, again.1)?;
-    assert_eq!(rt; entries.len(), 2);
-    assert!(rt; entries[0].observer == 0 && entries[1].observer == 1);
-    let entries = ordered::<Brand>(alloc, Blank::new(1), &added, first, second)?;
-    assert_eq!(rt; entries.len(), 2);
-    assert!(rt; entries[0].observer == 1 && entries[1].observer == 0);
-    Ok(())
+    assert!(rt; plans.lives().len() == 1);
+    let first = one_look(rt, alloc, 0, plans);
+    let second = one_look(rt, alloc, 1, plans);
+    let entries = ordered::<Brand>(alloc, Blank::new(1), &[], first, second);
+    are_by(rt, &entries.expect(rt, "memory"), [0, 1]);
+}
+
+fn in_order(rt: &impl Abort, alloc: Global, plans: &Plans)
+    requires { length plans.now.plans ≡ 1 }
+{
+    assert!(rt; plans.lives().len() == 1);
+    let first = one_look(rt, alloc, 0, plans);
+    let second = one_look(rt, alloc, 1, plans);
+    let added = [only_entry(rt, &second), only_entry(rt, &first)];
+    let entries = ordered::<Brand>(alloc, Blank::new(1), &added, first, second);
+    are_by(rt, &entries.expect(rt, "memory"), [1, 0]);
 }

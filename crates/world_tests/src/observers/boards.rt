@@ -4,8 +4,8 @@ ghost use Rattle.std.specs.Prelude.{◌≡◌, ◌+◌, length};
 ghost use Rattle.std.specs.Thread.{IsSync};
 
 use observer_log::{Board, BoardPass, BoardState, DriverPass};
-use psi_base::NoMemory;
 use std::alloc::Global;
+use std::process::Abort;
 use std::sync::Wait;
 use std::thread::{Threads, join, yield_now};
 
@@ -70,13 +70,9 @@ fn watched<R: Wait>(
 
 /// A driver publishes so many ticks, and an observer in another thread reads them meanwhile. Then
 /// the driver tells it all, and it reads the last one.
-pub fn beside<R: Threads + Wait + Sync>(
-    rt: &R,
-    alloc: Global,
-    ticks: u32,
-) -> Result<Readings, NoMemory> {
-    let (board, mut driver) = Board::make(alloc)?;
-    let pass = board.pass(rt, &mut driver)?;
+pub fn beside<R: Abort + Threads + Wait + Sync>(rt: &R, alloc: Global, ticks: u32) -> Readings {
+    let (board, mut driver) = Board::make(alloc).expect(rt, "memory");
+    let pass = board.pass(rt, &mut driver).expect(rt, "memory");
     let (mut driver, (mut pass, states)) = join(
         rt,
         || -> DriverPass
@@ -92,8 +88,8 @@ pub fn beside<R: Threads + Wait + Sync>(
             ensures { result.0.board ≡ board }
         { watched(rt, alloc, &board, pass, ticks) },
     );
-    board.tell(rt, &mut driver, &mut pass)?;
+    board.tell(rt, &mut driver, &mut pass).expect(rt, "memory");
     let last = board.read(rt, &mut pass);
-    board.tell(rt, &mut driver, &mut pass)?;
-    Ok(Readings { states, last })
+    board.tell(rt, &mut driver, &mut pass).expect(rt, "memory");
+    Readings { states, last }
 }

@@ -13,6 +13,7 @@ use outside::{Gate, OpenGate};
 use proc_plan::{Plan, Plans, ProcClocks};
 use psi_base::{Cpu, NoMemory, Slot};
 use std::alloc::Global;
+use std::process::Abort;
 
 const ROOT: Slot = Slot(0);
 
@@ -20,78 +21,69 @@ const FIRST: Cpu = Cpu(0);
 
 /// The root's entry of an observer after so many changes of a plan that has the root alone.
 pub fn entry_after<'a>(
+    rt: &impl Abort,
     alloc: Global,
     observer: u32,
     plan: &'a Plan,
     count: u64,
-) -> Result<Entry<'a>, NoMemory>
+) -> Entry<'a>
     requires root { length plan.now.parents ≡ 1 }
     requires count { count ≤ length plan.now.changes }
-    ensures observer { IfOk result (λ entry. entry.observer ≡ observer) }
-    ensures count { IfOk result (λ entry. entry.count ≡ count) }
+    ensures observer { result.observer ≡ observer }
+    ensures count { result.count ≡ count }
 {
-    let mut clocks = clocks_after(alloc, plan, 1, count)?;
+    let mut clocks = clocks_after(alloc, plan, 1, count).expect(rt, "memory");
     let sample = Sample {
         count: clocks.count(),
         clock: clocks.own(ROOT),
     };
-    Ok(Entry::take(observer, plan, FIRST, ROOT, &sample))
+    Entry::take(observer, plan, FIRST, ROOT, &sample)
 }
 
-// The list of an observer that looked once at the root by a reader, where a gate is called ahead of
-// the sample.
-fn look_by<'a, G: Gate>(
-    alloc: Global,
-    observer: u32,
-    plans: &'a Plans,
-    reader: ClockReader,
-    last: &Sample,
-    gate: &G,
-) -> Result<Own<'a>, NoMemory>
-    requires one { length plans.now.plans ≡ 1 }
-    requires root { length (plan_at plans.now 0).parents ≡ 1 }
-    requires reader { reader.knows ≡ new_reader (plan_at plans.now 0) last.now.count }
-    requires last { IsClock last.now.clock (plan_at plans.now 0) 0 last.now.count }
-    ensures by { IfOk result (AreBy observer) }
+// A reader of a plan's row that has seen no change, and the root's clock then.
+fn first_sample(rt: &impl Abort, alloc: Global, plan: &Plan) -> (ClockReader, Sample)
+    requires { length plan.now.parents ≡ 1 }
+    ensures reader { result.0.knows ≡ new_reader plan.now result.1.count }
+    ensures clock { IsClock result.1.clock plan.now 0 result.1.count }
 {
-    let mut readers = Vec::new(alloc);
-    readers.push(reader)?;
-    let mut watcher = Watcher::make(alloc, observer, plans, readers);
-    match watcher.look(FIRST, ROOT, last, gate) {
-        Ok(()) => Ok(watcher.into_own()),
-        Err(none) => {
-            drop(watcher);
-            Err(none)
-        }
-    }
-}
-
-/// The list of an observer that looked once at the root, before its first change, where a gate is
-/// called ahead of the sample.
-pub fn look_at_gate<'a, G: Gate>(
-    alloc: Global,
-    observer: u32,
-    plans: &'a Plans,
-    gate: &G,
-) -> Result<Own<'a>, NoMemory>
-    requires one { length plans.now.plans ≡ 1 }
-    requires root { length plans.now.lives ≡ 1 }
-    ensures by { IfOk result (AreBy observer) }
-{
-    let mut writer = Row::make(alloc, plans.plan(FIRST), 1)?;
-    let reader = writer.reader()?;
-    let last = Sample {
+    let mut writer = Row::make(alloc, plan, 1).expect(rt, "memory");
+    let reader = writer.reader().expect(rt, "memory");
+    let sample = Sample {
         count: writer.count(),
         clock: writer.own(ROOT),
     };
-    look_by(alloc, observer, plans, reader, &last, gate)
+    (reader, sample)
 }
 
-/// The list of an observer that looked once at the root, before its first change.
-pub fn one_look(alloc: Global, observer: u32, plans: &Plans) -> Result<Own<'_>, NoMemory>
+/// The list of an observer that looked once at the root, before its first change, where a gate is
+/// called ahead of the sample. Err where the look itself had no memory.
+pub fn look_at_gate<'a, G: Gate>(
+    rt: &impl Abort,
+    alloc: Global,
+    observer: u32,
+    plans: &'a Plans,
+    gate: &G,
+) -> Result<Own<'a>, NoMemory>
     requires one { length plans.now.plans ≡ 1 }
     requires root { length plans.now.lives ≡ 1 }
     ensures by { IfOk result (AreBy observer) }
 {
-    look_at_gate(alloc, observer, plans, &OpenGate)
+    let (reader, last) = first_sample(rt, alloc, plans.plan(FIRST));
+    let readers = vec![in alloc; reader].expect(rt, "memory");
+    let mut watcher = Watcher::make(alloc, observer, plans, readers);
+    let looked = watcher.look(FIRST, ROOT, &last, gate);
+    let own = watcher.into_own();
+    match looked {
+        Ok(()) => Ok(own),
+        Err(none) => Err(none),
+    }
+}
+
+/// The list of an observer that looked once at the root, before its first change.
+pub fn one_look<'a>(rt: &impl Abort, alloc: Global, observer: u32, plans: &'a Plans) -> Own<'a>
+    requires one { length plans.now.plans ≡ 1 }
+    requires root { length plans.now.lives ≡ 1 }
+    ensures by { AreBy observer result }
+{
+    look_at_gate(rt, alloc, observer, plans, &OpenGate).expect(rt, "memory")
 }

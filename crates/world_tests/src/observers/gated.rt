@@ -2,16 +2,15 @@
 
 ghost use Rattle.std.specs.Prelude.{◌≡◌, length};
 
-use crate::events::plans_of;
+use crate::events::{is, plans_of};
 use crate::observers::entries::look_at_gate;
 use outside::Gate;
 use proc_plan::Plans;
-use psi_base::{Cpu, NoMemory};
+use psi_base::Cpu;
 use std::alloc::Global;
 use std::process::Abort;
 use std::sync::atomic::AtomicU64;
 use std::sync::atomic::Ordering::SeqCst;
-use std::test::Fail;
 
 /// A task runs to the end.
 const RUNS: [&[u8]; 3] = [b"0 fork 1 / 0", b"0 switch 0 1 idle", b"2000000000 end"];
@@ -49,42 +48,46 @@ impl Gate for Counting {
 // A look calls its gate once, ahead of the sample and with the number of its observer. Where memory
 // is wanting there is neither sample nor call.
 #[test]
-fn a_look_calls_its_gate_once(rt: HostRuntime) -> Result<(), Fail> {
-    let plans = plans_of(rt.alloc(), 1, 2_000_000_000, &RUNS)?;
-    let told = called_once(&rt, rt.alloc(), &plans);
-    drop(plans);
-    told
+fn a_look_calls_its_gate_once(rt: HostRuntime) {
+    let plans = plans_of(&rt, rt.alloc(), 1, 2_000_000_000, &RUNS);
+    called_once(&rt, rt.alloc(), &plans);
 }
 
-// How many entries one look gives.
+// How many entries one look gives, None where it had no memory.
 fn entries_of(
+    rt: &impl Abort,
     alloc: Global,
     observer: u32,
     plans: &Plans,
     gate: &Counting,
-) -> Result<usize, NoMemory>
+) -> Option<usize>
     requires one { length plans.now.plans ≡ 1 }
     requires root { length plans.now.lives ≡ 1 }
 {
-    let own = look_at_gate(alloc, observer, plans, gate)?;
-    Ok(own.entries().len())
+    match look_at_gate(rt, alloc, observer, plans, gate) {
+        Ok(own) => Some(own.entries().len()),
+        Err(_) => None,
+    }
 }
 
-fn called_once<R: Abort>(rt: &R, alloc: Global, plans: &Plans) -> Result<(), Fail>
+// How often the gate was called ahead of a sample of the observer, and otherwise.
+fn calls(gate: &Counting) -> [u64; 2] {
+    [gate.ahead.load(SeqCst), gate.otherwise.load(SeqCst)]
+}
+
+fn called_once(rt: &impl Abort, alloc: Global, plans: &Plans)
     requires { length plans.now.plans ≡ 1 }
 {
-    assert_eq!(rt; plans.lives().len(), 1);
+    assert!(rt; plans.lives().len() == 1);
     let gate = Counting {
         ahead: AtomicU64::new(0),
         otherwise: AtomicU64::new(0),
     };
-    let first = entries_of(alloc, OBSERVER, plans, &gate);
-    let calls = if first.is_ok() { 1 } else { 0 };
-    assert_eq!(rt; gate.ahead.load(SeqCst), calls);
-    assert_eq!(rt; gate.otherwise.load(SeqCst), 0);
-    assert_eq!(rt; first?, 1);
-    assert_eq!(rt; entries_of(alloc, 0, plans, &gate)?, 1);
-    assert_eq!(rt; gate.ahead.load(SeqCst), 1);
-    assert_eq!(rt; gate.otherwise.load(SeqCst), 1);
-    Ok(())
+    let first = entries_of(rt, alloc, OBSERVER, plans, &gate);
+    let looks = if first.is_some() { 1 } else { 0 };
+    is(rt, calls(&gate), [looks, 0], "calls for the observer");
+    is(rt, first, Some(1), "entries of the observer");
+    let other = entries_of(rt, alloc, 0, plans, &gate);
+    is(rt, other, Some(1), "entries of another");
+    is(rt, calls(&gate), [1, 1], "calls for both");
 }

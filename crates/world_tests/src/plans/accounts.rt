@@ -1,15 +1,15 @@
 //! Accounts of groups that are switched, by the plans of processors and their clocks.
 
-ghost use Rattle.std.specs.Prelude.{◌≡◌, ◌<◌, ◌≤◌, length};
+ghost use Rattle.std.specs.Prelude.{◌≡◌, length};
 
-use crate::events::plans_of;
+use super::changes::nth;
+use crate::events::{is, plans_of};
 use crate::walk::clocks_after;
-use proc_plan::{IrqClocks, Plan, Plans, ProcClocks};
-use psi_base::{Cpu, NoMemory, Ns, Slot};
+use proc_plan::{IrqClocks, Plans, ProcClocks};
+use psi_base::{Cpu, Ns, Slot};
 use psi_counts::Change;
 use std::alloc::Global;
 use std::process::Abort;
-use std::test::Fail;
 
 /// The task of a group waits for IO, and for half a second the group's account is off.
 const LINES: [&[u8]; 7] = [
@@ -34,92 +34,99 @@ fn account(at: Ns, on: bool) -> Change {
     }
 }
 
-// What the clocks of a plan tell of a group after so many changes: for how long (ns) interrupts
-// took from it, and its clock as words.
-fn after(
-    alloc: Global,
-    plan: &Plan,
-    changes: u64,
-    slots: u32,
-    slot: Slot,
-) -> Result<(u64, [u64; 9]), NoMemory>
-    requires changes { changes ≤ length plan.now.changes }
-    requires slots { slots ≡ length plan.now.parents }
-    requires slot { slot.0 < slots }
-{
-    let mut clocks = clocks_after(alloc, plan, slots, changes)?;
-    let irq = clocks.own_irq(slot);
-    Ok((irq, clocks.own(slot).to_words()))
-}
-
-// The same after all changes.
-fn after_all(
-    alloc: Global,
-    plan: &Plan,
-    slots: u32,
-    slot: Slot,
-) -> Result<(u64, [u64; 9]), NoMemory>
-    requires slots { slots ≡ length plan.now.parents }
-    requires slot { slot.0 < slots }
-{
-    after(alloc, plan, plan.len(), slots, slot)
-}
-
 // Both processors have the switches, and the second has nothing else.
 #[test]
-fn accounts_of_each_processor(rt: HostRuntime) -> Result<(), Fail> {
-    let plans = plans_of(rt.alloc(), 2, 2_000_000_000, &LINES)?;
-    let told = each_has_accounts(&rt, &plans);
-    drop(plans);
-    told
+fn accounts_of_each_processor(rt: HostRuntime) {
+    let plans = plans_of(&rt, rt.alloc(), 2, 2_000_000_000, &LINES);
+    each_has_accounts(&rt, &plans);
 }
 
-fn each_has_accounts<R: Abort>(rt: &R, plans: &Plans) -> Result<(), Fail>
+fn each_has_accounts(rt: &impl Abort, plans: &Plans)
     requires { length plans.now.plans ≡ 2 }
 {
     let (first, second) = (plans.plan(Cpu(0)), plans.plan(Cpu(1)));
-    assert_eq!(rt; (first.len(), second.len()), (5, 2));
-    assert_eq!(rt; first.change(3).account, None);
-    assert_eq!(rt; first.change(4), account(1_000_000_000, false));
-    assert_eq!(rt; first.change(5), account(1_500_000_000, true));
-    assert_eq!(rt; second.change(1), account(1_000_000_000, false));
-    assert_eq!(rt; second.change(2), account(1_500_000_000, true));
-    Ok(())
+    is(rt, (first.len(), second.len()), (5, 2), "changes");
+    let off = account(1_000_000_000, false);
+    let on = account(1_500_000_000, true);
+    is(rt, nth(rt, first, 3).account, None, "before");
+    is(rt, nth(rt, first, 4), off, "off on 0");
+    is(rt, nth(rt, first, 5), on, "on on 0");
+    is(rt, nth(rt, second, 1), off, "off on 1");
+    is(rt, nth(rt, second, 2), on, "on on 1");
 }
 
-// While the account is off no state holds, and what was before it stays. That of the root goes on.
-#[test]
-fn clocks_of_a_group_off(rt: HostRuntime) -> Result<(), Fail> {
-    let plans = plans_of(rt.alloc(), 1, 2_000_000_000, &LINES)?;
-    let told = stays_off(&rt, rt.alloc(), &plans);
-    drop(plans);
-    told
+/// What the clocks of the first processor tell after so many changes of the group with this slot:
+/// for how long (ns) interrupts took from it, and its clock as words.
+struct Row {
+    changes: u64,
+    slot: u32,
+    irq: u64,
+    words: [u64; 9],
 }
 
-fn stays_off<R: Abort>(rt: &R, alloc: Global, plans: &Plans) -> Result<(), Fail>
+fn tells_row(rt: &impl Abort, alloc: Global, plans: &Plans, row: &Row)
     requires { length plans.now.plans ≡ 1 }
 {
     let plan = plans.plan(Cpu(0));
-    assert_eq!(rt; (plans.lives().len(), plan.len()), (2, 5));
-    let second = 1_000_000_000;
-    assert_eq!(rt;
-        after(alloc, plan, 4, 2, Slot(1))?,
-        (0, [second, second, 0, 0, 0, 0, second, 0, second])
-    );
-    assert_eq!(rt;
-        after(alloc, plan, 4, 2, Slot(0))?,
-        (0, [0, 0, 0, 0, 0, 0, 0, 0b100_0011, 0])
-    );
-    let half = 1_500_000_000;
-    assert_eq!(rt;
-        after_all(alloc, plan, 2, Slot(1))?,
-        (0, [second, second, 0, 0, 0, 0, second, 0b100_0011, half])
-    );
-    assert_eq!(rt;
-        after_all(alloc, plan, 2, Slot(0))?,
-        (0, [0, 0, 0, 0, 0, 0, 0, 0b100_0011, 0])
-    );
-    Ok(())
+    let slots = plans.groups().len() as u32;
+    assert!(rt; row.changes <= plan.len());
+    assert!(rt; row.slot < slots);
+    let mut clocks = clocks_after(alloc, plan, slots, row.changes).expect(rt, "memory");
+    let slot = Slot(row.slot);
+    let case = (row.changes, row.slot);
+    is(rt, clocks.own_irq(slot), row.irq, case);
+    is(rt, clocks.own(slot).to_words(), row.words, case);
+}
+
+/// There are so many groups and changes of the first processor, and its clocks tell these rows.
+fn tells(rt: &impl Abort, alloc: Global, plans: &Plans, counts: (usize, u64), rows: &[Row])
+    requires { length plans.now.plans ≡ 1 }
+{
+    let found = (plans.lives().len(), plans.plan(Cpu(0)).len());
+    is(rt, found, counts, "groups and changes");
+    for row in rows {
+        tells_row(rt, alloc, plans, row);
+    }
+}
+
+/// For how long the task waits before its group's account goes off, in ns.
+const SECOND: Ns = 1_000_000_000;
+
+/// When the account is on again, in ns.
+const AGAIN: Ns = 1_500_000_000;
+
+/// While the account is off no state holds, and what was before it stays. That of the root goes on.
+const OFF_AND_ON: [Row; 4] = [
+    Row {
+        changes: 4,
+        slot: 1,
+        irq: 0,
+        words: [SECOND, SECOND, 0, 0, 0, 0, SECOND, 0, SECOND],
+    },
+    Row {
+        changes: 4,
+        slot: 0,
+        irq: 0,
+        words: [0, 0, 0, 0, 0, 0, 0, 0b100_0011, 0],
+    },
+    Row {
+        changes: 5,
+        slot: 1,
+        irq: 0,
+        words: [SECOND, SECOND, 0, 0, 0, 0, SECOND, 0b100_0011, AGAIN],
+    },
+    Row {
+        changes: 5,
+        slot: 0,
+        irq: 0,
+        words: [0, 0, 0, 0, 0, 0, 0, 0b100_0011, 0],
+    },
+];
+
+#[test]
+fn clocks_of_a_group_off(rt: HostRuntime) {
+    let plans = plans_of(&rt, rt.alloc(), 1, 2_000_000_000, &LINES);
+    tells(&rt, rt.alloc(), &plans, (2, 5), &OFF_AND_ON);
 }
 
 /// A task of /a/b runs, waits for IO and is ready, while /a is off and then /a/b. One goes off and
@@ -139,32 +146,31 @@ const NESTED: [&[u8]; 12] = [
     b"5000 end",
 ];
 
-// Each account is its group's alone: groups above and below go on. What the tasks do while one is
-// off is known when it is on again.
-#[test]
-fn accounts_of_groups_in_groups(rt: HostRuntime) -> Result<(), Fail> {
-    let plans = plans_of(rt.alloc(), 1, 5000, &NESTED)?;
-    let told = each_its_own(&rt, rt.alloc(), &plans);
-    drop(plans);
-    told
-}
+/// Each account is its group's alone: groups above and below go on. What the tasks do while one is
+/// off is known when it is on again.
+const OF_NESTED: [Row; 3] = [
+    Row {
+        changes: 9,
+        slot: 0,
+        irq: 100,
+        words: [2000, 2000, 0, 0, 0, 0, 4000, 0b111_0000, 4000],
+    },
+    Row {
+        changes: 9,
+        slot: 1,
+        irq: 0,
+        words: [1000, 1000, 0, 0, 0, 0, 2000, 0b111_0000, 4000],
+    },
+    Row {
+        changes: 9,
+        slot: 2,
+        irq: 100,
+        words: [1000, 1000, 0, 0, 0, 0, 3000, 0, 3000],
+    },
+];
 
-fn each_its_own<R: Abort>(rt: &R, alloc: Global, plans: &Plans) -> Result<(), Fail>
-    requires { length plans.now.plans ≡ 1 }
-{
-    let plan = plans.plan(Cpu(0));
-    assert_eq!(rt; (plans.lives().len(), plan.len()), (3, 9));
-    assert_eq!(rt;
-        after_all(alloc, plan, 3, Slot(0))?,
-        (100, [2000, 2000, 0, 0, 0, 0, 4000, 0b111_0000, 4000])
-    );
-    assert_eq!(rt;
-        after_all(alloc, plan, 3, Slot(1))?,
-        (0, [1000, 1000, 0, 0, 0, 0, 2000, 0b111_0000, 4000])
-    );
-    assert_eq!(rt;
-        after_all(alloc, plan, 3, Slot(2))?,
-        (100, [1000, 1000, 0, 0, 0, 0, 3000, 0, 3000])
-    );
-    Ok(())
+#[test]
+fn accounts_of_groups_in_groups(rt: HostRuntime) {
+    let plans = plans_of(&rt, rt.alloc(), 1, 5000, &NESTED);
+    tells(&rt, rt.alloc(), &plans, (3, 9), &OF_NESTED);
 }

@@ -1,10 +1,10 @@
 //! Plans of a trace with a wake on another processor.
 
-use crate::events::events_of;
-use proc_plan::{Plans, Side, SideAct};
+use crate::events::{is, plans_of};
+use proc_plan::{Plan, Side, SideAct};
 use psi_base::{Cpu, Ns, Slot};
 use psi_counts::{Change, Counts};
-use std::test::Fail;
+use std::process::Abort;
 
 /// A task waits for IO on the first processor, and wakes on the second.
 const LINES: [&[u8]; 5] = [
@@ -47,64 +47,65 @@ fn change(at: Ns, minus: Option<Counts>, plus: Option<Counts>, runs: bool) -> Ch
     }
 }
 
+/// A change that a plan has, from the first.
+pub fn nth(rt: &impl Abort, plan: &Plan, k: u64) -> Change {
+    assert!(rt; 1 <= k && k <= plan.len(), "no change {k}");
+    plan.change(k)
+}
+
+/// These are the changes of a plan.
+fn has_changes(rt: &impl Abort, plan: &Plan, want: &[Change]) {
+    assert!(rt; plan.len() == want.len() as u64);
+    for k in 1..=plan.len() {
+        let change = want[k as usize - 1];
+        is(rt, plan.change(k), change, k);
+        is(rt, plan.moment(k), change.at, k);
+    }
+}
+
 // The wake changes both processors, and each has its own changes alone. A switch that changes no
 // count is a change too.
 #[test]
-fn changes_of_each_processor(rt: HostRuntime) -> Result<(), Fail> {
-    let alloc = rt.alloc();
-    let events = events_of(alloc, &LINES)?;
-    let plans = Plans::build(alloc, 2, 4_000_000_000, &events)?;
+fn changes_of_each_processor(rt: HostRuntime) {
+    let plans = plans_of(&rt, rt.alloc(), 2, 4_000_000_000, &LINES);
+    is(&rt, plans.cpus(), 2, "processors");
     let first = [
         change(0, None, Some(UP), false),
         change(0, None, None, true),
         change(0, Some(UP), Some(WAITS), false),
         change(WOKEN, Some(WAITS), None, false),
     ];
+    has_changes(&rt, plans.plan(Cpu(0)), &first);
     let second = [change(WOKEN, None, Some(UP), false)];
-    assert_eq!(rt; plans.cpus(), 2);
-    for (cpu, want) in [(0, first.as_slice()), (1, second.as_slice())] {
-        assert!(rt; cpu < plans.cpus());
-        let plan = plans.plan(Cpu(cpu));
-        assert_eq!(rt; plan.len(), want.len() as u64, "on {cpu}");
-        for k in 1..=plan.len() {
-            assert_eq!(rt; plan.change(k), want[k as usize - 1], "{k} on {cpu}");
-            assert_eq!(rt; plan.moment(k), want[k as usize - 1].at, "{k} on {cpu}");
-        }
-    }
-    Ok(())
+    has_changes(&rt, plans.plan(Cpu(1)), &second);
 }
 
 // Changes at the moment itself are among those up to it.
 #[test]
-fn changes_up_to_a_moment(rt: HostRuntime) -> Result<(), Fail> {
-    let alloc = rt.alloc();
-    let events = events_of(alloc, &LINES)?;
-    let plans = Plans::build(alloc, 2, 4_000_000_000, &events)?;
-    for (at, first, second) in [
-        (0, 3, 0),
-        (1, 3, 0),
-        (WOKEN - 1, 3, 0),
-        (WOKEN, 4, 1),
-        (WOKEN + 1, 4, 1),
-        (u64::MAX, 4, 1),
+fn changes_up_to_a_moment(rt: HostRuntime) {
+    let plans = plans_of(&rt, rt.alloc(), 2, 4_000_000_000, &LINES);
+    let (first, second) = (plans.plan(Cpu(0)), plans.plan(Cpu(1)));
+    for &(at, want) in &[
+        (0, (3, 0)),
+        (1, (3, 0)),
+        (WOKEN - 1, (3, 0)),
+        (WOKEN, (4, 1)),
+        (WOKEN + 1, (4, 1)),
+        (u64::MAX, (4, 1)),
     ] {
-        assert_eq!(rt; plans.plan(Cpu(0)).until(at), first, "at {at}");
-        assert_eq!(rt; plans.plan(Cpu(1)).until(at), second, "at {at}");
+        is(&rt, (first.until(at), second.until(at)), want, at);
     }
-    Ok(())
 }
 
 // What the plans keep beside the changes.
 #[test]
-fn what_all_processors_share(rt: HostRuntime) -> Result<(), Fail> {
-    let alloc = rt.alloc();
-    let events = events_of(alloc, &LINES)?;
-    let plans = Plans::build(alloc, 2, 4_000_000_000, &events)?;
-    assert_eq!(rt; plans.finish(), 4_000_000_000);
-    assert_eq!(rt; plans.groups().len(), 1);
-    assert_eq!(rt; plans.lives().len(), 1);
-    assert!(rt; plans.lives()[0].path.text() == "/");
-    assert_eq!(rt; plans.triggers(), [].as_slice());
+fn what_all_processors_share(rt: HostRuntime) {
+    let plans = plans_of(&rt, rt.alloc(), 2, 4_000_000_000, &LINES);
+    is(&rt, plans.finish(), 4_000_000_000, "finish");
+    is(&rt, plans.groups().len(), 1, "groups");
+    assert!(rt; plans.lives().len() == 1);
+    is(&rt, plans.lives()[0].path.text(), "/", "path");
+    is(&rt, plans.triggers().len(), 0, "triggers");
     let came = Side {
         at: 0,
         what: SideAct::Tasks {
@@ -112,6 +113,5 @@ fn what_all_processors_share(rt: HostRuntime) -> Result<(), Fail> {
             added: 1,
         },
     };
-    assert_eq!(rt; plans.sides(), [came].as_slice());
-    Ok(())
+    is(&rt, plans.sides(), [came].as_slice(), "sides");
 }

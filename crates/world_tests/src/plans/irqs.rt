@@ -2,13 +2,13 @@
 
 ghost use Rattle.std.specs.Prelude.{◌≡◌, length};
 
-use crate::events::{INTERRUPTS, plans_of};
+use super::changes::nth;
+use crate::events::{INTERRUPTS, is, plans_of};
 use crate::walk::clocks_after;
-use proc_plan::{IrqClocks, Plan, Plans, ProcClocks};
-use psi_base::{Cpu, NoMemory, Slot};
+use proc_plan::{IrqClocks, Plan, ProcClocks};
+use psi_base::{Cpu, Slot};
 use std::alloc::Global;
 use std::process::Abort;
-use std::test::Fail;
 
 /// The root has /a, /a/b and /c. A task of /a/b runs on the first processor, moves to /c, goes to
 /// the second processor and exits there.
@@ -36,102 +36,96 @@ const LINES: [&[u8]; 21] = [
     b"8000 end",
 ];
 
-// For how long (ns) interrupts took from the root, /a, /a/b and /c, by so many changes of a plan,
-// or by all that it has.
-fn irqs_after(alloc: Global, plan: &Plan, changes: u64) -> Result<[u64; 4], NoMemory>
+/// A processor, how many of its changes are made, and for how long (ns) interrupts have then taken
+/// from the root, /a, /a/b and /c.
+const ROWS: [(u32, u64, [u64; 4]); 16] = [
+    // The task comes and starts to run.
+    (0, 0, [0, 0, 0, 0]),
+    (0, 2, [0, 0, 0, 0]),
+    // Some interrupts, none at the same moment, and some behind them.
+    (0, 3, [100, 100, 100, 0]),
+    (0, 4, [100, 100, 100, 0]),
+    (0, 5, [101, 101, 101, 0]),
+    // It moves.
+    (0, 6, [101, 101, 101, 0]),
+    (0, 7, [121, 101, 101, 20]),
+    // It waits for the processor, which idles, and then leaves it.
+    (0, 9, [121, 101, 101, 20]),
+    (0, 10, [121, 101, 101, 20]),
+    (0, 11, [121, 101, 101, 20]),
+    // The other processor idles, until the task comes and starts to run.
+    (1, 1, [0, 0, 0, 0]),
+    (1, 2, [0, 0, 0, 0]),
+    (1, 4, [0, 0, 0, 0]),
+    (1, 5, [4, 0, 0, 4]),
+    // It exits.
+    (1, 6, [4, 0, 0, 4]),
+    (1, 7, [4, 0, 0, 4]),
+];
+
+// For how long (ns) interrupts took from the four groups, by so many changes of a plan, or by all
+// that it has.
+fn irqs_after(rt: &impl Abort, alloc: Global, plan: &Plan, changes: u64) -> [u64; 4]
     requires { length plan.now.parents ≡ 4 }
 {
-    let mut clocks = clocks_after(alloc, plan, 4, changes.min(plan.len()))?;
-    Ok([
+    let changes = changes.min(plan.len());
+    let mut clocks = clocks_after(alloc, plan, 4, changes).expect(rt, "memory");
+    [
         clocks.own_irq(Slot(0)),
         clocks.own_irq(Slot(1)),
         clocks.own_irq(Slot(2)),
         clocks.own_irq(Slot(3)),
-    ])
+    ]
 }
 
 // A change that tells of interrupts counts for the group of the task that runs then and for all
 // above it, and for none where the processor idles. What a task's groups got stays with them when
 // it moves, goes elsewhere or exits.
 #[test]
-fn interrupts_of_each_processor(rt: HostRuntime) -> Result<(), Fail> {
-    let plans = plans_of(rt.alloc(), 2, 8000, &LINES)?;
-    let told = count_for_each(&rt, rt.alloc(), &plans);
-    drop(plans);
-    told
-}
-
-fn count_for_each<R: Abort>(rt: &R, alloc: Global, plans: &Plans) -> Result<(), Fail> {
-    assert_eq!(rt; plans.lives().len(), 4);
-    let rows: [(u32, u64, [u64; 4]); 16] = [
-        // The task comes and starts to run.
-        (0, 0, [0, 0, 0, 0]),
-        (0, 2, [0, 0, 0, 0]),
-        // Some interrupts, none at the same moment, and some behind them.
-        (0, 3, [100, 100, 100, 0]),
-        (0, 4, [100, 100, 100, 0]),
-        (0, 5, [101, 101, 101, 0]),
-        // It moves.
-        (0, 6, [101, 101, 101, 0]),
-        (0, 7, [121, 101, 101, 20]),
-        // It waits for the processor, which idles, and then leaves it.
-        (0, 9, [121, 101, 101, 20]),
-        (0, 10, [121, 101, 101, 20]),
-        (0, 11, [121, 101, 101, 20]),
-        // The other processor idles, until the task comes and starts to run.
-        (1, 1, [0, 0, 0, 0]),
-        (1, 2, [0, 0, 0, 0]),
-        (1, 4, [0, 0, 0, 0]),
-        (1, 5, [4, 0, 0, 4]),
-        // It exits.
-        (1, 6, [4, 0, 0, 4]),
-        (1, 7, [4, 0, 0, 4]),
-    ];
-    for (cpu, changes, want) in rows {
+fn interrupts_of_each_processor(rt: HostRuntime) {
+    let plans = plans_of(&rt, rt.alloc(), 2, 8000, &LINES);
+    assert!(rt; plans.lives().len() == 4);
+    for &(cpu, changes, want) in &ROWS {
         assert!(rt; cpu < plans.cpus());
-        let plan = plans.plan(Cpu(cpu));
-        let irqs = irqs_after(alloc, plan, changes)?;
-        assert_eq!(rt; irqs, want, "{changes} on {cpu}");
+        let irqs = irqs_after(&rt, rt.alloc(), plans.plan(Cpu(cpu)), changes);
+        is(&rt, irqs, want, (cpu, changes));
     }
-    Ok(())
 }
 
 // For how long (ns) interrupts took from the root by so many changes of a plan that has it alone,
 // by two looks at its clocks, and how many changes these have made then.
-fn root_after(alloc: Global, plan: &Plan, changes: u64) -> Result<(u64, u64, u64), NoMemory>
+fn root_after(rt: &impl Abort, alloc: Global, plan: &Plan, changes: u64) -> (u64, u64, u64)
     requires { length plan.now.parents ≡ 1 }
 {
-    let mut clocks = clocks_after(alloc, plan, 1, changes.min(plan.len()))?;
+    let changes = changes.min(plan.len());
+    let mut clocks = clocks_after(alloc, plan, 1, changes).expect(rt, "memory");
     let first = clocks.own_irq(Slot(0));
     let second = clocks.own_irq(Slot(0));
-    Ok((first, second, clocks.count()))
+    (first, second, clocks.count())
 }
 
 // The clocks say the same however often they are asked, and asking changes nothing of what they
 // have made.
 #[test]
-fn interrupts_of_the_root(rt: HostRuntime) -> Result<(), Fail> {
-    let plans = plans_of(rt.alloc(), 1, 2_000_000_000, &INTERRUPTS)?;
-    let told = count_for_the_root(&rt, rt.alloc(), &plans);
-    drop(plans);
-    told
+fn interrupts_of_the_root(rt: HostRuntime) {
+    let plans = plans_of(&rt, rt.alloc(), 1, 2_000_000_000, &INTERRUPTS);
+    assert!(rt; plans.lives().len() == 1);
+    count_for_the_root(&rt, rt.alloc(), plans.plan(Cpu(0)));
 }
 
-fn count_for_the_root<R: Abort>(rt: &R, alloc: Global, plans: &Plans) -> Result<(), Fail>
-    requires { length plans.now.plans ≡ 1 }
+fn count_for_the_root(rt: &impl Abort, alloc: Global, plan: &Plan)
+    requires { length plan.now.parents ≡ 1 }
 {
-    let plan = plans.plan(Cpu(0));
-    assert_eq!(rt; plans.lives().len(), 1);
-    assert_eq!(rt; plan.len(), 5);
-    let change = plan.change(3);
-    assert_eq!(rt; change.irq, 250_000_000);
-    assert_eq!(rt; change.minus, None);
-    assert_eq!(rt; change.plus, None);
-    assert_eq!(rt; change.current, Some((Slot(0), false)));
-    assert_eq!(rt; plan.change(4).irq, 0);
-    assert_eq!(rt; plan.change(5).irq, 500_000_000);
-    assert_eq!(rt; plan.change(5).current, None);
-    assert_eq!(rt; root_after(alloc, plan, 0)?, (0, 0, 0));
-    assert_eq!(rt; root_after(alloc, plan, 5)?, (250_000_000, 250_000_000, 5));
-    Ok(())
+    is(rt, plan.len(), 5, "changes");
+    let change = nth(rt, plan, 3);
+    is(rt, change.irq, 250_000_000, 3);
+    is(rt, change.minus, None, 3);
+    is(rt, change.plus, None, 3);
+    is(rt, change.current, Some((Slot(0), false)), 3);
+    is(rt, nth(rt, plan, 4).irq, 0, 4);
+    is(rt, nth(rt, plan, 5).irq, 500_000_000, 5);
+    is(rt, nth(rt, plan, 5).current, None, 5);
+    is(rt, root_after(rt, alloc, plan, 0), (0, 0, 0), "at first");
+    let all = (250_000_000, 250_000_000, 5);
+    is(rt, root_after(rt, alloc, plan, 5), all, "after all");
 }

@@ -1,9 +1,10 @@
 //! Which traces are refused, at which line and why.
 
-use crate::events::events_of;
+use crate::events::{events_of, is};
 use proc_plan::Plans;
 use psi_base::{Cause, Fault, Refusal};
-use std::test::Fail;
+use std::alloc::Global;
+use std::process::Abort;
 
 /// Traces of one processor up to 1,000 ns, by their lines from the second on. Each has the first
 /// line against which a cause stands, and the cause.
@@ -42,16 +43,17 @@ const ROWS: [(&[&[u8]], u32, Cause); 12] = [
     (&[], 2, Cause::NoEnd),
 ];
 
+/// Why there are no plans of these lines, if there are none.
+fn fault_of(rt: &impl Abort, alloc: Global, lines: &[&[u8]]) -> Option<Fault<Refusal>> {
+    let events = events_of(alloc, lines).expect(rt, "events");
+    Plans::build(alloc, 1, 1000, &events).err()
+}
+
 #[test]
-fn first_refused_lines(rt: HostRuntime) -> Result<(), Fail> {
-    let alloc = rt.alloc();
-    for (lines, line, cause) in ROWS {
-        let events = events_of(alloc, lines)?;
-        let Err(fault) = Plans::build(alloc, 1, 1000, &events) else {
-            assert!(rt; false, "{cause:?} at {line}");
-            continue;
-        };
-        assert_eq!(rt; fault, Fault::Refused(Refusal { line, cause }));
+fn first_refused_lines(rt: HostRuntime) {
+    for &(lines, line, cause) in &ROWS {
+        let fault = fault_of(&rt, rt.alloc(), lines);
+        let want = Fault::Refused(Refusal { line, cause });
+        is(&rt, fault, Some(want), (line, cause));
     }
-    Ok(())
 }

@@ -1,9 +1,8 @@
 //! What a trace tells beside the changes of processors.
 
-use crate::events::events_of;
-use proc_plan::{Plans, Side, SideAct};
+use crate::events::{is, plans_of};
+use proc_plan::{Side, SideAct};
 use psi_base::{Cpu, Level, Ns, Preference, Res, Slot, TriggerSpec};
-use std::test::Fail;
 
 /// One trace with everything that isn't a change.
 const LINES: [&[u8]; 19] = [
@@ -56,10 +55,8 @@ fn prefer(at: Ns, slot: u32, preference: Preference) -> Side {
 }
 
 #[test]
-fn sides_in_their_order(rt: HostRuntime) -> Result<(), Fail> {
-    let alloc = rt.alloc();
-    let events = events_of(alloc, &LINES)?;
-    let plans = Plans::build(alloc, 1, 13, &events)?;
+fn sides_in_their_order(rt: HostRuntime) {
+    let plans = plans_of(&rt, rt.alloc(), 1, 13, &LINES);
     let host = SideAct::Host {
         mem_total: 100,
         swap_total: 50,
@@ -78,15 +75,12 @@ fn sides_in_their_order(rt: HostRuntime) -> Result<(), Fail> {
         prefer(12, 0, Preference::Prefer),
         task(12, 3, 1),
     ];
-    assert_eq!(rt; plans.sides(), want.as_slice());
-    Ok(())
+    is(&rt, plans.sides(), want.as_slice(), "sides");
 }
 
 #[test]
-fn triggers_in_their_order(rt: HostRuntime) -> Result<(), Fail> {
-    let alloc = rt.alloc();
-    let events = events_of(alloc, &LINES)?;
-    let plans = Plans::build(alloc, 1, 13, &events)?;
+fn triggers_in_their_order(rt: HostRuntime) {
+    let plans = plans_of(&rt, rt.alloc(), 1, 13, &LINES);
     let want = [
         TriggerSpec {
             at: 6,
@@ -105,26 +99,22 @@ fn triggers_in_their_order(rt: HostRuntime) -> Result<(), Fail> {
             window_us: 500_000,
         },
     ];
-    assert_eq!(rt; plans.triggers(), want.as_slice());
-    Ok(())
+    is(&rt, plans.triggers(), want.as_slice(), "triggers");
 }
 
 // A plan knows the parents of all groups, also of those that are gone.
 #[test]
-fn parents_of_all_slots(rt: HostRuntime) -> Result<(), Fail> {
-    let alloc = rt.alloc();
-    let events = events_of(alloc, &LINES)?;
-    let plans = Plans::build(alloc, 1, 13, &events)?;
+fn parents_of_all_slots(rt: HostRuntime) {
+    let plans = plans_of(&rt, rt.alloc(), 1, 13, &LINES);
     let plan = plans.plan(Cpu(0));
-    assert_eq!(rt; plans.lives().len(), 4);
-    for (slot, parent) in [
+    assert!(rt; plans.lives().len() == 4);
+    for &(slot, parent) in &[
         (0, None),
         (1, Some(Slot(0))),
         (2, Some(Slot(1))),
         (3, Some(Slot(1))),
     ] {
         assert!(rt; slot < 4);
-        assert_eq!(rt; plan.parent(Slot(slot)), parent, "slot {slot}");
+        is(&rt, plan.parent(Slot(slot)), parent, slot);
     }
-    Ok(())
 }

@@ -1,40 +1,59 @@
 //! Rows in one thread.
 
-use crate::events::{WAITS, events_of};
+ghost use Rattle.std.specs.Prelude.{◌≡◌, ◌≤◌, length};
+
+use crate::events::{WAITS, is, plans_of};
 use crate::rows::shown::{Shown, show, show_late, writer_after};
 use cpu_clock::Clock;
-use proc_plan::Plans;
+use proc_plan::{Plan, Plans};
 use psi_base::{Cpu, Slot};
-use std::test::Fail;
+use std::alloc::Global;
+use std::process::Abort;
 
 const ROOT: Slot = Slot(0);
 
 /// The root's clock after three of its changes: a task waits for IO, beside which nothing runs.
 const WAITING: [u64; 9] = [0, 0, 0, 0, 0, 0, 500_000_000, 0b100_0011, 500_000_000];
 
+// What is shown of the root by a writer that made three changes and a reader from before them, and
+// by one from after them.
+fn shown_early_and_late(rt: &impl Abort, alloc: Global, plan: &Plan) -> [Shown; 2]
+    requires root { length plan.now.parents ≡ 1 }
+    requires changes { 3 ≤ length plan.now.changes }
+{
+    let (mut writer, mut reader) = writer_after(rt, alloc, plan, 1, 3);
+    let early = show(&mut writer, &mut reader, ROOT);
+    [early, show_late(rt, &mut writer, ROOT)]
+}
+
+// What is shown of the root after three changes by a reader that had seen so many of them.
+fn waiting(seen: u64) -> Shown {
+    Shown {
+        made: 3,
+        own: WAITING,
+        seen,
+        sampled: Some((3, WAITING)),
+        seen_then: 3,
+    }
+}
+
 // The writer's own clock is what each reader samples. One that was made after the changes has seen
 // them; one that was made before and met nobody samples the same.
 #[test]
-fn one_slot_after_three_changes(rt: HostRuntime) -> Result<(), Fail> {
-    let events = events_of(rt.alloc(), &WAITS)?;
-    let plans = Plans::build(rt.alloc(), 1, 2_000_000_000, &events)?;
+fn one_slot_after_three_changes(rt: HostRuntime) {
+    let plans = plans_of(&rt, rt.alloc(), 1, 2_000_000_000, &WAITS);
+    both_sample_the_same(&rt, rt.alloc(), &plans);
+}
+
+fn both_sample_the_same(rt: &impl Abort, alloc: Global, plans: &Plans)
+    requires { length plans.now.plans ≡ 1 }
+{
     let plan = plans.plan(Cpu(0));
-    assert_eq!(rt; plans.lives().len(), 1);
-    assert_eq!(rt; plan.len(), 4);
-    let (mut writer, mut early) = writer_after(rt.alloc(), plan, 1, 3)?;
-    let early = show(&mut writer, &mut early, ROOT);
-    let late = show_late(&mut writer, ROOT)?;
-    for (shown, seen) in [(early, 0), (late, 3)] {
-        let want = Shown {
-            made: 3,
-            own: WAITING,
-            seen,
-            sampled: Some((3, WAITING)),
-            seen_then: 3,
-        };
-        assert_eq!(rt; shown, want);
-    }
-    Ok(())
+    assert!(rt; plans.lives().len() == 1);
+    assert!(rt; plan.len() == 4);
+    let [early, late] = shown_early_and_late(rt, alloc, plan);
+    is(rt, early, waiting(0), "by the reader from before");
+    is(rt, late, waiting(3), "by the reader from after");
 }
 
 /// Two tasks, one of them in a group, take turns on a processor.
@@ -47,24 +66,36 @@ const TURNS: [&[u8]; 6] = [
     b"2000000000 end",
 ];
 
+// The clocks of all slots by a writer that made four changes and met its reader, which samples them
+// at one count.
+fn all_after_four(rt: &impl Abort, alloc: Global, plan: &Plan) -> [Clock; 2]
+    requires slots { length plan.now.parents ≡ 2 }
+    requires changes { 4 ≤ length plan.now.changes }
+{
+    let (mut writer, mut reader) = writer_after(rt, alloc, plan, 2, 4);
+    writer.meet(&mut reader).expect(rt, "memory");
+    let mut clocks = [Clock::zero(), Clock::zero()];
+    is(rt, reader.try_sample_all(&mut clocks), Ok(4), "changes");
+    clocks
+}
+
 // The last switch leaves the root's states, so its clock starts where it did before; that of the
 // group turns.
 #[test]
-fn all_slots_at_one_count(rt: HostRuntime) -> Result<(), Fail> {
-    let events = events_of(rt.alloc(), &TURNS)?;
-    let plans = Plans::build(rt.alloc(), 1, 2_000_000_000, &events)?;
+fn all_slots_at_one_count(rt: HostRuntime) {
+    let plans = plans_of(&rt, rt.alloc(), 1, 2_000_000_000, &TURNS);
+    root_stays_and_group_turns(&rt, rt.alloc(), &plans);
+}
+
+fn root_stays_and_group_turns(rt: &impl Abort, alloc: Global, plans: &Plans)
+    requires { length plans.now.plans ≡ 1 }
+{
     let plan = plans.plan(Cpu(0));
-    assert_eq!(rt; plans.lives().len(), 2);
-    assert_eq!(rt; plan.len(), 4);
-    let (mut writer, mut reader) = writer_after(rt.alloc(), plan, 2, 4)?;
-    writer.meet(&mut reader)?;
-    let mut clocks = [Clock::zero(), Clock::zero()];
-    assert_eq!(rt; reader.try_sample_all(&mut clocks), Ok(4));
-    let [root, group] = clocks;
-    assert_eq!(rt; root.to_words(), [0, 0, 0, 0, 0, 0, 0, 0b101_0000, 0]);
-    assert_eq!(rt;
-        group.to_words(),
-        [0, 0, 0, 0, 0, 0, 1_000_000_000, 0b111_0000, 1_000_000_000]
-    );
-    Ok(())
+    assert!(rt; plans.lives().len() == 2);
+    assert!(rt; plan.len() == 4);
+    let [root, group] = all_after_four(rt, alloc, plan);
+    let stayed = [0, 0, 0, 0, 0, 0, 0, 0b101_0000, 0];
+    is(rt, root.to_words(), stayed, "the root");
+    let turned = [0, 0, 0, 0, 0, 0, 1_000_000_000, 0b111_0000, 1_000_000_000];
+    is(rt, group.to_words(), turned, "the group");
 }

@@ -2,13 +2,12 @@
 
 ghost use Rattle.std.specs.Prelude.{◌≡◌, ◌≤◌, length};
 
-use crate::events::{INTERRUPTS, plans_of};
+use crate::events::{INTERRUPTS, is, plans_of};
 use crate::rows::shown::{Shown, show, writer_after};
 use proc_plan::{IrqClocks, Plan, Plans};
-use psi_base::{Cpu, NoMemory, Slot};
+use psi_base::{Cpu, Slot};
 use std::alloc::Global;
 use std::process::Abort;
-use std::test::Fail;
 
 const ROOT: Slot = Slot(0);
 
@@ -17,33 +16,31 @@ const RUNNING: [u64; 9] = [0, 0, 0, 0, 0, 0, 0, 0b100_0000, 0];
 
 // The root's interrupt time (ns) by a writer that made so many changes of a plan that has the root
 // alone, and what the two ends of its row show of it.
-fn shown_after(alloc: Global, plan: &Plan, changes: u64) -> Result<(u64, Shown), NoMemory>
+fn shown_after(rt: &impl Abort, alloc: Global, plan: &Plan, changes: u64) -> (u64, Shown)
     requires root { 1 ≡ length plan.now.parents }
     requires changes { changes ≤ length plan.now.changes }
 {
-    let (mut writer, mut reader) = writer_after(alloc, plan, 1, changes)?;
+    let (mut writer, mut reader) = writer_after(rt, alloc, plan, 1, changes);
     let irq = writer.own_irq(ROOT);
-    Ok((irq, show(&mut writer, &mut reader, ROOT)))
+    (irq, show(&mut writer, &mut reader, ROOT))
 }
 
 // Only the interrupts beside a running task count. They are no words of the row: its clock stays,
 // and the change is seen.
 #[test]
-fn interrupts_of_the_root(rt: HostRuntime) -> Result<(), Fail> {
-    let plans = plans_of(rt.alloc(), 1, 2_000_000_000, &INTERRUPTS)?;
-    let told = beside_a_task_alone(&rt, rt.alloc(), &plans);
-    drop(plans);
-    told
+fn interrupts_of_the_root(rt: HostRuntime) {
+    let plans = plans_of(&rt, rt.alloc(), 1, 2_000_000_000, &INTERRUPTS);
+    beside_a_task_alone(&rt, rt.alloc(), &plans);
 }
 
-fn beside_a_task_alone<R: Abort>(rt: &R, alloc: Global, plans: &Plans) -> Result<(), Fail>
+fn beside_a_task_alone(rt: &impl Abort, alloc: Global, plans: &Plans)
     requires { length plans.now.plans ≡ 1 }
 {
     let plan = plans.plan(Cpu(0));
-    assert_eq!(rt; plans.lives().len(), 1);
-    assert_eq!(rt; plan.len(), 5);
-    let (last, _) = shown_after(alloc, plan, 5)?;
-    assert_eq!(rt; last, 250_000_000);
+    assert!(rt; plans.lives().len() == 1);
+    assert!(rt; plan.len() == 5);
+    let (last, _) = shown_after(rt, alloc, plan, 5);
+    is(rt, last, 250_000_000, "after the last change");
     let want = Shown {
         made: 3,
         own: RUNNING,
@@ -51,8 +48,8 @@ fn beside_a_task_alone<R: Abort>(rt: &R, alloc: Global, plans: &Plans) -> Result
         sampled: Some((3, RUNNING)),
         seen_then: 3,
     };
-    assert_eq!(rt; shown_after(alloc, plan, 3)?, (250_000_000, want));
-    Ok(())
+    let third = shown_after(rt, alloc, plan, 3);
+    is(rt, third, (250_000_000, want), "after the third change");
 }
 
 /// Interrupts beside a task in a group below another, beside one that moves to the root, and beside
@@ -74,39 +71,37 @@ const GROUPS: [&[u8]; 14] = [
     b"60 end",
 ];
 
-/// The interrupt times (ns) that a writer tells of four slots after so many changes.
-fn irqs_after(alloc: Global, plan: &Plan, changes: u64) -> Result<[u64; 4], NoMemory>
+/// A writer tells these interrupt times (ns) of four slots after so many changes.
+fn has_irqs(rt: &impl Abort, alloc: Global, plan: &Plan, changes: u64, wanted: [u64; 4])
     requires slots { 4 ≡ length plan.now.parents }
     requires changes { changes ≤ length plan.now.changes }
 {
-    let (mut writer, _reader) = writer_after(alloc, plan, 4, changes)?;
-    Ok([
+    let (mut writer, _reader) = writer_after(rt, alloc, plan, 4, changes);
+    let found = [
         writer.own_irq(Slot(0)),
         writer.own_irq(Slot(1)),
         writer.own_irq(Slot(2)),
         writer.own_irq(Slot(3)),
-    ])
+    ];
+    is(rt, (changes, found), (changes, wanted), "by changes");
 }
 
 // A group has the interrupts of the tasks in it and below it, and keeps them when a task goes.
 #[test]
-fn interrupts_of_groups(rt: HostRuntime) -> Result<(), Fail> {
-    let plans = plans_of(rt.alloc(), 1, 2_000_000_000, &GROUPS)?;
-    let told = keep_theirs(&rt, rt.alloc(), &plans);
-    drop(plans);
-    told
+fn interrupts_of_groups(rt: HostRuntime) {
+    let plans = plans_of(&rt, rt.alloc(), 1, 2_000_000_000, &GROUPS);
+    keep_theirs(&rt, rt.alloc(), &plans);
 }
 
-fn keep_theirs<R: Abort>(rt: &R, alloc: Global, plans: &Plans) -> Result<(), Fail>
+fn keep_theirs(rt: &impl Abort, alloc: Global, plans: &Plans)
     requires { length plans.now.plans ≡ 1 }
 {
     let plan = plans.plan(Cpu(0));
-    assert_eq!(rt; plans.lives().len(), 4);
-    assert_eq!(rt; plan.len(), 10);
-    assert_eq!(rt; irqs_after(alloc, plan, 3)?, [0, 0, 0, 0]);
-    assert_eq!(rt; irqs_after(alloc, plan, 4)?, [5, 5, 5, 0]);
-    assert_eq!(rt; irqs_after(alloc, plan, 6)?, [8, 5, 5, 3]);
-    assert_eq!(rt; irqs_after(alloc, plan, 8)?, [15, 5, 5, 3]);
-    assert_eq!(rt; irqs_after(alloc, plan, 10)?, [15, 5, 5, 3]);
-    Ok(())
+    assert!(rt; plans.lives().len() == 4);
+    assert!(rt; plan.len() == 10);
+    has_irqs(rt, alloc, plan, 3, [0, 0, 0, 0]);
+    has_irqs(rt, alloc, plan, 4, [5, 5, 5, 0]);
+    has_irqs(rt, alloc, plan, 6, [8, 5, 5, 3]);
+    has_irqs(rt, alloc, plan, 8, [15, 5, 5, 3]);
+    has_irqs(rt, alloc, plan, 10, [15, 5, 5, 3]);
 }

@@ -1,60 +1,78 @@
 //! Samples beside a writer that is at work.
 
-use crate::events::events_of;
+ghost use Rattle.std.specs.Prelude.{◌≡◌, ◌≤◌, ◌^◌, length};
+
+use crate::events::{is, plans_of};
 use crate::rows::threads::{are_plain, beside};
+use clock_row::Sample;
 use proc_plan::Plans;
-use psi_base::{Cpu, NoMemory, Slot};
+use psi_base::{Cpu, Slot};
 use std::alloc::Global;
-use std::test::Fail;
+use std::process::Abort;
+use std::thread::Threads;
 
 /// How often two tasks, one of them in a group, take turns: three changes each time.
 const ROUNDS: u64 = 33_333;
 
+// One round of turns from a moment on.
+fn put_round(rt: &impl Abort, text: &mut String, at: u64)
+    requires { at ≤ 2 ^ 63 }
+{
+    let (stalls, wakes) = (at + 300, at + 500);
+    writeln!(text, "{at} switch 0 2 preempt").expect(rt, "memory");
+    writeln!(text, "{stalls} switch 0 1 iowait").expect(rt, "memory");
+    writeln!(text, "{wakes} wake 2 0").expect(rt, "memory");
+}
+
 /// The lines of a trace with 100,002 changes.
-fn lines(alloc: Global) -> Result<Vec<String>, NoMemory> {
-    let mut lines = Vec::new(alloc);
-    for first in [
-        "0 group /a",
-        "0 fork 1 / 0",
-        "0 fork 2 /a 0",
-        "0 switch 0 1 idle",
-    ] {
-        lines.push(format!(in alloc; "{first}")?)?;
-    }
+fn lines(rt: &impl Abort, alloc: Global) -> String {
+    let begin = "0 group /a\n0 fork 1 / 0\n0 fork 2 /a 0\n0 switch 0 1 idle\n";
+    let mut text = String::from_str(alloc, begin).expect(rt, "memory");
     'rounds: for round in 1..=ROUNDS {
-        let at = 1_000 * round;
-        lines.push(format!(in alloc; "{at} switch 0 2 preempt")?)?;
-        lines.push(format!(in alloc; "{} switch 0 1 iowait", at + 300)?)?;
-        lines.push(format!(in alloc; "{} wake 2 0", at + 500)?)?;
+        put_round(rt, &mut text, 1_000 * round);
     }
-    lines.push(format!(in alloc; "60000000000 end")?)?;
-    Ok(lines)
+    text.push_str("60000000000 end\n").expect(rt, "memory");
+    text
+}
+
+// The plans of these lines.
+fn plans_of_rounds(rt: &impl Abort, alloc: Global) -> Plans
+    ensures { length result.plans ≡ 1 }
+{
+    let text = lines(rt, alloc);
+    let mut lines = Vec::new(alloc);
+    for line in text.lines() {
+        lines.push(line.as_bytes()).expect(rt, "memory");
+    }
+    plans_of(rt, alloc, 1, 60_000_000_000, &lines)
+}
+
+// Samples of the group beside a writer that makes all changes.
+fn sampled<R: Abort + Threads + Sync>(rt: &R, alloc: Global, plans: &Plans) -> Vec<Sample>
+    requires { length plans.now.plans ≡ 1 }
+{
+    let group = Slot(1);
+    let plan = plans.plan(Cpu(0));
+    assert!(rt; plans.lives().len() == 2);
+    assert!(rt; plan.len() == 100_002);
+    let (made, samples) = beside(rt, alloc, plan, 2, 100_002, group);
+    is(rt, made, 100_002, "changes");
+    assert!(rt; !samples.is_empty());
+    let plain = are_plain(alloc, plan, 2, group, &samples).expect(rt, "memory");
+    assert!(rt; plain);
+    samples
 }
 
 // Each sample is the clock of one thread after as many changes, and counts never fall. The reader
 // ends once it has seen all.
 #[test]
-fn samples_beside_the_writer(rt: HostRuntime) -> Result<(), Fail> {
-    let group = Slot(1);
-    let texts = lines(rt.alloc())?;
-    let mut lines = Vec::new(rt.alloc());
-    for text in &texts {
-        lines.push(text.as_bytes())?;
-    }
-    let events = events_of(rt.alloc(), &lines)?;
-    let plans = Plans::build(rt.alloc(), 1, 60_000_000_000, &events)?;
-    let plan = plans.plan(Cpu(0));
-    assert_eq!(rt; plans.lives().len(), 2);
-    assert_eq!(rt; plan.len(), 100_002);
-    let (made, samples) = beside(&rt, rt.alloc(), plan, 2, 100_002, group)?;
-    assert_eq!(rt; made, 100_002);
-    assert!(rt; !samples.is_empty());
-    assert!(rt; are_plain(rt.alloc(), plan, 2, group, &samples)?);
+fn samples_beside_the_writer(rt: HostRuntime) {
+    let plans = plans_of_rounds(&rt, rt.alloc());
+    let samples = sampled(&rt, rt.alloc(), &plans);
     if !samples
         .iter()
         .any(|sample| 0 < sample.count && sample.count < 100_002)
     {
-        println!(rt; "no sample was taken while the writer ran")?;
+        println!(rt; "no sample was taken while the writer ran").expect(&rt, "printing");
     }
-    Ok(())
 }

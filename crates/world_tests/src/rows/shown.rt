@@ -1,11 +1,12 @@
 //! What a row shows of a slot.
 
-ghost use Rattle.std.specs.Prelude.{◌≡◌, ◌≤◌, ◌<◌, length, IfOk};
+ghost use Rattle.std.specs.Prelude.{◌≡◌, ◌≤◌, ◌<◌, length};
 
 use clock_row::{ClockReader, ClockWriter, Row};
 use proc_plan::{Plan, ProcClocks};
-use psi_base::{NoMemory, Slot};
+use psi_base::Slot;
 use std::alloc::Global;
+use std::process::Abort;
 
 /// What the two ends of a row have of a slot.
 #[derive(Clone, Copy, Debug, PartialEq, Eq)]
@@ -36,21 +37,22 @@ fn make_changes(writer: &mut ClockWriter<'_>, changes: u64)
 
 /// A writer that made so many changes of a plan, and a reader from before them.
 pub fn writer_after<'a>(
+    rt: &impl Abort,
     alloc: Global,
     plan: &'a Plan,
     slots: u32,
     changes: u64,
-) -> Result<(ClockWriter<'a>, ClockReader), NoMemory>
+) -> (ClockWriter<'a>, ClockReader)
     requires slots { slots ≡ length plan.now.parents }
     requires changes { changes ≤ length plan.now.changes }
-    ensures row { IfOk result (λ ends. ends.1.row ≡ ends.0.row) }
-    ensures writer { IfOk result (λ ends. ends.0.knows.plan ≡ plan.now) }
-    ensures reader { IfOk result (λ ends. ends.1.knows.plan ≡ plan.now) }
+    ensures row { result.1.row ≡ result.0.row }
+    ensures writer { result.0.knows.plan ≡ plan.now }
+    ensures reader { result.1.knows.plan ≡ plan.now }
 {
-    let mut writer = Row::make(alloc, plan, slots)?;
-    let reader = writer.reader()?;
+    let mut writer = Row::make(alloc, plan, slots).expect(rt, "memory");
+    let reader = writer.reader().expect(rt, "memory");
     make_changes(&mut writer, changes);
-    Ok((writer, reader))
+    (writer, reader)
 }
 
 /// What a reader samples of a slot.
@@ -81,11 +83,11 @@ pub fn show(writer: &mut ClockWriter<'_>, reader: &mut ClockReader, slot: Slot) 
 }
 
 /// What the writer has of a slot and a new reader, which it meets and settles with.
-pub fn show_late(writer: &mut ClockWriter<'_>, slot: Slot) -> Result<Shown, NoMemory>
+pub fn show_late(rt: &impl Abort, writer: &mut ClockWriter<'_>, slot: Slot) -> Shown
     requires { slot.0 < length writer.old.knows.plan.parents }
 {
-    let mut late = writer.reader()?;
-    writer.meet(&mut late)?;
-    writer.settle(&mut late)?;
-    Ok(show(writer, &mut late, slot))
+    let mut late = writer.reader().expect(rt, "memory");
+    writer.meet(&mut late).expect(rt, "memory");
+    writer.settle(&mut late).expect(rt, "memory");
+    show(writer, &mut late, slot)
 }

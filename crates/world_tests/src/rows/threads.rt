@@ -6,6 +6,7 @@ use clock_row::{ClockReader, ClockWriter, Row, Sample};
 use proc_plan::{PlainClocks, Plan, ProcClocks};
 use psi_base::{NoMemory, Slot};
 use std::alloc::Global;
+use std::process::Abort;
 use std::thread::{Threads, join, yield_now};
 
 /// After so many changes the writer lets another thread run, so that the two take turns on one
@@ -54,20 +55,20 @@ fn sampled(alloc: Global, mut reader: ClockReader, slot: Slot, all: u64) -> Vec<
 
 /// A writer makes so many changes of a plan in one thread, while a reader in another samples a
 /// slot. How many changes were made, and the samples.
-pub fn beside<R: Threads + Sync>(
+pub fn beside<R: Abort + Threads + Sync>(
     rt: &R,
     alloc: Global,
     plan: &Plan,
     slots: u32,
     changes: u64,
     slot: Slot,
-) -> Result<(u64, Vec<Sample>), NoMemory>
+) -> (u64, Vec<Sample>)
     requires slots { slots ≡ length plan.now.parents }
     requires changes { changes ≤ length plan.now.changes }
     requires slot { slot.0 < slots }
 {
-    let mut writer = Row::make(alloc, plan, slots)?;
-    let reader = writer.reader()?;
+    let mut writer = Row::make(alloc, plan, slots).expect(rt, "memory");
+    let reader = writer.reader().expect(rt, "memory");
     let (writer, samples) = join(
         rt,
         || -> ClockWriter<'_>
@@ -78,7 +79,7 @@ pub fn beside<R: Threads + Sync>(
             requires { slot.0 < length reader.knows.plan.parents }
         { sampled(alloc, reader, slot, changes) },
     );
-    Ok((writer.count(), samples))
+    (writer.count(), samples)
 }
 
 /// The counts of samples never fall, and each clock is that of plain clocks after as many changes.

@@ -1,9 +1,12 @@
 //! Which lines are refused, and why.
 
-use psi_base::{Act, Cause, Cpu, Event, Fault, NoMemory, Path, Pid, Slot};
+ghost use Rattle.std.specs.Prelude.{◌≤◌};
+
+use crate::events::is;
+use psi_base::{Act, Cause, Cpu, Event, Fault, Ns, Path, Pid, Slot};
 use psi_trace::read_event;
 use std::alloc::Global;
-use std::test::Fail;
+use std::process::Abort;
 use task_table::Table;
 
 /// One trace of two processors up to 1,000 ns. Each line has its cause behind it, and a refused one
@@ -125,106 +128,123 @@ const PRESSURE_LINES: &str = "5 pressure /x on | UnknownGroup;\
     8 end | ok;\
     8 pressure / off | AfterEnd";
 
+/// The table of a trace of so many processors up to a moment.
+fn table(rt: &impl Abort, alloc: Global, cpus: u32, latest: Ns) -> Table
+    requires some { 1 ≤ cpus }
+    requires few { cpus ≤ 64 }
+{
+    Table::new(alloc, cpus, latest).expect(rt, "memory")
+}
+
+/// The event of a line of the second format.
+fn event(rt: &impl Abort, alloc: Global, line: &str) -> Event {
+    read_event(alloc, 2, line.as_bytes()).expect(rt, line)
+}
+
 /// The cause has this name, and there is none where it is `ok`.
-fn is_named(alloc: Global, cause: Option<Cause>, name: &str) -> Result<bool, Fail> {
-    Ok(match cause {
-        Some(cause) => format!(in alloc; "{cause:?}")?.as_str() == name,
+fn is_named(rt: &impl Abort, alloc: Global, cause: Option<Cause>, name: &str) -> bool {
+    match cause {
+        Some(cause) => format!(in alloc; "{cause:?}").expect(rt, "memory").as_str() == name,
         None => name == "ok",
-    })
+    }
 }
 
 /// The first cause against the event, when it is played.
-fn played(table: &mut Table, event: &Event) -> Result<Option<Cause>, NoMemory> {
+fn played(rt: &impl Abort, table: &mut Table, event: &Event) -> Option<Cause> {
     match table.step(event) {
-        Ok(_) => Ok(None),
-        Err(Fault::Refused(cause)) => Ok(Some(cause)),
-        Err(Fault::NoMemory(none)) => Err(none),
+        Ok(_) => None,
+        Err(Fault::Refused(cause)) => Some(cause),
+        Err(Fault::NoMemory(none)) => panic!(rt; "{none:?}"),
     }
 }
 
 /// The table checks and plays the line of the row as it tells.
-fn is_so(alloc: Global, table: &mut Table, row: &str) -> Result<bool, Fail> {
-    let Some((line, want)) = row.split_once(" | ") else {
-        return Ok(false);
-    };
-    let Ok(event) = read_event(alloc, 2, line.as_bytes()) else {
-        return Ok(false);
-    };
+fn plays_row(rt: &impl Abort, alloc: Global, table: &mut Table, row: &str) {
+    let (line, want) = row.split_once(" | ").expect(rt, row);
+    let event = event(rt, alloc, line);
     let checked = table.check(&event);
-    let played = played(table, &event)?;
-    Ok(played == checked && is_named(alloc, played, want)?)
+    let played = played(rt, table, &event);
+    is(rt, played, checked, row);
+    is(rt, is_named(rt, alloc, played, want), true, row);
+}
+
+/// The same of each of these rows.
+fn plays(rt: &impl Abort, alloc: Global, table: &mut Table, rows: &str) {
+    for row in rows.split(';') {
+        plays_row(rt, alloc, table, row);
+    }
+}
+
+/// The live group with this path.
+fn found(rt: &impl Abort, alloc: Global, table: &Table, path: &str) -> Option<Slot> {
+    let read = Path::read(alloc, path.as_bytes()).expect(rt, "memory");
+    table.groups().find(&read.expect(rt, path))
 }
 
 #[test]
-fn causes_in_their_order(rt: HostRuntime) -> Result<(), Fail> {
-    let mut table = Table::new(rt.alloc(), 2, 1000)?;
-    for row in LINES.split(';') {
-        assert!(rt; is_so(rt.alloc(), &mut table, row)?, "{row}");
-    }
+fn causes_in_their_order(rt: HostRuntime) {
+    let mut table = table(&rt, rt.alloc(), 2, 1000);
+    plays(&rt, rt.alloc(), &mut table, LINES);
     assert!(rt; table.is_ended());
-    assert_eq!(rt; table.last(), 1000);
-    assert_eq!(rt; table.groups().len(), 4);
-    let Some(path) = Path::read(rt.alloc(), b"/a/b")? else {
-        panic!(rt; "/a/b is no path");
-    };
-    assert_eq!(rt; table.groups().find(&path), Some(Slot(3)));
-    Ok(())
+    is(&rt, table.last(), 1000, "last");
+    is(&rt, table.groups().len(), 4, "groups");
+    let found = found(&rt, rt.alloc(), &table, "/a/b");
+    is(&rt, found, Some(Slot(3)), "/a/b");
 }
 
 #[test]
-fn interrupts_from_line_to_line(rt: HostRuntime) -> Result<(), Fail> {
-    let mut table = Table::new(rt.alloc(), 2, 4_000_000_000)?;
-    for row in IRQ_LINES.split(';') {
-        assert!(rt; is_so(rt.alloc(), &mut table, row)?, "{row}");
-    }
-    Ok(())
+fn interrupts_from_line_to_line(rt: HostRuntime) {
+    let mut table = table(&rt, rt.alloc(), 2, 4_000_000_000);
+    plays(&rt, rt.alloc(), &mut table, IRQ_LINES);
 }
 
 #[test]
-fn accounts_that_are_switched(rt: HostRuntime) -> Result<(), Fail> {
-    let mut table = Table::new(rt.alloc(), 2, 1000)?;
-    for row in PRESSURE_LINES.split(';') {
-        assert!(rt; is_so(rt.alloc(), &mut table, row)?, "{row}");
-    }
+fn accounts_that_are_switched(rt: HostRuntime) {
+    let mut table = table(&rt, rt.alloc(), 2, 1000);
+    plays(&rt, rt.alloc(), &mut table, PRESSURE_LINES);
     let on = table.groups().lives().iter().map(|life| life.on);
     assert!(rt; on.eq([true, true, false]));
-    Ok(())
+}
+
+/// The line may be played so many times.
+fn takes(rt: &impl Abort, alloc: Global, table: &mut Table, line: &str, times: u32) {
+    let event = event(rt, alloc, line);
+    for count in 0..times {
+        is(rt, table.play(&event), Ok(()), count);
+    }
+}
+
+/// The line is refused for this cause.
+fn refuses(rt: &impl Abort, alloc: Global, table: &mut Table, line: &str, cause: Cause) {
+    let event = event(rt, alloc, line);
+    is(rt, table.play(&event), Err(Fault::Refused(cause)), line);
 }
 
 // One line more than a limit is refused: the 257th trigger.
 #[test]
-fn triggers_up_to_the_limit(rt: HostRuntime) -> Result<(), Fail> {
-    let mut table = Table::new(rt.alloc(), 1, 1000)?;
-    let event = read_event(rt.alloc(), 1, b"1 trigger / io some 1 500000")?;
-    for count in 0..256u32 {
-        assert!(rt; table.play(&event).is_ok(), "trigger {count}");
-    }
-    assert!(rt; table.play(&event) == Err(Fault::Refused(Cause::TooManyTriggers)));
-    Ok(())
+fn triggers_up_to_the_limit(rt: HostRuntime) {
+    let mut table = table(&rt, rt.alloc(), 1, 1000);
+    let line = "1 trigger / io some 1 500000";
+    takes(&rt, rt.alloc(), &mut table, line, 256);
+    refuses(&rt, rt.alloc(), &mut table, line, Cause::TooManyTriggers);
 }
 
 // So is the 65,537th `pressure` line, ahead of what else stands against it.
 #[test]
-fn pressure_lines_up_to_the_limit(rt: HostRuntime) -> Result<(), Fail> {
-    let alloc = rt.alloc();
-    let mut table = Table::new(alloc, 1, 1000)?;
-    let group = read_event(alloc, 2, b"1 group /a")?;
-    assert!(rt; table.play(&group).is_ok());
-    let event = read_event(alloc, 2, b"1 pressure /a off")?;
-    for count in 0..65_536u32 {
-        assert!(rt; table.play(&event).is_ok(), "line {count}");
+fn pressure_lines_up_to_the_limit(rt: HostRuntime) {
+    let mut table = table(&rt, rt.alloc(), 1, 1000);
+    takes(&rt, rt.alloc(), &mut table, "1 group /a", 1);
+    takes(&rt, rt.alloc(), &mut table, "1 pressure /a off", 65_536);
+    for line in &["1 pressure / off", "1 pressure /a off"] {
+        refuses(&rt, rt.alloc(), &mut table, line, Cause::TooManyPressures);
     }
-    let root = read_event(alloc, 2, b"1 pressure / off")?;
-    assert!(rt; table.play(&root) == Err(Fault::Refused(Cause::TooManyPressures)));
-    assert!(rt; table.play(&event) == Err(Fault::Refused(Cause::TooManyPressures)));
-    Ok(())
 }
 
 /// Makes the task with this number, in the root and on the first processor.
-fn fork(alloc: Global, table: &mut Table, pid: u32) -> Result<(), Fault<Cause>> {
+fn fork(rt: &impl Abort, alloc: Global, table: &mut Table, pid: u32) -> Result<(), Fault<Cause>> {
     let act = Act::Fork {
         pid: Pid(pid),
-        path: Path::root(alloc)?,
+        path: Path::root(alloc).expect(rt, "memory"),
         cpu: Cpu(0),
     };
     table.play(&Event { at: 1, act })
@@ -232,12 +252,11 @@ fn fork(alloc: Global, table: &mut Table, pid: u32) -> Result<(), Fault<Cause>> 
 
 // So is the 65,537th task.
 #[test]
-fn tasks_up_to_the_limit(rt: HostRuntime) -> Result<(), Fail> {
-    let mut table = Table::new(rt.alloc(), 1, 1000)?;
+fn tasks_up_to_the_limit(rt: HostRuntime) {
+    let mut table = table(&rt, rt.alloc(), 1, 1000);
     for pid in 1..=65_536u32 {
-        assert!(rt; fork(rt.alloc(), &mut table, pid).is_ok(), "task {pid}");
+        is(&rt, fork(&rt, rt.alloc(), &mut table, pid), Ok(()), pid);
     }
-    let last = fork(rt.alloc(), &mut table, 65_537);
-    assert!(rt; last == Err(Fault::Refused(Cause::TooManyTasks)));
-    Ok(())
+    let last = fork(&rt, rt.alloc(), &mut table, 65_537);
+    is(&rt, last, Err(Fault::Refused(Cause::TooManyTasks)), 65_537);
 }

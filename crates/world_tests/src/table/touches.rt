@@ -1,10 +1,11 @@
 //! What lines change on processors.
 
+use crate::events::is;
 use psi_base::{Cpu, Ns, Slot};
 use psi_counts::{Change, Counts, Touch};
 use psi_trace::read_event;
 use std::alloc::Global;
-use std::test::Fail;
+use std::process::Abort;
 use task_table::Table;
 
 /// A task of one group is in a stall, sleeps, wakes elsewhere, migrates, moves and exits. A wake or
@@ -97,29 +98,28 @@ fn account(told: &str) -> Option<(Slot, bool)> {
     }
 }
 
-/// The line of the row changes what stands behind it.
-fn is_so(alloc: Global, table: &mut Table, row: &str) -> bool {
-    let (line, told) = row.split_once(" | ").unwrap_or((row, ""));
+/// What stands behind a line at this moment.
+fn touch(at: Ns, told: &str) -> Touch {
     let (first, second) = told.split_once(" | ").unwrap_or((told, ""));
-    let Ok(event) = read_event(alloc, 2, line.as_bytes()) else {
-        return false;
-    };
-    let want = Touch {
-        first: change(event.at, first),
-        second: change(event.at, second),
+    Touch {
+        first: change(at, first),
+        second: change(at, second),
         account: account(told),
-    };
-    match table.step(&event) {
-        Ok(touch) => touch == want,
-        Err(_) => false,
     }
 }
 
+/// The line of the row changes what stands behind it.
+fn plays_row(rt: &impl Abort, alloc: Global, table: &mut Table, row: &str) {
+    let (line, told) = row.split_once(" | ").unwrap_or((row, ""));
+    let event = read_event(alloc, 2, line.as_bytes()).expect(rt, line);
+    let touched = table.step(&event).expect(rt, line);
+    is(rt, touched, touch(event.at, told), row);
+}
+
 #[test]
-fn touches_of_each_line(rt: HostRuntime) -> Result<(), Fail> {
-    let mut table = Table::new(rt.alloc(), 2, 1000)?;
+fn touches_of_each_line(rt: HostRuntime) {
+    let mut table = Table::new(rt.alloc(), 2, 1000).expect(&rt, "memory");
     for row in LINES.split(';') {
-        assert!(rt; is_so(rt.alloc(), &mut table, row), "{row}");
+        plays_row(&rt, rt.alloc(), &mut table, row);
     }
-    Ok(())
 }

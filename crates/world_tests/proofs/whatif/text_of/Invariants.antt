@@ -4,7 +4,7 @@ use Rattle.world_tests.proofs.whatif.text_of.Given as goal
 
 -- the events fit
 abbrev pub invariant-events : goal.invariant-events
-invariant-events l = AllFit l.events
+invariant-events g l = AllFit l.events
 
 abbrev pub decreases-events : goal.decreases-events
-decreases-events l = length l.events - l.at
+decreases-events g l = length l.events - l.at
