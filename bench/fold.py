@@ -147,7 +147,7 @@ class Services:
 
 
 def lines_of(seconds: float, cpus: int, services: int, least: int, most: int) -> Iterator[str]:
-    """The lines of a trace, behind its header."""
+    """The lines of a trace, after its header."""
     for moment, words in Services(cpus, services, least, most).lines(round(seconds * 10**9)):
         yield f"{moment} {words}"
 

@@ -4,7 +4,7 @@
 usage: bench/make_recording.py TRACE FOLDER [TIMES]     (1 where TIMES is left out)
 
 TRACE has groups and tasks that are made at its start, and wakeups, switches and stalls; FOLDER is made. The pages are those of the
-kernel of the stored recording mix-2. With TIMES they come so often, one behind the other with later moments: where one begins again
+kernel of the stored recording mix-2. With TIMES they come so often, one after the other with later moments: where one begins again
 tasks aren't as the end left them, which psitrace mends and counts.
 """
 from __future__ import annotations

@@ -24,7 +24,7 @@ BELIEVED_TITLE = "## The files that have to be believed"
 
 
 def counted(lines: Iterable[str], comment: str) -> Iterator[str]:
-    """The lines that count, without what stands before and behind them."""
+    """The lines that count, without what stands before and after them."""
     for line in map(str.strip, lines):
         if line and not line.startswith(comment):
             yield line

@@ -111,7 +111,7 @@ def text_of(name: str) -> str:
 
 
 def lines_between(trace: str, start: int, end: int) -> list[str]:
-    """The lines of a trace from behind one moment up to another (ns)."""
+    """The lines of a trace from after one moment up to another (ns)."""
     found = [line for line in trace.splitlines()[1:] if start < int(line.split(" ")[0]) <= end]
     must(trace.endswith("\n"), "the trace ends with a newline")
     return found

@@ -71,17 +71,17 @@ class Result(NamedTuple):
 # ---------------------------------------------------------------- one line
 
 
-def behind_last(key: bytes, part: bytes) -> bytes:
-    """What stands behind the last occurrence of the key."""
-    before, found, behind = part.rpartition(key)
+def after_last(key: bytes, part: bytes) -> bytes:
+    """What stands after the last occurrence of the key."""
+    before, found, after = part.rpartition(key)
     if not found:
         raise Bad("BadLine")
-    return behind
+    return after
 
 
 def number(key: bytes, part: bytes) -> int:
-    """The number behind the last occurrence of the key, up to a space or the end."""
-    digits = behind_last(key, part).partition(b" ")[0]
+    """The number after the last occurrence of the key, up to a space or the end."""
+    digits = after_last(key, part).partition(b" ")[0]
     if not DIGITS.fullmatch(digits) or int(digits) >= 2**32:
         raise Bad("BadLine")
     return int(digits)
@@ -89,7 +89,7 @@ def number(key: bytes, part: bytes) -> int:
 
 def head_of(head: bytes) -> tuple[int, int]:
     """The time of a head, and its processor: the last number in brackets."""
-    time = TIME.fullmatch(behind_last(b" ", head))
+    time = TIME.fullmatch(after_last(b" ", head))
     processors = BRACKET.findall(head)
     if not time or not processors or len(processors[-1]) > 3:
         raise Bad("BadLine")
@@ -101,14 +101,14 @@ def switch_of(cpu: int, tail: bytes) -> Switch:
     left, arrow, right = tail.rpartition(b" ==> ")
     if not arrow:
         raise Bad("BadLine")
-    state = behind_last(b" prev_state=", left)
+    state = after_last(b" prev_state=", left)
     if not state:
         raise Bad("BadLine")
     return Switch(cpu, number(b" prev_pid=", left), number(b" next_pid=", right), HOW.get(state[:1], "sleep"))
 
 
 def task_and_cpu(tail: bytes, key: bytes) -> tuple[int, int]:
-    """The task that a tail names, which isn't 0, and the processor behind the key."""
+    """The task that a tail names, which isn't 0, and the processor after the key."""
     pid = number(b" pid=", tail)
     if pid == 0:
         raise Bad("BadLine")

@@ -31,7 +31,7 @@ class Due:
 
 
 class Observed:
-    """What observers of a path may print of a trace: the samples that are due of each, in its order, and the lines behind them."""
+    """What observers of a path may print of a trace: the samples that are due of each, in its order, and the lines after them."""
 
     def __init__(self, trace: str, path: str) -> None:
         self.clocks = Clocks(trace, path, TICK)
@@ -39,7 +39,7 @@ class Observed:
         replay = Replay(Run("", trace, TICK, 0))
         self.signals = sum(line.startswith("event ") for line in replay.output())
         self.end = replay.end
-        # The texts behind the observer's number, by group, processor and count: many samples of a quiet trace are the same.
+        # The texts after the observer's number, by group, processor and count: many samples of a quiet trace are the same.
         self.texts: dict[tuple[int | None, int, int], str] = {}
 
     def all_due(self) -> Iterator[Due]:
@@ -60,14 +60,14 @@ class Observed:
         return f"sample observer={observer} {self.texts[key]}".encode()
 
     def last_lines(self, observers: int) -> list[bytes]:
-        """The lines behind all samples: what each observer read last of the board, and the end."""
+        """The lines after all samples: what each observer read last of the board, and the end."""
         board = f"tick={len(self.clocks.ticks)} events={self.signals} kills=0"
         lines = [f"board observer={observer} {board}" for observer in range(observers)]
         return [line.encode() for line in (*lines, f"end {self.end} samples={observers * len(self.due)}")]
 
 
 class Observer:
-    """An observer whose samples are taken off an output, one behind the other."""
+    """An observer whose samples are taken off an output, one after the other."""
 
     def __init__(self, number: int, observed: Observed) -> None:
         self.number, self.observed = number, observed
@@ -89,10 +89,10 @@ class Observer:
 
 
 def compare(printed: bytes, observed: Observed, observers: int) -> None:
-    """Refuses an output that so many observers may not print. Each sample stands in its interval: those of a tick behind those of the
+    """Refuses an output that so many observers may not print. Each sample stands in its interval: those of a tick after those of the
     tick before."""
-    *lines, behind = printed.split(b"\n")
-    must_be("what stands behind the last line", behind, b"")
+    *lines, after = printed.split(b"\n")
+    must_be("what stands after the last line", after, b"")
     count = observers * len(observed.due)
     seen, moment = [Observer(number, observed) for number in range(observers)], 0
     for number, line in enumerate(lines[:count], 1):
@@ -103,9 +103,9 @@ def compare(printed: bytes, observed: Observed, observers: int) -> None:
             tick = seen[int(found[1])].take(line, int(found[2]))
         except Wrong as wrong:
             raise Wrong(f"line {number} is {line!r}: {wrong}") from None
-        must(moment <= tick.moment, f"line {number} is {line!r}: a sample of {tick.moment} behind one of {moment}")
+        must(moment <= tick.moment, f"line {number} is {line!r}: a sample of {tick.moment} after one of {moment}")
         moment = tick.moment
-    must_be("the lines behind the samples", lines[count:], observed.last_lines(observers))
+    must_be("the lines after the samples", lines[count:], observed.last_lines(observers))
 
 
 def is_too_many(cpus: int, ticks: int, observers: int) -> bool:

@@ -118,7 +118,7 @@ class Replay:
                 yield f"stall cpu={cpu} {path} {' '.join(map(str, self.live[path].times[cpu][:shown]))}"
 
     def go_to(self, moment: int, is_end: bool) -> Iterator[str]:
-        """Lets time go by up to this moment (ns). A tick at the moment itself comes behind its events."""
+        """Lets time go by up to this moment (ns). A tick at the moment itself comes after its events."""
         while (self.ticks + 1) * self.run.tick < moment + is_end:
             self.ticks += 1
             self.pass_to(self.ticks * self.run.tick)

@@ -66,7 +66,7 @@ def number(most: int) -> Form:
 
 
 def ratio(text: str) -> Optional[str]:
-    """A number up to 1000 with up to three digits behind a point; it is printed with three."""
+    """A number up to 1000 with up to three digits after a point; it is printed with three."""
     found = re.fullmatch(NUMBER + PART, text, re.ASCII)
     return f"{found[1]}.{(found[2] or '').ljust(3, '0')}" if found and int(found[1]) <= 1000 else None
 

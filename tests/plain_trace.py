@@ -38,7 +38,7 @@ def word(*words: str) -> Form:
 
 
 def is_path(text: str) -> bool:
-    """The root, or 1 to 32 components, each behind a slash, with at most 255 bytes together."""
+    """The root, or 1 to 32 components, each after a slash, with at most 255 bytes together."""
     parts = text[1:].split("/")
     are_names = all(re.fullmatch(r"[A-Za-z0-9_.@:\\-]+", part, re.ASCII) and part not in (".", "..") for part in parts)
     return text == "/" or (text[:1] == "/" and are_names and len(parts) <= 32 and len(text) <= 255)
@@ -207,7 +207,7 @@ class World:
 
 
 def lines_of(data: bytes) -> Iterator[tuple[int, bytes, Optional[str]]]:
-    """The lines with their numbers from 1, and whether one is too long or cut off: then it is the last. Behind the last newline there
+    """The lines with their numbers from 1, and whether one is too long or cut off: then it is the last. After the last newline there
     is an empty line, which is cut off."""
     at, count = 0, 1
     while True:

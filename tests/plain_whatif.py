@@ -70,7 +70,7 @@ def members(machine: Machine, path: str) -> list[str]:
 
 def exit_of(machine: Machine, pid: str, moment: int) -> list[Event]:
     """How a task exits at a moment (ns): it wakes if it sleeps, runs if it doesn't, ends its stall, and is gone. Who ran there
-    makes room for it, and runs on behind it."""
+    makes room for it, and runs on after it."""
     task = machine.tasks[pid]
     cpu, others = str(task.cpu), [other for other in machine.running(task.cpu) if other != pid]
     events = []
@@ -128,7 +128,7 @@ def without(trace: Trace, kill: Kill) -> Trace:
 
 
 class Round(NamedTuple):
-    """A trace of the way to the last one, what its replay prints, and the kill behind which the next is left, if one follows."""
+    """A trace of the way to the last one, what its replay prints, and the kill after which the next is left, if one follows."""
 
     trace: Trace
     printed: str

@@ -15,7 +15,7 @@ from psireplay.program import built_program  # noqa: E402
 
 
 def program_of(words: list[str], name: str = "psi_oomd") -> tuple[str, list[str]]:
-    """The program of this name, built where none is named, and the words behind `--program PATH`. Tools that a test runs run it
+    """The program of this name, built where none is named, and the words after `--program PATH`. Tools that a test runs run it
     too. Who asks for `--help` gets what the test says of itself, and no build of an hour."""
     if words[:1] == ["--help"]:
         print((sys.modules["__main__"].__doc__ or "").strip())

@@ -27,7 +27,7 @@ class NotTold(Exception):
 @dataclass
 class Calls:
     """What all threads of a run did: calls that read and that write, starts of threads, and the most addresses that they had,
-    in KB, whether or not there was memory behind them. `status` is the exit status."""
+    in KB, whether or not there was memory after them. `status` is the exit status."""
 
     reads: int = 0
     writes: int = 0
@@ -46,7 +46,7 @@ def ask(request: int, who: int, data: int = 0) -> None:
 
 
 def start(words: list[str]) -> int:
-    """Starts a program that stands still behind its loading, with nothing to read and its output thrown away."""
+    """Starts a program that stands still after its loading, with nothing to read and its output thrown away."""
     child = os.fork()
     if child:
         return child

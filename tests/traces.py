@@ -344,7 +344,7 @@ class Maker:
         return [("group", path) for path in self.some(it for it in self.PATHS if it not in live and parent_of(it) in live)]
 
     def some_rmgroup(self) -> list[Event]:
-        """A group without one below it goes, and perhaps comes again at once, behind its tasks."""
+        """A group without one below it goes, and perhaps comes again at once, after its tasks."""
         live = self.machine.live
         parents = {parent_of(path) for path in live if path != "/"}
         for path in self.some(it for it in live if it != "/" and it not in parents):

@@ -83,7 +83,7 @@ def check_scales_reach_up_to_both(program: str) -> None:
 
 
 def check_a_part_beside_what_was(program: str) -> None:
-    """Whether the shade begins at the first kill, at the chart's start behind it, and nowhere before it."""
+    """Whether the shade begins at the first kill, at the chart's start after it, and nowhere before it."""
     words = ["--group=/batch", "--resource=memory"]
     behind = drawn_beside(supposed(program), story(program), *words, "--from=200")
     must_be_shaded(behind, 200 * 10**9)

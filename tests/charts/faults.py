@@ -39,7 +39,7 @@ def check_unknown_lines(program: str) -> None:
     ]  # fmt: skip
     for place, instead in edits:
         text = lines[:place] + instead + lines[place + 1 :]
-        # The first line that can't stand where it does: the edited one, the one that took its place, or the one behind it.
+        # The first line that can't stand where it does: the edited one, the one that took its place, or the one after it.
         number = place + (2 if len(instead) == 2 else 1)
         wanted = f"chart: line {number}: replay prints no such line here{ADVICE}\n"
         must_be(f"{instead} for line {place + 1}", chart_fault(b"".join(text)), wanted)

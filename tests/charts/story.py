@@ -57,7 +57,7 @@ def check_a_part(program: str) -> None:
     must_be_near("its start and its end", [(drawn.x(100500000000),), (drawn.x(150000000000),)], [(112,), (936,)])
     compare(printed, Drawn(drawn_of(story(program), "--to=999999")), ["/"])
     behind = Drawn(drawn_of(story(program), "--from=200"))
-    must_be("kills behind the last", behind.marks("kill"), [])
+    must_be("kills after the last", behind.marks("kill"), [])
     must_be("the title of all the same", behind.title, "Pressure of /, 5 min, 1 would-be kill")
 
 

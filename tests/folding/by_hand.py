@@ -49,7 +49,7 @@ def check_windows_by_hand(program: str) -> None:
         kept = [line for line in other.splitlines() if " mem " in line or "group" in line]
         must_be("what isn't about tasks", kept, [line for line in GOES.splitlines() if " mem " in line or "group" in line])
         after = [line for line in lines_between(other, 500 * MS, 2 * SECOND) if " /a" in line]
-        must_be("what is of a group behind its removal", after, [])
+        must_be("what is of a group after its removal", after, [])
         must_replay_alike("by hand", program, GOES, other, window)
 
 

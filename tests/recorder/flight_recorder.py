@@ -31,7 +31,7 @@ def test_ring_that_fires(top: str) -> None:
     must_be("pages", run.file("cpu1.raw"), b"\2" * (2 * folder.PAGE_BYTES))
     markers, fired = read(f"{top}.markers"), float(run.values("fired")[0])
     must_be("one signal", markers.count("psirec fired"), 1)
-    must(re.search(r"fired.*pressure \d+ begin.*stop$", markers), "it goes on for a while behind the signal")
+    must(re.search(r"fired.*pressure \d+ begin.*stop$", markers), "it goes on for a while after the signal")
     must(0.6 < time.monotonic() - fired < 5, "and then ends")
     numbers = re.findall(r"^sample (\d+) / io$", run.file("pressure").decode(), re.MULTILINE)
     must_be("the readings are there", numbers, [str(it) for it in range(len(numbers))])
@@ -52,7 +52,7 @@ def test_ring_that_is_stopped(top: str) -> None:
 
 
 def test_ring_where_the_buffers_begin(top: str) -> None:
-    """Processor 1 was overwritten up to a moment behind the first snapshot, so a later one has to be taken."""
+    """Processor 1 was overwritten up to a moment after the first snapshot, so a later one has to be taken."""
     folder.make_machine(top)
     run = Run(top, *UNTIL)
     instance = run.instance()

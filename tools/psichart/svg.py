@@ -71,12 +71,12 @@ STYLE_BESIDE = """.series.some { stroke-width: 2.5; }
 
 
 def decimal(value: float) -> str:
-    """At most two decimals, and no zeros behind the last."""
+    """At most two decimals, and no zeros after the last."""
     return f"{value:.2f}".rstrip("0").rstrip(".")
 
 
 def add(parent: Element, tag: str, text: Optional[str] = None, **attributes: Union[str, float]) -> Element:
-    """A new element. An attribute's name has `_` for `-`, and one behind a name that Python keeps for itself."""
+    """A new element. An attribute's name has `_` for `-`, and one after a name that Python keeps for itself."""
     names = {name.rstrip("_").replace("_", "-"): value for name, value in attributes.items()}
     element = ElementTree.SubElement(
         parent, tag, {name: value if isinstance(value, str) else decimal(value) for name, value in names.items()}

@@ -50,7 +50,7 @@ class Asked(NamedTuple):
 
 
 class Sampling(NamedTuple):
-    """The moments at which a group was sampled, ns of the trace; and where they weren't told the phase of its grid, in ns behind
+    """The moments at which a group was sampled, ns of the trace; and where they weren't told the phase of its grid, in ns after
     the first of them."""
 
     moments: list[int]

@@ -88,9 +88,9 @@ def parser() -> Parser:
     words.add_argument("source", metavar="FOLDER|TEXT", help="a folder of tools/record, or a file of ftrace's text")
     words.add_argument("-o", dest="output", metavar="FILE", help="write the trace there, and not to the standard output")
     words.add_argument("--cpus", dest="processors", metavar="N", type=number_from(1, MOST_PROCESSORS),
-                       help="how many processors the machine of a text has (without it: as many as the text tells)")  # fmt: skip
+                       help="how many processors the machine of a text has (without it: as many as the text shows)")  # fmt: skip
     words.add_argument("--iowait", dest="method", choices=[it.value for it in Method],
-                       help="what tells a wait for IO: a probe of the recorder, sched_stat_iowait, or each sleep in state D"
+                       help="what shows a wait for IO: a probe of the recorder, sched_stat_iowait, or each sleep in state D"
                        " (without it the first of these that the recording has)")  # fmt: skip
     words.add_argument("--wakeups", dest="counting", choices=[it.value for it in Counting],
                        help="where a wakeup stands: when psi counted it, by a probe of the recorder; halfway from there to its event;"
@@ -158,7 +158,7 @@ def reading_of(options: Options) -> Reading:
         source = read_text(options.source, options.processors)
         return Reading(source, [source.events], silent_tasks(source.events))
     if options.processors:
-        raise Faulty("--cpus is for texts: a recording tells its processors")
+        raise Faulty("--cpus is for texts: a recording says how many processors it has")
     if options.folding is None:
         return Reading(read_recording(options.source, options.is_forced), [], set())
     survey = Survey(options.source, is_large(options))

@@ -50,7 +50,7 @@ class Spool:
         return 1 + self.events
 
     def put(self, lines: list[str]) -> None:
-        """Takes lines, as long as the end has room behind them."""
+        """Takes lines, as long as the end has room after them."""
         if self.events + len(lines) >= MOST_EVENTS and not lines[-1].endswith(" end"):
             raise TooMany
         self.events += len(lines)
@@ -66,7 +66,7 @@ class Spool:
             raise Unreadable(f"a temporary file in {tempfile.gettempdir()}: {fault.strerror}") from None
 
     def close(self, events: int, moment: int) -> None:
-        """Ends the trace behind so many lines at this moment (ns)."""
+        """Ends the trace after so many lines at this moment (ns)."""
         self.file.seek(0, os.SEEK_END)
         self.write(f"{moment} end\n")
         self.events = events + 1
@@ -184,7 +184,7 @@ class Conversion:
         self.early = Counter({task: count - left[task] for task, count in told.items() if count > left[task]})
 
     def play(self, part: Slice) -> bool:
-        """Plays a slice; whether the window goes on behind it."""
+        """Plays a slice; whether the window goes on after it."""
         events, window = part.events, self.wanted.window
         start, end = (bisect_left(events, moment, key=MOMENT) for moment in (window.start, window.end + 1))
         waits = self.waits_in(part)

@@ -183,7 +183,7 @@ class LeadIn:
         self.world, self.ticks = world, ticks
         live = {path: it for path, it in averages.items() if path in world.groups.live}
         wanted = {path: it for path, it in live.items() if max(max(each) for each in it.values()) >= LEAST}
-        # A group comes behind those below it.
+        # A group comes after those below it.
         self.paths = sorted(wanted, key=lambda path: (-path.count("/") if path != ROOT else 1, path))
         self.shares = {path: {key: stretches_of(it, ticks) for key, it in wanted[path].items()} for path in self.paths}
         self.stages: dict[str, list[Stage]] = {}

@@ -6,7 +6,7 @@ Within each window of S seconds other events stand in place of those that were, 
 each processor. A replay at a tick of S seconds, or of a multiple, prints what it prints of TRACE: totals, averages, signals and kills.
 What --live and a --tick-ms below S would show isn't kept, nor who did what when within a window.
 
-TRACE is a file that psi_oomd takes, or - for the standard input. `whatif` is exact up to the first kill, and behind it where the
+TRACE is a file that psi_oomd takes, or - for the standard input. `whatif` is exact up to the first kill, and after it where the
 victim is among those whom --victims or --rules name and no task came to it later; the last line on standard error tells.
 
 Each window is checked before it is written: its lines are played by other code, and its sums held against those of TRACE.
@@ -84,7 +84,7 @@ def processors_of(header: str) -> int:
 
 
 def lines_of(file: IO[str]) -> Iterator[str]:
-    """The lines behind the header."""
+    """The lines after the header."""
     for line in file:
         if line[-1] != "\n":
             raise NotATrace(f"the last line, '{line}', has no newline")

@@ -67,7 +67,7 @@ class Fold:
         self.victims = Victims(victims)
         self.plan: Plan | None = plan_of(self.world, ())
         self.size = Catalog().size()
-        # The moment (ns) up to which windows are handed in, the next edge, and the first moment that a line may have behind.
+        # The moment (ns) up to which windows are handed in, the next edge, and the first moment that a line may have after it.
         self.start, self.edge, self.first = 0, length, 0
         self.interrupted = [0] * processors
         self.kept: list[Line] = []
@@ -112,7 +112,7 @@ class Fold:
         """A line that is no act of a task."""
         verb, world = words[1], self.world
         if self.is_ended:
-            raise NotATrace("it stands behind the end")
+            raise NotATrace("it stands after the end")
         if verb in KEPT:
             self.kept.append((moment, line))
         elif verb == "group":
@@ -180,7 +180,7 @@ class Fold:
     # ------------------------------------------------------------ what is written
 
     def write(self, waiting: int) -> None:
-        """Writes what is due, but so many windows that may still be under way, and what is behind them."""
+        """Writes what is due, but so many windows that may still be under way, and what comes after them."""
         while self.due and (len(self.crew.waiting) > waiting or not isinstance(self.due[0], Window)):
             due = self.due.popleft()
             if isinstance(due, Window):

@@ -13,7 +13,7 @@ from psiworld.world import How
 
 from .joint import IDLE, LEAVES_TO, STALLED, WAY, Element, JointState, Kind
 
-# A line of a trace: its moment in ns, and what stands behind that.
+# A line of a trace: its moment in ns, and what stands after that.
 Line = tuple[int, str]
 BLOCKED = (Kind.ASLEEP, Kind.WAITING)
 # So many representatives of a group may be needed at once: one of each kind, but of those that run one in all.

@@ -65,12 +65,12 @@ def folding_lines(folding: Folding, outcome: Outcome) -> list[str]:
 def whatif_line(folding: Folding, outcome: Outcome) -> str:
     """How far `whatif` holds."""
     if not folding.victims:
-        return "`whatif` is near behind the first kill, and not exact: --victims or --rules say who might be killed"
-    said = "`whatif` is exact behind kills of those who were named"
+        return "after the first kill `whatif` is near, and not exact: --victims or --rules say who might be killed"
+    said = "`whatif` is exact after kills of those who were named"
     if outcome.whole is not None:
         said += f", up to {outcome.whole} of them: more are at a time than can be told apart"
     if outcome.came:
-        said += f"; but to these {outcome.came} tasks came later, the last at {seconds(outcome.last_came)} s: near behind a kill before"
+        said += f"; but to these {outcome.came} tasks came later, the last at {seconds(outcome.last_came)} s: after a kill before that it is near"
     return said
 
 

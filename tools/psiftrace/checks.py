@@ -167,7 +167,7 @@ class Check:
             number, back = self.backs[0]
             found.append(
                 f"time goes back at {len(self.backs)} lines, first in line {number} by {back / 1e9:.3f} s: files of single"
-                " processors, or two recordings, one behind the other?"
+                " processors, or two recordings, one after the other?"
             )
         if self.execs:
             found.append(
@@ -187,7 +187,7 @@ class Check:
             return []
         length = self.latest - min(self.firsts.values(), default=0)
         if other > MOST_UNKNOWN_SLEEP * length * max(len(self.firsts), 1):
-            return [f"no sched_stat_iowait tells which of the {count} sleeps in state D, {other / 1e9:.3f} s, were waits for IO"]
+            return [f"no sched_stat_iowait shows which of the {count} sleeps in state D, {other / 1e9:.3f} s, were waits for IO"]
         return []
 
     def remarks(self) -> list[str]:

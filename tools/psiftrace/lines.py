@@ -19,7 +19,7 @@ TIME = rb"(\d{1,10})\.(\d{1,9}):"
 FTRACE = rb"-(\d+) +(?:\([ \d-]+\) +)?\[(\d{1,5})\](?: +[A-Za-z0-9.*#]{4,6})? +" + TIME + rb" +([A-Za-z0-9_]+):(?: +(.*))?$"
 PERF = rb" +(?:\d+ +)?[a-z0-9_]+:([A-Za-z0-9_]+):(?: +(.*))?$"
 HEADS = (
-    # The kernel writes names with 16 columns, so the dash behind them stands at one place.
+    # The kernel writes names with 16 columns, so the dash after them stands at one place.
     re.compile(rb".{16}" + FTRACE, re.DOTALL),
     re.compile(rb" *\S.*?" + FTRACE, re.DOTALL),
     re.compile(rb" *\S.*? +(?:\d+/)?(\d+) +\[(\d{1,5})\] +" + TIME + PERF, re.DOTALL),
@@ -105,7 +105,7 @@ def marker(line: Line, fields: tuple[bytes, ...]) -> Event:
     return Marker(line.moment, line.processor, line.current, fields[0])
 
 
-# Behind the ones that the kernel's own print formats give stand those of trace-cmd's plugins.
+# After the ones that the kernel's own print formats give stand those of trace-cmd's plugins.
 PRIORITY = rb"(?: prio=-?\d+)?"
 PLAIN = rb"\[-?\d+\]"
 LEAVES = rb"prev_comm=.* prev_pid=(\d+)(?: prev_prio=-?\d+)? prev_state=(\S+)"

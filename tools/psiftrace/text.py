@@ -102,10 +102,10 @@ class Text:
         if processors:
             self.processors = max(self.processors, int(processors[1] or processors[2]))
         if not (lost or entries or processors or line.startswith(b"#") or not line.strip()):
-            self.mended["line that tells no event, passed over"] += 1
+            self.mended["line without an event, passed over"] += 1
 
     def add(self, event: Event) -> None:
-        """An event comes behind those that were there."""
+        """An event comes after those that were there."""
         processor, last = event.processor, self.lasts.get(event.processor, 0)
         if processor in self.lost:
             self.gaps.append(Gap(processor, last, event.moment, self.lost.pop(processor)))
@@ -134,7 +134,7 @@ def ordered(text: Text, source: Source) -> list[Event]:
     parts = parts_of(text.events)
     longest = max(parts, key=lambda part: max(it.moment for it in part) - min(it.moment for it in part))
     if len(parts) > 1:
-        source.losses.append(f"{len(parts)} recordings, one behind the other: the longest alone can be had")
+        source.losses.append(f"{len(parts)} recordings, one after the other: the longest alone can be had")
         first, last = min(it.moment for it in longest), max(it.moment for it in longest)
         text.gaps = [gap for gap in text.gaps if first <= gap.start and (gap.end <= last or gap.end == NEVER)]
     back = sum(after.moment < before.moment for before, after in zip(longest, longest[1:]))

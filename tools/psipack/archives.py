@@ -14,7 +14,7 @@ AR_HEAD = "{name:<16}{time:<12}{owner:<6}{group:<6}{mode:<8}{size:<10}`\n"
 
 
 def folders_of(paths: list[str]) -> list[str]:
-    """All folders that stand above these paths, each behind the one that it is in."""
+    """All folders that stand above these paths, each after the one that it is in."""
     found = {""}
     for path in paths:
         while path := os.path.dirname(path):

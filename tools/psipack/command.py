@@ -50,7 +50,7 @@ def git(*words: str) -> str:
 
 def version_of(commit: str, is_changed: bool) -> str:
     """The version of a package: that of a tag of this commit, as v1.0, or one below each release, by the commit's day. What stands
-    behind a hyphen comes before the release in Debian's order, by a tilde: v1.0-rc1 is 1.0~rc1."""
+    after a hyphen comes before the release in Debian's order, by a tilde: v1.0-rc1 is 1.0~rc1."""
     tags = filter(None, map(TAG.fullmatch, git("tag", "--points-at", "HEAD").split("\n")))
     day = time.strftime("%Y%m%d", time.gmtime(int(git("log", "-1", "--format=%ct"))))
     version = next((tag[1].replace("-", "~") for tag in tags), f"0~git{day}.{commit[:12]}")

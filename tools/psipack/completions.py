@@ -10,7 +10,7 @@ FILES = re.compile(r"FILE|FOLDER|DIR|OUT|TRACE|TEXT")
 
 @dataclass(frozen=True)
 class Words:
-    """What can be typed behind a name: its commands, each with its options and their values as they are written. What has no
+    """What can be typed after a name: its commands, each with its options and their values as they are written. What has no
     commands has the one without a name."""
 
     name: str
@@ -20,7 +20,7 @@ class Words:
 BASH = """\
 # Completion of psi_oomd and its tools for bash: made by tools/package of what they say by --help.
 
-# What can be typed behind a name: its commands; behind one of these, or where there is none, its options.
+# What can be typed after a name: its commands; after one of these, or where there is none, its options.
 _psi_oomd_words()
 {{
     case $1 in
@@ -68,7 +68,7 @@ ZSH = """\
 #compdef {names}
 # Completion of psi_oomd and its tools for zsh: made by tools/package of what they say by --help.
 
-# What can be typed behind a name: its commands; behind one of these, or where there is none, its options.
+# What can be typed after a name: its commands; after one of these, or where there is none, its options.
 _psi_oomd_words() {{
     case $1 in
 {words}
@@ -107,14 +107,14 @@ _psi_oomd "$@"
 
 
 def offered(program: Words) -> dict[str, list[str]]:
-    """What is offered behind each name, and behind each name with a command."""
+    """What is offered after each name, and after each name with a command."""
     named = [command for command in program.commands if command]
     found = {program.name: [*named, *program.commands.get("", {})]}
     return {**found, **{f"{program.name} {command}": list(program.commands[command]) for command in named}}
 
 
 def valued(program: Words) -> dict[str, str]:
-    """What the value of each option is, behind the words up to that option: FILE, or the values that there are."""
+    """What the value of each option is, after the words up to that option: FILE, or the values that there are."""
     found: dict[str, str] = {}
     for command, options in program.commands.items():
         front = f"{program.name} {command}".rstrip()
@@ -127,7 +127,7 @@ def valued(program: Words) -> dict[str, str]:
 
 
 def cases(rows: dict[str, str]) -> str:
-    """The rows as branches of a shell's `case`, which print what stands behind. Values that are alike share a branch."""
+    """The rows as branches of a shell's `case`, which print what follows. Values that are alike share a branch."""
     alike: dict[str, list[str]] = {}
     for key, text in rows.items():
         alike.setdefault(text, []).append(f'"{key}"')

@@ -29,7 +29,7 @@ class Item:
 @dataclass
 class Help:
     """What --help has: how the tool is called, without its name, paragraphs on it, its arguments and options, its commands with
-    what each does, and paragraphs behind these. A paragraph that is indented is shown as it stands."""
+    what each does, and paragraphs after these. A paragraph that is indented is shown as it stands."""
 
     usage: str
     before: list[str] = field(default_factory=list)
@@ -72,7 +72,7 @@ def help_in(text: str) -> Help:
 
 
 def usage_without_name(words: str) -> str:
-    """The words of a usage behind the tool's name, and its command's where it has one: from the first that isn't a plain word."""
+    """The words of a usage after the tool's name, and its command's where it has one: from the first that isn't a plain word."""
     _, *rest = words.split(" ")
     while rest and re.fullmatch("[a-z][a-z-]*", rest[0]):
         rest.pop(0)

@@ -103,7 +103,7 @@ def state_letters(print_format: str) -> tuple[dict[int, str], int]:
     way while it was about to sleep, and stays ready. It is the one above the letters' bits."""
     letters = {int(bit, 16): letter for bit, letter in re.findall(r"\{\s*(0x[0-9a-fA-F]+),\s*\"(\w)\"", print_format)}
     if not letters:
-        raise FormatFault("the format of sched_switch tells no letters of states")
+        raise FormatFault("the format of sched_switch has no letters of states")
     return letters, 2 * max(letters)
 
 

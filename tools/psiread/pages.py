@@ -1,7 +1,7 @@
 """Reads the pages of a kernel's ring buffers, as `per_cpu/cpuN/trace_pipe_raw` gives them.
 
 A page begins with the moment of its first record (ns) and the word `commit`: how many bytes of records follow, and in two
-of its bits whether events were lost before the page, and whether their number stands behind the records. A record has a
+of its bits whether events were lost before the page, and whether their number stands after the records. A record has a
 word of 5 bits of kind and 27 of time since the record before. See `include/linux/ring_buffer.h` and
 `kernel/trace/ring_buffer.c` of Linux (`RB_MISSED_EVENTS`, `rb_event_length`, `ring_buffer_read_page`).
 """

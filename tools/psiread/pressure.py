@@ -64,7 +64,7 @@ def spans_of(source: Source) -> dict[int, tuple[int, int]]:
 
 
 def machine_readings(folder: str, source: Source) -> Readings:
-    """What the machine's own files said. The files of a reading were read one behind the other, so each has a moment of its
+    """What the machine's own files said. The files of a reading were read one after the other, so each has a moment of its
     own between the first and the last of the reading."""
     spans = spans_of(source)
     found: dict[int, list[tuple[File, int, int]]] = {}

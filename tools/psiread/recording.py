@@ -22,7 +22,7 @@ from .records import Decoder, decoders_of
 from .source import ListedTask, Snapshot, Source, Unreadable
 from .words import ns_of
 
-# What a marker of a reading of the pressure files begins with, behind MARK.
+# What a marker of a reading of the pressure files begins with, after MARK.
 READING = "pressure"
 BIG_ENDIAN = ("s390x", "ppc64", "sparc64")
 
@@ -186,7 +186,7 @@ def kernel_of(folder: str) -> Kernel:
 
 
 def gaps_behind(processor: int, lost: int, gaps: list[Gap], last: Event | None) -> list[Gap]:
-    """What a processor lost behind the last page that was read, where these gaps were met and this was the last event: it stands in
+    """What a processor lost after the last page that was read, where these gaps were met and this was the last event: it stands in
     the statistics alone, which tell how many events were lost in all."""
     behind = lost - sum(gap.lost for gap in gaps)
     return [Gap(processor, last.moment if last else 0, NEVER, behind)] if behind > 0 and all(gap.lost for gap in gaps) else []
@@ -242,7 +242,7 @@ def begin_ring(source: Source, start: int) -> None:
 
 
 def tell_losses(source: Source, meta: Meta) -> None:
-    """Notes what else was lost: events of which nobody knows when they were, and what came behind the end of the files."""
+    """Notes what else was lost: events of which nobody knows when they were, and what came after the end of the files."""
     for line in LOST_STATS[1:]:
         for processor, count in sorted(meta.lost(line).items()):
             source.losses.append(f"cpu {processor}: {count} events by '{line}', nobody knows when")

@@ -20,7 +20,7 @@ CURRENT = "common_pid"
 # Makes an event of a kind, of all of its values: what the kind does itself, in a third of the time.
 made: Any = tuple.__new__
 
-# The events that are nothing but whole numbers: the fields behind the task in which they were written.
+# The events that are nothing but whole numbers: the fields after the task in which they were written.
 NUMBERS: dict[str, tuple[type, tuple[str, ...]]] = {
     "sched_wakeup": (Wakeup, ("pid", "target_cpu")),
     "sched_wakeup_new": (FirstWakeup, ("pid", "target_cpu")),

@@ -85,7 +85,7 @@ class Reason:
     SIZE = "max-mb"  # so much was written
     TRIGGER = "trigger"  # the flight recorder's trigger had fired
     DISK_FULL = "disk-full"  # not all pages could be written
-    FAILED = "failed"  # something else, told behind it
+    FAILED = "failed"  # something else, told after it
 
 
 # ---------------------------------------------------------------- probes
@@ -144,7 +144,7 @@ def memory_marker(path: str, current: int, swap: int, scanned: int) -> str:
 
 
 def pressure_marker(number: int, is_end: bool) -> str:
-    """Before and behind the reading of all pressure files; `number` counts the readings from 0."""
+    """Before and after the reading of all pressure files; `number` counts the readings from 0."""
     return f"{MARK}pressure {number} {'end' if is_end else 'begin'}"
 
 

@@ -147,7 +147,7 @@ def parser() -> argparse.ArgumentParser:
     add("--no-settings", action="store_true", help="doesn't store what systemd-oomd decides by, where systemd runs")
     add("--ring", action="store_true", help="a flight recorder")
     add("--until", type=trigger, metavar="TRIGGER", help="with --ring: `io|memory|cpu some|full THRESHOLD WINDOW`, in us")
-    add("--after-s", type=positive, metavar="N", help="with --until: seconds that are recorded behind the signal; 10")
+    add("--after-s", type=positive, metavar="N", help="with --until: seconds that are recorded after the signal; 10")
     add("--root", metavar="DIR", help="for tests: a folder of plain files in place of the machine")
     return words
 
@@ -159,7 +159,7 @@ def wanted_of(arguments: argparse.Namespace, words: argparse.ArgumentParser) -> 
     if arguments.wakeups and arguments.no_probes:
         words.error("--wakeups takes a probe: not with --no-probes")
     if arguments.after_s and not arguments.until:
-        words.error("--after-s tells of seconds behind the signal of --until")
+        words.error("--after-s is for seconds after the signal of --until")
     if arguments.ring and arguments.max_mb:
         words.error("a flight recorder writes no more than its buffers: --max-mb is not for --ring")
     if arguments.ring and arguments.compress:

@@ -104,6 +104,6 @@ class KernelTypes:
 
 
 def extra_size(kind: int, count: int) -> int:
-    """How many bytes stand behind a type of this kind."""
+    """How many bytes stand after a type of this kind."""
     fixed, each = {1: 4, 3: 12, 14: 4, 17: 4}, {4: 12, 5: 12, 6: 8, 13: 8, 15: 12, 19: 12}
     return fixed.get(kind, 0) + each.get(kind, 0) * count

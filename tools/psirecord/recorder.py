@@ -150,7 +150,7 @@ class Recorder:
             self.folder.append_pressure(reading.text)
 
     def take_snapshot(self) -> None:
-        """Who is where is known by a snapshot and the events behind it. A flight recorder keeps the two last ones, so that one
+        """Who is where is known by a snapshot and the events after it. A flight recorder keeps the two last ones, so that one
         lies inside its buffers where these are long enough; readings that are older than both are forgotten."""
         self.instance.note_mark(layout.SNAPSHOT_BEGINS)
         self.snapshots.append(take_snapshot(self.machine, time.monotonic_ns()))
