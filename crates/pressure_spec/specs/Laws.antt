@@ -1,5 +1,4 @@
--- What follows from what pressure is: laws of shares, of averages and of signals, and of groups
--- over any list of ticks.
+-- Laws of pressure: of shares, averages and signals, and of groups over any list of ticks.
 use Rattle.std.specs.Prelude.{◌≡◌, ℕ, ◌+◌, ◌-◌, ◌*◌, ◌≤◌, ◌<◌, List, [], ◌∷◌, ◌++◌, length, map, slice_index, sum_by, true, if◌then◌else◌, ◌/◌, ◌^◌, All, min, slice_index_or, Bool, false, Some}
 use Rattle.std.specs.List.{range_with_len}
 use Rattle.std.specs.List.Sorted.{IsNonDecreasingBy}
@@ -19,42 +18,41 @@ use Rattle.pressure_spec.specs.Signal.{TriggerState, fires, is_free, new_trigger
 
 -- ---- shares
 
--- A share is a mean: it is at most the longest time at its place on a processor, and at least the
--- shortest where some processor has weight.
+-- A share is a mean: at most the longest time at its place on any processor, and at least the
+-- shortest if some processor has weight.
 abbrev pub ShareIsMean : Type 0
 ShareIsMean = (rows : List (List ℕ)) (place least most : ℕ) →
     All (λ times. (least ≤ slice_index times place) × (slice_index times place ≤ most)) rows →
     (share_of rows place ≤ most) × (0 < total_weight rows → least ≤ share_of rows place)
 
--- So no share of a state is longer than an interval that no time in a state is longer than, and no
--- share of interrupt time is above what no interrupt time is above.
+-- So a share is at most any bound of the processors' times.
 abbrev pub SharesWithin : Type 0
 SharesWithin =
     (rows : List (List ℕ)) (most most_irq : ℕ) → All (AreTimesWithin most most_irq) rows → AreAmountsWithin most most_irq (shares rows)
 
--- A share is at most the processors' times together.
+-- A share is at most the sum of the processors' times.
 abbrev pub ShareWithinSum : Type 0
 ShareWithinSum = (rows : List (List ℕ)) (place : ℕ) → share_of rows place ≤ time_sum rows place
 
--- The sum in a share fits 64 bits: each of at most 64 processors has at most the longest tick, and
--- of interrupts a second more, and weighs at most as many timer ticks as the longest tick has.
+-- The sum in a share fits in 64 bits: each of at most 64 processors has at most the longest tick
+-- (for interrupts a second more), and a weight of at most the longest tick in ms.
 abbrev pub ShareSumFits : Type 0
 ShareSumFits =
     (rows : List (List ℕ)) (place : ℕ) → length rows ≤ 64 → place ≤ irq_place
     → All (AreTimesWithin longest_tick (longest_tick + longest_irq)) rows →
     (weighted_time rows place ≤ 64 * (longest_tick + longest_irq) * (longest_tick / 1000000)) × (weighted_time rows place < 2 ^ 64)
 
--- Where no processor has weight, which takes a whole timer tick, there is no share.
+-- If no processor has weight, which takes 1 ms of work, all shares are 0.
 abbrev pub IdleHasNone : Type 0
 IdleHasNone = (rows : List (List ℕ)) (place : ℕ) → total_weight rows ≡ 0 → share_of rows place ≡ 0
 
 -- ---- averages
 
--- an average by the places of its quantity and of its factor
+-- an average, by the places of its quantity and its factor
 abbrev pub average_of : AverageState → ℕ → ℕ → ℕ
 average_of s place factor = slice_index (slice_index_or s.averages place []) factor
 
--- how much (ns) of the total of a quantity was sampled, by its place
+-- the part (ns) of a quantity's total that was sampled, by its place
 abbrev pub sampled_of : AverageState → ℕ → ℕ
 sampled_of s place = slice_index s.sampled place
 
@@ -67,14 +65,14 @@ abbrev pub NeverFalls : List ℕ → List (ℕ × List ℕ) → Type 0
 NeverFalls before [] = Unit {0}
 NeverFalls before (tick ∷ ticks) = ((place : ℕ) → slice_index before place ≤ slice_index tick.1 place) × NeverFalls tick.1 ticks
 
--- Of the powers by halves: x to the 0 is the result so far; an odd number takes one x, and a number
--- halves as x squares.
+-- Exponentiation by squaring: x to the power 0 is the result so far; an odd exponent multiplies by
+-- x once, and the exponent halves as x is squared.
 pub record PowerHalves : Type 0 where
   pub zero : (result x : ℕ) → power_from result x 0 ≡ result
   pub even : (result x n : ℕ) → power_from result x (2 * n) ≡ power_from result (product x x) n
   pub odd : (result x n : ℕ) → power_from result x (2 * n + 1) ≡ power_from (product result x) (product x x) n
 
--- An average goes toward what is active and never past it. It stands still only there, where the
+-- An average moves toward what is active and never past it. It stays constant only there, if the
 -- factor is below one.
 pub record LoadApproaches : Type 0 where
   pub up : (average factor active : ℕ) → factor ≤ 2048 → average ≤ active
@@ -84,13 +82,13 @@ pub record LoadApproaches : Type 0 where
   pub rises : (average factor active : ℕ) → factor < 2048 → average < active → average < load average factor active
   pub falls : (average factor active : ℕ) → factor < 2048 → active < average → load average factor active < average
 
--- After every list of ticks no average is above 100 percent, and the next update is due within a
+-- After any list of ticks every average is at most 100 percent, and the next update is due within a
 -- period.
 abbrev pub AtMostHundred : Type 0
 AtMostHundred = (at : ℕ) (ticks : List (ℕ × List ℕ)) → HasTotals ticks → IsAverageState (averages_after at ticks)
 
--- An update in which no period was missed and all of the time was stalled raises each average of
--- the quantity toward 100 percent, and not past it.
+-- An update without missed periods whose whole time was stalled raises each average of the quantity
+-- toward 100 percent, and not past it.
 abbrev pub RisesWhenStalled : Type 0
 RisesWhenStalled = (old : AverageState) (now : ℕ) (totals : List ℕ) (place factor : ℕ) →
     IsAverageState old → length totals ≡ length pressure_places → place < length pressure_places → factor < 3 →
@@ -107,14 +105,15 @@ FallsWhenFree = (old : AverageState) (now : ℕ) (totals : List ℕ) (place fact
     (average_of (average_step old now totals) place factor ≤ average_of old place factor)
     × (0 < average_of old place factor → average_of (average_step old now totals) place factor < average_of old place factor)
 
--- What an update can't sample is carried to a later one: it takes what waits, and at most the time.
+-- What an update can't sample is carried over to a later one: it takes the part not sampled yet,
+-- but at most the covered time.
 abbrev pub CarriesTheRest : Type 0
 CarriesTheRest = (old : AverageState) (now : ℕ) (totals : List ℕ) (place : ℕ) →
     IsAverageState old → length totals ≡ length pressure_places → place < length pressure_places → old.next ≤ now →
     sampled_of (average_step old now totals) place ≡ sampled_of old place
     + min (slice_index totals place - sampled_of old place) (sampled_time old now)
 
--- No more is sampled than there was: what was sampled and what waits are together the total.
+-- No more is sampled than there was: the sampled part and the remainder add up to the total.
 abbrev pub SamplesWithinTotal : Type 0
 SamplesWithinTotal =
     (at : ℕ) (ticks : List (ℕ × List ℕ)) (place : ℕ) → HasTotals ticks → NeverFalls [] ticks → place < length pressure_places →
@@ -122,44 +121,44 @@ SamplesWithinTotal =
 
 -- ---- signals
 
--- the trigger signals at a tick that comes after others
+-- the trigger fires at a tick after other ticks
 abbrev pub fired_after : TriggerState → List (ℕ × ℕ) → ℕ × ℕ → Bool
 fired_after trigger ticks tick = fires (trigger_after trigger ticks) tick.0 tick.1
 
--- Two signals of one trigger are at least its window apart, whatever comes between.
+-- Two signals of a trigger are at least its window apart, whatever happens in between.
 abbrev pub SignalsApart : Type 0
 SignalsApart = (at value threshold_us window_us : ℕ) (before between : List (ℕ × ℕ)) (first second : ℕ × ℕ) →
     fired_after (new_trigger at value threshold_us window_us) before first ≡ true →
     fired_after (new_trigger at value threshold_us window_us) (before ++ first ∷ between) second ≡ true →
     first.0 + window_us * 1000 ≤ second.0
 
--- A pending event isn't lost: the first tick signals it that is a window after the last signal,
--- whatever the ticks before it tell.
+-- A pending event isn't lost: the first tick that is at least a window after the last signal fires,
+-- whatever happens in between.
 abbrev pub PendingIsSignalled : Type 0
 PendingIsSignalled = (trigger : TriggerState) (waits : List (ℕ × ℕ)) (tick : ℕ × ℕ) → trigger.pending ≡ true →
     All (λ (wait : ℕ × ℕ). is_free trigger.last_event trigger.size wait.0 ≡ false) waits →
     is_free trigger.last_event trigger.size tick.0 ≡ true →
     fired_after trigger waits tick ≡ true
 
--- A trigger remembers the moment of its last signal, and no other.
+-- A trigger remembers only the time of its last signal.
 abbrev pub RemembersLast : Type 0
 RemembersLast = (trigger : TriggerState) (now value : ℕ) →
     (fires trigger now value ≡ true → (trigger_step trigger now value).last_event ≡ Some now)
     × (fires trigger now value ≡ false → (trigger_step trigger now value).last_event ≡ trigger.last_event)
 
--- ticks at which the total is the same
+-- ticks with the same total
 abbrev pub still : ℕ → List ℕ → List (ℕ × ℕ)
 still value moments = map (λ now. (now, value)) moments
 
--- A trigger whose total never changes doesn't signal.
+-- A trigger whose total never changes never fires.
 abbrev pub QuietWhenStill : Type 0
 QuietWhenStill = (at value threshold_us window_us now : ℕ) (moments : List ℕ) →
     fires (trigger_after (new_trigger at value threshold_us window_us) (still value moments)) now value ≡ false
 
 -- ---- groups over ticks
 
--- the totals (ns) of a group: of each quantity the sum of its shares, over a list of samples that
--- have a share of each
+-- the totals (ns) of a group: for each quantity the sum of its shares, over a list of samples that
+-- each have a share of each quantity
 unfoldable pub totals_of : List (List ℕ) → List ℕ
 totals_of samples = map (λ i. sum_by (λ sample. slice_index sample i) samples) (range_with_len 0 (length pressure_places))
 
@@ -168,8 +167,8 @@ abbrev pub TotalsGrow : Type 0
 TotalsGrow = (samples : List (List ℕ)) (sample : List ℕ) → length sample ≡ length pressure_places →
     totals_of (samples ++ sample ∷ []) ≡ plus (totals_of samples) sample
 
--- A group is sampled at the ticks at which it is live: each sample is the tick's moment and the
--- group's shares (ns) of the interval since the tick before, at which its times were these.
+-- A group is sampled at the ticks at which it is live: each sample is the tick's time and the
+-- group's shares (ns) of the interval since the previous tick, with these times at its ends.
 abbrev pub samples_from : GroupLife → ℕ → List (List ℕ) → List Tick → List (ℕ × List ℕ)
 samples_from life slot before [] = []
 samples_from life slot before (tick ∷ ticks) =
@@ -177,7 +176,7 @@ samples_from life slot before (tick ∷ ticks) =
     then (tick.at, shares (growths before (row_at tick slot))) ∷ samples_from life slot (row_at tick slot) ticks
     else samples_from life slot (row_at tick slot) ticks
 
--- the samples of a group over ticks of so many processors
+-- the samples of a group over ticks, on n processors
 abbrev pub group_samples : ℕ → List GroupLife → List Tick → ℕ → List (ℕ × List ℕ)
 group_samples cpus lives ticks slot = samples_from (life_of lives slot) slot (no_row cpus) ticks
 
@@ -191,14 +190,14 @@ abbrev pub TotalsNeverFall : Type 0
 TotalsNeverFall = (cpus : ℕ) (lives : List GroupLife) (ticks more : List Tick) (slot i : ℕ) →
     slice_index (totals_after cpus lives ticks slot) i ≤ slice_index (totals_after cpus lives (ticks ++ more) slot) i
 
--- No share of a state is longer than the time from one tick to the next, and that of interrupts is
--- at most a second longer.
+-- No share of a state is longer than the time since the previous tick, and no share of interrupts
+-- is more than a second longer.
 abbrev pub NextSharesWithin : Type 0
 NextSharesWithin = (last tick : Tick) (slot : ℕ) → IsNextTick last tick →
     AreAmountsWithin (tick.at - last.at) (tick.at - last.at + longest_irq) (shares (growths (row_at last slot) (row_at tick slot)))
 
 -- No total of a state is longer than the time up to the last tick, and an interrupt total is at
--- most the interrupt times of the processors together, since a share is at most what these grew by.
+-- most the sum of the processors' interrupt times.
 abbrev pub TotalsWithin : Type 0
 TotalsWithin =
     (cpus : ℕ) (lives : List GroupLife) (ticks : List Tick) (slot : ℕ) → slot < length lives
@@ -207,8 +206,8 @@ TotalsWithin =
     (time_sum (row_at (last_tick (no_tick cpus (length lives)) ticks) slot) irq_place)
     (totals_after cpus lives ticks slot)
 
--- So the interrupt totals of up to 64 processors have their bound, because no interrupt time is
--- above the moment of its tick.
+-- So the interrupt totals of up to 64 processors are bounded, because no interrupt time exceeds the
+-- time of its tick.
 abbrev pub IrqTotalBound : Type 0
 IrqTotalBound =
     (cpus : ℕ) (lives : List GroupLife) (ticks : List Tick) (slot : ℕ) → slot < length lives
@@ -216,14 +215,13 @@ IrqTotalBound =
     length (row_at (last_tick (no_tick cpus (length lives)) ticks) slot) ≤ 64 →
     slice_index (totals_after cpus lives ticks slot) irq_quantity ≤ most_irq_total
 
--- After any ticks no average of a group is above 100 percent.
+-- After any ticks every average of a group is at most 100 percent.
 abbrev pub GroupsAtMostHundred : Type 0
 GroupsAtMostHundred =
     (cpus : ℕ) (lives : List GroupLife) (ticks : List Tick) (slot place factor : ℕ)
     → average_of (group_averages cpus lives ticks slot) place factor ≤ 204800
 
--- Two signals of one trigger are at least its window apart, whatever comes between, where the
--- moments of ticks never fall.
+-- Two signals of a trigger are at least its window apart, if the times of ticks never fall.
 abbrev pub FiredApart : Type 0
 FiredApart = (cpus : ℕ) (lives : List GroupLife) (trigger : TriggerSpec) (before between : List Tick) (first second : Tick) →
     IsNonDecreasingBy (λ (tick : Tick). tick.at) (before ++ first ∷ between) →

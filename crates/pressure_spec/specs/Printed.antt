@@ -21,7 +21,7 @@ told_line level averages total =
     ++ codes " avg300=" ++ hundredths_text (slice_index averages 2)
     ++ codes " total=" ++ decimal total ++ codes "\n"
 
--- a line can tell these: three averages, each from 0.00 to 100.00 percent, and a total of 64 bits
+-- values that a line can print: three averages from 0.00 to 100.00 percent each, and a 64-bit total
 pub record CanTell (averages : List ℕ) (total : ℕ) : Type 0 where
   pub three : length averages ≡ 3
   pub most : All (λ average. average ≤ 10000) averages

@@ -24,17 +24,17 @@ life_of lives slot = slice_index_or lives slot root
 abbrev pub row_at : Tick → ℕ → List (List ℕ)
 row_at tick slot = slice_index_or tick.table slot []
 
--- what each time (ns) of each processor grew by from one tick to the next
+-- by how much each time (ns) of each processor grew from one tick to the next
 abbrev pub growths : List (List ℕ) → List (List ℕ) → List (List ℕ)
 growths before now = zip_with (zip_with (λ time earlier. time - earlier)) now before
 
--- totals (ns) with a group's shares of an interval, at whose begin and end its times were these
+-- totals (ns) plus a group's shares of an interval, with these times at its start and end
 abbrev pub with_shares : List ℕ → List (List ℕ) → List (List ℕ) → List ℕ
 with_shares totals before now = plus totals (shares (growths before now))
 
--- The history of a group over ticks: those at which it is live, each with its moment and the
--- group's totals (ns) then. Such a tick adds to the totals so far the shares of the interval since
--- the tick before, at which the group's times were these.
+-- The history of a group over ticks: for each tick at which it is live, the time and the group's
+-- totals (ns). Such a tick adds the shares of the interval since the previous tick, at which the
+-- group's times were these.
 abbrev pub history_from : GroupLife → ℕ → List (List ℕ) → List ℕ → List Tick → List (ℕ × List ℕ)
 history_from life slot before totals [] = []
 history_from life slot before totals (tick ∷ ticks) =
@@ -43,13 +43,13 @@ history_from life slot before totals (tick ∷ ticks) =
     ∷ history_from life slot (row_at tick slot) (with_shares totals before (row_at tick slot)) ticks
     else history_from life slot (row_at tick slot) totals ticks
 
--- the history of the group in a slot, from before the first tick on, with so many processors
+-- the history of the group in a slot, from before the first tick, on n processors
 abbrev pub history_of : ℕ → List GroupLife → List Tick → ℕ → List (ℕ × List ℕ)
 history_of cpus lives ticks slot = history_from (life_of lives slot) slot (no_row cpus) no_totals ticks
 
 -- ---- totals and averages
 
--- the totals (ns) at the last tick of a history, or those before it where it has none
+-- the totals (ns) at the last tick of a history, or these totals if it is empty
 abbrev pub last_totals : List ℕ → List (ℕ × List ℕ) → List ℕ
 last_totals before [] = before
 last_totals before (tick ∷ history) = last_totals tick.1 history
@@ -58,7 +58,8 @@ last_totals before (tick ∷ history) = last_totals tick.1 history
 unfoldable pub totals_after : ℕ → List GroupLife → List Tick → ℕ → List ℕ
 totals_after cpus lives ticks slot = last_totals no_totals (history_of cpus lives ticks slot)
 
--- the averages of a group after ticks: they begin as it is made, and take each tick of its history
+-- the averages of a group after ticks: they start when the group is created, and take in each tick
+-- of its history
 unfoldable pub group_averages : ℕ → List GroupLife → List Tick → ℕ → AverageState
 group_averages cpus lives ticks slot = averages_after (life_of lives slot).made (history_of cpus lives ticks slot)
 
@@ -68,14 +69,14 @@ group_averages cpus lives ticks slot = averages_after (life_of lives slot).made 
 abbrev pub watched_state : TriggerSpec → State
 watched_state trigger = state_of trigger.res trigger.level
 
--- the total (ns) with which a trigger begins: that of its state at the last tick strictly before
--- its line, and 0 where its group was sampled at none
+-- the initial total (ns) of a trigger: that of its state at the last tick strictly before its line,
+-- or 0 if its group was sampled at none
 abbrev pub first_value : TriggerSpec → List (ℕ × List ℕ) → ℕ
 first_value trigger history =
     at_state (last_totals no_totals (filter (λ (at : ℕ × List ℕ). nat_lt at.0 trigger.at) history)) (watched_state trigger)
 
--- what a trigger sees: from its line on, each tick at which its group is live, with the total (ns)
--- of its state
+-- what a trigger sees after its line: each tick at which its group is live, with the total (ns) of
+-- its state
 abbrev pub seen_by : TriggerSpec → List (ℕ × List ℕ) → List (ℕ × ℕ)
 seen_by trigger history =
     map (λ (at : ℕ × List ℕ). (at.0, at_state at.1 (watched_state trigger))) (filter (λ (at : ℕ × List ℕ). nat_le trigger.at at.0) history)
@@ -85,18 +86,18 @@ abbrev pub trigger_over : TriggerSpec → List (ℕ × List ℕ) → TriggerStat
 trigger_over trigger history =
     trigger_after (new_trigger trigger.at (first_value trigger history) trigger.threshold_us trigger.window_us) (seen_by trigger history)
 
--- A trigger signals at a tick that comes after others: its group is live there, its line isn't
--- later, and it fires on the total of its state.
+-- A trigger fires at a tick after other ticks: its group is live then, its line isn't later, and it
+-- fires on the total of its state.
 unfoldable pub has_fired : ℕ → List GroupLife → List Tick → Tick → TriggerSpec → Bool
 has_fired cpus lives ticks tick trigger =
     is_live_at (life_of lives trigger.slot.0) tick.at && nat_le trigger.at tick.at
     && fires (trigger_over trigger (history_of cpus lives ticks trigger.slot.0)) tick.at
     (at_state (totals_after cpus lives (ticks ++ tick ∷ []) trigger.slot.0) (watched_state trigger))
 
--- the trigger with a number from 0 signals
+-- the trigger with this number (from 0) fires
 abbrev pub fires_by_number : ℕ → List GroupLife → List TriggerSpec → List Tick → Tick → ℕ → Bool
 fires_by_number cpus lives triggers ticks tick i = is_some_and (slice_get triggers i) (has_fired cpus lives ticks tick)
 
--- the numbers of the triggers that signal at a tick that comes after others, ascending
+-- the numbers of the triggers that fire at a tick after other ticks, ascending
 unfoldable pub fired_at : ℕ → List GroupLife → List TriggerSpec → List Tick → Tick → List ℕ
 fired_at cpus lives triggers ticks tick = filter (fires_by_number cpus lives triggers ticks tick) (range_with_len 0 (length triggers))

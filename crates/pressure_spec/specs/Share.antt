@@ -5,57 +5,55 @@ use Rattle.psi_base.specs.declared.event.State.{State}
 use Rattle.psi_base.specs.declared.event.State.TheVariants.{Nonidle}
 use Rattle.psi_spec.specs.Stall.{state_number}
 
--- f of the elements of two lists, place by place
+-- f applied to the elements of two lists, position by position
 abbrev pub zip_with : {A B C : Type 0} → (A → B → C) → List A → List B → List C
 zip_with f [] ys = []
 zip_with f (x ∷ xs) [] = []
 zip_with f (x ∷ xs) (y ∷ ys) = f x y ∷ zip_with f xs ys
 
--- Times (ns) of a group on a processor: one in each of the seven states, in the order of their
--- numbers, and behind them, at this place, what interrupts took.
+-- The times (ns) of a group on a processor: one for each of the seven states, ordered by number,
+-- followed, at this place, by the time that interrupts took.
 abbrev pub irq_place : ℕ
 irq_place = 7
 
--- the quantities whose pressure is told, each by its place in a list of times: all states but
--- nonidle, and interrupt time
+-- the pressure quantities, each by its place in a list of times: all states except nonidle, and
+-- interrupt time
 abbrev pub pressure_places : List ℕ
 pressure_places = 0 ∷ 1 ∷ 2 ∷ 3 ∷ 4 ∷ 5 ∷ irq_place ∷ []
 
--- the place of interrupt time in a list that has a number for each of these quantities: the last
+-- the place of interrupt time in a list with one number for each pressure quantity: the last
 abbrev pub irq_quantity : ℕ
 irq_quantity = 6
 
--- the number of a state in a list that begins with one for each state, in the order of their
--- numbers
+-- the number for a state in a list that begins with one number for each state
 abbrev pub at_state : List ℕ → State → ℕ
 at_state numbers state = slice_index numbers (state_number state)
 
--- the weight of a processor: how long it wasn't idle, in whole timer ticks of a millisecond, by its
--- times (ns)
+-- the weight of a processor: its nonidle time in whole milliseconds, from its times (ns)
 abbrev pub weight : List ℕ → ℕ
 weight times = at_state times Nonidle / 1000000
 
--- the weights of all processors together
+-- the sum of the weights of all processors
 abbrev pub total_weight : List (List ℕ) → ℕ
 total_weight rows = sum_by weight rows
 
--- the times (ns) at a place, each with the weight of its processor
+-- the sum of the times (ns) at a place, each multiplied by the weight of its processor
 abbrev pub weighted_time : List (List ℕ) → ℕ → ℕ
 weighted_time rows place = sum_by (λ times. slice_index times place * weight times) rows
 
--- the share (ns) of a quantity, by its place: the mean of the processors' times by their weights,
--- whole
+-- the share (ns) of a quantity, by its place: the weighted mean of the processors' times, rounded
+-- down
 abbrev pub share_of : List (List ℕ) → ℕ → ℕ
 share_of rows place = weighted_time rows place / max (total_weight rows) 1
 
--- the shares (ns) of the pressure quantities, over the times of each processor
+-- the shares (ns) of the pressure quantities, from the times of each processor
 unfoldable pub shares : List (List ℕ) → List ℕ
 shares rows = map (share_of rows) pressure_places
 
--- the sums of two lists, place by place
+-- the sums of two lists, position by position
 abbrev pub plus : List ℕ → List ℕ → List ℕ
 plus xs ys = zip_with (λ x y. x + y) xs ys
 
--- the totals (ns) of a group that has no sample yet
+-- the totals (ns) of a group without samples
 abbrev pub no_totals : List ℕ
 no_totals = map (λ place. 0) pressure_places

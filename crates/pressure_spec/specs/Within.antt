@@ -1,26 +1,23 @@
--- The bounds within which times, totals and averages stay.
+-- Bounds of times, totals and averages.
 use Rattle.std.specs.Prelude.{ℕ, ◌<◌, ◌≤◌, List, sum_by, slice_index, ◌≡◌, ◌+◌, length, All}
 use Rattle.pressure_spec.specs.Share.{pressure_places}
 use Rattle.pressure_spec.specs.Share.{irq_place, irq_quantity}
 use Rattle.pressure_spec.specs.Average.{period, AverageState}
 
--- the times (ns) at a place of all processors together
+-- the sum over all processors of the times (ns) at a place
 abbrev pub time_sum : List (List ℕ) → ℕ → ℕ
 time_sum rows place = sum_by (λ times. slice_index times place) rows
 
--- No interrupt total (ns) is above this: it is at most the interrupt times of the processors
--- together, which are at most 64, each of them at most the last moment that a trace may reach.
+-- The upper bound of an interrupt total (ns): 64 processors times the latest time of a trace.
 abbrev pub most_irq_total : ℕ
 most_irq_total = 4000000000000000000
 
--- times (ns) on a processor: none in a state is above the first bound, and what interrupts took
--- isn't above the second
+-- times (ns) on a processor: at most `most` in each state, and at most `most_irq` of interrupts
 pub record AreTimesWithin (most most_irq : ℕ) (times : List ℕ) : Type 0 where
   pub states : (place : ℕ) → place < irq_place → slice_index times place ≤ most
   pub irq : slice_index times irq_place ≤ most_irq
 
--- shares or totals (ns): none of a state is above the first bound, and that of interrupt time isn't
--- above the second
+-- shares or totals (ns): at most `most` of each state, and at most `most_irq` of interrupts
 pub record AreAmountsWithin (most most_irq : ℕ) (amounts : List ℕ) : Type 0 where
   pub states : (quantity : ℕ) → quantity < irq_quantity → slice_index amounts quantity ≤ most
   pub irq : slice_index amounts irq_quantity ≤ most_irq
@@ -32,8 +29,8 @@ pub record IsRow (row : List ℕ) : Type 0 where
   pub three : length row ≡ 3
   pub most : All (λ average. average ≤ 204800) row
 
--- The next update is due after the last one and at most a period after it, there are a sample and a
--- row of three averages for each pressure quantity, and no average is above 100 percent.
+-- The next update is due after the last one and at most a period after it, there are a sample and
+-- three averages for each pressure quantity, and no average is above 100 percent.
 pub record IsAverageState (s : AverageState) : Type 0 where
   pub later : s.last < s.next
   pub soon : s.next ≤ s.last + period

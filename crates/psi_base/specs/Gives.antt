@@ -1,19 +1,19 @@
--- What a call that may lack memory returned, against what a definition reads.
+-- What a call that may run out of memory returns, compared with what a definition gives.
 use Rattle.std.specs.Prelude.{◌≡◌, Result, Ok, Err, ⊤}
 use Rattle.psi_base.specs.declared.event.Fault.{Fault}
 use Rattle.psi_base.specs.declared.event.Fault.TheVariants.{Refused, NoMemory}
 use Rattle.psi_base.specs.Memory.{no_memory}
 
--- the fault where memory ran out
+-- the fault if memory ran out
 abbrev pub lacks_memory : {E : Type 0} → Fault E
 lacks_memory = NoMemory no_memory
 
--- the fault is the one that was read, unless memory ran out
+-- the fault is the definition's, unless memory ran out
 abbrev pub FaultOf : {A E : Type 0} → Fault E → Result A E → Type 0
 FaultOf (Refused fault) read = read ≡ Err fault
 FaultOf (NoMemory _) read = ⊤
 
--- the call returned what the definition reads, unless memory ran out
+-- the call returned what the definition gives, unless memory ran out
 abbrev pub Gives : {A E : Type 0} → Result A (Fault E) → Result A E → Type 0
 Gives (Ok x) read = read ≡ Ok x
 Gives (Err fault) read = FaultOf fault read

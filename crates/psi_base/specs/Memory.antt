@@ -1,6 +1,6 @@
--- Want of memory.
+-- Out of memory.
 use Rattle.psi_base.specs.declared.text.NoMemory as token
 
--- want of memory, of which there is one value
+-- out of memory; there is only one such value
 abbrev pub no_memory : token.NoMemory
 no_memory = record { refused = tt }

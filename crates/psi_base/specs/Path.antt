@@ -1,14 +1,14 @@
--- Paths of control groups: the root, or components, each behind a slash.
+-- Paths of control groups: the root, or components that are each preceded by a slash.
 use Rattle.std.specs.Prelude.{ℕ, List, [], ◌∷◌, length, drop, slice_index, nat_lt, nat_le, ◌==◌, ◌&&◌, ◌||◌, not, Bool, if◌then◌else◌, codes}
 use Rattle.std.specs.List.{list_all}
 use Rattle.std.specs.Str.{bytes_eq}
 
--- the first part of the bytes gets one more at its front
+-- puts a byte in front of the first part
 abbrev pub onto_first : ℕ → List (List ℕ) → List (List ℕ)
 onto_first byte [] = (byte ∷ []) ∷ []
 onto_first byte (part ∷ parts) = (byte ∷ part) ∷ parts
 
--- the parts between the bytes `at`, one more than there are of these
+-- splits bytes at each byte `at`: one part more than there are such bytes
 unfoldable pub parts_at : ℕ → List ℕ → List (List ℕ)
 parts_at at [] = [] ∷ []
 parts_at at (byte ∷ bytes) = if byte == at then [] ∷ parts_at at bytes else onto_first byte (parts_at at bytes)
@@ -19,12 +19,12 @@ is_path_byte c =
     (nat_le 97 c && nat_le c 122) || (nat_le 65 c && nat_le c 90) || (nat_le 48 c && nat_le c 57) || c == 95 || c == 46 || c == 64
     || c == 58 || c == 45 || c == 92
 
--- one or more such bytes, and neither `.` nor `..`
+-- one or more such bytes, but not `.` or `..`
 abbrev pub is_component : List ℕ → Bool
 is_component part =
     nat_lt 0 (length part) && list_all is_path_byte part && not (bytes_eq part (codes ".")) && not (bytes_eq part (codes ".."))
 
--- the root, or 1 to 32 components of together at most 255 bytes with their slashes
+-- the root, or 1 to 32 components of at most 255 bytes in total, including their slashes
 unfoldable pub is_path : List ℕ → Bool
 is_path bytes =
     bytes_eq bytes (codes "/") || (slice_index bytes 0 == 47 && nat_le (length bytes) 255

@@ -1,7 +1,7 @@
--- Steps of reading, each of which may find a fault.
+-- Steps of parsing, each of which may find a fault.
 use Rattle.std.specs.Prelude.{Result, Ok, Err}
 
--- a step of reading after another, unless that one found a fault
+-- the next step of parsing, unless the previous one found a fault
 infixl 10 ◌>>=◌
 abbrev pub ◌>>=◌ : {A B E : Type 0} → Result A E → (A → Result B E) → Result B E
 (Ok x) >>= f = f x

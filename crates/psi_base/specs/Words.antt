@@ -1,5 +1,5 @@
--- The words of a trace and of what is written of it: one for each way to leave a processor,
--- preference, resource and level.
+-- The words of a trace and of the output: one for each way to leave a processor, each preference,
+-- resource and level.
 use Rattle.std.specs.Prelude.{ℕ, List, [], ◌∷◌, codes, if◌then◌else◌, Option, None, Some}
 use Rattle.std.specs.Str.{bytes_eq}
 use Rattle.psi_base.specs.declared.event.How.{How}
@@ -19,19 +19,19 @@ how_word IoWait = codes "iowait"
 how_word Exit = codes "exit"
 how_word Idle = codes "idle"
 
--- how a group is preferred by what kills
+-- a group's kill preference
 abbrev pub preference_word : Preference → List ℕ
 preference_word Prefer = codes "prefer"
 preference_word Avoid = codes "avoid"
 preference_word Plain = codes "none"
 
--- the resource that is short
+-- a resource
 abbrev pub resource_word : Res → List ℕ
 resource_word Io = codes "io"
 resource_word Memory = codes "memory"
 resource_word Cpu = codes "cpu"
 
--- whether some tasks stall, or all of them
+-- some or full
 abbrev pub level_word : Level → List ℕ
 level_word SomeStalled = codes "some"
 level_word FullStalled = codes "full"
@@ -40,7 +40,7 @@ level_word FullStalled = codes "full"
 abbrev pub hows : List How
 hows = Preempt ∷ Sleep ∷ IoWait ∷ Exit ∷ Idle ∷ []
 
--- how a group may be preferred
+-- the kill preferences
 abbrev pub preferences : List Preference
 preferences = Prefer ∷ Avoid ∷ Plain ∷ []
 
@@ -52,7 +52,7 @@ resources = Io ∷ Memory ∷ Cpu ∷ []
 abbrev pub levels : List Level
 levels = SomeStalled ∷ FullStalled ∷ []
 
--- the first of these that is called so
+-- the first value that has this word
 abbrev pub named : {A : Type 0} → (A → List ℕ) → List A → List ℕ → Option A
 named name [] text = None
 named name (x ∷ xs) text = if bytes_eq text (name x) then Some x else named name xs text

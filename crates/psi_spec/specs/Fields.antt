@@ -1,4 +1,4 @@
--- The kinds of fields that an event line has: the values of each, and the one word that spells a
+-- The kinds of fields of an event line: the values of each kind, and the one word that spells a
 -- value.
 use Rattle.std.specs.Prelude.{◌≡◌, ◌⊎◌, ℕ, ◌≤◌, ◌<◌, ◌^◌, List, [], ◌∷◌, nat_lt, nat_le, ◌&&◌, Bool, true, false, if◌then◌else◌, codes, decimal, Option, None, Some, IfSome, option_map}
 use Rattle.psi_base.specs.Number.{number_of}
@@ -11,10 +11,9 @@ use Rattle.psi_base.specs.declared.event.Preference.{Preference}
 use Rattle.psi_base.specs.declared.event.Res.{Res}
 use Rattle.psi_base.specs.declared.event.Level.{Level}
 
--- what a field of an event line speaks of: a task, the task that runs next or none, a processor, a
--- group by its path, how a task leaves its processor, a group's preference, a size or quantity of
--- at most 2^60, any number of 64 bits, a resource, whether some or all tasks stall, and whether the
--- account of a group is on
+-- what a field of an event line is: a task, the next task or none, a processor, a group's path, how
+-- a task leaves its processor, a group's kill preference, a size or count of at most 2^60, any
+-- 64-bit number, a resource, a level, or whether a group's accounting is on
 pub data Kind : Type 0 where
   pid : Kind
   next : Kind
@@ -42,11 +41,11 @@ Value resource = Res
 Value level = Level
 Value account = Bool
 
--- a task's number is from 1 to 2^32 - 1
+-- a PID is from 1 to 2^32 - 1
 abbrev pub IsPid : Pid → Type 0
 IsPid task = (0 < task.0) × (task.0 < 2 ^ 32)
 
--- a value is one that a trace may speak of
+-- a value is in the range that a trace allows
 abbrev pub InRange : (kind : Kind) → Value kind → Type 0
 InRange pid task = IsPid task
 InRange next task = IfSome task IsPid
@@ -60,12 +59,12 @@ InRange resource which = Unit {0}
 InRange level which = Unit {0}
 InRange account on = Unit {0}
 
--- the task that runs next, or 0
+-- the PID of the next task, or 0
 abbrev pub next_word : Option Pid → List ℕ
 next_word None = codes "0"
 next_word (Some task) = decimal task.0
 
--- whether the account of a group is on
+-- whether a group's accounting is on
 abbrev pub account_word : Bool → List ℕ
 account_word true = codes "on"
 account_word false = codes "off"
@@ -84,25 +83,25 @@ word resource which = resource_word which
 word level which = level_word which
 word account on = account_word on
 
--- this is one of these
+-- the element is in the list
 abbrev pub IsAmong : {A : Type 0} → A → List A → Type 0
 IsAmong x [] = ⊥
 IsAmong x (y ∷ ys) = (x ≡ y) ⊎ IsAmong x ys
 
--- a number where it is in a range
+-- the number if it is in the range, or None
 abbrev pub kept : (ℕ → Bool) → Option ℕ → Option ℕ
 kept holds None = None
 kept holds (Some n) = if holds n then Some n else None
 
--- the number that a word spells, where it is in a range
+-- the number that a word spells, if it is in the range
 abbrev pub number_in : (ℕ → Bool) → List ℕ → Option ℕ
 number_in holds text = kept holds (number_of text)
 
--- 0 is no task
+-- 0 means no task
 abbrev pub task_or_none : ℕ → Option Pid
 task_or_none n = if nat_lt 0 n then Some (record { 0 = n }) else None
 
--- an account is on, or off
+-- accounting is on, or off
 abbrev pub accounts : List Bool
 accounts = true ∷ false ∷ []
 

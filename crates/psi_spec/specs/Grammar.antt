@@ -1,5 +1,5 @@
--- The lines of a trace, as this profile has them: which bytes spell a header and an event, which
--- event a line has, and for what a line is refused that spells none.
+-- The lines of a trace: which bytes spell a header or an event, which event a line spells, and the
+-- cause if it spells none.
 use Rattle.std.specs.Prelude.{ℕ, ◌+◌, ◌<◌, ◌^◌, List, [], ◌∷◌, ◌++◌, map, codes, decimal, Option, None, Some, Result, Ok, Err}
 use Rattle.std.specs.List.{flat_map, range_with_len}
 use Rattle.psi_base.specs.Number.{number_of}
@@ -13,13 +13,13 @@ use Rattle.psi_base.specs.ResultSteps.{◌>>=◌}
 use Rattle.psi_spec.specs.Fields.{Kind, Value, InRange, word, IsAmong, value_of, named}
 use Rattle.psi_spec.specs.Fields as kind
 
--- words with one space between them
+-- words separated by one space
 abbrev pub joined : List (List ℕ) → List ℕ
 joined [] = []
 joined (text ∷ []) = text
 joined (text ∷ next ∷ words) = text ++ 32 ∷ joined (next ∷ words)
 
--- the versions of traces
+-- the versions of the trace format
 pub data Version : Type 0 where
   One : Version
   Two : Version
@@ -28,26 +28,26 @@ pub data Version : Type 0 where
 abbrev pub versions : List Version
 versions = One ∷ Two ∷ []
 
--- how a version is written
+-- the number of a version in the header
 abbrev pub version_number : Version → ℕ
 version_number One = 1
 version_number Two = 2
 
--- what a header tells: the version, and how many processors there are
+-- a header: the version and the number of processors
 pub record Header : Type 0 where
   pub version : Version
   pub cpus : ℕ
 
--- the header line of a trace of this version, for so many processors
+-- the header line of a trace of this version, for n processors
 unfoldable pub header : ℕ → ℕ → List ℕ
 header version cpus = codes "psitrace " ++ decimal version ++ codes " cpus=" ++ decimal cpus
 
--- what makes an act of fields: a function of a value of each of their kinds, in their order
+-- a function from values of these kinds, in order, to an act
 abbrev pub Maker : List Kind → Type 0
 Maker [] = Act
 Maker (k ∷ ks) = Value k → Maker ks
 
--- the verbs of event lines, each called as the act that it tells of
+-- the verbs of event lines, each named after its act
 pub data Verb : Type 0 where
   Group : Verb
   Remove : Verb
@@ -66,13 +66,13 @@ pub data Verb : Type 0 where
   Pressure : Verb
   End : Verb
 
--- the word of a verb, the kinds of its fields, and the act that their values make
+-- the word of a verb, the kinds of its fields, and the act that their values give
 pub record Form : Type 0 where
   pub word : List ℕ
   pub kinds : List Kind
   pub act : Maker kinds
 
--- the form of these parts
+-- the form with these parts
 abbrev pub form : (text : List ℕ) (kinds : List Kind) → Maker kinds → Form
 form text kinds act = record { word = text; kinds = kinds; act = act }
 
@@ -95,24 +95,24 @@ form_of Irq = form (codes "irq") (kind.cpu ∷ kind.number ∷ []) act.Irq
 form_of Pressure = form (codes "pressure") (kind.path ∷ kind.account ∷ []) act.Pressure
 form_of End = form (codes "end") [] act.End
 
--- how a verb is written
+-- the word of a verb
 abbrev pub verb_word : Verb → List ℕ
 verb_word verb = (form_of verb).word
 
--- the kinds of a verb's fields, in their order
+-- the kinds of a verb's fields, in order
 abbrev pub kinds_of : Verb → List Kind
 kinds_of verb = (form_of verb).kinds
 
--- the verbs of every version, of which those that a trace has most of stand first
+-- the verbs of every version, the most frequent ones first
 abbrev pub first_verbs : List Verb
 first_verbs = Switch ∷ Wake ∷ Stall ∷ Unstall ∷ Migrate ∷ Move ∷ Fork ∷ Mem ∷ Host ∷ Group ∷ Remove ∷ Prefer ∷ Trigger ∷ End ∷ []
 
--- the verbs that a version has besides
+-- the additional verbs of a version
 abbrev pub more_verbs : Version → List Verb
 more_verbs One = []
 more_verbs Two = Irq ∷ Pressure ∷ []
 
--- the verbs of a version; no two are written alike
+-- the verbs of a version; no two have the same word
 abbrev pub verbs_of : Version → List Verb
 verbs_of version = first_verbs ++ more_verbs version
 
@@ -126,11 +126,11 @@ pub record Phrase : Type 0 where
   pub verb : Verb
   pub values : Values (kinds_of verb)
 
--- such a verb and such values
+-- the phrase of a verb and values
 abbrev pub phrase : (verb : Verb) → Values (kinds_of verb) → Phrase
 phrase verb values = record { verb = verb; values = values }
 
--- the verb that tells of an act, and the values of its fields
+-- the verb of an act, and the values of its fields
 abbrev pub phrase_of : Act → Phrase
 phrase_of (act.Group path) = phrase Group (path, tt)
 phrase_of (act.Remove path) = phrase Remove (path, tt)
@@ -156,7 +156,7 @@ abbrev pub field_words : (ks : List Kind) → Values ks → List (List ℕ)
 field_words [] values = []
 field_words (k ∷ ks) values = word k values.0 ∷ field_words ks values.1
 
--- each value is one that a trace may speak of
+-- each value is in the range that a trace allows
 abbrev pub AreInRange : (ks : List Kind) → Values ks → Type 0
 AreInRange [] values = Unit {0}
 AreInRange (k ∷ ks) values = InRange k values.0 × AreInRange ks values.1
@@ -169,22 +169,22 @@ act_words what = verb_word (phrase_of what).verb ∷ field_words (kinds_of (phra
 unfoldable pub spelling : Event → List ℕ
 spelling event = joined (decimal event.at ∷ act_words event.act)
 
--- the values of an act are ones that a trace may speak of
+-- the values of an act are in the ranges that a trace allows
 abbrev pub ActFits : Act → Type 0
 ActFits what = AreInRange (kinds_of (phrase_of what).verb) (phrase_of what).values
 
--- an event is one that a trace may speak of
+-- the values of an event are in the ranges that a trace allows
 pub record Fits (event : Event) : Type 0 where
   pub at : event.at < 2 ^ 64
   pub act : ActFits event.act
 
--- an event is told of by one of these verbs
+-- an event has one of these verbs
 abbrev pub IsKnown : List Verb → Event → Type 0
 IsKnown verbs event = IsAmong (phrase_of event.act).verb verbs
 
 -- ---- reading
 
--- a value that was found, and the words behind it, or the bad field with this number
+-- a value and the remaining words, or BadField with this number if there is no value
 abbrev pub or_bad : {A : Type 0} → ℕ → Option A → List (List ℕ) → Result (A × List (List ℕ)) Cause
 or_bad i None words = Err (cause.BadField i)
 or_bad i (Some x) words = Ok (x, words)

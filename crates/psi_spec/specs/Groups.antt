@@ -12,27 +12,27 @@ path_at groups slot = slice_index_or (map (λ group. group.path) groups) slot []
 
 -- ---- live groups at a moment
 
--- a moment (ns) at which a group went, if it went, has come
+-- the group was removed by this time (ns)
 abbrev pub is_gone_by : Option ℕ → ℕ → Bool
 is_gone_by None at = false
 is_gone_by (Some gone) at = nat_le gone at
 
--- A group is live at a moment (ns): it was made by then, and hasn't gone by then.
+-- A group is live at a time (ns) if it was created by then and not removed by then.
 abbrev pub is_live_at : GroupLife → ℕ → Bool
 is_live_at life at = nat_le life.made at && not (is_gone_by life.gone at)
 
 -- ---- live groups in the order in which they are printed
 
--- the paths of the live groups, each with its slot, where slots are counted from this one on
+-- the paths of the live groups, each with its slot, counting slots from this number
 abbrev pub live_from : ℕ → List GroupLife → List (List ℕ × ℕ)
 live_from slot [] = []
 live_from slot (group ∷ groups) = if is_live group then (group.path, slot) ∷ live_from (slot + 1) groups else live_from (slot + 1) groups
 
--- pairs in the byte order of their paths
+-- pairs sorted by the bytes of their paths
 abbrev pub in_order : List (List ℕ × ℕ) → List (List ℕ × ℕ)
 in_order [] = []
 in_order (pair ∷ pairs) = entries.put (slice_cmp nat_cmp) pair.0 pair.1 (in_order pairs)
 
--- the live groups in the byte order of their paths
+-- the live groups, sorted by the bytes of their paths
 abbrev pub live_groups : List GroupLife → List (List ℕ × ℕ)
 live_groups groups = in_order (live_from 0 groups)

@@ -6,10 +6,10 @@ use Rattle.psi_spec.specs.Grammar.{Version, One, Two, Header}
 abbrev pub IsVersion : ℕ → Type 0
 IsVersion number = (number ≡ 1) ⊎ (number ≡ 2)
 
--- the version with a number, and the first for a number of none
+-- the version with this number, or version 1 if there is none
 abbrev pub version_of : ℕ → Version
 version_of number = if number == 2 then Two else One
 
--- what a header tells that has the number of a version
+-- the header with this version number
 abbrev pub header_with : ℕ → ℕ → Header
 header_with number cpus = record { version = version_of number; cpus = cpus }

@@ -14,64 +14,64 @@ use Rattle.psi_spec.specs.Trace.{Accepts, AllFit, AreKnown, IsAccepted, IsCpuCou
 
 -- ---- groups
 
--- The root alone is such a list of groups.
+-- The root alone is a legal list of groups.
 abbrev pub AreGroupsFirst : Type 0
 AreGroupsFirst = AreGroups (root ∷ [])
 
--- A legal event keeps them so.
+-- A legal event preserves that.
 abbrev pub AreGroupsKept : Type 0
 AreGroupsKept =
     (limits : Limits) (w : World) (event : Event) → cause_of limits w event ≡ None → AreGroups w.groups
     → AreGroups (after_event w event).groups
 
--- Parents never change: an event only adds those of new groups behind them.
+-- Parents never change: an event only appends those of new groups.
 abbrev pub ParentsKept : Type 0
 ParentsKept = (w : World) (event : Event) → parents_of (after_event w event).groups ≡ parents_of w.groups ++ new_parents w.groups event.act
 
--- Groups that are made later change nothing above the groups before them.
+-- Groups that are created later don't change the ancestors of earlier groups.
 abbrev pub ClimbsKept : Type 0
 ClimbsKept =
     (parents more : List (Option ℕ)) (low high : ℕ) → AreOlder parents → low < length parents
     → is_under (parents ++ more) low high ≡ is_under parents low high
 
--- A slot is another or has it among its ancestors where it is the other, or its parent is or has.
+-- A slot is under another one if and only if it is that slot or its parent is under it.
 abbrev pub UnderByStep : Type 0
 UnderByStep =
     (parents : List (Option ℕ)) (low high : ℕ) → AreOlder parents
     → is_under parents low high ≡ (low == high || leads_to parents (slice_index_or parents low None) high)
 
--- Ancestors are older.
+-- Ancestors have smaller slots.
 abbrev pub AncestorsAreOlder : Type 0
 AncestorsAreOlder = (parents : List (Option ℕ)) (low high : ℕ) → AreOlder parents → is_under parents low high ≡ true → high ≤ low
 
--- Each group is the root or has it among its ancestors.
+-- Each group is the root or below it.
 abbrev pub RootIsAbove : Type 0
 RootIsAbove = (groups : List GroupLife) (slot : ℕ) → AreGroups groups → slot < length groups → is_under (parents_of groups) slot 0 ≡ true
 
 -- ---- stall time and interrupt time
 
--- Stall time grows by an event as a clock does: up to the event by what was before it, and from it
--- on where the state holds after it.
+-- Stall time with one more event: the time before it up to the event, and after it the rest of the
+-- time if the group is in the state then.
 abbrev pub GrowsByEvent : Type 0
 GrowsByEvent = (state : State) (cpu slot : ℕ) (events : List Event) (event : Event) (at : ℕ) →
     stall state cpu slot (events ++ event ∷ []) at ≡ stall state cpu slot events event.at
     + (if holds state cpu slot (after (events ++ event ∷ [])) then at - event.at else 0)
 
--- Stall time grows with time alone where the state holds after the last event.
+-- After the last event, stall time grows with time exactly if the group is in the state then.
 abbrev pub GrowsWithTime : Type 0
 GrowsWithTime = (state : State) (cpu slot : ℕ) (events : List Event) (event : Event) (at later : ℕ) → event.at ≤ at → at ≤ later →
     stall state cpu slot (events ++ event ∷ []) later
     ≡ stall state cpu slot (events ++ event ∷ []) at + (if holds state cpu slot (after (events ++ event ∷ [])) then later - at else 0)
 
--- Interrupt time grows by an event as that tells in the world before it.
+-- Interrupt time with one more event grows by what the event adds in the world before it.
 abbrev pub IrqByEvent : Type 0
 IrqByEvent = (cpu slot : ℕ) (events : List Event) (event : Event) →
     irq_time cpu slot (events ++ event ∷ []) ≡ irq_time cpu slot events + irq_from cpu slot (after events) (Some event)
 
 -- ---- traces
 
--- what makes bytes a trace, with no reader in sight: they are its text, its version is accepted,
--- and its events, each by a verb that is accepted, make up a trace
+-- what it means that bytes are a trace, without referring to a parser: they are its text, its
+-- version is accepted, and its events have accepted verbs and make up a trace
 pub record IsTrace (accepts : Accepts) (bytes : List ℕ) (trace : Trace) : Type 0 where
   pub text : bytes ≡ text_of trace
   pub version : IsAmong trace.version accepts.versions
@@ -79,7 +79,7 @@ pub record IsTrace (accepts : Accepts) (bytes : List ℕ) (trace : Trace) : Type
   pub known : AreKnown (accepts.verbs trace.version) trace.events
   pub accepted : IsAccepted (limits_of accepts.tick trace.cpus) trace.events
 
--- bytes are accepted as a trace exactly where they are one
+-- bytes are accepted as a trace if and only if they are its text
 abbrev pub Accepted : Type 0
 Accepted = (accepts : Accepts) (bytes : List ℕ) (trace : Trace) → (trace_of accepts bytes ≡ Ok trace) ↔ IsTrace accepts bytes trace
 
@@ -87,26 +87,25 @@ Accepted = (accepts : Accepts) (bytes : List ℕ) (trace : Trace) → (trace_of 
 abbrev pub NoNewline : List ℕ → Type 0
 NoNewline bytes = (k : ℕ) → k < length bytes → slice_index bytes k ≢ 10
 
--- What stands in the input at the start of a line: the line with its newline, or a rest with none.
+-- The input at the start of a line: a line with its newline, or a rest without one.
 abbrev pub IsFirstLine : List ℕ → List ℕ → Type 0
 IsFirstLine rest line = NoNewline line × ((behind : List ℕ) × (rest ≡ line ++ 10 ∷ behind))
 
 abbrev pub IsRest : List ℕ → Type 0
 IsRest rest = NoNewline rest
 
--- the cause against what stands at the start of a line in a world, as the line or as the rest of
--- the input
+-- the cause against this input at the start of a line, in a world
 abbrev pub IsLineCause : List Verb → Limits → World → List ℕ → Cause → Type 0
 IsLineCause verbs limits w rest why =
     ((line : List ℕ) × IsFirstLine rest line × (line_event verbs limits w line ≡ Err why)) ⊎ (IsRest rest × (rest_cause w rest ≡ Some why))
 
--- the same of the first line
+-- the same for the first line
 abbrev pub IsFirstLineCause : List Version → List ℕ → Cause → Type 0
 IsFirstLineCause versions rest why =
     ((line : List ℕ) × IsFirstLine rest line × (first_line versions line ≡ Err why)) ⊎ (IsRest rest × (first_rest rest ≡ why))
 
--- the first refused line is one behind the header: the lines before it are a header and legal
--- events, and in the world after these the cause is that of what stands there
+-- the first bad line is after the header: the lines before it are a header and legal events, and in
+-- the world after these the cause applies to the input there
 pub record IsRefusedLater (accepts : Accepts) (bytes : List ℕ) (line : ℕ) (why : Cause) : Type 0 where
   pub version : Version
   pub cpus : ℕ
@@ -121,12 +120,12 @@ pub record IsRefusedLater (accepts : Accepts) (bytes : List ℕ) (line : ℕ) (w
   pub line_is : line ≡ length front + 2
   pub has : IsLineCause (accepts.verbs version) (limits_of accepts.tick cpus) (after front) rest why
 
--- where bytes are refused, at the first line against which a cause stands
+-- what it means that bytes are rejected at a line, without referring to a parser
 abbrev pub IsRefused : Accepts → List ℕ → ℕ → Cause → Type 0
 IsRefused accepts bytes line why = ((line ≡ 1) × IsFirstLineCause accepts.versions bytes why) ⊎ IsRefusedLater accepts bytes line why
 
--- bytes are refused at a line with a cause exactly where that is the first refused line and its
--- first cause
+-- bytes are rejected at a line with a cause if and only if it is the first bad line and its first
+-- cause
 abbrev pub FirstRefused : Type 0
 FirstRefused =
     (accepts : Accepts) (bytes : List ℕ) (line : ℕ) (why : Cause)

@@ -1,5 +1,5 @@
--- What follows from the grammar of lines: what is read is what is spelled, and a line is refused
--- for what is wrong first.
+-- Laws of the grammar of lines: parsing inverts spelling, and a line is rejected for its leftmost
+-- error.
 use Rattle.std.specs.Prelude.{◌≡◌, ◌≢◌, ◌↔◌, ℕ, ◌+◌, ◌≤◌, ◌<◌, ◌^◌, List, drop, length, slice_get, slice_index, EachIndex, Option, None, Some, Ok, Err}
 use Rattle.psi_base.specs.Path.{parts_at}
 use Rattle.psi_base.specs.declared.event.Cause.{Cause}
@@ -13,20 +13,20 @@ use Rattle.psi_spec.specs.Grammar.{Header, Verb, Version, Fits, IsKnown, event_o
 abbrev pub Spells : Kind → List ℕ → Type 0
 Spells k text = (value : Value k) × (InRange k value × (text ≡ word k value))
 
--- a part stands where one is due, and spells a value of its kind
+-- there is a next part, and it spells a value of its kind
 abbrev pub IsGood : Option Kind → Option (List ℕ) → Type 0
 IsGood (Some k) (Some text) = Spells k text
 IsGood (Some k) None = ⊥
 IsGood None part = ⊥
 
--- a part is missing, or spells no value of its kind, or is one too many
+-- a part is missing, spells no value of its kind, or is superfluous
 abbrev pub IsBad : Option Kind → Option (List ℕ) → Type 0
 IsBad (Some k) (Some text) = Spells k text → ⊥
 IsBad (Some k) None = Unit {0}
 IsBad None (Some text) = Unit {0}
 IsBad None None = ⊥
 
--- the leftmost bad part is the one at this place
+-- the leftmost bad part is at this place
 pub record IsFirstBad (ks : List Kind) (parts : List (List ℕ)) (at : ℕ) : Type 0 where
   pub before : (i : ℕ) → i < at → IsGood (slice_get ks i) (slice_get parts i)
   pub here : IsBad (slice_get ks at) (slice_get parts at)
@@ -35,11 +35,11 @@ pub record IsFirstBad (ks : List Kind) (parts : List (List ℕ)) (at : ℕ) : Ty
 abbrev pub HasTime : List (List ℕ) → Type 0
 HasTime parts = IsGood (Some kind.number) (slice_get parts 0)
 
--- the second part of a line is this verb, and it is one of these
+-- the second part of a line is the word of this verb, which is one of these
 abbrev pub HasVerb : List Verb → List (List ℕ) → Verb → Type 0
 HasVerb verbs parts verb = IsAmong verb verbs × (slice_get parts 1 ≡ Some (verb_word verb))
 
--- the parts behind the verb are bad first at the field with this number, counted from 1
+-- the leftmost bad part after the verb is the field with this number, from 1
 pub record HasBadField (verbs : List Verb) (parts : List (List ℕ)) (number : ℕ) : Type 0 where
   pub time : HasTime parts
   pub verb : Verb
@@ -48,33 +48,33 @@ pub record HasBadField (verbs : List Verb) (parts : List (List ℕ)) (number : �
   pub is_number : number ≡ at + 1
   pub first : IsFirstBad (kinds_of verb) (drop 2 parts) at
 
--- The cause against the parts of a line, for what they spell alone: a first part that is no time;
--- else a second part that is missing or no verb of these; else the leftmost field that is missing,
--- wrong or one too many. There is no other.
+-- The cause against the parts of a line, judging the text alone: the first part isn't a time; or
+-- else the second part is missing or isn't one of these verbs; or else the leftmost field that is
+-- missing, malformed or superfluous. There is no other.
 abbrev pub IsCause : List Verb → List (List ℕ) → Cause → Type 0
 IsCause verbs parts cause.BadTime = HasTime parts → ⊥
 IsCause verbs parts cause.BadVerb = HasTime parts × ((verb : Verb) → HasVerb verbs parts verb → ⊥)
 IsCause verbs parts (cause.BadField number) = HasBadField verbs parts number
 IsCause verbs parts _ = ⊥
 
--- A line is read as an event exactly where it is the spelling of one that a trace may speak of, by
--- one of the verbs.
+-- A line is parsed as an event if and only if it is the spelling of an event with values in range
+-- and one of the verbs.
 abbrev pub ReadsSpelled : Type 0
 ReadsSpelled =
     (verbs : List Verb) (line : List ℕ) (event : Event)
     → (event_of verbs line ≡ Ok event) ↔ (Fits event × IsKnown verbs event × (line ≡ spelling event))
 
--- A line is refused exactly for what is wrong first from the left.
+-- A line is rejected exactly for its leftmost error.
 abbrev pub FindsCauses : Type 0
 FindsCauses = (verbs : List Verb) (line : List ℕ) (why : Cause) → (event_of verbs line ≡ Err why) ↔ IsCause verbs (parts_at 32 line) why
 
--- A line is read as a header exactly where it is the header of one of the versions and of 1 to 64
+-- A line is parsed as a header if and only if it is the header of one of the versions with 1 to 64
 -- processors.
 abbrev pub HeadersSpelled : Type 0
 HeadersSpelled = (versions : List Version) (line : List ℕ) (head : Header) →
     (header_of versions line ≡ Some head) ↔ (IsAmong head.version versions × (1 ≤ head.cpus) × (head.cpus ≤ 64) × (line ≡ header_line head))
 
--- bytes that may stand in a line: none is a newline, and there are at most 512
+-- bytes that may be a line: no newline, and at most 512 of them
 pub record IsLine (bytes : List ℕ) : Type 0 where
   pub one : EachIndex bytes (λ k. slice_index bytes k ≢ 10)
   pub short : length bytes ≤ 512
@@ -87,6 +87,6 @@ SpelledInLine = (event : Event) → Fits event → IsLine (spelling event)
 abbrev pub HeadedByLine : Type 0
 HeadedByLine = (version cpus : ℕ) → version < 2 ^ 64 → cpus < 2 ^ 64 → IsLine (header version cpus)
 
--- Two events that are spelled alike are the same.
+-- Two events with the same spelling are equal.
 abbrev pub SpelledApart : Type 0
 SpelledApart = (first second : Event) → Fits first → Fits second → spelling first ≡ spelling second → first ≡ second

@@ -1,12 +1,12 @@
--- What the line of an act names, one row a verb.
+-- What the line of an act names, one row for each verb.
 use Rattle.std.specs.Prelude.{ℕ, List, Bool, Option, None, Some}
 use Rattle.psi_base.specs.declared.event.Pid.{Pid}
 use Rattle.psi_base.specs.declared.event.Act.{Act}
 use Rattle.psi_base.specs.declared.event.Act.TheVariants as act
 
--- what an act names: the paths of a group that has to be live, of one that is made and of one that
--- is removed, that of one whose account is switched and whether on, a task that has to be live and
--- one that is made, and a processor that has to be there
+-- what an act names: the path of a group that must exist, of one that is created, of one that is
+-- removed, of one whose accounting is switched (and whether on), a task that must exist, one that
+-- is created, and a processor that must exist
 pub record Names : Type 0 where
   pub live_path : Option (List ℕ)
   pub new_path : Option (List ℕ)

@@ -1,4 +1,4 @@
--- Which events are legal in a world, and the cause against one that isn't.
+-- Which events are legal in a world, and the cause against an illegal one.
 use Rattle.std.specs.Prelude.{◌≡◌, ℕ, ◌-◌, List, [], ◌∷◌, length, slice_index_or, nat_lt, nat_le, ◌==◌, ◌&&◌, ◌||◌, not, Bool, true, false, Option, None, Some, is_some, find}
 use Rattle.std.specs.List.{list_any}
 use Rattle.std.specs.FinMap as tasks_by
@@ -19,32 +19,32 @@ use Rattle.psi_spec.specs.World.{World, Limits, Tasks, task_of, running_on, task
 
 -- ---- single tests
 
--- a path that has to be live isn't
+-- a path that must be that of a live group isn't
 abbrev pub lacks_group : List GroupLife → Option (List ℕ) → Bool
 lacks_group groups None = false
 lacks_group groups (Some path) = not (is_some (slot_of groups path))
 
--- a task that has to be live isn't
+-- a task that must exist doesn't
 abbrev pub lacks_task : Tasks → Option Pid → Bool
 lacks_task tasks None = false
 lacks_task tasks (Some pid) = not (is_some (task_of tasks pid.0))
 
--- a processor that has to be there isn't
+-- a processor that must exist doesn't
 abbrev pub lacks_cpu : ℕ → Option ℕ → Bool
 lacks_cpu cpus None = false
 lacks_cpu cpus (Some cpu) = nat_le cpus cpu
 
--- a path that has to be new is that of a live group
+-- a path that must be new is that of a live group
 abbrev pub has_group : List GroupLife → Option (List ℕ) → Bool
 has_group groups None = false
 has_group groups (Some path) = is_some (slot_of groups path)
 
--- the group above a new one isn't live
+-- the parent of a new group isn't live
 abbrev pub lacks_parent : List GroupLife → Option (List ℕ) → Bool
 lacks_parent groups None = false
 lacks_parent groups (Some path) = not (is_some (slot_of groups (parent_path path)))
 
--- the slot is this one
+-- the slot equals this one
 abbrev pub is_slot : Option ℕ → Option Slot → Bool
 is_slot (Some n) (Some slot) = slot.0 == n
 is_slot _ _ = false
@@ -57,22 +57,22 @@ has_child groups slot = list_any (λ group. is_live group && is_slot slot group.
 abbrev pub has_member : Tasks → Option ℕ → Bool
 has_member tasks slot = list_any (λ task. is_slot slot (Some task.slot)) (tasks_by.values tasks)
 
--- a group that is to be removed is the root, or has a live child or a live task in it
+-- a group to be removed is the root, or has a live child or a live task
 abbrev pub is_busy : World → Option (List ℕ) → Bool
 is_busy w None = false
 is_busy w (Some path) = is_root path || has_child w.groups (slot_of w.groups path) || has_member w.tasks (slot_of w.groups path)
 
--- the group whose account is to be switched is the root
+-- the group whose accounting is to be switched is the root
 abbrev pub switches_root : Option (List ℕ × Bool) → Bool
 switches_root None = false
 switches_root (Some switched) = is_root switched.0
 
--- a task that has to be new is live
+-- a task that must be new exists
 abbrev pub has_task : Tasks → Option Pid → Bool
 has_task tasks None = false
 has_task tasks (Some pid) = is_some (task_of tasks pid.0)
 
--- a processor is said to idle where a task runs, or a task is said to leave where none runs
+-- a switch says `idle` although a task is running, or another way to leave although none is
 abbrev pub is_wrong : How → Option (ℕ × Task) → Bool
 is_wrong Idle running = is_some running
 is_wrong Preempt running = not (is_some running)
@@ -90,58 +90,58 @@ abbrev pub isnt_ready : Tasks → ℕ → Option Pid → Bool
 isnt_ready tasks cpu None = false
 isnt_ready tasks cpu (Some pid) = not (is_some_and (task_of tasks pid.0) (is_ready_on cpu))
 
--- a window (us) from half a second to ten, and a threshold (us) from one up to the window
+-- a window (us) from half a second to ten seconds, and a threshold (us) from one up to the window
 abbrev pub is_window : ℕ → ℕ → Bool
 is_window threshold window = nat_le 500000 window && nat_le window 10000000 && nat_le 1 threshold && nat_le threshold window
 
--- a stall starts or ends, and its task doesn't run
+-- a stall starts or ends although its task isn't running
 abbrev pub not_running : Tasks → Act → Bool
 not_running tasks (act.Stall pid) = is_some_and (task_of tasks pid.0) (λ task. not (is_running task.mode))
 not_running tasks (act.Unstall pid) = is_some_and (task_of tasks pid.0) (λ task. not (is_running task.mode))
 not_running tasks _ = false
 
--- the task that is to run next isn't ready on that processor, or the one that migrates isn't ready
+-- the next task isn't ready on that processor, or the task that migrates isn't ready
 abbrev pub not_ready : Tasks → Act → Bool
 not_ready tasks (act.Switch cpu next how) = isnt_ready tasks cpu.0 next
 not_ready tasks (act.Migrate pid cpu) = is_some_and (task_of tasks pid.0) (λ task. not (is_ready task.mode))
 not_ready tasks _ = false
 
--- the task that is woken is ready or runs
+-- the task that is woken is ready or running
 abbrev pub not_blocked : Tasks → Act → Bool
 not_blocked tasks (act.Wake pid cpu) = is_some_and (task_of tasks pid.0) (λ task. is_active task.mode)
 not_blocked tasks _ = false
 
--- a switch says that a processor idles where a task runs, or how one leaves where none runs
+-- a switch says `idle` although a task is running, or another way to leave although none is
 abbrev pub wrong_how : Tasks → Act → Bool
 wrong_how tasks (act.Switch cpu next how) = is_wrong how (running_on tasks cpu.0)
 wrong_how tasks _ = false
 
--- a stall starts where there is one, or a task exits in one
+-- a stall starts in a stall, or a task exits in one
 abbrev pub in_stall : Tasks → Act → Bool
 in_stall tasks (act.Stall pid) = is_some_and (task_of tasks pid.0) (λ task. task.stalled)
 in_stall tasks (act.Switch cpu next how) = is_exit how && is_some_and (task_part (running_on tasks cpu.0)) (λ task. task.stalled)
 in_stall tasks _ = false
 
--- a stall ends where there is none
+-- a stall ends although there is none
 abbrev pub not_in_stall : Tasks → Act → Bool
 not_in_stall tasks (act.Unstall pid) = is_some_and (task_of tasks pid.0) (λ task. not task.stalled)
 not_in_stall tasks _ = false
 
--- a trigger's window or threshold isn't in its range
+-- a trigger's window or threshold is out of range
 abbrev pub bad_window : Act → Bool
 bad_window (act.Trigger path res level threshold_us window_us) = not (is_window threshold_us window_us)
 bad_window _ = false
 
--- interrupts took more than a second, or more time (ns) than passed since the last `irq` line of
--- the processor
+-- interrupts took more than a second, or more than the time (ns) since the last `irq` line of the
+-- processor
 abbrev pub irq_too_long : List ℕ → ℕ → Act → Bool
 irq_too_long irqs at (act.Irq cpu ns) = nat_lt longest_irq ns || nat_lt (at - slice_index_or irqs cpu.0 0) ns
 irq_too_long irqs at _ = false
 
 -- ---- causes
 
--- When each cause stands against an event in a world. Causes that a line's bytes alone can have
--- stand against no event.
+-- When each cause applies to an event in a world. Causes that concern only the bytes of a line
+-- apply to no event.
 abbrev pub applies : Cause → Limits → World → Event → Bool
 applies cause.AfterEnd limits w event = w.ended
 applies cause.TimeBack limits w event = nat_lt event.at w.last
@@ -174,7 +174,7 @@ applies cause.BadVerb limits w event = false
 applies (cause.BadField i) limits w event = false
 applies cause.NoEnd limits w event = false
 
--- the order in which causes are asked for, where several stand
+-- the order of causes: if several apply, the first one is reported
 abbrev pub cause_order : List Cause
 cause_order =
     cause.AfterEnd ∷ cause.TimeBack ∷ cause.TimeTooLate
@@ -184,7 +184,7 @@ cause_order =
     ∷ cause.NotRunning ∷ cause.NotReady ∷ cause.NotBlocked ∷ cause.WrongHow ∷ cause.InStall ∷ cause.NotInStall
     ∷ cause.IrqTooLong ∷ []
 
--- the first cause against an event, or none where the event is legal
+-- the first cause against an event, or None if the event is legal
 unfoldable pub cause_of : Limits → World → Event → Option Cause
 cause_of limits w event = find (λ why. applies why limits w event) cause_order
 

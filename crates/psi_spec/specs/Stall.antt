@@ -1,5 +1,5 @@
--- When a group is in a state on a processor, and for how long; and how long interrupts took from it
--- there.
+-- When a group is in a state on a processor and for how long, and how much time interrupts took
+-- from it there.
 use Rattle.std.specs.Prelude.{ℕ, zero, suc, ◌+◌, ◌-◌, List, [], ◌∷◌, length, sum, map, take, filter, slice_get, slice_index_or, ◌==◌, ◌&&◌, ◌||◌, not, Bool, false, if◌then◌else◌, Option, None, Some}
 use Rattle.std.specs.List.{list_any, list_all, range_with_len}
 use Rattle.std.specs.FinMap as tasks_by
@@ -25,20 +25,20 @@ number_of_slot (Some slot) = Some slot.0
 abbrev pub parents_of : List GroupLife → List (Option ℕ)
 parents_of groups = map (λ group. number_of_slot group.parent) groups
 
--- a slot is another or has it among its ancestors, at most so many steps up
+-- a slot is another one or has it among its ancestors, at most n steps up
 abbrev pub climbs : ℕ → List (Option ℕ) → Option ℕ → ℕ → Bool
 climbs n parents None high = false
 climbs zero parents (Some slot) high = slot == high
 climbs (suc n) parents (Some slot) high = slot == high || climbs n parents (slice_index_or parents slot None) high
 
--- A slot is another or has it among its ancestors. Parents are older, so the slot's own number
--- bounds the way up.
+-- A slot is another one or has it among its ancestors. Parents have smaller slots, so the slot's
+-- own number bounds the steps.
 unfoldable pub is_under : List (Option ℕ) → ℕ → ℕ → Bool
 is_under parents low high = climbs low parents (Some low) high
 
 -- ---- states
 
--- a task counts for a group on a processor: it is there, and in the group or below it
+-- a task counts for a group on a processor: it is on that processor, and in the group or below it
 abbrev pub is_in : List (Option ℕ) → ℕ → ℕ → Task → Bool
 is_in parents cpu slot task = task.cpu.0 == cpu && is_under parents task.slot.0 slot
 
@@ -54,11 +54,11 @@ waits task = is_waiting task.mode
 abbrev pub queues : Task → Bool
 queues task = is_ready task.mode
 
--- the task runs
+-- the task is running
 abbrev pub runs : Task → Bool
 runs task = is_running task.mode
 
--- the task is ready or runs
+-- the task is ready or running
 abbrev pub is_up : Task → Bool
 is_up task = is_active task.mode
 
@@ -66,11 +66,10 @@ is_up task = is_active task.mode
 abbrev pub stalls : Task → Bool
 stalls task = task.stalled
 
--- The states, as this profile's table has them after the kernel's psi.c, said of the tasks that
--- count. IO: some task waits for IO; full where besides none is ready or running. Memory: some task
--- is in a stall; full where besides all that are ready or running are in a stall, or the running
--- one is. CPU: some task is ready; full where besides none runs. Nonidle: some task waits, is in a
--- stall, is ready or runs.
+-- The states, as in the kernel's psi.c, over the tasks that count. IO: some task waits for IO; full
+-- if also none is ready or running. Memory: some task is in a memory stall; full if also all ready
+-- or running tasks are in one, or the running task is. CPU: some task is ready; full if also none
+-- is running. Nonidle: some task waits for IO, is in a memory stall, is ready or is running.
 abbrev pub holds_of : State → List Task → Bool
 holds_of IoSome tasks = list_any waits tasks
 holds_of IoFull tasks = list_any waits tasks && not (list_any is_up tasks)
@@ -81,49 +80,49 @@ holds_of CpuSome tasks = list_any queues tasks
 holds_of CpuFull tasks = list_any queues tasks && not (list_any runs tasks)
 holds_of Nonidle tasks = list_any (λ task. waits task || stalls task || is_up task) tasks
 
--- the states in the order of their numbers
+-- the states, ordered by number
 abbrev pub states : List State
 states = IoSome ∷ IoFull ∷ MemSome ∷ MemFull ∷ CpuSome ∷ CpuFull ∷ Nonidle ∷ []
 
--- a group is in a state on a processor: its account is on, and the tasks that count for it there
--- tell so
+-- a group is in a state on a processor: its accounting is on, and the tasks that count for it there
+-- are in that state
 unfoldable pub holds : State → ℕ → ℕ → World → Bool
 holds state cpu slot w = is_on w.groups slot && holds_of state (tasks_in (parents_of w.groups) cpu slot w.tasks)
 
 -- ---- stall time
 
--- the moment of the event with a number from 1, and the given moment for a number above the last
+-- the time of the event with this number (from 1), or `at` if the number is above the last
 abbrev pub moment_of : List Event → ℕ → ℕ → ℕ
 moment_of events at i = slice_index_or (map (λ (event : Event). event.at) events) (i - 1) at
 
--- the time (ns) from an event to the next, where the group is in the state after it
+-- the time (ns) from an event to the next, if the group is in the state after it, or 0
 abbrev pub stall_after : State → ℕ → ℕ → List Event → ℕ → ℕ → ℕ
 stall_after state cpu slot events at i =
     if holds state cpu slot (after (take i events)) then moment_of events at (i + 1) - moment_of events at i else 0
 
--- how long (ns) a group was in a state on a processor, up to a moment: the sum over the events
+-- how long (ns) a group was in a state on a processor up to a time: the sum over the events
 unfoldable pub stall : State → ℕ → ℕ → List Event → ℕ → ℕ
 stall state cpu slot events at = sum (map (stall_after state cpu slot events at) (range_with_len 1 (length events)))
 
 -- ---- interrupt time
 
--- a task runs on a processor, in a group or below it
+-- a task is running on a processor, in a group or below it
 unfoldable pub has_running : ℕ → ℕ → World → Bool
 has_running cpu slot w = list_any runs (tasks_in (parents_of w.groups) cpu slot w.tasks)
 
--- the time (ns) that interrupts took on a processor, as an act tells it
+-- the time (ns) that interrupts took on a processor, by an act
 abbrev pub irq_told : ℕ → Act → ℕ
 irq_told cpu (act.Irq named ns) = if named.0 == cpu then ns else 0
 irq_told cpu _ = 0
 
--- the time (ns) that interrupts took from a group on a processor, by an event, if there is one, in
--- a world: what the event tells, where the group's account is on and a task of it runs there
+-- the time (ns) that interrupts took from a group on a processor, by an event (None adds nothing)
+-- in a world: the event's time if the group's accounting is on and a task of it is running there
 abbrev pub irq_from : ℕ → ℕ → World → Option Event → ℕ
 irq_from cpu slot w None = 0
 irq_from cpu slot w (Some event) = if is_on w.groups slot && has_running cpu slot w then irq_told cpu event.act else 0
 
--- the time (ns) that interrupts took from a group on a processor by the event with a number from 1,
--- in the world before it
+-- the time (ns) that interrupts took from a group on a processor, by the event with this number
+-- (from 1) in the world before it
 abbrev pub irq_by : ℕ → ℕ → List Event → ℕ → ℕ
 irq_by cpu slot events i = irq_from cpu slot (after (take (i - 1) events)) (slice_get events (i - 1))
 

@@ -20,32 +20,32 @@ use Rattle.psi_spec.specs.declared.machine.GroupLife.{GroupLife}
 
 -- ---- tasks
 
--- the task is blocked until some IO is done
+-- the task is blocked until IO completes
 abbrev pub is_waiting : Mode → Bool
 is_waiting Waiting = true
 is_waiting Ready = false
 is_waiting Running = false
 is_waiting Blocked = false
 
--- the task could run and doesn't
+-- the task is ready but not running
 abbrev pub is_ready : Mode → Bool
 is_ready Ready = true
 is_ready Running = false
 is_ready Waiting = false
 is_ready Blocked = false
 
--- the task runs
+-- the task is running
 abbrev pub is_running : Mode → Bool
 is_running Running = true
 is_running Ready = false
 is_running Waiting = false
 is_running Blocked = false
 
--- the task is ready or runs
+-- the task is ready or running
 abbrev pub is_active : Mode → Bool
 is_active mode = is_ready mode || is_running mode
 
--- the live tasks by their numbers: no number stands twice
+-- the live tasks by PID: no PID occurs twice
 abbrev pub Tasks : Type 0
 Tasks = tasks_by.FinMap nat_cmp Task
 
@@ -53,19 +53,19 @@ Tasks = tasks_by.FinMap nat_cmp Task
 abbrev pub no_tasks : Tasks
 no_tasks = tasks_by.empty
 
--- the live task with a number
+-- the live task with a PID
 abbrev pub task_of : Tasks → ℕ → Option Task
 task_of tasks pid = tasks_by.get tasks pid
 
--- a task under a number, new or in the place of the one that had it
+-- the tasks with one added or replaced, under a PID
 abbrev pub put : Tasks → ℕ → Task → Tasks
 put tasks pid task = tasks_by.insert tasks pid task
 
--- the tasks without the one with a number
+-- the tasks without the one with a PID
 abbrev pub remove : Tasks → ℕ → Tasks
 remove tasks pid = tasks_by.remove tasks pid
 
--- the task runs on a processor
+-- the task is running on a processor
 abbrev pub is_running_on : ℕ → Task → Bool
 is_running_on cpu task = task.cpu.0 == cpu && is_running task.mode
 
@@ -73,7 +73,7 @@ is_running_on cpu task = task.cpu.0 == cpu && is_running task.mode
 abbrev pub is_ready_on : ℕ → Task → Bool
 is_ready_on cpu task = task.cpu.0 == cpu && is_ready task.mode
 
--- the running task of a processor, with its number
+-- the running task of a processor, with its PID
 abbrev pub running_on : Tasks → ℕ → Option (ℕ × Task)
 running_on tasks cpu = find (λ e. is_running_on cpu e.1) (tasks_by.entries tasks)
 
@@ -84,11 +84,11 @@ task_part (Some e) = Some e.1
 
 -- ---- groups
 
--- a group that wasn't removed
+-- a group that was not removed
 abbrev pub is_live : GroupLife → Bool
 is_live group = not (is_some group.gone)
 
--- the slot of the live group with a path, where slots are counted from this one on
+-- the slot of the live group with a path, counting slots from this number
 abbrev pub slot_from : ℕ → List GroupLife → List ℕ → Option ℕ
 slot_from slot [] path = None
 slot_from slot (group ∷ groups) path = if is_live group && bytes_eq group.path path then Some slot else slot_from (slot + 1) groups path
@@ -102,12 +102,12 @@ abbrev pub before_last_slash : List ℕ → List ℕ
 before_last_slash [] = []
 before_last_slash (byte ∷ bytes) = if list_any (λ b. b == 47) bytes then byte ∷ before_last_slash bytes else []
 
--- the root where no byte is left
+-- the root if no byte remains
 abbrev pub or_root : List ℕ → List ℕ
 or_root [] = codes "/"
 or_root (byte ∷ bytes) = byte ∷ bytes
 
--- the path of the group above
+-- the path of the parent group
 abbrev pub parent_path : List ℕ → List ℕ
 parent_path path = or_root (before_last_slash path)
 
@@ -115,7 +115,7 @@ parent_path path = or_root (before_last_slash path)
 abbrev pub is_root : List ℕ → Bool
 is_root path = bytes_eq path (codes "/")
 
--- a number of a group as a slot
+-- a group's number as a slot
 abbrev pub as_slot : Option ℕ → Option Slot
 as_slot None = None
 as_slot (Some n) = Some (record { 0 = n })
@@ -124,31 +124,31 @@ as_slot (Some n) = Some (record { 0 = n })
 abbrev pub root : GroupLife
 root = record { path = codes "/"; parent = None; made = 0; gone = None; on = true }
 
--- a new group under the live one with its parent's path, whose own account is on
+-- a new group below the live group with its parent's path; its accounting is on
 abbrev pub new_group : List GroupLife → List ℕ → ℕ → GroupLife
 new_group groups path at = record { path = path; parent = as_slot (slot_of groups (parent_path path)); made = at; gone = None; on = true }
 
--- a group after the live one with a path was removed
+-- a group after the live one with a path is removed
 abbrev pub marked_removed : List ℕ → ℕ → GroupLife → GroupLife
 marked_removed path at group = if is_live group && bytes_eq group.path path then record group { gone = Some at } else group
 
--- a group after the account of the live one with a path was switched on, or off
+-- a group after the accounting of the live one with a path is switched on or off
 abbrev pub marked_switched : List ℕ → Bool → GroupLife → GroupLife
 marked_switched path on group = if is_live group && bytes_eq group.path path then record group { on = on } else group
 
--- the account of a group that may be missing is on: of one that isn't made nothing was switched
+-- the accounting of a group is on; a group that doesn't exist counts as on
 abbrev pub is_on_life : Option GroupLife → Bool
 is_on_life None = true
 is_on_life (Some life) = life.on
 
--- the account of the group in a slot is on
+-- the accounting of the group in a slot is on
 abbrev pub is_on : List GroupLife → ℕ → Bool
 is_on groups slot = is_on_life (slice_get groups slot)
 
 -- ---- the world
 
--- how many processors a machine may have, how many event lines its trace, and how many `pressure`
--- lines; how many groups there may ever be, the root among them, and how many live tasks
+-- the limits: processors of a machine, event lines of a trace, `pressure` lines, groups ever
+-- created including the root, and live tasks
 abbrev pub most_cpus : ℕ
 most_cpus = 64
 
@@ -164,18 +164,18 @@ most_groups = 1024
 abbrev pub most_tasks : ℕ
 most_tasks = 65536
 
--- the longest time (ns) that one line of a trace tells of interrupts: a second
+-- the longest interrupt time (ns) of one line: a second
 abbrev pub longest_irq : ℕ
 longest_irq = 1000000000
 
--- what a trace can name: how many processors there are, and the latest moment (ns)
+-- the limits of a trace: its number of processors, and the latest time (ns)
 pub record Limits : Type 0 where
   pub cpus : ℕ
   pub latest : ℕ
 
--- the live tasks, all groups ever made in the order of their slots, for each processor the moment
--- (ns) of its last `irq` line or 0, how many triggers, `pressure` lines and event lines there were,
--- the moment of the last line (ns), and whether the trace has ended
+-- the live tasks; all groups ever created, by slot; for each processor the time (ns) of its last
+-- `irq` line, or 0; the numbers of triggers, `pressure` lines and event lines so far; the time of
+-- the last line (ns); and whether the trace has ended
 pub record World : Type 0 where
   pub tasks : Tasks
   pub groups : List GroupLife
@@ -202,25 +202,25 @@ first_world =
 
 -- ---- effects
 
--- the task with a number after a change, or no change where there is none
+-- the task with a PID after a change, or no task if there is none
 abbrev pub change_to : Tasks → ℕ → (Task → Task) → Option Task → Tasks
 change_to tasks pid f None = tasks
 change_to tasks pid f (Some task) = put tasks pid (f task)
 
--- the tasks after a change of the one with a number
+-- the tasks after a change of the one with a PID
 abbrev pub change : Tasks → ℕ → (Task → Task) → Tasks
 change tasks pid f = change_to tasks pid f (task_of tasks pid)
 
--- a task that forked: ready, and in no stall
+-- a new task: ready, and not in a memory stall
 abbrev pub new_task : List GroupLife → List ℕ → ℕ → Task
 new_task groups path cpu =
     record { slot = record { 0 = unwrap_or (slot_of groups path) 0 }; cpu = record { 0 = cpu }; mode = Ready; stalled = false }
 
--- a task that was put on the run queue of a processor; its stall stays
+-- a task that is put on the run queue of a processor; its memory stall continues
 abbrev pub readied : ℕ → Task → Task
 readied cpu task = record task { mode = Ready; cpu = record { 0 = cpu } }
 
--- the running task after it left its processor, or none where it exited
+-- the running task after it left its processor, or None if it exited
 abbrev pub left_by : How → Task → Option Task
 left_by Preempt task = Some (record task { mode = Ready })
 left_by Sleep task = Some (record task { mode = Blocked })
@@ -228,7 +228,7 @@ left_by IoWait task = Some (record task { mode = Waiting })
 left_by Exit task = None
 left_by Idle task = Some task
 
--- a task in the place of the one with a number, or none there
+-- the tasks with the one with a PID replaced, or removed if there is no task
 abbrev pub placed : Tasks → ℕ → Option Task → Tasks
 placed tasks pid None = remove tasks pid
 placed tasks pid (Some task) = put tasks pid task
@@ -238,16 +238,15 @@ abbrev pub leave : How → Tasks → Option (ℕ × Task) → Tasks
 leave how tasks None = tasks
 leave how tasks (Some e) = placed tasks e.0 (left_by how e.1)
 
--- the tasks after the next one started, if there is one
+-- the tasks after the next task, if any, started to run
 abbrev pub start : Option Pid → Tasks → Tasks
 start None tasks = tasks
 start (Some pid) tasks = change tasks pid.0 (λ task. record task { mode = Running })
 
--- what an act does to tasks: nothing; a task is made in a group on a processor, is put on the run
--- queue of a processor, starts or ends a memory stall, or goes to another group; the task that runs
--- on a processor leaves, and the next starts; the one that runs there is held up by interrupts, and
--- is as before; or the account of a group is switched, on all processors, and all tasks are as
--- before
+-- what an act does to tasks: nothing; create a task in a group on a processor; put a task on the
+-- run queue of a processor; start or end its memory stall; move it to another group; switch from
+-- the running task of a processor to the next one; delay the running task by interrupts, which
+-- changes no task; or switch the accounting of a group on all processors, which changes no task
 pub data Effect : Type 0 where
   none : Effect
   forks : Pid → List ℕ → Cpu → Effect
@@ -293,37 +292,37 @@ tasks_by_effect groups tasks switches_account = tasks
 abbrev pub tasks_after : List GroupLife → Tasks → Act → Tasks
 tasks_after groups tasks what = tasks_by_effect groups tasks (effect_of what)
 
--- the groups with a new one, if one is made
+-- the groups with a new one, if one is created
 abbrev pub with_new : ℕ → Option (List ℕ) → List GroupLife → List GroupLife
 with_new at None groups = groups
 with_new at (Some path) groups = groups ++ new_group groups path at ∷ []
 
--- the groups after one was removed, if one is
+-- the groups after one is removed, if any
 abbrev pub with_removed : ℕ → Option (List ℕ) → List GroupLife → List GroupLife
 with_removed at None groups = groups
 with_removed at (Some path) groups = map (marked_removed path at) groups
 
--- the groups after the account of one was switched, if one is
+-- the groups after the accounting of one is switched, if any
 abbrev pub with_switched : Option (List ℕ × Bool) → List GroupLife → List GroupLife
 with_switched None groups = groups
 with_switched (Some switched) groups = map (marked_switched switched.0 switched.1) groups
 
--- what an act at a moment does to the groups
+-- what an act at a time does to the groups
 abbrev pub groups_after : ℕ → List GroupLife → Act → List GroupLife
 groups_after at groups what =
     with_new at (names what).new_path (with_removed at (names what).removed_path (with_switched (names what).switched groups))
 
--- the moments (ns) of the last `irq` lines of all processors after an act at a moment
+-- the times (ns) of the last `irq` lines of all processors after an act at a time
 abbrev pub irqs_after : ℕ → List ℕ → Act → List ℕ
 irqs_after at irqs (act.Irq cpu ns) = slice_set irqs cpu.0 at
 irqs_after at irqs _ = irqs
 
--- the act makes a trigger
+-- the act sets a trigger
 abbrev pub is_trigger : Act → Bool
 is_trigger (act.Trigger path res level threshold_us window_us) = true
 is_trigger _ = false
 
--- the act switches the account of a group
+-- the act switches the accounting of a group
 abbrev pub is_pressure : Act → Bool
 is_pressure (act.Pressure path on) = true
 is_pressure _ = false
@@ -346,7 +345,7 @@ after_event w event = record {
   ended = w.ended || ends event.act;
 }
 
--- the world after events, one after the other
+-- the world after events, in order
 abbrev pub after_from : World → List Event → World
 after_from w [] = w
 after_from w (event ∷ events) = after_from (after_event w event) events
@@ -355,11 +354,10 @@ after_from w (event ∷ events) = after_from (after_event w event) events
 abbrev pub after : List Event → World
 after events = after_from first_world events
 
--- the events up to a moment (ns), those at the moment among them: the first so many, where moments
--- never fall
+-- the events up to and including a time (ns): a prefix, if times never fall
 abbrev pub up_to : List Event → ℕ → List Event
 up_to events at = filter (λ (event : Event). nat_le event.at at) events
 
--- acts as events of one moment (ns)
+-- acts as events at one time (ns)
 abbrev pub events_at : ℕ → List Act → List Event
 events_at at acts = map (λ what. let event : Event = record { at = at; act = what } in event) acts
