@@ -22,7 +22,7 @@ abbrev pub product : ℕ → ℕ → ℕ
 product x y = (x * y + 1024) / 2048
 
 -- a result times x to the power n, by the binary digits of n from the lowest one, using at most
--- `steps` of them
+-- `digits` of them
 abbrev pub power_within : ℕ → ℕ → ℕ → ℕ → ℕ
 power_within zero result x n = result
 power_within (suc digits) result x n =
