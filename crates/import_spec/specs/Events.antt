@@ -1,4 +1,4 @@
--- The events of a line, in the world after those that were written so far.
+-- The events of a line, given the world after the events so far.
 use Rattle.std.specs.Prelude.{ℕ, ◌+◌, ◌-◌, ◌*◌, max, List, [], ◌∷◌, ◌++◌, length, nat_lt, nat_le, ◌==◌, ◌&&◌, not, Bool, false, if◌then◌else◌, codes, Option, None, Some, is_some, unwrap_or, Result, Ok, Err}
 use Rattle.std.specs.List.{list_any}
 use Rattle.std.specs.FinMap as tasks_by
@@ -24,68 +24,69 @@ use Rattle.import_spec.specs.Marked.{read_line}
 
 -- ---- what a line does
 
--- a task is made, in the root group
+-- a task is created in the root group
 abbrev pub made : Pid → Cpu → Act
 made pid cpu = act.Fork pid (codes "/") cpu
 
--- a wakeup makes a task that isn't live, and wakes one that sleeps
+-- a wakeup creates a task that doesn't exist, and wakes one that sleeps
 abbrev pub wakeup_acts : Pid → Cpu → Option Task → List Act
 wakeup_acts pid cpu None = made pid cpu ∷ []
 wakeup_acts pid cpu (Some task) = if is_active task.mode then [] else act.Wake pid cpu ∷ []
 
--- a migration takes a task that is ready to another processor
+-- a migration moves a ready task to another processor
 abbrev pub migration_acts : Pid → Cpu → Option Task → List Act
 migration_acts pid cpu None = []
 migration_acts pid cpu (Some task) =
     if is_ready task.mode && not (task.cpu.0 == cpu.0) then act.Migrate pid cpu ∷ [] else []
 
--- What brings a live task to a processor, where it is to run, by where it is and what it does: it
--- is woken where it sleeps, goes there where it is ready elsewhere, and where it runs elsewhere it
--- is preempted first.
+-- What brings an existing task to a processor on which it is to run: a sleeping task is woken
+-- there; a task that is ready elsewhere migrates; a task that is running elsewhere is preempted
+-- first.
 abbrev pub coming_acts : Pid → Cpu → Cpu → Mode → List Act
 coming_acts pid cpu from Blocked = act.Wake pid cpu ∷ []
 coming_acts pid cpu from Waiting = act.Wake pid cpu ∷ []
 coming_acts pid cpu from Ready = if from.0 == cpu.0 then [] else act.Migrate pid cpu ∷ []
 coming_acts pid cpu from Running = act.Switch from None Preempt ∷ act.Migrate pid cpu ∷ []
 
--- what brings a task to a processor, which is made where it isn't live
+-- what brings a task to a processor; it is created if it doesn't exist
 abbrev pub arrival_acts : Pid → Cpu → Option Task → List Act
 arrival_acts pid cpu None = made pid cpu ∷ []
 arrival_acts pid cpu (Some task) = coming_acts pid cpu task.cpu task.mode
 
--- what brings the next task, if there is one
+-- what brings the next task, if any
 abbrev pub next_acts : Tasks → Cpu → Option Pid → List Act
 next_acts tasks cpu None = []
 next_acts tasks cpu (Some pid) = arrival_acts pid cpu (task_of tasks pid.0)
 
--- a task, if one is named, runs on a processor
+-- a task, if one is named, is running on a processor
 abbrev pub runs_there : Tasks → Cpu → Option Pid → Bool
 runs_there tasks cpu None = false
 runs_there tasks cpu (Some pid) = is_some_and (task_of tasks pid.0) (is_running_on cpu.0)
 
--- how the task that runs on a processor makes way: as the line says, where the line names it, and
--- else it is preempted
+-- how the running task of a processor leaves: as the line says if the line names that task, and
+-- otherwise it is preempted
 abbrev pub leaving : Tasks → Cpu → Option Pid → How → How
 leaving tasks cpu previous how = if runs_there tasks cpu previous then how else Preempt
 
--- the next task starts where none ran, if there is one
+-- the next task, if any, starts on an idle processor
 abbrev pub start_acts : Cpu → Option Pid → List Act
 start_acts cpu None = []
 start_acts cpu (Some pid) = act.Switch cpu (Some pid) Idle ∷ []
 
--- the task that runs on a processor makes way for the next
+-- the running task of a processor leaves, and the next one starts
 abbrev pub turn_acts : Tasks → Cpu → Option Pid → Option Pid → How → List Act
 turn_acts tasks cpu previous next how =
     if is_some (running_on tasks cpu.0) then act.Switch cpu next (leaving tasks cpu previous how) ∷ []
     else start_acts cpu next
 
--- A switch does nothing where its next task runs there already. Else that is brought there, and the
--- one that runs makes way; what brings the next changes nothing of who runs there.
+-- A switch does nothing if its next task is running there already. Otherwise that task is brought
+-- there, and the running one leaves; bringing the next task doesn't change which task is running
+-- there.
 abbrev pub switch_acts : Tasks → Cpu → Option Pid → Option Pid → How → List Act
 switch_acts tasks cpu previous next how =
     if runs_there tasks cpu next then [] else next_acts tasks cpu next ++ turn_acts tasks cpu previous next how
 
--- what a line does
+-- the acts of a line
 abbrev pub acts_of : Tasks → Seen → List Act
 acts_of tasks (seen.Switch cpu previous next how) = switch_acts tasks cpu previous next how
 acts_of tasks (seen.Wakeup pid cpu) = wakeup_acts pid cpu (task_of tasks pid.0)
@@ -93,8 +94,8 @@ acts_of tasks (seen.Migration pid cpu) = migration_acts pid cpu (task_of tasks p
 
 -- ---- moments and causes
 
--- How far an import has come: the time (ns) of the first marked line, if there was one, the moment
--- (ns) of the last, 0 where there was none, and the world after the events so far.
+-- How far an import has come: the time (ns) of the first marked line, if any; the trace time (ns)
+-- of the last one, or 0; and the world after the events so far.
 pub record Reached : Type 0 where
   pub first : Option ℕ
   pub moment : ℕ
@@ -104,12 +105,12 @@ pub record Reached : Type 0 where
 abbrev pub unreached : Reached
 unreached = record { first = None; moment = 0; world = first_world }
 
--- the time (ns) of the first marked line, where the next is at this time
+-- the time (ns) of the first marked line, if the next one has this time
 abbrev pub first_time : Reached → ℕ → ℕ
 first_time reached at = unwrap_or reached.first at
 
--- the moment (ns) of a line at this time: since the first marked line, and no less than that of the
--- marked line before it
+-- the trace time (ns) of a line at this time: the time since the first marked line, but not before
+-- the previous marked line's
 abbrev pub line_moment : Reached → ℕ → ℕ
 line_moment reached at = max reached.moment (at - first_time reached at)
 
@@ -117,25 +118,25 @@ line_moment reached at = max reached.moment (at - first_time reached at)
 abbrev pub default_tick : ℕ
 default_tick = 2000000000
 
--- the last moment (ns) that a trace may reach at the default tick, a million of them
+-- the latest time (ns) of a trace with the default tick: a million ticks
 abbrev pub latest_moment : ℕ
 latest_moment = 1000000 * default_tick
 
--- how many events may stand before the end
+-- the maximum number of events before the end
 abbrev pub most_imported : ℕ
 most_imported = 3999999
 
--- the processor that has to be there: of a switch its own, and else the target
+-- the processor that must exist: a switch's own, otherwise the target
 abbrev pub needed_cpu : Seen → Cpu
 needed_cpu (seen.Switch cpu previous next how) = cpu
 needed_cpu (seen.Wakeup pid cpu) = cpu
 needed_cpu (seen.Migration pid cpu) = cpu
 
--- one of these acts makes a task
+-- one of these acts creates a task
 abbrev pub make_task : List Act → Bool
 make_task acts = list_any (λ (what : Act). is_some (names what).new_task) acts
 
--- the first cause against a line that does this at a moment (ns), in a world
+-- the first cause against a line with these acts at a trace time (ns), in a world
 abbrev pub acts_cause : ℕ → World → ℕ → Cpu → List Act → Option ImportCause
 acts_cause cpus w moment cpu acts =
     if nat_le cpus cpu.0 then Some cause.BadCpu
@@ -146,12 +147,12 @@ acts_cause cpus w moment cpu acts =
 
 -- ---- one line
 
--- what a line gives: its events, and how far the import has come behind it
+-- the result of a line: its events, and how far the import has come after it
 pub record GivenLine : Type 0 where
   pub events : List Event
   pub reached : Reached
 
--- what a line gives at this time that does this at a moment (ns), or the cause against it
+-- the result of a line with this time and these acts at a trace time (ns), or the cause against it
 abbrev pub given_or : Reached → ℕ → ℕ → List Act → Option ImportCause → Result GivenLine ImportCause
 given_or reached at moment acts (Some why) = Err why
 given_or reached at moment acts None = Ok (record {
@@ -163,18 +164,18 @@ given_or reached at moment acts None = Ok (record {
   };
 })
 
--- what a line gives that tells this at a time (ns), with so many processors
+-- the result of a line that reports this at a time (ns), with n processors
 unfoldable pub given_at : ℕ → Reached → ℕ → Seen → Result GivenLine ImportCause
 given_at cpus reached at what =
     given_or reached at (line_moment reached at) (acts_of reached.world.tasks what)
     (acts_cause cpus reached.world (line_moment reached at) (needed_cpu what) (acts_of reached.world.tasks what))
 
--- the same of what was read of a line: one that isn't marked gives nothing
+-- the same for a parsed line: an unmarked line gives nothing
 abbrev pub given_read : ℕ → Reached → Result (Option Sighting) ImportCause → Result GivenLine ImportCause
 given_read cpus reached (Err why) = Err why
 given_read cpus reached (Ok None) = Ok (record { events = []; reached = reached })
 given_read cpus reached (Ok (Some sighting)) = given_at cpus reached sighting.at sighting.seen
 
--- what a line gives, or the cause against it
+-- the result of a line, or the cause against it
 unfoldable pub given_of : ℕ → Reached → List ℕ → Result GivenLine ImportCause
 given_of cpus reached line = given_read cpus reached (read_line line)

@@ -1,4 +1,4 @@
--- The events of a text of ftrace, or the first line that is refused.
+-- The events of an ftrace text, or the first bad line.
 use Rattle.std.specs.Prelude.{ℕ, ◌+◌, List, [], ◌∷◌, ◌++◌, length, nat_lt, if◌then◌else◌, Option, None, Some, Result, Ok, Err}
 use Rattle.psi_base.specs.Path.{parts_at}
 use Rattle.psi_base.specs.declared.event.Act.TheVariants as act
@@ -9,31 +9,31 @@ use Rattle.import_spec.specs.declared.cause.ImportCause.{ImportCause}
 use Rattle.import_spec.specs.declared.cause.ImportCause.TheVariants as cause
 use Rattle.import_spec.specs.Events.{GivenLine, Reached, given_of, unreached}
 
--- the line that is refused, by its number from 1, and why
+-- the rejected line, by its number from 1, and the cause
 pub record Refused : Type 0 where
   pub line : ℕ
   pub cause : ImportCause
 
--- a line with this number is refused
+-- a refusal of the line with this number
 abbrev pub import_refused : ℕ → ImportCause → Refused
 import_refused line why = record { line = line; cause = why }
 
--- how many lines are read
+-- the maximum number of lines
 abbrev pub most_text_lines : ℕ
 most_text_lines = 16000000
 
--- the end, at the moment (ns) that was reached
+-- the end, at the trace time (ns) that was reached
 abbrev pub end_at : Reached → Event
 end_at reached = record { at = reached.moment; act = act.End }
 
--- a whole line: none may stand behind so many, and it may not be too long
+-- the result of a whole line: there are at most 16,000,000 lines, and a line has at most 512 bytes
 unfoldable pub line_given : ℕ → Reached → ℕ → List ℕ → Result GivenLine ImportCause
 line_given cpus reached number line =
     if nat_lt most_text_lines number then Err cause.TooManyLines
     else if nat_lt 512 (length line) then Err cause.LineTooLong
     else given_of cpus reached line
 
--- the cause against what stands behind the last newline, or none where nothing does
+-- the cause against what follows the last newline, or None if nothing does
 unfoldable pub tail_cause : ℕ → List ℕ → Option ImportCause
 tail_cause number [] = None
 tail_cause number (byte ∷ rest) =
@@ -46,18 +46,18 @@ abbrev pub ends_or : Reached → ℕ → Option ImportCause → Result (List Eve
 ends_or reached number None = Ok (end_at reached ∷ [])
 ends_or reached number (Some why) = Err (import_refused number why)
 
--- events in front of those behind them
+-- events in front of later ones
 abbrev pub events_followed : List Event → Result (List Event) Refused → Result (List Event) Refused
 events_followed front (Ok events) = Ok (front ++ events)
 events_followed front (Err refusal) = Err refusal
 
--- a refusal of a line, or its events and those behind them
+-- a refusal of a line, or its events and those after them
 abbrev pub or_refused_line : ℕ → Result GivenLine ImportCause → (Reached → Result (List Event) Refused) → Result (List Event) Refused
 or_refused_line number (Err why) behind = Err (import_refused number why)
 or_refused_line number (Ok given) behind = events_followed given.events (behind given.reached)
 
--- The events of these parts of a text between newlines, of which the first is the line with this
--- number and the last is what stands behind the last newline; or the first refused line.
+-- The events of these parts of a text between newlines, or the first bad line. The first part is
+-- the line with this number, and the last part is what follows the last newline.
 unfoldable pub import_from : ℕ → Reached → ℕ → List (List ℕ) → Result (List Event) Refused
 import_from cpus reached number [] = Ok (end_at reached ∷ [])
 import_from cpus reached number (rest ∷ []) = ends_or reached number (tail_cause number rest)
@@ -65,11 +65,10 @@ import_from cpus reached number (line ∷ next ∷ parts) =
     or_refused_line number (line_given cpus reached number line)
     (λ behind. import_from cpus behind (number + 1) (next ∷ parts))
 
--- the events of a text, the end among them, on a machine with so many processors; or the first
--- refused line
+-- the events of a text, including the end, on a machine with n processors; or the first bad line
 unfoldable pub import_of : ℕ → List ℕ → Result (List Event) Refused
 import_of cpus bytes = import_from cpus unreached 1 (parts_at 10 bytes)
 
--- the trace of these events
+-- the trace with these events
 abbrev pub import_trace : ℕ → List Event → Trace
 import_trace cpus events = record { version = One; cpus = cpus; events = events }

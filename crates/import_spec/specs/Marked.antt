@@ -1,4 +1,4 @@
--- Which lines of a text of ftrace are marked, and what each of these tells.
+-- Which lines of an ftrace text are marked, and what each of them reports.
 use Rattle.std.specs.Prelude.{ℕ, ◌+◌, List, [], ◌∷◌, take, drop, length, find, Bool, if◌then◌else◌, codes, Option, None, Some, is_some, Result, Ok, Err}
 use Rattle.import_spec.specs.declared.cause.ImportCause.{ImportCause}
 use Rattle.import_spec.specs.declared.cause.ImportCause.TheVariants as cause
@@ -18,7 +18,7 @@ pub record Mark : Type 0 where
   pub text : List ℕ
   pub kind : LineKind
 
--- the mark of this text and kind
+-- the mark with this text and kind
 abbrev pub mark : List ℕ → LineKind → Mark
 mark text which = record { text = text; kind = which }
 
@@ -30,21 +30,21 @@ marks =
     ∷ mark (codes ": sched_wakeup_new: ") kind.Wakeup
     ∷ mark (codes ": sched_migrate_task: ") kind.Migration ∷ []
 
--- the mark with which bytes begin, if they begin with one
+-- the mark with which the bytes begin, if any
 unfoldable pub mark_of : List ℕ → Option Mark
 mark_of bytes = find (λ (each : Mark). begins_with each.text bytes) marks
 
--- bytes begin with a mark
+-- the bytes begin with a mark
 abbrev pub begins_marked : List ℕ → Bool
 begins_marked bytes = is_some (mark_of bytes)
 
--- a marked line: its kind, the head before its mark and the tail behind it
+-- a marked line: its kind, the head before its mark and the tail after it
 pub record Marked : Type 0 where
   pub kind : LineKind
   pub head : List ℕ
   pub tail : List ℕ
 
--- A line as it is marked, by its leftmost mark; no line is that begins with `#`.
+-- The marked line that bytes are, by the leftmost mark; a line that begins with `#` isn't marked.
 unfoldable pub marked_of : List ℕ → Option Marked
 marked_of line = if begins_with (codes "#") line then None else do
   at ← first_place begins_marked line
@@ -53,7 +53,7 @@ marked_of line = if begins_with (codes "#") line then None else do
 
 -- ---- what a marked line tells
 
--- a switch on a processor, by its tail: its parts stand on both sides of the last arrow
+-- a switch on a processor, from its tail: two parts, split at the last arrow
 unfoldable pub switch_in : ℕ → List ℕ → Option Seen
 switch_in cpu tail = do
   arrow ← last_place (begins_with (codes " ==> ")) tail
@@ -63,7 +63,7 @@ switch_in cpu tail = do
   next ← field_in (codes " next_pid=") (drop (arrow + length (codes " ==> ")) tail)
   Some (seen.Switch (record { 0 = cpu }) (pid_in previous) (pid_in next) how)
 
--- a wakeup, by its tail
+-- a wakeup, from its tail
 unfoldable pub wakeup_in : List ℕ → Option Seen
 wakeup_in tail = do
   number ← field_in (codes " pid=") tail
@@ -71,7 +71,7 @@ wakeup_in tail = do
   target ← field_in (codes " target_cpu=") tail
   Some (seen.Wakeup pid (record { 0 = target }))
 
--- a migration, by its tail
+-- a migration, from its tail
 unfoldable pub migration_in : List ℕ → Option Seen
 migration_in tail = do
   number ← field_in (codes " pid=") tail
@@ -79,13 +79,13 @@ migration_in tail = do
   target ← field_in (codes " dest_cpu=") tail
   Some (seen.Migration pid (record { 0 = target }))
 
--- what a tail tells, of a line of this kind on this processor
+-- what a line of this kind on this processor reports, from its tail
 abbrev pub seen_in : LineKind → ℕ → List ℕ → Option Seen
 seen_in kind.Switch cpu tail = switch_in cpu tail
 seen_in kind.Wakeup cpu tail = wakeup_in tail
 seen_in kind.Migration cpu tail = migration_in tail
 
--- what a marked line tells and when, or nothing where it isn't of the form
+-- what a marked line reports, and when; None if it is malformed
 unfoldable pub sighting_of : Marked → Option Sighting
 sighting_of line = do
   time ← time_in line.head
@@ -93,8 +93,7 @@ sighting_of line = do
   what ← seen_in line.kind cpu line.tail
   Some (record { at = time; seen = what })
 
--- what a line tells and when, if it is marked and of the form; nothing where it isn't marked; or
--- that it isn't of the form
+-- what a line reports, and when; nothing if it isn't marked; a fault if it is marked but malformed
 abbrev pub if_formed : Option Sighting → Result (Option Sighting) ImportCause
 if_formed None = Err cause.BadLine
 if_formed (Some sighting) = Ok (Some sighting)

@@ -1,29 +1,28 @@
--- Where something stands in bytes. Places are counted from 0, and a test is asked of all that
--- stands from a place on.
+-- Positions in bytes, counted from 0. A test is applied to everything from a position on.
 use Rattle.std.specs.Prelude.{ℕ, ◌+◌, List, [], ◌∷◌, length, drop, nat_eq, Bool, if◌then◌else◌, Option, None, Some, option_map}
 use Rattle.std.specs.List.{starts_with}
 use Rattle.psi_base.specs.OptionSteps.{◌>>=◌}
 
--- the first place from which on bytes pass a test
+-- the first position from which the bytes pass a test
 unfoldable pub first_place : (List ℕ → Bool) → List ℕ → Option ℕ
 first_place test [] = None
 first_place test (byte ∷ bytes) = if test (byte ∷ bytes) then Some 0 else option_map (λ at. at + 1) (first_place test bytes)
 
--- a place that was found one byte further on, or else this one, where it passes
+-- a position found one byte further, or else this one if it passes
 abbrev pub or_here : Option ℕ → Bool → Option ℕ
 or_here (Some at) passes = Some (at + 1)
 or_here None passes = if passes then Some 0 else None
 
--- the last place from which on bytes pass a test
+-- the last position from which the bytes pass a test
 unfoldable pub last_place : (List ℕ → Bool) → List ℕ → Option ℕ
 last_place test [] = None
 last_place test (byte ∷ bytes) = or_here (last_place test bytes) (test (byte ∷ bytes))
 
--- bytes begin with a text
+-- the bytes begin with a text
 abbrev pub begins_with : List ℕ → List ℕ → Bool
 begins_with text bytes = starts_with nat_eq bytes text
 
--- what stands behind the last occurrence of a text, where it occurs
+-- what follows the last occurrence of a text, if any
 abbrev pub behind_last : List ℕ → List ℕ → Option (List ℕ)
 behind_last text bytes = do
   at ← last_place (begins_with text) bytes

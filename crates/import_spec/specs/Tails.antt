@@ -20,41 +20,41 @@ is_space byte = byte == 32
 abbrev pub is_point : ℕ → Bool
 is_point byte = byte == 46
 
--- the number that one digit or more write, of which there are at most so many; zeros may stand in
--- front
+-- the value of one to n digits; leading zeros are allowed
 abbrev pub short_number : ℕ → List ℕ → Option ℕ
 short_number most digits = if nat_lt 0 (length digits) && nat_le (length digits) most then digits_of digits else None
 
--- a number, where it is below 2^32
+-- a number, if it is below 2^32
 abbrev pub if_small : ℕ → Option ℕ
 if_small number = if nat_lt number (2 ^ 32) then Some number else None
 
 -- ---- the head
 
--- the time (ns) of a word: seconds of 1 to 10 digits, a point, and 1 to 9 digits of their fraction
+-- the time (ns) that a word spells: seconds of 1 to 10 digits, a point, and 1 to 9 digits of the
+-- fraction
 unfoldable pub time_of : List ℕ → Option ℕ
 time_of word = do
   seconds ← short_number 10 (before_first is_point word)
   fraction ← short_number 9 (after_first is_point word)
   Some (seconds * 10 ^ 9 + fraction * 10 ^ (9 - length (after_first is_point word)))
 
--- the time (ns) of a head: the word behind its last space
+-- the time (ns) of a head: the word after its last space
 unfoldable pub time_in : List ℕ → Option ℕ
 time_in head = do
   word ← behind_last (codes " ") head
   time_of word
 
--- how many digits bytes begin with
+-- the number of leading digits
 abbrev pub digit_count : List ℕ → ℕ
 digit_count bytes = prefix_len is_ascii_digit bytes
 
--- bytes begin with `[`, one digit or more, and `]`
+-- the bytes begin with `[`, one or more digits, and `]`
 unfoldable pub is_bracketed : List ℕ → Bool
 is_bracketed bytes =
     begins_with (codes "[") bytes && nat_lt 0 (digit_count (drop 1 bytes))
     && begins_with (codes "]") (drop (digit_count (drop 1 bytes)) (drop 1 bytes))
 
--- the processor of a head: the last number in brackets, of at most 3 digits
+-- the processor of a head: the last number in brackets, with at most 3 digits
 unfoldable pub cpu_in : List ℕ → Option ℕ
 cpu_in head = do
   at ← last_place is_bracketed head
@@ -62,20 +62,20 @@ cpu_in head = do
 
 -- ---- the tail
 
--- the number of a field: the digits behind the last occurrence of its key, up to a space or the
--- end, of which there are 1 to 10
+-- the number of a field: 1 to 10 digits after the last occurrence of its key, up to a space or the
+-- end
 unfoldable pub field_in : List ℕ → List ℕ → Option ℕ
 field_in key part = do
   rest ← behind_last key part
   number ← short_number 10 (before_first is_space rest)
   if_small number
 
--- a task's number, where it isn't 0
+-- a PID, unless it is 0
 abbrev pub pid_in : ℕ → Option Pid
 pid_in number = if number == 0 then None else Some (record { 0 = number })
 
 -- how a task leaves, by the first byte of its state: `R` (82) is ready, `D` (68) waits for IO, `X`
--- (88) and `Z` (90) are gone, and in each other state it sleeps
+-- (88) and `Z` (90) have exited, and any other state sleeps
 unfoldable pub how_in : List ℕ → Option How
 how_in [] = None
 how_in (first ∷ rest) =

@@ -1,23 +1,23 @@
-//! Why a text of ftrace is refused.
+//! Why an ftrace text is rejected.
 
-/// Why a line is refused, in the order in which causes are asked for; but `TooManyLines` comes
-/// ahead of the others.
+/// Why a line is rejected, in the order in which causes are checked; `TooManyLines` comes before
+/// the others.
 #[derive(Clone, Copy, Debug, PartialEq, Eq)]
 pub enum ImportCause {
     /// A line has more than 512 bytes before its newline.
     LineTooLong,
     /// The text ends inside a line.
     Cut,
-    /// A marked line isn't of the form.
+    /// A marked line is malformed.
     BadLine,
-    /// There is no such processor: of a switch its own, and else the target.
+    /// There is no such processor: a switch's own, otherwise the target.
     BadCpu,
-    /// The moment is after the last that a trace may reach.
+    /// The time is after the latest that a trace may have.
     TooLate,
-    /// A task is made, and 65,536 are live.
+    /// A task would be created, but 65,536 are live.
     TooManyTasks,
-    /// More than 3,999,999 events would stand before the end.
+    /// There would be more than 3,999,999 events before the end.
     TooManyEvents,
-    /// Something stands behind 16,000,000 lines.
+    /// The text goes on after 16,000,000 lines.
     TooManyLines,
 }

@@ -1,10 +1,10 @@
 //! What a text of the kernel's ftrace means as a trace: the definitions that the contracts of the
-//! importer cite, the types that they speak of, and laws about them.
+//! importer cite, their types, and laws about them. It parses nothing.
 //!
-//! In `specs/`, in the order of reading: `Places` (the first and the last place of something),
-//! `Tails` (numbers and fields), `Marked` (which lines are marked, and what each tells), `Events`
-//! (the events of a line, by the world that was written so far), `Import` (the events of a text, or
-//! the first line that is refused). What follows from these stands in `Laws`.
+//! In `specs/`, in reading order: `Places` (first and last occurrences), `Tails` (numbers and
+//! fields), `Marked` (which lines are marked, and what each reports), `Events` (the events of a
+//! line, given the world so far), `Import` (the events of a text, or the first bad line). `Laws`
+//! contains only laws.
 #![tactic(auto)]
 
 mod cause;

@@ -1,4 +1,4 @@
-//! What lines of a text of ftrace tell.
+//! What lines of an ftrace text report.
 
 use psi_base::{Cpu, How, Ns, Pid};
 
@@ -13,10 +13,10 @@ pub enum LineKind {
     Migration,
 }
 
-/// What a line tells.
+/// What a line reports.
 #[derive(Clone, Copy, Debug, PartialEq, Eq)]
 pub enum Seen {
-    /// On a processor a task made way, in some state, for the next. Of the idle task none is told.
+    /// On a processor a task in some state made way for the next one. The idle task is `None`.
     Switch {
         cpu: Cpu,
         previous: Option<Pid>,
@@ -28,17 +28,17 @@ pub enum Seen {
         pid: Pid,
         cpu: Cpu,
     },
-    /// A task went to a processor.
+    /// A task migrated to a processor.
     Migration {
         pid: Pid,
         cpu: Cpu,
     },
 }
 
-/// What a line tells, and when.
+/// What a line reports, and when.
 #[derive(Clone, Copy, Debug, PartialEq, Eq)]
 pub struct Sighting {
-    /// The time, in ns of the clock that the machine was traced by.
+    /// The time, in ns of the trace's clock.
     pub at: Ns,
     /// What happened then.
     pub seen: Seen,

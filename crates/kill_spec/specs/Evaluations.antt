@@ -1,4 +1,4 @@
--- The readings of a trace: what is seen at each of its evaluations.
+-- The readings of a trace: what the rules see at each of its evaluations.
 use Rattle.std.specs.Prelude.{ℕ, zero, suc, ◌==◌, List, [], ◌∷◌, map, take, Bool, if◌then◌else◌}
 use Rattle.std.specs.List.{list_any}
 use Rattle.std.specs.FinMap as tasks_by
@@ -20,52 +20,52 @@ use Rattle.kill_spec.specs.declared.reading.GroupReading.{GroupReading}
 use Rattle.kill_spec.specs.declared.reading.HostReading.{HostReading}
 use Rattle.kill_spec.specs.Readings.{Reading, no_host}
 
--- the last of what a list has, and where it is empty what was before
+-- the last element of a list, or a default if it is empty
 abbrev pub last_or : {A : Type 0} → A → List A → A
 last_or before [] = before
 last_or before (x ∷ xs) = last_or x xs
 
 -- ---- the last samples
 
--- a sample of a group's memory: memory and swap in use (bytes), and how many pages were scanned
+-- a sample of a group's memory: memory and swap in use (bytes), and the number of scanned pages
 pub record MemorySample : Type 0 where
   pub current : ℕ
   pub swap : ℕ
   pub scan : ℕ
 
--- the memory of a group of which there is no sample
+-- the memory of a group without a sample
 abbrev pub no_memory_sample : MemorySample
 no_memory_sample = record { current = 0; swap = 0; scan = 0 }
 
--- the sample that an act tells of the group in a slot, if it tells one
+-- the memory sample of an act for the group in a slot, as a list of one element or none
 abbrev pub memory_told : ℕ → List GroupLife → Act → List MemorySample
 memory_told slot groups (act.Mem path current swap scan) =
     if (slot_named groups path).0 == slot then record { current = current; swap = swap; scan = scan } ∷ [] else []
 memory_told slot groups _ = []
 
--- the last sample of the memory of the group in a slot, and zeros where there is none
+-- the last memory sample of the group in a slot, or zeros if there is none
 abbrev pub memory_of : ℕ → List Event → MemorySample
 memory_of slot events =
     last_or no_memory_sample (told_from (λ (w : World) (event : Event). memory_told slot w.groups event.act) first_world events)
 
--- the preference that an act tells of the group in a slot, if it tells one
+-- the kill preference that an act sets for the group in a slot, as a list of one element or none
 abbrev pub preference_told : ℕ → List GroupLife → Act → List Preference
 preference_told slot groups (act.Prefer path preference) =
     if (slot_named groups path).0 == slot then preference ∷ [] else []
 preference_told slot groups _ = []
 
--- the last preference of the group in a slot: at first it is neither preferred nor avoided
+-- the last kill preference of the group in a slot; initially it is neither preferred nor avoided
 abbrev pub preference_of : ℕ → List Event → Preference
 preference_of slot events =
     last_or Plain (told_from (λ (w : World) (event : Event). preference_told slot w.groups event.act) first_world events)
 
--- the sample that an act tells of the host, if it tells one
+-- the host memory sample of an act, as a list of one element or none
 abbrev pub host_told : Act → List HostReading
 host_told (act.Host mem_total swap_total swap_free) =
     record { mem_total = mem_total; swap_total = swap_total; swap_free = swap_free } ∷ []
 host_told _ = []
 
--- the last sample of the host's memory, and zeros where there is none
+-- the last sample of the host's memory, or zeros if there is none
 abbrev pub host_of : List Event → HostReading
 host_of events =
     last_or no_host (told_from (λ (w : World) (event : Event). host_told event.act) first_world events)
@@ -77,7 +77,7 @@ is_populated w slot =
 
 -- ---- readings
 
--- the group in a slot as events tell of it, with its averages over 10, 60 and 300 seconds
+-- the group in a slot after these events, with its averages over 10, 60 and 300 seconds
 abbrev pub group_seen : List Event → List (List ℕ) → ℕ → GroupReading
 group_seen events averages slot = record {
   slot = record { 0 = slot };
@@ -89,16 +89,16 @@ group_seen events averages slot = record {
   populated = is_populated (after events) slot;
 }
 
--- the averages of the group in a slot after the tick with a number, of a trace with so many
--- processors and ticks of a length (ns): those of states alone, so interrupt time, which is the
--- last quantity, decides nothing
+-- the averages of the group in a slot after the tick with this number, for a trace with n
+-- processors and ticks of this length (ns); only those of states, so interrupt time, the last
+-- quantity, decides nothing
 abbrev pub averages_at : ℕ → List Event → ℕ → ℕ → ℕ → List (List ℕ)
 averages_at cpus events length i slot =
     take irq_quantity
     (group_averages cpus (after events).groups (ticks_of cpus events length i) slot).averages
 
--- the reading at the tick with a number: of the groups that are live then, in the byte order of
--- their paths
+-- the reading at the tick with this number: the groups that are live then, in byte order of their
+-- paths
 unfoldable pub reading_at : ℕ → List Event → ℕ → ℕ → Reading
 reading_at cpus events length i = record {
   at = tick_moment length i;
@@ -108,8 +108,8 @@ reading_at cpus events length i = record {
       (live_groups (after (up_to events (tick_moment length i))).groups);
 }
 
--- the evaluations among the first so many ticks, by their numbers, the newest first: those at which
--- the interval (ns) is due
+-- the numbers of the evaluations among the first n ticks, the newest first: the ticks at which the
+-- interval (ns) is due
 abbrev pub evaluations : ℕ → ℕ → ℕ → List ℕ
 evaluations interval length zero = []
 evaluations interval length (suc i) =
@@ -117,7 +117,7 @@ evaluations interval length (suc i) =
     then suc i ∷ evaluations interval length i
     else evaluations interval length i
 
--- the readings at them, the newest first
+-- the readings at those evaluations, the newest first
 unfoldable pub readings_until : ℕ → List Event → ℕ → ℕ → ℕ → List Reading
 readings_until cpus events length interval count =
     map (reading_at cpus events length) (evaluations interval length count)

@@ -1,4 +1,5 @@
--- Which groups are killed at an evaluation: chains of actions, and rulesets that rest after a kill.
+-- Which groups are killed at an evaluation: chains of actions, and rulesets that pause after a
+-- kill.
 use Rattle.std.specs.Prelude.{ℕ, ◌+◌, List, [], ◌∷◌, ◌++◌, find, nat_lt, ◌&&◌, not}
 use Rattle.std.specs.Prelude.{Bool, false, if◌then◌else◌, slice_get, Option, None, Some}
 use Rattle.psi_base.specs.Missing.{is_some_and}
@@ -13,24 +14,24 @@ use Rattle.kill_spec.specs.Victims.{◌or_else◌, after_of, victim}
 
 -- ---- chains
 
--- the kill of a group by an action of a ruleset, both by their numbers from 0, at a moment (ns)
+-- the kill of a group by an action of a ruleset (both numbered from 0) at a time (ns)
 abbrev pub kill_of : ℕ → ℕ → ℕ → GroupReading → Kill
 kill_of at rule act group = record { at = at; rule = rule; action = act; victim = group.slot }
 
--- what an action's turn in a chain gives: where it has no victim, what the rest of the chain gives;
--- else its kill, and behind it that of the rest where the chain goes on all the same
+-- the kills from an action on: without a victim, those of the rest of the chain; otherwise its
+-- kill, followed by those of the rest if the action always continues
 abbrev pub and_then : Bool → Option Kill → List Kill → List Kill
 and_then goes_on None rest = rest
 and_then goes_on (Some kill) rest = kill ∷ (if goes_on then rest else [])
 
--- the kill of an action, where it has a victim
+-- the kill of an action, if it has a victim
 abbrev pub kill_by : ℕ → ℕ → Reading → Option GroupReading → Option Kill
 kill_by rule act now None = None
 kill_by rule act now (Some group) = Some (kill_of now.at rule act group)
 
--- The kills of a chain of actions at a reading, after others: the actions are taken in order, each
--- with a victim kills it, and the first of these that doesn't always continue ends the chain. The
--- ruleset has this number, and the first action this one.
+-- The kills of a chain of actions at a reading, after earlier readings: actions are taken in order,
+-- each action with a victim kills it, and the first of these that doesn't always continue ends the
+-- chain. `ruleset` and `first` are the numbers of the ruleset and of the first action.
 abbrev pub chain : List GroupLife → ℕ → ℕ → List Action → Reading → List Reading → List Kill
 chain lives rule act [] now past = []
 chain lives rule act (first ∷ rest) now past =
@@ -39,49 +40,49 @@ chain lives rule act (first ∷ rest) now past =
 
 -- ---- rests
 
--- a kill by one of these actions ended its chain: the action doesn't always continue
+-- a kill by one of these actions ended its chain, since the action doesn't always continue
 abbrev pub ends_chain : List Action → Kill → Bool
 ends_chain actions kill = is_some_and (slice_get actions kill.action) (λ act. not (after_of act).always_continue)
 
--- the last kill that ended a chain, of the kills at each reading, the newest first
+-- the last kill that ended a chain, given the kills at each reading, the newest first
 abbrev pub last_ending : List Action → List (List Kill) → Option Kill
 last_ending actions [] = None
 last_ending actions (kills ∷ earlier) = find (ends_chain actions) kills or_else last_ending actions earlier
 
--- the delay (ns) of the action that gave a kill, and 0 where there is none
+-- the delay (ns) of the action of a kill, or 0 if there is no such action
 abbrev pub delay_of : Option Action → ℕ
 delay_of None = 0
 delay_of (Some act) = of_seconds (after_of act).delay_s
 
--- a ruleset rests at a moment (ns): its last chain-ending kill is less than its action's delay ago
+-- a ruleset pauses at a time (ns): its last chain-ending kill is less than the action's delay ago
 abbrev pub is_resting : List Action → ℕ → Option Kill → Bool
 is_resting actions at None = false
 is_resting actions at (Some kill) = nat_lt at (kill.at + delay_of (slice_get actions kill.action))
 
 -- ---- kills
 
--- the kills of a ruleset at a reading, after others with these kills: those of its chain, where it
--- fires and doesn't rest
+-- the kills of a ruleset at a reading, after earlier readings with these kills: those of its chain,
+-- if it fires and doesn't pause
 abbrev pub kills_at : List GroupLife → ℕ → Rule → Reading → List Reading → List (List Kill) → List Kill
 kills_at lives number rule now past earlier =
     if ruleset_fires lives rule now past && not (is_resting rule.actions now.at (last_ending rule.actions earlier))
     then chain lives number 0 rule.actions now past
     else []
 
--- the kills of a ruleset at each of readings, the newest first
+-- the kills of a ruleset at each of the readings, the newest first
 unfoldable pub kills_of : List GroupLife → ℕ → Rule → List Reading → List (List Kill)
 kills_of lives number rule [] = []
 kills_of lives number rule (now ∷ past) =
     kills_at lives number rule now past (kills_of lives number rule past) ∷ kills_of lives number rule past
 
--- the kills of rulesets at a reading, after others, by ruleset and action; the first ruleset has
--- this number
+-- the kills of rulesets at a reading, after earlier readings, ordered by ruleset and action; the
+-- first ruleset has this number
 abbrev pub kills_from : List GroupLife → ℕ → List Rule → Reading → List Reading → List Kill
 kills_from lives number [] now past = []
 kills_from lives number (rule ∷ rules) now past =
     kills_at lives number rule now past (kills_of lives number rule past)
     ++ kills_from lives (number + 1) rules now past
 
--- the kills of a rules file's rulesets at a reading, after others
+-- the kills of a rules file's rulesets at a reading, after earlier readings
 unfoldable pub kills : List GroupLife → List Rule → Reading → List Reading → List Kill
 kills lives rules now past = kills_from lives 0 rules now past

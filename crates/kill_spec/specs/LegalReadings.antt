@@ -1,4 +1,4 @@
--- What holds of the readings of each replay.
+-- Invariants of the readings of each replay.
 use Rattle.std.specs.Prelude.{◌≡◌, ℕ, ◌^◌, ◌≤◌, ◌<◌, List, [], ◌∷◌, length, map, All}
 use Rattle.std.specs.Ordering.{nat_cmp}
 use Rattle.std.specs.declared.cmp.Ordering.TheVariants.{Less}
@@ -10,8 +10,8 @@ use Rattle.kill_spec.specs.declared.reading.GroupReading.{GroupReading}
 use Rattle.kill_spec.specs.declared.reading.HostReading.{HostReading}
 use Rattle.kill_spec.specs.Readings.{Reading, path_of}
 
--- a group that was read is one of so many, its bytes and counts are at most 2^60, and it has three
--- averages of at most 100 percent for each quantity before interrupt time
+-- a group of a reading has a slot below n, bytes and counts of at most 2^60, and for each quantity
+-- before interrupt time three averages of at most 100 percent
 pub record IsGroupReading (slots : ℕ) (group : GroupReading) : Type 0 where
   pub slot : group.slot.0 < slots
   pub current : group.current ≤ 2 ^ 60
@@ -20,7 +20,7 @@ pub record IsGroupReading (slots : ℕ) (group : GroupReading) : Type 0 where
   pub rows : length group.averages ≡ irq_quantity
   pub each : All IsRow group.averages
 
--- a sample of the host is in its ranges: bytes are at most 2^60
+-- a sample of the host is in range: at most 2^60 bytes each
 pub record IsHostReading (host : HostReading) : Type 0 where
   pub mem_total : host.mem_total ≤ 2 ^ 60
   pub swap_total : host.swap_total ≤ 2 ^ 60
@@ -30,24 +30,24 @@ pub record IsHostReading (host : HostReading) : Type 0 where
 abbrev pub ComesBefore : List ℕ → List ℕ → Type 0
 ComesBefore first second = slice_cmp nat_cmp first second ≡ Less
 
--- paths ascend in byte order, so no path stands twice
+-- paths ascend in byte order, so no path occurs twice
 abbrev pub Ascend : List (List ℕ) → Type 0
 Ascend [] = Unit {0}
 Ascend (first ∷ []) = Unit {0}
 Ascend (first ∷ second ∷ paths) = ComesBefore first second × Ascend (second ∷ paths)
 
--- a reading of groups: each is one of them and in its ranges, and their paths ascend
+-- a reading of these groups: each one is in range, and their paths ascend
 pub record IsReading (lives : List GroupLife) (reading : Reading) : Type 0 where
   pub host : IsHostReading reading.host
   pub each : All (IsGroupReading (length lives)) reading.groups
   pub order : Ascend (map (path_of lives) reading.groups)
 
--- a reading comes next after others: it is later than the newest of them
+-- a reading is later than the newest of these
 abbrev pub IsLater : Reading → List Reading → Type 0
 IsLater now [] = Unit {0}
 IsLater now (before ∷ past) = before.at < now.at
 
--- readings of groups, the newest first, each later than those before it
+-- readings of these groups, the newest first, each later than those before it
 abbrev pub AreReadings : List GroupLife → List Reading → Type 0
 AreReadings lives [] = Unit {0}
 AreReadings lives (now ∷ past) = IsReading lives now × IsLater now past × AreReadings lives past

@@ -1,4 +1,4 @@
--- Which group an action kills: oomd's choices in this profile.
+-- Which group an action kills.
 use Rattle.std.specs.Prelude.{ℕ, zero, suc, ◌+◌, ◌-◌, ◌*◌, ◌/◌, max, List, [], ◌∷◌, ◌++◌}
 use Rattle.std.specs.Prelude.{filter, find, length, take, sum, sum_by, option_map, nat_le, nat_lt, ◌==◌, ◌&&◌, ◌||◌, not}
 use Rattle.std.specs.Prelude.{Bool, true, false, if◌then◌else◌, Option, None, Some}
@@ -33,7 +33,7 @@ action_patterns (action.SwapUsage cgroup threshold after) = cgroup
 action_patterns (action.Pressure cgroup resource after) = cgroup
 action_patterns (action.PgScan cgroup after) = cgroup
 
--- what an action says beside its choice
+-- the settings of an action other than its choice: delay, recursive, always_continue
 abbrev pub after_of : Action → After
 after_of (action.SizeOrGrowth cgroup size_threshold percentile ratio after) = after
 after_of (action.SwapUsage cgroup threshold after) = after
@@ -42,17 +42,17 @@ after_of (action.PgScan cgroup after) = after
 
 -- ---- candidates
 
--- the candidates of an action: the matches in which, or below which, some task is live
+-- the candidates of an action: the matches with a live task in or below them
 abbrev pub candidates : List GroupLife → List Pattern → Reading → List GroupReading
 candidates lives patterns reading =
     filter (λ (group : GroupReading). group.populated) (matches lives patterns reading)
 
--- a slot, if there is one, is this one
+-- an optional slot is this one
 abbrev pub names_slot : ℕ → Option ℕ → Bool
 names_slot slot None = false
 names_slot slot (Some other) = other == slot
 
--- the live groups right below the group in a slot in which, or below which, some task is live
+-- the live children of the group in a slot that have a live task in or below them
 abbrev pub children : List GroupLife → ℕ → Reading → List GroupReading
 children lives slot reading =
     filter (λ (group : GroupReading). group.populated && names_slot slot (slice_index_or (parents_of lives) group.slot.0 None))
@@ -60,12 +60,12 @@ children lives slot reading =
 
 -- ---- choices among groups
 
--- the first of groups that no other one of them beats
+-- the first group of a list that no other one beats
 abbrev pub unbeaten : (GroupReading → GroupReading → Bool) → List GroupReading → Option GroupReading
 unbeaten beats groups =
     find (λ group. not (list_any (λ other. beats other group) groups)) groups
 
--- the rank of a preference: what is preferred is chosen first, and what is avoided last
+-- the rank of a kill preference: preferred groups are chosen first, avoided ones last
 abbrev pub rank : Preference → ℕ
 rank Prefer = 2
 rank Plain = 1
@@ -81,18 +81,18 @@ is_less Less = true
 is_less Equal = false
 is_less Greater = false
 
--- a group's path comes before another's in byte order
+-- a group's path is before another one's in byte order
 abbrev pub has_path_before : List GroupLife → GroupReading → GroupReading → Bool
 has_path_before lives first second = is_less (slice_cmp nat_cmp (path_of lives first) (path_of lives second))
 
--- a group has a greater measure than another, or the same and the path that comes first
+-- a group has a greater measure than another one, or the same measure and the lower path
 abbrev pub is_greater_by : List GroupLife → (GroupReading → ℕ) → GroupReading → GroupReading → Bool
 is_greater_by lives measure first second =
     nat_lt (measure second) (measure first)
     || (measure first == measure second && has_path_before lives first second)
 
--- a group beats another: its preference is better, or the same and its measure is greater, or both
--- are the same and its path comes first
+-- a group beats another one: its preference is better; or it is the same and its measure is
+-- greater; or both are the same and its path is lower
 abbrev pub beats_by : List GroupLife → (GroupReading → ℕ) → GroupReading → GroupReading → Bool
 beats_by lives measure first second =
     nat_lt (rank_of second) (rank_of first)
@@ -100,18 +100,17 @@ beats_by lives measure first second =
 
 -- ---- swap, pressure and scans
 
--- swap in use (bytes) is at least a size: of so many bytes, or of so many percent of the host's
--- swap
+-- swap in use (bytes) is at least a size, given in bytes or as a percentage of the host's swap
 abbrev pub is_at_least : Size → HostReading → ℕ → Bool
 is_at_least (size.Bytes n) host swap = nat_le n swap
 is_at_least (size.Percent n) host swap = nat_le (n * host.swap_total) (swap * 100)
 
--- the full averages of a resource over 10 s and 60 s together
+-- the sum of the full averages of a resource over 10 s and 60 s
 abbrev pub pressure_measure : Res → GroupReading → ℕ
 pressure_measure resource group =
     full_average resource ten_seconds group + full_average resource sixty_seconds group
 
--- the choice among groups of those that are eligible: the one that none beats by a measure
+-- the choice among the eligible groups: the one that none beats by a measure
 abbrev pub chosen_by : List GroupLife → (GroupReading → Bool) → (GroupReading → ℕ) → List GroupReading → Option GroupReading
 chosen_by lives is_eligible measure groups = unbeaten (beats_by lives measure) (filter is_eligible groups)
 
@@ -121,7 +120,7 @@ chosen_by lives is_eligible measure groups = unbeaten (beats_by lives measure) (
 abbrev pub memory_in_use : GroupReading → ℕ
 memory_in_use group = group.current
 
--- one group is larger than another: it uses more memory, or the same and its path comes first
+-- one group is larger than another one: it uses more memory, or the same and its path is lower
 abbrev pub is_larger : List GroupLife → GroupReading → GroupReading → Bool
 is_larger lives first second = is_greater_by lives memory_in_use first second
 
@@ -129,24 +128,25 @@ is_larger lives first second = is_greater_by lives memory_in_use first second
 abbrev pub largest : List GroupLife → List GroupReading → Option GroupReading
 largest lives groups = unbeaten (is_larger lives) groups
 
--- those of groups whose preference is the best that one of them has
+-- the groups with the best kill preference of the list
 abbrev pub best_of : List GroupReading → List GroupReading
 best_of groups = filter (λ group. not (list_any (λ other. nat_lt (rank_of group) (rank_of other)) groups)) groups
 
--- the memory (bytes) that groups use together
+-- the sum of the memory (bytes) that groups use
 abbrev pub total_size : List GroupReading → ℕ
 total_size groups = sum_by memory_in_use groups
 
--- the first choice: the largest of the best with at least so many percent of the memory of all
+-- the first choice: the largest of the groups with the best preference that use at least this
+-- percentage of the memory of all
 abbrev pub large_choice : List GroupLife → ℕ → List GroupReading → Option GroupReading
 large_choice lives size_threshold groups =
     largest lives (filter (λ group. nat_le (size_threshold * total_size groups) (memory_in_use group * 100)) (best_of groups))
 
--- how many of so many groups stand above a percentile: rounded up, and at least one
+-- how many of n groups are above a percentile: rounded up, and at least one
 abbrev pub count_above : ℕ → ℕ → ℕ
 count_above percentile count = max 1 ((count * (100 - percentile) + 99) / 100)
 
--- the so many largest of groups
+-- the n largest groups
 abbrev pub largest_few : List GroupLife → ℕ → List GroupReading → List GroupReading
 largest_few lives count groups =
     filter (λ group. nat_lt (length (filter (λ other. is_larger lives other group) groups)) count) groups
@@ -156,42 +156,43 @@ abbrev pub size_at : Option GroupReading → List ℕ
 size_at None = []
 size_at (Some group) = group.current ∷ []
 
--- the sizes (bytes) that the group in a slot had at readings at which it was live, the newest first
+-- the sizes (bytes) of the group in a slot at the readings at which it was live, the newest first
 abbrev pub sizes_in : ℕ → List Reading → List ℕ
 sizes_in slot [] = []
 sizes_in slot (reading ∷ past) = size_at (group_in reading slot) ++ sizes_in slot past
 
--- the past of a group: its last four sizes (bytes) at most, from before the present reading
+-- the history of a group: at most its last four sizes (bytes) before the current reading
 abbrev pub past_of : List Reading → GroupReading → List ℕ
 past_of past group = take 4 (sizes_in group.slot.0 past)
 
--- a group is growing: it has a past with memory in use, and its size is at least so many
--- thousandths of the mean of its past
+-- a group is growing: it used memory in its history, and its size is at least this fraction
+-- (thousandths) of the mean of its history
 abbrev pub is_growing : ℕ → List Reading → GroupReading → Bool
 is_growing ratio past group =
     nat_lt 0 (sum (past_of past group))
     && nat_le (ratio * sum (past_of past group)) (memory_in_use group * length (past_of past group) * 1000)
 
--- a group's size over the mean of its past, times the sums of its own past and another's: compared
--- with the same of the other it tells which quotient is greater
+-- a group's size divided by the mean of its history, multiplied by the sums of its own and another
+-- one's history: comparing the two products compares the quotients
 abbrev pub growth_by : List Reading → GroupReading → GroupReading → ℕ
 growth_by past group other = memory_in_use group * length (past_of past group) * sum (past_of past other)
 
--- A group has grown more than another: the quotient of its size and the mean of its past is
--- greater, as an exact fraction, or the same and the group is larger.
+-- A group has grown more than another one: the quotient of its size and the mean of its history is
+-- greater, as an exact fraction; or it is the same and the group is larger.
 abbrev pub has_grown_more : List GroupLife → List Reading → GroupReading → GroupReading → Bool
 has_grown_more lives past first second =
     nat_lt (growth_by past second first) (growth_by past first second)
     || (growth_by past first second == growth_by past second first && is_larger lives first second)
 
--- the second choice: among the largest of the best, the growing one that has grown most
+-- the second choice: among the largest groups with the best preference, the growing one that has
+-- grown most
 abbrev pub growing_choice : List GroupLife → ℕ → ℕ → List Reading → List GroupReading → Option GroupReading
 growing_choice lives percentile ratio past groups =
     unbeaten (has_grown_more lives past)
     (filter (is_growing ratio past)
     (largest_few lives (count_above percentile (length (best_of groups))) (best_of groups)))
 
--- what is found, and else another
+-- the first value if there is one, or else the second
 infixr 5 ◌or_else◌
 abbrev pub ◌or_else◌ : {A : Type 0} → Option A → Option A → Option A
 (Some x) or_else other = Some x
@@ -199,7 +200,7 @@ None or_else other = other
 
 -- ---- victims
 
--- the choice of an action among groups at a reading, after others
+-- the choice of an action among groups at a reading, after earlier readings
 unfoldable pub choice : List GroupLife → Action → Reading → List Reading → List GroupReading → Option GroupReading
 choice lives (action.SizeOrGrowth cgroup size_threshold percentile ratio after) now past groups =
     large_choice lives size_threshold groups
@@ -212,22 +213,23 @@ choice lives (action.Pressure cgroup resource after) now past groups =
 choice lives (action.PgScan cgroup after) now past groups =
     chosen_by lives (λ group. nat_lt 0 (rise past group)) (rise past) groups
 
--- the group at which choices among children end: the one chosen, or where there is none this one
+-- the group at which a descent through children ends: where it continues from the chosen child, or
+-- this group if no child is chosen
 abbrev pub below : Option GroupReading → GroupReading → (GroupReading → GroupReading) → GroupReading
 below None group next = group
 below (Some child) group next = next child
 
--- The group that is chosen last when, from this one on, the choice is made again among the children
--- of the one just chosen, until none of them is chosen or so many choices were made.
+-- The last group chosen if the choice is repeated among the children of the group just chosen,
+-- starting here, until none is chosen or the number of steps is used up.
 abbrev pub descended : List GroupLife → Action → Reading → List Reading → ℕ → GroupReading → GroupReading
 descended lives act now past zero group = group
 descended lives act now past (suc n) group =
     below (choice lives act now past (children lives group.slot.0 now)) group (descended lives act now past n)
 
--- The victim of an action at a reading, after others, if it has one: its choice among the
--- candidates. Where the action is recursive, the choice is made again among the children of the one
--- that was chosen, until no child is; a group's slot is smaller than its children's, so there are
--- no more such choices than groups.
+-- The victim of an action at a reading, after earlier readings, or None: its choice among the
+-- candidates. If the action is recursive, the choice is repeated among the children of the chosen
+-- group until no child is chosen; a group's slot is smaller than its children's, so there are at
+-- most as many steps as groups.
 unfoldable pub victim : List GroupLife → Action → Reading → List Reading → Option GroupReading
 victim lives act now past =
     if (after_of act).recursive

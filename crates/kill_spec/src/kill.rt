@@ -1,10 +1,10 @@
-//! What a ruleset decides.
+//! Kills, as the rules decide them.
 use psi_base::{Ns, Slot};
 
-/// A kill: when, by which action of which ruleset, and whom.
+/// A kill: when, by which action of which ruleset, and which group.
 #[derive(Clone, Copy, Debug, PartialEq, Eq)]
 pub struct Kill {
-    /// The moment of the evaluation, in ns.
+    /// The time of the evaluation, in ns.
     pub at: Ns,
     /// The number of the ruleset, from 0.
     pub rule: u32,

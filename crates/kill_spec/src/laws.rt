@@ -2,9 +2,9 @@
 ghost use Rattle.kill_spec.specs.Choices.{LargestIsChoice, UnbeatenIsChoice};
 ghost use Rattle.kill_spec.specs.Laws.{BreakStartsAnew, HeldForTells, HoldsAtOnce, LongerIsLater, EndingsApart, EndsOnce, KillsAreOfActions, DescentEnds, VictimsMatch};
 
-/// A condition for a duration: it has held at some reading that is at least so long ago and at each
-/// one since. For a duration of 0 it is the condition itself; one reading at which it doesn't hold
-/// starts it anew; and for a longer duration it is never true earlier.
+/// When a condition has been true for a duration: it was true at some reading at least that much
+/// earlier and at every one since. For a duration of 0 it is the condition itself; a reading at
+/// which it is false restarts it; and a longer duration is never reached earlier.
 pub fn law_durations()
     ensures tells { HeldForTells }
     ensures at_once { HoldsAtOnce }
@@ -12,23 +12,22 @@ pub fn law_durations()
     ensures later { LongerIsLater }
 {}
 
-/// A choice by a measure, or of the largest, is none exactly among no groups, and else the group
-/// that no other of them beats.
+/// A choice by a measure, or of the largest, is `None` exactly for an empty list, and otherwise the
+/// group that no other one beats.
 pub fn law_choices()
     ensures by_measure { UnbeatenIsChoice }
     ensures largest { LargestIsChoice }
 {}
 
-/// A victim is populated and matches its action's patterns, but for a recursive action, where it
-/// may be below a match. And choices below the one that was chosen come to an end before there are
-/// more of them than groups.
+/// A victim is populated and matches its action's patterns; for a recursive action it may be below
+/// a match. A descent ends after at most as many steps as there are groups.
 pub fn law_victims()
     ensures matching { VictimsMatch }
     ensures ends { DescentEnds }
 {}
 
-/// A ruleset never has two chain-ending kills closer than the delay of the first, nor two at one
-/// reading; and no group is killed but as the victim of an action of a ruleset that fires.
+/// Two chain-ending kills of a ruleset are at least the first one's delay apart, and never at one
+/// reading; and a group is killed only as the victim of an action of a ruleset that fires.
 pub fn law_kills()
     ensures apart { EndingsApart }
     ensures once { EndsOnce }

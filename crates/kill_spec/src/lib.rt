@@ -1,11 +1,10 @@
 //! What rules decide: the definitions of readings, detectors, victims and kills that the contracts
-//! of the crates above cite, the types that they speak of, and laws about them.
+//! of the crates above cite, their types, and laws about them. It computes nothing.
 //!
-//! In `specs/`, in the order of reading: `Readings` (what is seen at an evaluation), `Detectors`
-//! (when a detector is true and a ruleset fires), `Victims` (which group an action kills), `Kills`
-//! (which groups are killed at an evaluation), `Evaluations` (what is seen at the evaluations of a
-//! trace). `Laws` and `Choices` have laws alone: what follows, and what tells a choice among
-//! groups.
+//! In `specs/`, in reading order: `Readings` (what rules see at an evaluation), `Detectors` (when a
+//! detector is true and a ruleset fires), `Victims` (which group an action kills), `Kills` (which
+//! groups are killed at an evaluation), `Evaluations` (the readings of a trace). `Laws` and
+//! `Choices` contain only laws.
 #![tactic(auto)]
 
 mod kill;

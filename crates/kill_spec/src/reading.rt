@@ -1,4 +1,4 @@
-//! What is read at an evaluation.
+//! What rules see of a group and of the host at an evaluation.
 use pressure_spec::QUANTITIES;
 use psi_base::{Preference, Slot};
 
@@ -7,23 +7,23 @@ use psi_base::{Preference, Slot};
 pub struct GroupReading {
     /// Its slot.
     pub slot: Slot,
-    /// Its averages after the tick, over 10, 60 and 300 seconds, of each state but nonidle: in
-    /// fixed point, at most 204,800, which is 100 percent. Those of interrupt time are left out,
-    /// since no rule looks at them.
+    /// Its averages after the tick, over 10, 60 and 300 seconds, of each state except nonidle:
+    /// fixed point, at most 204,800, which is 100 percent. Interrupt time is left out, since no
+    /// rule uses it.
     pub averages: [[u64; 3]; QUANTITIES - 1],
-    /// Memory in use by its last sample, in bytes, at most 2^60; 0 without one.
+    /// Memory in use, in bytes, at most 2^60: its last sample, or 0.
     pub current: u64,
-    /// Swap in use by its last sample, in bytes, at most 2^60; 0 without one.
+    /// Swap in use, in bytes, at most 2^60: its last sample, or 0.
     pub swap: u64,
-    /// Pages scanned for it so far, by its last sample, at most 2^60; 0 without one.
+    /// The number of pages scanned for it so far, at most 2^60: its last sample, or 0.
     pub scan: u64,
-    /// Whether it is preferred, avoided or neither.
+    /// Its kill preference.
     pub preference: Preference,
     /// Whether some live task is in it or below it.
     pub populated: bool,
 }
 
-/// The memory of the host by its last sample, in bytes, at most 2^60 each; zeros without one.
+/// The last sample of the host's memory, in bytes, at most 2^60 each; zeros if there is none.
 #[derive(Clone, Copy, Debug, PartialEq, Eq)]
 pub struct HostReading {
     pub mem_total: u64,

@@ -1,5 +1,5 @@
 -- A trace without the tasks of a group that is killed: its events up to the kill, the exits of the
--- tasks, and the rest without them.
+-- tasks, and the remaining events without them.
 use Rattle.std.specs.Prelude.{ℕ, ◌+◌, List, [], ◌∷◌, ◌++◌, drop, length, map, filter, nat_lt, ◌==◌, not, Bool, false, if◌then◌else◌, Option, None, Some}
 use Rattle.std.specs.List.{list_any}
 use Rattle.std.specs.FinMap as tasks_by
@@ -17,26 +17,26 @@ use Rattle.psi_spec.specs.Trace.{Trace}
 
 -- ---- the exits
 
--- the numbers of the live tasks in a group or below it, ascending
+-- the PIDs of the live tasks in a group or below it, ascending
 abbrev pub members : World → ℕ → List ℕ
 members w slot = map (λ e. e.0) (filter (λ e. is_under (parents_of w.groups) e.1.slot.0 slot) (tasks_by.entries w.tasks))
 
--- a number of a task, if there is one
+-- an optional PID
 abbrev pub pid_part : Option (ℕ × Task) → Option Pid
 pid_part None = None
 pid_part (Some e) = Some (record { 0 = e.0 })
 
--- how the running task, if there is one, makes room for another
+-- how the running task, if any, makes way for another one
 abbrev pub making_room : Option Pid → How
 making_room None = Idle
 making_room (Some pid) = Preempt
 
--- some acts, where this holds
+-- these acts if the condition is true, and none otherwise
 abbrev pub acts_if : Bool → List Act → List Act
 acts_if test acts = if test then acts else []
 
--- How a task exits, where this task runs on its processor, if one does: it wakes if it sleeps, runs
--- if it doesn't yet, ends its stall, and exits; then the task that made room for it runs on.
+-- How a task exits, given the running task of its processor: it wakes if it sleeps, runs if it
+-- isn't running, ends its memory stall, and exits; then the task that made way for it continues.
 abbrev pub exit_acts : ℕ → Task → Option Pid → List Act
 exit_acts pid task running =
     acts_if (not (is_active task.mode)) (act.Wake (record { 0 = pid }) task.cpu ∷ [])
@@ -44,13 +44,12 @@ exit_acts pid task running =
     ++ acts_if task.stalled (act.Unstall (record { 0 = pid }) ∷ [])
     ++ act.Switch task.cpu (if is_running task.mode then None else running) Exit ∷ []
 
--- the exit of a task, if there is one, in a world
+-- the exit of a task (None gives nothing) in a world
 abbrev pub exit_of : World → ℕ → Option Task → List Act
 exit_of w pid None = []
 exit_of w pid (Some task) = exit_acts pid task (pid_part (running_on w.tasks task.cpu.0))
 
--- the exits of tasks at a moment (ns), one after the other, each in the world that those before it
--- left
+-- the exits of tasks at a time (ns), one after another, each in the world after the previous ones
 abbrev pub exits_from : ℕ → World → List ℕ → List Event
 exits_from at w [] = []
 exits_from at w (pid ∷ pids) =
@@ -59,32 +58,32 @@ exits_from at w (pid ∷ pids) =
 
 -- ---- the rest
 
--- a number is among these
+-- a PID is in this list
 abbrev pub is_pid_among : List ℕ → ℕ → Bool
 is_pid_among pids pid = list_any (λ dead. pid == dead) pids
 
--- a task, if there is one, isn't dead
+-- an optional task isn't dead
 abbrev pub is_alive : List ℕ → Option Pid → Bool
 is_alive dead None = false
 is_alive dead (Some pid) = not (is_pid_among dead pid.0)
 
--- a task that isn't dead, and none for one that is
+-- a task unless it is dead, and None if it is
 abbrev pub if_alive : List ℕ → Option Pid → Option Pid
 if_alive dead next = if is_alive dead next then next else None
 
--- A switch without dead tasks, by the task that leaves, if one does: a dead one neither leaves nor
--- comes. Where none is left that leaves, the processor idled; where none comes either, nothing
+-- A switch without dead tasks, given the task that leaves, if any: a dead task neither leaves nor
+-- comes. If the task that leaves is dead, the processor was idle; if none comes either, nothing
 -- happens.
 abbrev pub switch_without : List ℕ → Cpu → Option Pid → Option Pid → How → List Act
 switch_without dead cpu leaving next how =
     if is_alive dead leaving then act.Switch cpu (if_alive dead next) how ∷ [] else
     if is_alive dead next then act.Switch cpu next Idle ∷ [] else []
 
--- an act of a task, if that isn't dead
+-- an act of a task, unless the task is dead
 abbrev pub act_of : List ℕ → Pid → Act → List Act
 act_of dead pid what = acts_if (not (is_pid_among dead pid.0)) (what ∷ [])
 
--- What is left of an act in a world of the trace where these tasks are dead.
+-- What remains of an act in a world of the trace in which these tasks are dead.
 abbrev pub act_without : List ℕ → World → Act → List Act
 act_without dead w (act.Wake pid cpu) = act_of dead pid (act.Wake pid cpu)
 act_without dead w (act.Stall pid) = act_of dead pid (act.Stall pid)
@@ -94,18 +93,17 @@ act_without dead w (act.Move pid path) = act_of dead pid (act.Move pid path)
 act_without dead w (act.Switch cpu next how) = switch_without dead cpu (pid_part (running_on w.tasks cpu.0)) next how
 act_without dead w what = what ∷ []
 
--- the numbers without one, if one is given
+-- the PIDs without one, if one is given
 abbrev pub without_pid : List ℕ → Option Pid → List ℕ
 without_pid dead None = dead
 without_pid dead (Some pid) = filter (λ other. not (other == pid.0)) dead
 
--- The tasks that are dead behind an act: the number of one that exits in the trace may be given
--- again.
+-- The dead tasks after an act: the PID of a task that exits in the trace may be reused.
 abbrev pub dead_after : List ℕ → World → Act → List ℕ
 dead_after dead w (act.Switch cpu next Exit) = without_pid dead (pid_part (running_on w.tasks cpu.0))
 dead_after dead w what = dead
 
--- events from a world of the trace on, without these tasks
+-- events of the trace, from a world on, without these tasks
 abbrev pub rest_without : List ℕ → World → List Event → List Event
 rest_without dead w [] = []
 rest_without dead w (event ∷ events) =
@@ -114,13 +112,13 @@ rest_without dead w (event ∷ events) =
 
 -- ---- the whole
 
--- the events behind a moment (ns)
+-- the events after a time (ns)
 abbrev pub behind : List Event → ℕ → List Event
 behind events at = drop (length (up_to events at)) events
 
--- The events of a trace without the tasks that are in a group or below it at a moment (ns): those
--- up to the moment, the exits of these tasks a nanosecond later, and the rest without them. Where
--- the moment isn't before the end, all stays.
+-- The events of a trace without the tasks that are in a group or below it at a time (ns): the
+-- events up to that time, the exits of these tasks one nanosecond later, and the remaining events
+-- without them. If the time isn't before the end, nothing changes.
 unfoldable pub without : List Event → ℕ → ℕ → List Event
 without events at victim =
     if nat_lt at (after events).last
@@ -129,6 +127,6 @@ without events at victim =
     ++ rest_without (members (after (up_to events at)) victim) (after (up_to events at)) (behind events at)
     else events
 
--- a trace without the tasks that are in a group or below it at a moment (ns)
+-- a trace without the tasks that are in a group or below it at a time (ns)
 abbrev pub trace_without : Trace → ℕ → ℕ → Trace
 trace_without trace at victim = record trace { events = without trace.events at victim }

@@ -1,5 +1,5 @@
-//! What a trace would have been without the tasks of a group that is killed: the definitions that
-//! the contracts of whatif_trace cite.
+//! What a trace would have been without the tasks of a killed group: the definitions that the
+//! contracts of whatif_trace cite. It predicts nothing about the other tasks.
 //!
-//! In `specs/`: `Without` (the events of a trace without the tasks of a group from a moment on).
+//! In `specs/`: `Without` (the events of a trace without the tasks of a group from a time on).
 #![tactic(auto)]
