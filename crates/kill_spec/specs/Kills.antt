@@ -31,7 +31,7 @@ kill_by rule act now (Some group) = Some (kill_of now.at rule act group)
 
 -- The kills of a chain of actions at a reading, after earlier readings: actions are taken in order,
 -- each action with a victim kills it, and the first of these that doesn't always continue ends the
--- chain. `ruleset` and `first` are the numbers of the ruleset and of the first action.
+-- chain. `rule` and `act` are the numbers of the ruleset and of the first action.
 abbrev pub chain : List GroupLife → ℕ → ℕ → List Action → Reading → List Reading → List Kill
 chain lives rule act [] now past = []
 chain lives rule act (first ∷ rest) now past =
