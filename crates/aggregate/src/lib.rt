@@ -1,5 +1,7 @@
-//! The kernel's `collect_percpu_times`: from the times of a group on each processor to its shares
-//! of an interval and its totals.
+//! From the times of a group on each processor to its shares of an interval and its totals: the
+//! kernel's `collect_percpu_times`.
+//!
+//! It knows nothing of ticks or averages: tick_engine calls it at each tick.
 #![tactic(auto)]
 
 mod rows;

@@ -8,13 +8,13 @@ use psi_base::{Cpu, NoMemory, Slot};
 use std::alloc::Global;
 use std::marker::Model;
 
-/// For each group, by its slot, a row of each processor's times (ns): in the order of the states,
-/// and last what interrupts took.
+/// For each group, by its slot, a row of each processor's times (ns): ordered by state, followed by
+/// interrupt time.
 #[derive(Drop)]
 pub struct Rows {
     cpus: u32,
     slots: u32,
-    /// Row by row, `cpus` a row.
+    /// Row after row, `cpus` entries in each row.
     times: Vec<Times>,
 }
 
@@ -30,7 +30,7 @@ impl Model for Rows {
 }
 
 impl Rows {
-    /// Zeros for so many processors and groups. Takes its memory in one piece.
+    /// Zeros for these numbers of processors and groups, in one allocation.
     pub fn make(alloc: Global, cpus: u32, slots: u32) -> Result<Rows, NoMemory>
         ensures { IfOk result (λ rows. rows ≡ new_table cpus slots) }
     {
@@ -47,7 +47,7 @@ impl Rows {
         self.times[place] = times;
     }
 
-    /// Takes over the times of other rows, of as many groups and processors. Takes no memory.
+    /// Copies the times of other rows with as many groups and processors. Does not allocate.
     pub fn copy_from(&mut self, other: &Rows)
         requires { HaveSameSizes self.old other.now }
         ensures { self.new ≡ other.now }
@@ -57,7 +57,7 @@ impl Rows {
         self.times.copy_from_slice(&other.times);
     }
 
-    /// Takes over the times of a group on each processor. Takes no memory.
+    /// Copies the times of a group on each processor. Does not allocate.
     pub fn set_row(&mut self, slot: Slot, row: &[Times])
         requires slot { slot.0 < length self.old }
         requires row { length row.now ≡ length (slice_index_or self.old slot.0 []) }
@@ -80,7 +80,7 @@ impl Rows {
     }
 }
 
-/// The rows of these times, which stand row by row.
+/// The rows of these times, which are stored row after row.
 fn rows_with(cpus: u32, slots: u32, times: Vec<Times>) -> Rows
     requires { length times.items ≡ slots * cpus }
     ensures { result ≡ table.rows_of cpus slots times.items }
@@ -88,15 +88,15 @@ fn rows_with(cpus: u32, slots: u32, times: Vec<Times>) -> Rows
     Rows { cpus, slots, times }
 }
 
-/// So many places of times, all zeros.
+/// `count` entries of zeros.
 fn no_times(alloc: Global, count: usize) -> Result<Vec<Times>, NoMemory>
     ensures { IfOk result (λ times. times.items ≡ replicate count table.no_times) }
 {
     Ok(vec![in alloc; [0u64; TIMES]; count]?)
 }
 
-/// Laws of tables: they keep their sizes, and what is set is found at its place and changes no
-/// other.
+/// Laws of tables: their sizes don't change, and an entry that was set is found at its place, while
+/// all others stay the same.
 pub fn law_rows()
     ensures sizes { KeepsSizes }
     ensures places { SetsOnePlace }

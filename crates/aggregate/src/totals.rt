@@ -7,8 +7,8 @@ ghost use Rattle.pressure_spec.specs.Within.{AreAmountsWithin, most_irq_total};
 use pressure_spec::{Amounts, QUANTITIES};
 use std::marker::Model;
 
-/// How long a group was in each state but nonidle since it was made, and how long interrupts took
-/// from it (ns): the sums of its shares.
+/// How long a group was in each state except nonidle since it was created, and how long interrupts
+/// took from it (ns): the sums of its shares.
 #[derive(Drop)]
 pub struct Totals {
     sums: Amounts,
@@ -23,7 +23,7 @@ impl Model for Totals {
 }
 
 impl Totals {
-    /// The totals of a group that is made.
+    /// The totals of a new group.
     pub fn zero() -> Totals
         ensures { result ≡ model.no_totals }
     {
@@ -40,7 +40,7 @@ impl Totals {
         add_each(&mut self.sums, &shares);
     }
 
-    /// The totals (ns), in the order of the states, and last that of interrupt time.
+    /// The totals (ns), ordered by state, followed by that of interrupt time.
     pub fn get(&self) -> Amounts
         ensures { result ≡ self.now }
     {

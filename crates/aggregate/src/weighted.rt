@@ -10,19 +10,18 @@ ghost use Rattle.psi_spec.specs.World.{longest_irq};
 
 use pressure_spec::{Amounts, QUANTITIES, TIMES, Times};
 
-/// The kernel's timer tick in this profile: a millisecond (ns).
+/// The unit of a weight: a millisecond (ns). The kernel uses a tick of its timer.
 const TICK: u64 = 1_000_000;
 
 /// The place of nonidle among the times of a processor.
 const NONIDLE: usize = 6;
 
-/// The places of the quantities of pressure among the times of a processor: all but nonidle.
+/// The places of the pressure quantities among the times of a processor: all but nonidle.
 const PLACES: [usize; QUANTITIES] = [0, 1, 2, 3, 4, 5, 7];
 
-/// How long a group was in each state but nonidle in an interval, and how long interrupts took from
-/// it (ns), over all processors: the mean of `deltas`, which has its times in the interval on each
-/// processor (ns), each with the weight of the processor. The weight is for how many whole timer
-/// ticks the group wasn't idle there.
+/// The shares (ns) of an interval over all processors: for each state except nonidle, and for
+/// interrupt time, the weighted mean of `deltas`, a group's times in the interval (ns) on each
+/// processor. A processor's weight is the group's nonidle time there in whole milliseconds.
 pub fn share(deltas: &[Times]) -> Amounts
     requires few { length deltas.now ≤ 64 }
     requires short { All (AreTimesWithin longest_tick (longest_tick + longest_irq)) deltas.now }
@@ -40,9 +39,9 @@ pub fn share(deltas: &[Times]) -> Amounts
     sums
 }
 
-/// The same of what the times (ns) of each processor grew by from the begin of the interval to its
-/// end. A processor on which the group was idle has no weight, so it adds nothing, and its other
-/// times aren't read.
+/// The same for the increments of each processor's times (ns) from the start of an interval to its
+/// end. A processor on which the group was idle has no weight: it adds nothing, and its other times
+/// aren't read.
 pub fn share_since(now: &[Times], before: &[Times]) -> Amounts
     requires few { length now.now ≤ 64 }
     requires each { length before.now ≡ length now.now }
@@ -66,7 +65,7 @@ pub fn share_since(now: &[Times], before: &[Times]) -> Amounts
     sums
 }
 
-/// The weight of a processor by what its times grew by.
+/// The weight of a processor, from the increments of its times.
 #[inline(always)]
 fn weight_since(now: &Times, before: &Times) -> u64
     requires { (place : ℕ) → slice_index before.now place ≤ slice_index now.now place }
@@ -75,7 +74,7 @@ fn weight_since(now: &Times, before: &Times) -> u64
     (now[NONIDLE] - before[NONIDLE]) / TICK
 }
 
-/// What each of a processor's times grew by.
+/// The increment of each of a processor's times.
 #[inline(always)]
 fn growth(now: &Times, before: &Times) -> Times
     requires { (place : ℕ) → slice_index before.now place ≤ slice_index now.now place }
@@ -88,7 +87,7 @@ fn growth(now: &Times, before: &Times) -> Times
     growth
 }
 
-/// Adds the times of a processor to the sums, with its weight.
+/// Adds the times of a processor, multiplied by its weight, to the sums.
 fn add_weighted(sums: &mut Amounts, times: &Times, weight: u64)
     requires weight { weight ≤ 60000 }
     requires times { AreTimesWithin longest_tick (longest_tick + longest_irq) times.now }

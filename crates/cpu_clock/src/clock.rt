@@ -7,17 +7,16 @@ use psi_base::{Ns, State};
 use state_mask::{Mask, STATES};
 use std::marker::Model;
 
-/// How long a group was in each state on a processor. The kernel keeps the same in its
-/// `psi_group_cpu`: `times`, `state_mask` and `state_start`. Clocks with other numbers may tell the
-/// same, where a change that left the states as they were isn't in one of them, so clocks have no
-/// `==`.
+/// How long a group was in each state on a processor: the `times`, `state_mask` and `state_start`
+/// of the kernel's `psi_group_cpu`. Clocks with different numbers may mean the same, if one of them
+/// skipped a change that left the states as they were; so clocks have no `==`.
 #[derive(Clone, Copy, Debug)]
 pub struct Clock {
-    /// For how long each state held up to the start, in ns, in the order of the states.
+    /// The time in each state up to the start, in ns, ordered by state.
     pub times: [u64; 7],
-    /// The states that hold from the start on.
+    /// The states since the start.
     pub mask: Mask,
-    /// The moment from which on the mask holds, in ns. Changes after it left the mask as it was.
+    /// The time since which the mask applies, in ns. Later changes left the mask as it was.
     pub start: Ns,
 }
 
@@ -36,14 +35,14 @@ impl Model for Clock {
         record { times = clock.times; mask = clock.mask; start = clock.start } };
 }
 
-/// Where the mask stands among a clock's words, behind the times.
+/// The index of the mask among a clock's words, after the times.
 const MASK_WORD: usize = 7;
 
-/// Where the start stands among a clock's words.
+/// The index of the start among a clock's words.
 const START_WORD: usize = 8;
 
-/// The time since a clock's start, in ns, if a state holds from there on. There is no branch on
-/// that: which states hold is hard to foresee.
+/// The time since a clock's start, in ns, if a state is in its mask, or 0. There is no branch on
+/// that, since it is hard to predict.
 fn open_time(held: bool, time: u64) -> u64
     ensures { result ≡ (if held then time else 0) }
 {
@@ -51,7 +50,7 @@ fn open_time(held: bool, time: u64) -> u64
 }
 
 impl Clock {
-    /// A clock at the moment 0, when no state held for any time and none holds.
+    /// A clock at time 0, in no state.
     pub fn zero() -> Clock
         ensures { result ≡ zero_clock }
     {
@@ -62,7 +61,7 @@ impl Clock {
         }
     }
 
-    /// The time of one state at a moment, in ns.
+    /// The time in one state up to a time, in ns.
     fn opened_time(&self, at: Ns, state: State) -> u64
         requires { IsInTime self.now at }
         ensures { result ≡ opened_time self.now at state }
@@ -71,9 +70,9 @@ impl Clock {
         self.times[state as usize] + open
     }
 
-    /// The times at a moment, in ns, in the order of the states: where a state holds, the time
-    /// since the start is added. The kernel's `get_recent_times` does this first, and then takes
-    /// off the times of its last call.
+    /// The times up to a time, in ns, ordered by state: for the states in the mask, the time since
+    /// the start is added. The kernel's `get_recent_times` does the same, and then subtracts the
+    /// times of its last call.
     pub fn opened(&self, at: Ns) -> [u64; 7]
         requires { IsInTime self.now at }
         ensures { result ≡ opened self.now at }
@@ -85,7 +84,7 @@ impl Clock {
         STATES.map(|state| self.opened_time(at, state))
     }
 
-    /// Takes the clock to a moment (ns), from which on the states of the mask hold: the kernel's
+    /// Advances the clock to a time (ns), since which the states of the mask apply: the kernel's
     /// `record_times`, and then the new mask.
     pub fn advance(&mut self, at: Ns, mask: Mask)
         requires { IsInTime self.old at }
@@ -96,11 +95,11 @@ impl Clock {
         self.start = at;
     }
 
-    /// Takes the clock over a change of its processor at a moment (ns), from which on the states of
-    /// the mask hold. Where the mask stays the clock does too, and goes on from where it started.
+    /// Applies a change of its processor at a time (ns), since which the states of the mask apply.
+    /// If the mask doesn't change, neither does the clock.
     ///
-    /// So a clock that stands for a slot after some changes of a plan stands for it after one more,
-    /// where the mask has the states after that: the law of [`plan_laws::law_plan_clocks`].
+    /// So a clock that represents a slot after some changes of a plan represents it after one more,
+    /// if the mask is that of the states after it: the law of [`plan_laws::law_plan_clocks`].
     pub fn turn(&mut self, at: Ns, mask: Mask)
         requires { IsInTime self.old at }
         ensures mask { self.new.mask ≡ mask }
@@ -113,7 +112,7 @@ impl Clock {
         }
     }
 
-    /// The clock as nine words: the times in the order of the states, the mask and the start.
+    /// The clock as nine words: the times ordered by state, the mask and the start.
     pub fn to_words(&self) -> [u64; 9]
         ensures words { result ≡ words_of self.now }
         ensures of_clock { AreWordsOfClock result }
@@ -125,8 +124,8 @@ impl Clock {
         words
     }
 
-    /// The clock with these words. It asks for words of a clock and tests nothing: who keeps words
-    /// knows that they came from [`Clock::to_words`], and could do nothing where they hadn't.
+    /// The clock with these words. It requires words of a clock and doesn't check them: the caller
+    /// knows that they came from [`Clock::to_words`], and could do nothing if they hadn't.
     pub fn from_words(words: [u64; 9]) -> Clock
         requires { AreWordsOfClock words }
         ensures { words_of result ≡ words }

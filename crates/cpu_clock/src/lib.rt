@@ -1,4 +1,7 @@
-//! The clock of a group on a processor: for how long the group was in each state there.
+//! The clock of a group on a processor: how long the group was in each state there.
+//!
+//! One clock only: slot_clocks has those of all groups of a processor, and decides when they
+//! change.
 #![tactic(auto)]
 
 mod clock;

@@ -18,20 +18,20 @@ const PERIOD: Ns = 2_000_000_000;
 /// The place of interrupt time among the quantities that have averages.
 const IRQ: usize = QUANTITIES - 1;
 
-/// What is left of an average over 10, 60 and 300 seconds after a period with nothing active, in
-/// parts of 2048.
+/// The part of an average over 10, 60 and 300 seconds that remains after one idle period, in units
+/// of 1/2048.
 const FACTORS: [u64; 3] = [1677, 1981, 2034];
 
-/// The averages of a group's pressure over 10, 60 and 300 seconds, of each state but nonidle, and
-/// of interrupt time: the kernel's `avg` of a `psi_group`. Each is a fixed-point number of at most
-/// 204,800.
+/// The averages of a group's pressure over 10, 60 and 300 seconds, for each state except nonidle
+/// and for interrupt time: the kernel's `avg` of a `psi_group`. Each is a fixed-point number of at
+/// most 204,800.
 #[derive(Drop)]
 pub struct Averages {
-    /// The moment of the last update (ns).
+    /// The time of the last update (ns).
     last: Ns,
-    /// The moment from which the next update is due (ns).
+    /// The time from which the next update is due (ns).
     next: Ns,
-    /// How much of each total was sampled so far (ns).
+    /// The part of each total that was sampled so far (ns).
     sampled: Amounts,
     /// The three averages of each quantity.
     averages: AverageRows,
@@ -50,7 +50,7 @@ impl Model for Averages {
         (record { last = a.last; next = a.next; sampled = a.sampled; averages = a.averages }) };
 }
 
-/// What is sampled of each total in this time (ns): what wasn't yet, and at most the time.
+/// The sample of each total over this time (ns): the part not sampled yet, but at most the time.
 fn samples_of(time: Ns, sampled: &Amounts, totals: &Amounts) -> Amounts
     ensures value { result ≡ model.samples_of time sampled.now totals.now }
     ensures fits { (k : ℕ) → k < 7 →
@@ -63,7 +63,7 @@ fn samples_of(time: Ns, sampled: &Amounts, totals: &Amounts) -> Amounts
     samples
 }
 
-/// Adds the samples to what was sampled before.
+/// Adds the samples to the parts sampled before.
 fn add_samples(sampled: &mut Amounts, samples: &Amounts)
     requires { (k : ℕ) → k < 7 →
         slice_index sampled.old k + slice_index samples.now k < 2 ^ 64 }
@@ -75,7 +75,7 @@ fn add_samples(sampled: &mut Amounts, samples: &Amounts)
     }
 }
 
-/// The powers of the factors for so many missed periods.
+/// The factors to the power of the number of missed periods.
 fn decays_of(missed: u64) -> [u64; 3]
     ensures { result ≡ map (λ factor. model.power factor missed) model.factors }
 {
@@ -86,8 +86,8 @@ fn decays_of(missed: u64) -> [u64; 3]
     ]
 }
 
-/// An average after an update: it decays over the missed periods, if there are any, and is loaded
-/// with the sample.
+/// An average after an update: it decays over the missed periods, if any, and then takes in the
+/// sample.
 #[tactic(auto, using(pressure_spec::proofs::AverageLaws::power_most))]
 fn average_after(missed: u64, decay: u64, average: u64, factor: u64, percent: u64) -> u64
     requires decay { decay ≡ model.power factor missed }
@@ -136,8 +136,8 @@ fn update_rows(rows: &mut AverageRows, missed: u64, time: Ns, samples: &Amounts)
 }
 
 impl Averages {
-    /// The averages of a group that is made at this moment (ns): all 0, with the first update two
-    /// seconds later.
+    /// The averages of a group created at this time (ns): all 0, with the first update two seconds
+    /// later.
     pub fn new(at: Ns) -> Averages
         requires { at ≤ last_moment }
         ensures { result ≡ model.new_averages at }
@@ -150,11 +150,11 @@ impl Averages {
         }
     }
 
-    /// A tick at this moment (ns), with the group's totals (ns) of all states but nonidle, in the
-    /// order of the states, and of interrupt time. Where an update is due, each average decays over
-    /// the periods that were missed and is loaded with what is new of its total, of which no more
-    /// is taken than the time since the last update less these periods: the kernel's
-    /// `update_averages`. Before that, nothing changes.
+    /// A tick at this time (ns), with the group's totals (ns): one for each state except nonidle,
+    /// ordered by state, and one for interrupt time. If an update is due, each average decays over
+    /// the missed periods and takes in the part of its total not sampled yet, at most the time
+    /// since the last update less the missed periods; the rest is carried over: the kernel's
+    /// `update_averages`. If no update is due, nothing changes.
     pub fn update(&mut self, now: Ns, totals: Amounts)
         requires { now ≤ last_moment }
         ensures { self.new ≡ model.average_step self.old now totals }
@@ -171,7 +171,7 @@ impl Averages {
         self.last = now;
     }
 
-    /// The averages over 10, 60 and 300 seconds of a state other than nonidle, in fixed point.
+    /// The averages over 10, 60 and 300 seconds of a state except nonidle, in fixed point.
     pub fn get(&self, state: State) -> [u64; 3]
         requires { state ≢ state_of.Nonidle }
         ensures value { result ≡ slice_index_or self.now.averages (state_number state) [] }

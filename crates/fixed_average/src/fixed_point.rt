@@ -6,7 +6,7 @@ ghost use Rattle.pressure_spec.specs.Average as model;
 const ONE: u64 = 2048;
 
 /// An average `a` after a period in which it decays by the factor `e` and `x` was active, rounded
-/// up where it doesn't fall: the kernel's `calc_load`.
+/// up unless it falls: the kernel's `calc_load`.
 pub fn load(a: u64, e: u64, x: u64) -> u64
     requires average { a ≤ 204800 }
     requires factor { e ≤ 2048 }
@@ -22,7 +22,7 @@ pub fn load(a: u64, e: u64, x: u64) -> u64
     }
 }
 
-/// The product of two fixed-point numbers up to one, rounded to the nearest.
+/// The product of two fixed-point numbers up to one, rounded to nearest.
 fn product(x: u64, y: u64) -> u64
     requires left { x ≤ 2048 }
     requires right { y ≤ 2048 }
@@ -32,7 +32,7 @@ fn product(x: u64, y: u64) -> u64
     (x * y + ONE / 2) / ONE
 }
 
-/// `x` to the power of `n`, rounded at each multiplication: the kernel's `fixed_power_int`.
+/// `x` to the power `n`, rounded at each multiplication: the kernel's `fixed_power_int`.
 pub fn power(x: u64, n: u64) -> u64
     requires { x ≤ 2048 }
     ensures value { result ≡ model.power x n }

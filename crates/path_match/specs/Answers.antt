@@ -1,17 +1,18 @@
--- When a pattern matches a path, said of the path's parts, and which patterns a file may have.
+-- When a pattern matches a path, as a relation on the path's components, and which patterns a file
+-- may have.
 use Rattle.std.specs.Prelude.{◌≡◌, ℕ, ◌≤◌, List, [], ◌∷◌, ◌++◌, length, ◌==◌, true, All, Any, MatchBool}
 use Rattle.std.specs.List.{list_all, zip}
 use Rattle.path_match.specs.Match.{Pattern, components, is_pattern_component}
 
--- a component of a pattern matches one of a path: a star any run of bytes, the empty one too, and
--- any other byte itself
+-- a component of a pattern matches one of a path: a star matches any bytes, also none, and any
+-- other byte matches itself
 abbrev pub MatchesComponent : List ℕ → List ℕ → Type 0
 MatchesComponent [] bytes = bytes ≡ []
 MatchesComponent (c ∷ pattern) bytes = MatchBool (c == 42)
     ((run rest : List ℕ) × (bytes ≡ run ++ rest) × MatchesComponent pattern rest)
     ((rest : List ℕ) × (bytes ≡ c ∷ rest) × MatchesComponent pattern rest)
 
--- a pattern matches a path with equally many components, each matched
+-- a pattern matches a path with the same number of components, each matched
 pub record Matches (pattern : Pattern) (path : List ℕ) : Type 0 where
   pub equally_many : length pattern ≡ length (components path)
   pub each : All (λ pair. MatchesComponent pair.0 pair.1) (zip pattern (components path))

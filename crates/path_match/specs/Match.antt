@@ -1,4 +1,4 @@
--- Patterns of paths, as a rules file has them: components in which stars may stand.
+-- Patterns of paths, as in a rules file: components that may contain stars.
 use Rattle.std.specs.Prelude.{ℕ, List, [], ◌∷◌, length, map, nat_lt, nat_le, ◌==◌, ◌&&◌, ◌||◌, not, Bool, true, false, if◌then◌else◌, codes, Result, Ok, Err}
 use Rattle.std.specs.List.{join_with_byte, list_all, list_any}
 use Rattle.std.specs.Str.{bytes_eq}
@@ -6,16 +6,16 @@ use Rattle.psi_base.specs.Path.{parts_at, is_path_byte}
 use Rattle.path_match.specs.declared.fault.PatternFault.{PatternFault}
 use Rattle.path_match.specs.declared.fault.PatternFault.TheVariants.{BadPattern, TooMany}
 
--- a pattern, by its components
+-- a pattern, as its components
 abbrev pub Pattern : Type 0
 Pattern = List (List ℕ)
 
--- the text behind the one slash that may stand first
+-- the text without the one slash that may come first
 abbrev pub behind_slash : List ℕ → List ℕ
 behind_slash [] = []
 behind_slash (byte ∷ bytes) = if byte == 47 then bytes else byte ∷ bytes
 
--- the components of a path or of a pattern: the root has none, else they stand between slashes
+-- the components of a path or pattern, separated by slashes; the root has none
 unfoldable pub components : List ℕ → List (List ℕ)
 components text = if bytes_eq text (codes "/") then [] else parts_at 47 (behind_slash text)
 
@@ -23,7 +23,7 @@ components text = if bytes_eq text (codes "/") then [] else parts_at 47 (behind_
 abbrev pub is_pattern_byte : ℕ → Bool
 is_pattern_byte c = is_path_byte c || c == 42
 
--- one or more such bytes, and neither `.` nor `..`
+-- one or more such bytes, but not `.` or `..`
 abbrev pub is_pattern_component : List ℕ → Bool
 is_pattern_component part =
     nat_lt 0 (length part) && list_all is_pattern_byte part && not (bytes_eq part (codes ".")) && not (bytes_eq part (codes ".."))
@@ -32,8 +32,8 @@ is_pattern_component part =
 abbrev pub is_pattern : List ℕ → Bool
 is_pattern text = list_all is_pattern_component (components text)
 
--- the patterns of a text, each by its components: those of the parts between commas, where all
--- parts are patterns and there are at most 16
+-- the patterns of a text, each as its components: the parts between commas, if all are patterns and
+-- there are at most 16
 unfoldable pub patterns_of : List ℕ → Result (List Pattern) PatternFault
 patterns_of text =
     if list_all is_pattern (parts_at 44 text) then (if nat_le (length (parts_at 44 text)) 16
@@ -41,12 +41,12 @@ patterns_of text =
 
 -- ---- a pattern against a path
 
--- some end of the bytes, the whole and the empty one among them, passes
+-- some suffix of the bytes, including all and none of them, passes the test
 abbrev pub some_end : (List ℕ → Bool) → List ℕ → Bool
 some_end test [] = test []
 some_end test (byte ∷ bytes) = test (byte ∷ bytes) || some_end test bytes
 
--- the bytes begin with this one, and those after it pass
+-- the bytes begin with this one, and the rest passes the test
 abbrev pub begins : ℕ → (List ℕ → Bool) → List ℕ → Bool
 begins c test [] = false
 begins c test (byte ∷ bytes) = c == byte && test bytes
@@ -65,19 +65,18 @@ are_matches [] (part ∷ parts) = false
 are_matches (component ∷ pattern) [] = false
 are_matches (component ∷ pattern) (part ∷ parts) = is_component_match component part && are_matches pattern parts
 
--- Whether some pattern matches a path, as a search. It is this one that decides: detectors and
--- actions ask it. The law `TestTells` ties it to `Matches`: it is true exactly where `MatchesSome`
--- holds.
+-- Whether some pattern matches a path, as a search. Detectors and actions use this one. The law
+-- `TestTells` ties it to `Matches`: it is true if and only if `MatchesSome` is.
 unfoldable pub is_match : List Pattern → List ℕ → Bool
 is_match patterns path = list_any (λ pattern. are_matches pattern (components path)) patterns
 
 -- ---- texts
 
--- the text of a pattern: `/` for the root, else its components with a slash between them
+-- the text of a pattern: `/` for the root, otherwise its components separated by slashes
 abbrev pub pattern_text : Pattern → List ℕ
 pattern_text [] = codes "/"
 pattern_text (component ∷ pattern) = join_with_byte 47 (component ∷ pattern)
 
--- the text of patterns, with a comma between them
+-- the text of patterns, separated by commas
 abbrev pub patterns_text : List Pattern → List ℕ
 patterns_text patterns = join_with_byte 44 (map pattern_text patterns)

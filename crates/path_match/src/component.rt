@@ -7,19 +7,19 @@ ghost use Rattle.path_match.specs.Match.{are_matches, components, is_component_m
 use crate::form::behind_slash;
 use psi_base::Parts;
 
-/// The last star that a walk passed.
+/// The last star that the search has passed.
 #[derive(Clone, Copy)]
 struct LastStar {
-    /// What follows it in the pattern begins here.
+    /// Where the pattern continues after it.
     behind: usize,
-    /// The run of bytes that it takes ends here.
+    /// Where the bytes that it matches end.
     end: usize,
 }
 
-// Whether a component of a pattern matches one of a path: a star any run of bytes, any other byte
-// itself. Where what follows the last star doesn't match, its run takes one byte more. The runs
-// before it stay as short as they are, since longer ones would only leave less to the last. So the
-// steps are at most about the product of the two lengths.
+// Whether a component of a pattern matches one of a path: a star matches any bytes, any other byte
+// itself. If the pattern after the last star doesn't match, that star takes one more byte. Earlier
+// stars keep their shortest match, since a longer one would only leave less to the last. So the
+// number of steps is at most about the product of the two lengths.
 fn matches_component(pattern: &[u8], bytes: &[u8]) -> bool
     ensures { result ≡ is_component_match pattern.now bytes.now }
 {
@@ -57,7 +57,7 @@ fn are_stars(pattern: &[u8]) -> bool
     pattern.iter().all(|c| *c == b'*')
 }
 
-// Whether equally many components stand between slashes, each matched.
+// Whether both have the same number of components, each matched.
 fn matches_components(pattern: &[u8], path: &[u8]) -> bool
     ensures { result ≡ are_matches (parts_at 47 pattern.now) (parts_at 47 path.now) }
 {

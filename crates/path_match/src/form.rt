@@ -6,10 +6,10 @@ ghost use Rattle.path_match.specs.Match.{behind_slash, is_pattern, is_pattern_by
 
 use psi_base::Parts;
 
-/// How many patterns a text may have, in this profile.
+/// The maximum number of patterns of a text.
 const MOST_PATTERNS: u8 = 16;
 
-// A letter, a digit, one of a path's signs, or a star.
+// A letter, a digit, one of `_.@:-\`, or a star.
 fn is_pattern_byte(c: u8) -> bool
     ensures { result ≡ is_pattern_byte c }
 {
@@ -23,7 +23,7 @@ fn are_pattern_bytes(part: &[u8]) -> bool
     part.iter().all(|c| is_pattern_byte(*c))
 }
 
-// One or more such bytes, and neither `.` nor `..`.
+// One or more such bytes, but not `.` or `..`.
 fn is_component(part: &[u8]) -> bool
     ensures { result ≡ is_pattern_component part.now }
 {
@@ -46,7 +46,7 @@ fn are_components(text: &[u8]) -> bool
     true
 }
 
-/// What stands behind the one slash that may come first.
+/// The text without the one slash that may come first.
 pub fn behind_slash(text: &[u8]) -> &[u8]
     ensures { result.now ≡ behind_slash text.now }
 {
@@ -80,7 +80,7 @@ pub fn are_patterns(text: &[u8]) -> bool
     true
 }
 
-/// There are no more parts between commas than patterns may be.
+/// There are at most 16 parts between commas.
 pub fn are_few(text: &[u8]) -> bool
     ensures { result ≡ nat_le (length (parts_at 44 text.now)) 16 }
 {

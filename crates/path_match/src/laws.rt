@@ -1,8 +1,8 @@
 //! Laws of patterns. Each function has an empty body: its contract is the law.
 ghost use Rattle.path_match.specs.Laws.{PathMatchesItself, ReadAgain, ReadsPatterns, RootAlone, SlashIsFree, StarMatchesAny, TestTells};
 
-/// Laws of matching: the test says what the relation says, the root's pattern matches the root
-/// alone, a path matches itself alone, and a star matches any component.
+/// Laws of matching: the test agrees with the relation, the root's pattern matches only the root, a
+/// path matches only itself, and a star matches any component.
 pub fn law_matching()
     ensures tells { TestTells }
     ensures root { RootAlone }
@@ -10,9 +10,9 @@ pub fn law_matching()
     ensures star { StarMatchesAny }
 {}
 
-/// Laws of reading patterns: they are read from the texts that spell them, one to 16 of them, each
-/// well formed; they are read again from their own text; and a slash before the first component
-/// changes none.
+/// Laws of parsing patterns: they are parsed from exactly the texts that spell them, one to 16 of
+/// them, each well formed; their own text is parsed as the same patterns (a round trip); and a
+/// slash before the first component changes nothing.
 pub fn law_reading_patterns()
     ensures spelled { ReadsPatterns }
     ensures again { ReadAgain }

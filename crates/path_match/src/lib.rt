@@ -1,5 +1,6 @@
-//! Patterns of paths of control groups, as a rules file has them: read from a text, matched
-//! against paths, and written as a text.
+//! Patterns of control group paths, as in a rules file: parsed, matched against paths, and written.
+//!
+//! Which groups exist, and what is done with a match, is not its business.
 #![tactic(auto)]
 
 mod component;

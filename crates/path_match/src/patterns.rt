@@ -13,12 +13,12 @@ use psi_base::{Fault, NoMemory, Parts, Path, Text};
 use std::alloc::Global;
 use std::marker::Model;
 
-/// One to 16 patterns of paths. Contracts see a list of patterns, each of them the list of its
-/// components: none for the root. A component has one or more letters, digits, stars and signs of
-/// `_.@:-\`, and is neither `.` nor `..`; its length and their number have no limit.
+/// One to 16 patterns of paths. Contracts see a list of patterns, each a list of components; the
+/// root has none. A component consists of letters, digits, stars and `_.@:-\`, and isn't `.` or
+/// `..`; there is no limit on its length or on the number of components.
 #[derive(Drop)]
 pub struct Patterns {
-    /// The patterns with a comma between them, as they were read.
+    /// The patterns as they were written, separated by commas.
     text: Text,
 }
 
@@ -49,10 +49,10 @@ fn some_matches(text: &[u8], path: &[u8]) -> bool
 }
 
 impl Patterns {
-    /// The patterns of a text, which stand between commas. A pattern is `/`, which is the root, or
-    /// components with `/` between them, with or without one `/` before the first. `BadPattern`
-    /// exactly where some part between commas is no pattern, else `TooMany` exactly where there are
-    /// more than 16. `NoMemory` comes only where there are patterns.
+    /// Parses patterns, which are separated by commas. A pattern is `/`, the root, or components
+    /// separated by `/`, with or without a leading `/`. `BadPattern` exactly if some part isn't a
+    /// pattern, otherwise `TooMany` exactly if there are more than 16. `NoMemory` is only possible
+    /// if the text is valid.
     #[tactic(auto, unfolding(crate::specs::Match::patterns_of))]
     pub fn read(alloc: Global, text: &str) -> Result<Patterns, Fault<PatternFault>>
         ensures exact { Gives result (patterns_of text.now) }
@@ -69,8 +69,8 @@ impl Patterns {
         Ok(Patterns { text })
     }
 
-    /// Whether some pattern matches the path: one with equally many components, each matched, where
-    /// a star stands for any run of bytes of one component, the empty one too.
+    /// Whether some pattern matches the path: it has the same number of components, each matched,
+    /// and a star matches any bytes within one component, also none.
     pub fn matches(&self, path: &Path) -> bool
         ensures relation { IsTrue result ↔ MatchesSome self.now path.now }
         ensures test { result ≡ is_match self.now path.now }
@@ -79,7 +79,7 @@ impl Patterns {
         some_matches(self.text.bytes(), path.bytes())
     }
 
-    /// The same patterns, in memory of their own.
+    /// A copy of the patterns.
     pub fn copy(&self, alloc: Global) -> Result<Patterns, NoMemory>
         ensures { IfOk result (λ patterns. patterns ≡ self.now) }
     {
@@ -87,8 +87,8 @@ impl Patterns {
         Ok(Patterns { text })
     }
 
-    /// Appends the text of the patterns: a comma between them, `/` for the root, and no slash
-    /// before the first component of another. `NoMemory` leaves the bytes as they were.
+    /// Appends the text of the patterns: separated by commas, `/` for the root, and no slash before
+    /// the first component of others. After `NoMemory` the bytes are unchanged.
     pub fn write(&self, to: &mut Vec<u8>) -> Result<(), NoMemory>
         ensures text { OnOk result (to.new.items ≡ to.old.items ++ patterns_text self.now) }
         ensures kept { OnErr result (to.new.items ≡ to.old.items) }

@@ -6,7 +6,7 @@ ghost use Rattle.path_match.specs.Match.{components, pattern_text, patterns_text
 use crate::form::behind_slash;
 use psi_base::{NoMemory, Parts};
 
-// The text of a pattern, without the slash that may stand before its first component.
+// The text of a pattern, without the slash that may come before its first component.
 #[tactic(auto, using(crate::proofs::Texts::slashless))]
 fn slashless(pattern: &[u8]) -> &[u8]
     ensures { result.now ≡ pattern_text (components pattern.now) }
@@ -17,8 +17,8 @@ fn slashless(pattern: &[u8]) -> &[u8]
     behind_slash(pattern)
 }
 
-// Appends the text of the patterns that stand between the commas of a text. A part of it stays
-// where memory was wanting.
+// Appends the patterns of a text that are separated by commas. A part of them stays if memory runs
+// out.
 #[tactic(auto, using(crate::proofs::Texts::front_more))]
 fn put_patterns(text: &[u8], to: &mut Vec<u8>) -> Result<(), NoMemory>
     ensures text { OnOk result (to.new.items
@@ -37,7 +37,7 @@ fn put_patterns(text: &[u8], to: &mut Vec<u8>) -> Result<(), NoMemory>
     Ok(())
 }
 
-/// Appends the text of the patterns that stand between the commas of a text, or nothing of it.
+/// Appends the patterns of a text that are separated by commas, or nothing if memory runs out.
 pub fn write_patterns(text: &[u8], to: &mut Vec<u8>) -> Result<(), NoMemory>
     ensures text { OnOk result (to.new.items
         ≡ to.old.items ++ patterns_text (map components (parts_at 44 text.now))) }

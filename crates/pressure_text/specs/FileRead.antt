@@ -1,4 +1,4 @@
--- How a pressure file is read: piece by piece from the front, with what is left behind each.
+-- How a pressure file is parsed: piece by piece, each step returning the remaining bytes.
 use Rattle.std.specs.Prelude.{◌≡◌, ℕ, ◌+◌, ◌-◌, ◌*◌, List, [], ◌∷◌, drop, codes, ◌==◌, ◌&&◌, nat_le}
 use Rattle.std.specs.Prelude.{if◌then◌else◌, Option, None, Some}
 use Rattle.std.specs.Char.{is_ascii_digit}
@@ -11,19 +11,19 @@ use Rattle.psi_spec.specs.Fields.{level_word}
 use Rattle.pressure_text.specs.declared.read.PressureLine.{PressureLine}
 use Rattle.pressure_text.specs.declared.read.PressureFile.{PressureFile}
 
--- what stands behind a text at the front
+-- the bytes after this prefix, if they begin with it
 unfoldable pub behind : List ℕ → List ℕ → Option (List ℕ)
 behind [] bytes = Some bytes
 behind (byte ∷ text) [] = None
 behind (byte ∷ text) (first ∷ bytes) = if first == byte then behind text bytes else None
 
--- the number that all the digits at the front spell, and what stands behind them
+-- the number that all leading digits spell, and the remaining bytes
 unfoldable pub number_at : List ℕ → Option (ℕ × List ℕ)
 number_at bytes = do
   n ← number_of (take_while is_ascii_digit bytes)
   Some (n, drop (prefix_len is_ascii_digit bytes) bytes)
 
--- the number of the two digits at the front, and what stands behind them
+-- the number of the first two digits, and the remaining bytes
 unfoldable pub two_at : List ℕ → Option (ℕ × List ℕ)
 two_at [] = None
 two_at (tens ∷ []) = None
@@ -31,7 +31,7 @@ two_at (tens ∷ ones ∷ bytes) =
     if is_ascii_digit tens && is_ascii_digit ones
     then Some ((tens - 48) * 10 + (ones - 48), bytes) else None
 
--- the average at the front in hundredths of a percent, at most 100.00, and what stands behind it
+-- the average at the start in hundredths of a percent, at most 100.00, and the remaining bytes
 unfoldable pub average_at : List ℕ → Option (ℕ × List ℕ)
 average_at bytes = do
   whole ← number_at bytes
@@ -39,11 +39,11 @@ average_at bytes = do
   part ← two_at point
   if nat_le (whole.0 * 100 + part.0) 10000 then Some (whole.0 * 100 + part.0, part.1) else None
 
--- what a reading finds behind a label
+-- what a parser finds after a label
 abbrev pub past : {A : Type 0} → List ℕ → (List ℕ → Option A) → List ℕ → Option A
 past label read bytes = behind label bytes >>= read
 
--- the line on a level at the front, and what stands behind it
+-- the line of a level at the start, and the remaining bytes
 unfoldable pub line_at : Level → List ℕ → Option (PressureLine × List ℕ)
 line_at level bytes = do
   start ← behind (level_word level) bytes
@@ -54,25 +54,25 @@ line_at level bytes = do
   end ← behind (codes "\n") total.1
   Some (record { hundredths = short.0 ∷ middle.0 ∷ long.0 ∷ []; total_us = total.0 }, end)
 
--- what was read, where nothing is left
+-- the parsed value, if no bytes remain
 abbrev pub if_end : {A : Type 0} → List ℕ → A → Option A
 if_end [] read = Some read
 if_end (byte ∷ bytes) read = None
 
--- the pressure file that all the bytes are
+-- the pressure file that the bytes spell
 unfoldable pub file_at : List ℕ → Option PressureFile
 file_at bytes = do
   first ← line_at SomeStalled bytes
   second ← line_at FullStalled first.1
   if_end second.1 (record { some_line = first.0; full_line = second.0 })
 
--- the line on all tasks that all the bytes are: the pressure file of interrupts
+-- the `full` line that the bytes spell: the pressure file of interrupts
 unfoldable pub irq_at : List ℕ → Option PressureLine
 irq_at bytes = do
   line ← line_at FullStalled bytes
   if_end line.1 line.0
 
--- the call found what the definition finds, and this is left
+-- the call found what the definition finds, and these bytes remain
 abbrev pub TakesPiece : {A : Type 0} → Option A → List ℕ → Option (A × List ℕ) → Type 0
 TakesPiece None rest read = read ≡ None
 TakesPiece (Some x) rest read = read ≡ Some (x, rest)

@@ -5,7 +5,7 @@ use Rattle.pressure_spec.specs.File.{percent_text}
 use Rattle.pressure_text.specs.declared.pieces.Piece.{Piece}
 use Rattle.pressure_text.specs.declared.pieces.Piece.TheVariants.{Number, Text, Percent}
 
--- a number behind a space
+-- a number after a space
 abbrev pub spaced_number : ℕ → List ℕ
 spaced_number n = codes " " ++ decimal n
 
@@ -15,6 +15,6 @@ piece_bytes (Number n) = decimal n
 piece_bytes (Text bytes) = bytes.now
 piece_bytes (Percent average) = percent_text average
 
--- pieces, numbers behind them that have a space ahead of each, and a newline
+-- pieces, followed by numbers with a space before each, and a newline
 abbrev pub with_numbers : List Piece → List ℕ → List ℕ
 with_numbers pieces numbers = flat_map piece_bytes pieces ++ flat_map spaced_number numbers ++ codes "\n"

@@ -1,4 +1,4 @@
--- Which bytes are a pressure file, and what it tells.
+-- Which bytes are a pressure file, and which numbers it contains.
 use Rattle.std.specs.Prelude.{◌≡◌, ℕ, ◌/◌, ◌^◌, ◌<◌, List, [], ◌∷◌, ◌++◌, All}
 use Rattle.std.specs.Prelude.{slice_index, slice_index_or, ◌&&◌, Bool, if◌then◌else◌}
 use Rattle.psi_base.specs.declared.event.Res.{Res}
@@ -12,23 +12,23 @@ use Rattle.pressure_spec.specs.Samples.{state_of}
 use Rattle.pressure_text.specs.declared.read.PressureLine.{PressureLine}
 use Rattle.pressure_text.specs.declared.read.PressureFile.{PressureFile}
 
--- a line on a level, as it tells its numbers
+-- the line of a level with these numbers
 abbrev pub spelled_line : Level → PressureLine → List ℕ
 spelled_line level line = told_line level line.hundredths line.total_us
 
--- the numbers of a line are ones that a line can tell
+-- the numbers of a line are in range
 abbrev pub IsTellable : PressureLine → Type 0
 IsTellable line = CanTell line.hundredths line.total_us
 
--- The bytes are the pressure file that tells these numbers: the line on some tasks, the line on
--- all, and nothing else.
+-- The bytes are the pressure file with these numbers: the `some` line, the `full` line, and nothing
+-- else.
 pub record Tells (bytes : List ℕ) (file : PressureFile) : Type 0 where
   pub some_line : IsTellable file.some_line
   pub full_line : IsTellable file.full_line
   pub spelled : bytes ≡ spelled_line SomeStalled file.some_line ++ spelled_line FullStalled file.full_line
 
--- The bytes are the pressure file of interrupts that tells these numbers: the line on all tasks,
--- and nothing else.
+-- The bytes are the pressure file of interrupts with these numbers: the `full` line, and nothing
+-- else.
 pub record TellsIrq (bytes : List ℕ) (line : PressureLine) : Type 0 where
   pub full_line : IsTellable line
   pub spelled : bytes ≡ spelled_line FullStalled line
@@ -39,33 +39,33 @@ three_hundredths averages =
     in_hundredths (slice_index averages 0) ∷ in_hundredths (slice_index averages 1)
     ∷ in_hundredths (slice_index averages 2) ∷ []
 
--- what a line tells of three averages and a total (ns): whole hundredths of a percent and
+-- the numbers of a line, from three averages and a total (ns): hundredths of a percent and whole
 -- microseconds
 abbrev pub numbers_told : List ℕ → ℕ → PressureLine
 numbers_told averages total = record { hundredths = three_hundredths averages; total_us = total / 1000 }
 
--- what the line of a resource on some or all tasks tells
+-- the numbers of the line of a resource at a level
 abbrev pub told_by_line : Res → Level → List ℕ → List (List ℕ) → PressureLine
 told_by_line res level totals averages =
     numbers_told (slice_index_or averages (state_number (state_of res level)) [])
     (slice_index totals (state_number (state_of res level)))
 
--- what a pressure file tells of totals (ns) and averages; of the processor and all tasks of the
--- root it tells zeros
+-- the numbers of a pressure file, from totals (ns) and averages; zeros for the root's `full` line
+-- of CPU
 abbrev pub told_file : Res → Bool → List ℕ → List (List ℕ) → PressureFile
 told_file res is_root totals averages = record {
   some_line = told_by_line res SomeStalled totals averages;
   full_line = if is_root && is_cpu res then numbers_told [] 0 else told_by_line res FullStalled totals averages;
 }
 
--- What is written of totals of 64 bits (ns) and of averages of at most 100 percent is read again,
--- as whole microseconds and hundredths of a percent.
+-- Round trip: parsing what is written for 64-bit totals (ns) and averages of at most 100 percent
+-- gives them back, in whole microseconds and hundredths of a percent.
 abbrev pub ReadsAgain : Type 0
 ReadsAgain = (res : Res) (is_root : Bool) (totals : List ℕ) (averages : List (List ℕ)) →
     All (λ total. total < 2 ^ 64) totals → All (λ row. IsRow row) averages →
     Tells (file_text res is_root totals averages) (told_file res is_root totals averages)
 
--- And so is what is written of interrupts.
+-- The same for interrupts.
 abbrev pub IrqReadsAgain : Type 0
 IrqReadsAgain = (averages : List ℕ) (total : ℕ) → total < 2 ^ 64 → IsRow averages →
     TellsIrq (irq_text averages total) (numbers_told averages total)

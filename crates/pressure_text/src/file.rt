@@ -41,7 +41,7 @@ fn put_line<K: Sink>(
     )
 }
 
-// The line of a resource on some or all tasks.
+// The line of a resource at a level.
 fn put_state<K: Sink>(
     out: &mut K,
     res: Res,
@@ -58,7 +58,7 @@ fn put_state<K: Sink>(
     put_line(out, level, averages.get(state), totals[state as usize])
 }
 
-// The line of a resource on all tasks.
+// The `full` line of a resource.
 fn put_full<K: Sink>(
     out: &mut K,
     res: Res,
@@ -77,10 +77,10 @@ fn put_full<K: Sink>(
     put_state(out, res, Level::FullStalled, totals, averages)
 }
 
-/// Writes the pressure file of a resource of a group, as `Documentation/accounting/psi.rst` has it:
-/// the line on some and the line on all of its tasks, by the group's totals (ns) of all states but
-/// nonidle, in their order, and of interrupts, and its averages. The processor's line on all tasks
-/// of the root has zeros, as the kernel's has.
+/// Writes the pressure file of a resource of a group, as in `Documentation/accounting/psi.rst`: the
+/// `some` line and the `full` line, from the group's totals (ns) of all states except nonidle,
+/// ordered by state, and of interrupts, and from its averages. The root's `full` line of CPU is all
+/// zeros, as in the kernel.
 pub fn write_file<K: Sink>(
     out: &mut K,
     res: Res,
@@ -97,8 +97,7 @@ pub fn write_file<K: Sink>(
     put_full(out, res, root, &totals, averages)
 }
 
-// The line ahead of a pressure file: the tick (ns), the group's path and the word of what the file
-// tells.
+// The line before a pressure file: the tick (ns), the group's path and the word of the file.
 #[tactic(auto, using(outside::proofs::Grows::chain))]
 fn put_head<'a, K: Sink>(
     out: &mut K,
@@ -125,8 +124,8 @@ fn put_head<'a, K: Sink>(
     )
 }
 
-/// Writes the line ahead of the pressure file of a resource: the tick (ns), the group's path and
-/// the resource.
+/// Writes the line before the pressure file of a resource: the tick (ns), the group's path and the
+/// resource.
 pub fn write_report_head<K: Sink>(
     out: &mut K,
     at: Ns,
@@ -140,8 +139,8 @@ pub fn write_report_head<K: Sink>(
     put_head(out, at, path, res.word().as_bytes())
 }
 
-/// Writes a report on a resource of a group at a tick (ns): its head, as [`write_report_head`], and
-/// its pressure file, as [`write_file`].
+/// Writes a report on a resource of a group at a tick (ns): [`write_report_head`], and then
+/// [`write_file`].
 #[tactic(auto, using(outside::proofs::Grows::chain))]
 pub fn write_report<K: Sink>(
     out: &mut K,
@@ -161,9 +160,8 @@ pub fn write_report<K: Sink>(
     write_file(out, res, root, totals, averages)
 }
 
-/// Writes the report on interrupts of a group at a tick (ns): the line ahead of it, and the line on
-/// all tasks, by the total of interrupts (ns) and their averages. Interrupts have no line on some
-/// tasks.
+/// Writes the report on interrupts of a group at a tick (ns): its head line, and the `full` line
+/// with the total of interrupts (ns) and their averages. Interrupts have no `some` line.
 #[tactic(auto, using(outside::proofs::Grows::chain))]
 pub fn write_irq<K: Sink>(
     out: &mut K,

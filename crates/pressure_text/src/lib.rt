@@ -1,6 +1,7 @@
-//! The lines that commands print, and the pressure files among them, which can be read again.
+//! The lines that commands print, among them pressure files, which can also be parsed.
 //!
-//! Programs beside the first write lines of their own from the same [`Piece`]s.
+//! Values come from the crates above; this crate knows only their spelling. psi_observe writes
+//! lines of its own from the same [`Piece`]s.
 #![tactic(auto)]
 
 mod file;

@@ -12,7 +12,7 @@ use outside::{Sink, WriteFailed, put_all};
 use pressure_spec::Times;
 use psi_base::{Cpu, Ns, Path, TriggerSpec};
 
-/// Writes a line of its own: the pieces in order, and behind them times (ns), each behind a space.
+/// Writes a line: the pieces in order, then times (ns), each after a space.
 #[tactic(auto, using(outside::proofs::Grows::chain))]
 pub fn put_timed<K: Sink>(out: &mut K, head: &[Piece], times: &[Ns]) -> Result<(), WriteFailed>
     ensures bytes { PutsAll (K.has out.old) (K.has out.new) result
@@ -45,7 +45,7 @@ fn put_stall<K: Sink>(out: &mut K, cpu: Cpu, path: &Path, times: &[Ns]) -> Resul
     )
 }
 
-/// Writes the line of a group on a processor: its times (ns) in the seven states, in their order.
+/// Writes the line of a group on a processor: its times (ns) in the seven states, ordered by state.
 pub fn write_stall<K: Sink>(
     out: &mut K,
     cpu: Cpu,
@@ -60,8 +60,8 @@ pub fn write_stall<K: Sink>(
     put_stall(out, cpu, path, &seven)
 }
 
-/// Writes the line of a group on a processor where interrupts are told: its times (ns) in the seven
-/// states, in their order, and then what interrupts took.
+/// Writes the line of a group on a processor with interrupts: its times (ns) in the seven states,
+/// ordered by state, and then the time that interrupts took.
 pub fn write_stall_irq<K: Sink>(
     out: &mut K,
     cpu: Cpu,
@@ -76,8 +76,8 @@ pub fn write_stall_irq<K: Sink>(
     put_stall(out, cpu, path, &eight)
 }
 
-/// Writes the line of an accepted trace: how many events it has, the end among them, and its end
-/// moment (ns).
+/// Writes the line of an accepted trace: its number of events, including the end, and its end time
+/// (ns).
 #[tactic(auto, using(outside::proofs::Grows::chain))]
 pub fn write_check<K: Sink>(out: &mut K, events: u64, end: Ns) -> Result<(), WriteFailed>
     requires { events < 2 ^ 64 - 1 }
@@ -99,8 +99,9 @@ pub fn write_check<K: Sink>(out: &mut K, events: u64, end: Ns) -> Result<(), Wri
     )
 }
 
-/// Writes a sample of a clock of the watched group, taken at a tick (ns): the processor, after how
-/// many of its changes it was taken, and its times (ns) in the seven states, in their order.
+/// Writes a sample of a clock of the watched group, taken at a tick (ns): the processor, the number
+/// of its changes that the sample includes, and the times (ns) in the seven states, ordered by
+/// state.
 #[tactic(auto, using(crate::proofs::Puts::times))]
 pub fn write_live<K: Sink>(
     out: &mut K,
@@ -128,8 +129,8 @@ pub fn write_live<K: Sink>(
     )
 }
 
-/// Writes a signal of a trigger at a tick (ns): its number, the path of the group that it watches,
-/// and what it watches, with threshold and window in us.
+/// Writes a signal of a trigger at a tick (ns): its number, the path of its group, and its
+/// resource, level, threshold and window (us).
 #[tactic(auto, using(outside::proofs::Grows::chain))]
 pub fn write_fired<K: Sink>(
     out: &mut K,
@@ -165,7 +166,7 @@ pub fn write_fired<K: Sink>(
     )
 }
 
-/// Writes a kill at a tick (ns): the numbers of the ruleset and of its action, both from 0, and the
+/// Writes a kill at a tick (ns): the numbers of the ruleset and of its action, from 0, and the
 /// victim's path.
 #[tactic(auto, using(outside::proofs::Grows::chain))]
 pub fn write_kill<K: Sink>(
@@ -196,8 +197,8 @@ pub fn write_kill<K: Sink>(
     )
 }
 
-/// Writes the last line of a replay: the end moment (ns), and how many ticks, signals and kills
-/// there were.
+/// Writes the last line of a replay: the end time (ns), and the numbers of ticks, signals and
+/// kills.
 #[tactic(auto, using(outside::proofs::Grows::chain))]
 pub fn write_end<K: Sink>(
     out: &mut K,

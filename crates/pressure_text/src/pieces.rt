@@ -1,4 +1,4 @@
-//! A text in pieces, each sent as it is made.
+//! Text in pieces, each sent as it is produced.
 ghost use Rattle.std.specs.Prelude.{◌≡◌, ◌++◌, codes};
 ghost use Rattle.std.specs.List.{flat_map};
 ghost use Rattle.outside.specs.Outside.{HasCause, StaysOver};
@@ -16,13 +16,13 @@ const PERCENT: u64 = 2048;
 pub enum Piece<'a> {
     /// A number in decimal digits.
     Number(u64),
-    /// A text as it stands.
+    /// A text, unchanged.
     Text(&'a [u8]),
-    /// An average, of which 2048 is one percent, in percent with two digits behind the point.
+    /// An average (2048 is one percent) in percent with two decimals.
     Percent(u64),
 }
 
-// A point, and an average's hundredths of a percent in two digits.
+// A point, and an average's hundredths of a percent as two digits.
 #[tactic(auto, using(std::proofs::lemmas::Fmt::decimal_digit))]
 fn fraction_of(average: u64) -> [u8; 3]
     ensures { result ≡ codes "." ++ two_digits (hundredths average) }
@@ -70,7 +70,7 @@ pub fn put_pieces<K: Sink>(out: &mut K, pieces: &[Piece]) -> Result<(), WriteFai
     Ok(())
 }
 
-// A number behind a space.
+// A number after a space.
 #[tactic(auto, using(outside::proofs::Grows::chain))]
 fn put_spaced<K: Sink>(out: &mut K, number: u64) -> Result<(), WriteFailed>
     ensures bytes { PutsAll (K.has out.old) (K.has out.new) result (spaced_number number) }
@@ -81,7 +81,7 @@ fn put_spaced<K: Sink>(out: &mut K, number: u64) -> Result<(), WriteFailed>
     put_number(out, number)
 }
 
-/// Sends numbers, each behind a space.
+/// Sends numbers, each after a space.
 #[tactic(auto, using(outside::proofs::Grows::growth))]
 pub(crate) fn put_numbers<K: Sink>(out: &mut K, numbers: &[u64]) -> Result<(), WriteFailed>
     ensures bytes { PutsAll (K.has out.old) (K.has out.new) result

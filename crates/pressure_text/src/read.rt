@@ -1,4 +1,7 @@
-//! Pressure files as they are read.
+//! Parsing of pressure files.
+//!
+//! No command calls it: it exists for the round-trip law of what [`write_file`](crate::write_file)
+//! writes (`law_read_again`), and for programs that read pressure files.
 ghost use Rattle.std.specs.Prelude.{◌≡◌, ◌↔◌, ◌≤◌, ◌<◌, IfSome, IsNone, MatchOption, None, Some};
 ghost use Rattle.std.specs.Prelude.{length};
 ghost use Rattle.std.specs.Char.{is_ascii_digit};
@@ -15,7 +18,7 @@ use std::marker::Model;
 /// The greatest average, in hundredths of a percent.
 const ALL_TIME: u32 = 10_000;
 
-/// What a line of a pressure file tells.
+/// The numbers of a line of a pressure file.
 #[derive(Clone, Copy, Debug, PartialEq, Eq)]
 pub struct PressureLine {
     /// The averages over 10, 60 and 300 seconds, in hundredths of a percent.
@@ -24,16 +27,16 @@ pub struct PressureLine {
     pub total_us: u64,
 }
 
-/// What a pressure file tells.
+/// The numbers of a pressure file.
 #[derive(Clone, Copy, Debug, PartialEq, Eq)]
 pub struct PressureFile {
-    /// Of the time in which some tasks were held up.
+    /// The `some` line.
     pub some_line: PressureLine,
-    /// Of the time in which all were.
+    /// The `full` line.
     pub full_line: PressureLine,
 }
 
-// How many digits stand at the front.
+// The number of leading digits.
 fn digits_at(bytes: &[u8]) -> usize
     ensures count { result ≡ prefix_len is_ascii_digit bytes.now }
     ensures within { result ≤ length bytes.now }
@@ -44,7 +47,7 @@ fn digits_at(bytes: &[u8]) -> usize
         .count()
 }
 
-// What is left of a text. Contracts see its bytes.
+// The remaining bytes of a text. Contracts see the bytes.
 #[derive(Drop)]
 struct Rest<'a> {
     bytes: &'a [u8],
@@ -59,7 +62,7 @@ impl<'a> Model for Rest<'a> {
 }
 
 impl<'a> Rest<'a> {
-    // Goes on behind a text, if it stands at the front.
+    // Skips a prefix, if the text begins with it.
     fn skip(&mut self, text: &[u8]) -> Option<()>
         ensures { MatchOption result (behind text.now self.old ≡ None)
             (λ _. behind text.now self.old ≡ Some self.new) }
@@ -73,7 +76,7 @@ impl<'a> Rest<'a> {
         }
     }
 
-    // Takes the number of all the digits at the front.
+    // Takes the number of all leading digits.
     #[tactic(auto, unfolding(crate::specs::FileRead::number_at))]
     fn number(&mut self) -> Option<u64>
         ensures { TakesPiece result self.new (number_at self.old) }
@@ -84,7 +87,7 @@ impl<'a> Rest<'a> {
         Some(number)
     }
 
-    // Takes the number of two digits at the front.
+    // Takes the number of the first two digits.
     #[tactic(auto, unfolding(crate::specs::FileRead::two_at))]
     fn two_digits(&mut self) -> Option<u32>
         ensures found { TakesPiece result self.new (two_at self.old) }
@@ -120,7 +123,7 @@ impl<'a> Rest<'a> {
         Some(hundredths)
     }
 
-    // Takes the average behind this label.
+    // Takes the average after this label.
     fn average_past(&mut self, label: &[u8]) -> Option<u32>
         ensures { TakesPiece result self.new (past label.now average_at self.old) }
     {
@@ -128,7 +131,7 @@ impl<'a> Rest<'a> {
         self.average()
     }
 
-    // Takes the number behind this label.
+    // Takes the number after this label.
     fn number_past(&mut self, label: &[u8]) -> Option<u64>
         ensures { TakesPiece result self.new (past label.now number_at self.old) }
     {
@@ -154,7 +157,7 @@ impl<'a> Rest<'a> {
     }
 }
 
-// The whole file, read from its front.
+// The whole file.
 #[tactic(auto, unfolding(crate::specs::FileRead::file_at))]
 fn file_of(bytes: &[u8]) -> Option<PressureFile>
     ensures { result ≡ file_at bytes.now }
@@ -171,7 +174,7 @@ fn file_of(bytes: &[u8]) -> Option<PressureFile>
     })
 }
 
-// The line on all tasks that the whole file is.
+// The `full` line that is the whole file.
 #[tactic(auto, unfolding(crate::specs::FileRead::irq_at))]
 fn irq_of(bytes: &[u8]) -> Option<PressureLine>
     ensures { result ≡ irq_at bytes.now }
@@ -184,10 +187,9 @@ fn irq_of(bytes: &[u8]) -> Option<PressureLine>
     Some(line)
 }
 
-/// Reads a pressure file: the line on some tasks and the line on all, each with its newline, and
-/// nothing behind them. Averages are from 0.00 to 100.00 percent with two digits behind the point,
-/// totals are below 2^64 us, and numbers have no leading zeros. None exactly where the bytes are no
-/// such file.
+/// Parses a pressure file: the `some` line and the `full` line, each with its newline, and nothing
+/// after them. Averages are from 0.00 to 100.00 percent with two decimals, totals are below 2^64
+/// us, and numbers have no leading zeros. `None` exactly if the bytes are not such a file.
 pub fn read_file(bytes: &[u8]) -> Option<PressureFile>
     ensures exact { (file : PressureFile) → (result ≡ Some file) ↔ Tells bytes.now file }
     ensures none { IsNone result ↔ ((file : PressureFile) → ¬ Tells bytes.now file) }
@@ -195,8 +197,8 @@ pub fn read_file(bytes: &[u8]) -> Option<PressureFile>
     file_of(bytes)
 }
 
-/// Reads the pressure file of interrupts: the line on all tasks with its newline, and nothing
-/// behind it, its numbers as [`read_file`] has them. None exactly where the bytes are no such file.
+/// Parses the pressure file of interrupts: the `full` line with its newline, and nothing after it,
+/// with numbers as in [`read_file`]. `None` exactly if the bytes are not such a file.
 pub fn read_irq(bytes: &[u8]) -> Option<PressureLine>
     ensures exact { (line : PressureLine) → (result ≡ Some line) ↔ TellsIrq bytes.now line }
     ensures none { IsNone result ↔ ((line : PressureLine) → ¬ TellsIrq bytes.now line) }
@@ -204,9 +206,9 @@ pub fn read_irq(bytes: &[u8]) -> Option<PressureLine>
     irq_of(bytes)
 }
 
-/// What is written of totals of 64 bits is read again, as whole microseconds and hundredths of a
-/// percent: what [`write_file`](crate::write_file) writes by [`read_file`], and the file that
-/// [`write_irq`](crate::write_irq) writes behind its head by [`read_irq`].
+/// Round trips: [`read_file`] parses what [`write_file`](crate::write_file) writes, and
+/// [`read_irq`] the file that [`write_irq`](crate::write_irq) writes after its head, giving back
+/// 64-bit totals in whole microseconds and averages in hundredths of a percent.
 pub fn law_read_again()
     ensures file { ReadsAgain }
     ensures irq { IrqReadsAgain }

@@ -1,30 +1,30 @@
--- The signs in counts by which a processor's states are told apart, and where each choice of signs
--- stands in a table.
+-- The conditions on counts that determine a processor's states, and the index of each combination
+-- of conditions in a table.
 use Rattle.std.specs.Prelude.{ℕ, ◌+◌, ◌*◌, nat_lt, ◌==◌, ◌&&◌, ◌||◌, not, Bool, if◌then◌else◌}
 use Rattle.psi_base.specs.declared.event.State.{State}
 use Rattle.psi_base.specs.declared.event.State.TheVariants.{IoSome, IoFull, MemSome, MemFull, CpuSome, CpuFull, Nonidle}
 use Rattle.psi_counts.specs.declared.changes.Counts.{Counts}
 
--- 1 for what is so, and 0 for what isn't
+-- 1 for true, and 0 for false
 abbrev pub bit_of : Bool → ℕ
 bit_of so = if so then 1 else 0
 
--- The place of seven signs, the first of them in the lowest bit: some wait for IO, some are in a
--- memory stall, some are ready or run, all of these are in a stall, the running task is one of
--- them, it is in a stall, and one beside it is ready.
+-- The index of seven conditions, the first one in the lowest bit: some task waits for IO; some is
+-- in a memory stall; some is ready or running; all of these are in a stall; the running task is one
+-- of them; it is in a stall; and another one is ready.
 abbrev pub place_of : (waits stalls ready all_stalled on_cpu current_stalled beside : Bool) → ℕ
 place_of waits stalls ready all_stalled on_cpu current_stalled beside =
     bit_of waits + 2 * bit_of stalls + 4 * bit_of ready + 8 * bit_of all_stalled + 16 * bit_of on_cpu + 32 * bit_of current_stalled
     + 64 * bit_of beside
 
--- the place of the signs in counts
+-- the index of the conditions in counts
 abbrev pub place_by : Counts → Bool → Bool → ℕ
 place_by counts on_cpu current_stalled =
     place_of (nat_lt 0 counts.io) (nat_lt 0 counts.stalled) (nat_lt 0 counts.running)
     (counts.running == counts.stalled_running) on_cpu current_stalled
     (if on_cpu then nat_lt 1 counts.running else nat_lt 0 counts.running)
 
--- the states by the signs
+-- the states, from the conditions
 abbrev pub tells_by : State → (waits stalls ready all_stalled on_cpu current_stalled beside : Bool) → Bool
 tells_by IoSome waits stalls ready all_stalled on_cpu current_stalled beside = waits
 tells_by IoFull waits stalls ready all_stalled on_cpu current_stalled beside = waits && not ready

@@ -1,7 +1,8 @@
-//! Which states hold for a group on a processor, from counts of its tasks.
+//! Which states a group is in on a processor, from counts of its tasks.
 //!
-//! [`mask_of`] stands for the kernel's `test_states`, and for what `psi_group_change` adds of a
-//! running task in a stall. Its answer is a [`Mask`], with a bit for each state that holds.
+//! [`mask_of`] corresponds to the kernel's `test_states`, and to what `psi_group_change` adds for a
+//! running task in a stall. It returns a [`Mask`], with a bit for each state. How long a state
+//! lasts is cpu_clock's business.
 #![tactic(auto)]
 
 mod mask;

@@ -8,8 +8,8 @@ ghost use Rattle.psi_spec.specs.Stall.{state_number};
 use psi_base::State;
 use std::marker::Model;
 
-/// The states that hold, one bit for each: the kernel's `state_mask`. A contract sees a mask as the
-/// number of its bits, so two masks with the same states are equal.
+/// A set of states, one bit each: the kernel's `state_mask`. A contract sees a mask as the number
+/// of its bits, so two masks with the same states are equal.
 #[derive(Clone, Copy, Debug, PartialEq, Eq)]
 pub struct Mask(u8);
 
@@ -34,7 +34,7 @@ fn bit(state: State) -> u8
 }
 
 impl Mask {
-    /// No state holds.
+    /// The empty set of states.
     pub fn empty() -> Mask
         ensures { result ≡ 0 }
     {
@@ -57,7 +57,7 @@ impl Mask {
         self.0
     }
 
-    /// Whether the state holds.
+    /// Whether the state is in the set.
     pub fn holds(self, state: State) -> bool
         ensures { result ≡ mask_holds self state }
     {

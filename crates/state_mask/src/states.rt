@@ -9,7 +9,7 @@ use crate::mask::Mask;
 use psi_base::State;
 use psi_counts::Counts;
 
-/// The states in the order of their numbers.
+/// The states, ordered by number.
 pub const STATES: [State; 7] = [
     State::IoSome,
     State::IoFull,
@@ -20,8 +20,8 @@ pub const STATES: [State; 7] = [
     State::Nonidle,
 ];
 
-// The masks by the signs in counts, in the order of their places. They are bytes: a table of masks,
-// or of another struct, is built anew at each use.
+// The masks by the index of the conditions in counts. They are bytes, because a table of masks, or
+// of another struct, is built anew at each use.
 const MASKS: [u8; 128] = [
     0, 67, 68, 71, 96, 97, 100, 101, 0, 67, 76, 79, 96, 97, 108, 109, 0, 67, 68, 71, 64, 65, 68,
     69, 0, 67, 76, 79, 64, 65, 76, 77, 0, 67, 68, 71, 96, 97, 100, 101, 0, 67, 76, 79, 96, 97, 108,
@@ -31,8 +31,8 @@ const MASKS: [u8; 128] = [
     92, 95, 88, 89, 92, 93, 24, 91, 92, 95, 88, 89, 92, 93,
 ];
 
-// The place of the mask in the table. There is no branch on the signs: which of them hold is hard
-// to foresee.
+// The index of the mask in the table. There is no branch on the conditions, since they are hard to
+// predict.
 fn place(counts: &Counts, on_cpu: bool, current_stalled: bool) -> usize
     ensures place { result ≡ place_by counts.now on_cpu current_stalled }
     ensures within { result < 128 }
@@ -51,9 +51,9 @@ fn place(counts: &Counts, on_cpu: bool, current_stalled: bool) -> usize
         + 64 * usize::from(beside)
 }
 
-/// The states that hold for a group on a processor by the counts of its tasks there. `on_cpu` says
-/// that the processor's running task is one of them, and `current_stalled` that the running task is
-/// in a memory stall: memory full then holds, also where the counts alone deny it.
+/// The states of a group on a processor, from the counts of its tasks there. `on_cpu` says whether
+/// the processor's running task is one of them, and `current_stalled` whether the running task is
+/// in a memory stall: the group is then in memory full, even if the counts alone say otherwise.
 pub fn mask_of(counts: &Counts, on_cpu: bool, current_stalled: bool) -> Mask
     ensures few { IsMask result }
     ensures states { (state : State) →

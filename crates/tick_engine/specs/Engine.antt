@@ -1,4 +1,4 @@
--- The engine of ticks, and for which ticks it stands.
+-- The engine of ticks, and the ticks that it represents.
 use Rattle.std.specs.Prelude.{◌≡◌, ℕ, ◌<◌, ◌≤◌, List, [], ◌∷◌, ◌++◌, length, map, nat_le, Bool, if◌then◌else◌, None, Some, All, IfSome}
 use Rattle.std.specs.List.{list_any}
 use Rattle.psi_base.specs.declared.event.TriggerSpec.{TriggerSpec}
@@ -15,8 +15,8 @@ use Rattle.tick_engine.specs.declared.group.Group.{Group}
 use Rattle.tick_engine.specs.declared.watch.TriggerWatch.{TriggerWatch}
 use Rattle.tick_engine.specs.Step.{AreGroupsWithin, engine_group}
 
--- An engine: for how many processors it is, the last tick, what it keeps of each group and of each
--- trigger, and the numbers of the triggers that signalled at the last tick.
+-- An engine: its number of processors, the last tick, the state of each group and trigger, and the
+-- numbers of the triggers that fired at the last tick.
 pub record EngineView : Type 0 where
   pub cpus : ℕ
   pub last : Tick
@@ -38,7 +38,7 @@ averages_in engine slot = (engine_group engine.groups slot).averages
 
 -- ---- what an engine stands for
 
--- what is kept of the group in a slot after ticks
+-- the state of the group in a slot after ticks
 abbrev pub group_after : ℕ → List GroupLife → List Tick → ℕ → Group
 group_after cpus lives ticks slot =
     record {
@@ -48,11 +48,11 @@ group_after cpus lives ticks slot =
       averages = group_averages cpus lives ticks slot;
     }
 
--- a trigger has begun: some tick isn't before its line
+-- a trigger is active: some tick isn't before its line
 abbrev pub has_begun : List Tick → TriggerSpec → Bool
 has_begun ticks trigger = list_any (λ (tick : Tick). nat_le trigger.at tick.at) ticks
 
--- what is kept of a trigger after ticks
+-- the state of a trigger after ticks
 abbrev pub watch_after : ℕ → List GroupLife → List Tick → TriggerSpec → TriggerWatch
 watch_after cpus lives ticks trigger =
     record {
@@ -61,9 +61,9 @@ watch_after cpus lives ticks trigger =
           then Some (trigger_over trigger (history_of cpus lives ticks trigger.slot.0)) else None;
     }
 
--- An engine stands for ticks, of groups with these lives on so many processors and with these
--- triggers: the ticks come one after another, and it has the last tick, each group and each trigger
--- as they are after all of them, and what signalled at the last.
+-- An engine represents these ticks, for groups with these lives on n processors and with these
+-- triggers: the ticks follow one another; the last tick, each group and each trigger are as they
+-- are after all of them; and its list has what fired at the last one.
 pub record StandsFor (engine : EngineView) (cpus : ℕ) (lives : List GroupLife) (triggers : List TriggerSpec)
     (ticks : List Tick) : Type 0 where
   pub ordered : AreNextTicks (no_tick cpus (length lives)) ticks
@@ -75,19 +75,20 @@ pub record StandsFor (engine : EngineView) (cpus : ℕ) (lives : List GroupLife)
   pub fired : (front : List Tick) (tick : Tick) → ticks ≡ front ++ tick ∷ [] → engine.fired ≡ fired_at cpus lives triggers front tick
   pub unfired : ticks ≡ [] → engine.fired ≡ []
 
--- An engine takes a tick: where it stood for ticks before, it stands for them and this one.
+-- An engine takes a tick: if it represented these ticks before, it represents them and this one
+-- afterwards.
 abbrev pub EngineTakes : EngineView → Tick → EngineView → Type 0
 EngineTakes old tick new = (cpus : ℕ) (lives : List GroupLife) (triggers : List TriggerSpec) (ticks : List Tick) →
     StandsFor old cpus lives triggers ticks → StandsFor new cpus lives triggers (ticks ++ tick ∷ [])
 
 -- ---- what is kept of each engine
 
--- each trigger is one that a trace may set on so many groups
+-- each trigger is one that a trace may set on n groups
 abbrev pub AreWatchesWithin : ℕ → List TriggerWatch → Type 0
 AreWatchesWithin slots watches = All (λ watch. IsTriggerWithin last_moment slots watch.spec) watches
 
--- What holds of each engine: its processors, groups and triggers are few, the last table has its
--- sizes, no total is longer than what passed up to the last tick, and the triggers are in range.
+-- The invariant of each engine: the limits of processors, groups and triggers; the sizes of the
+-- last table; no total is longer than the time up to the last tick; and the triggers are in range.
 pub record IsEngine (engine : EngineView) : Type 0 where
   pub few_cpus : engine.cpus ≤ 64
   pub few_groups : length engine.groups ≤ most_groups
@@ -97,33 +98,34 @@ pub record IsEngine (engine : EngineView) : Type 0 where
   pub totals : AreGroupsWithin engine.last engine.groups
   pub watches : AreWatchesWithin (length engine.groups) engine.watches
 
--- there is room for as many
+-- there is capacity for all of them
 pub record IsRoom (count capacity : ℕ) : Type 0 where
   pub room : count ≤ capacity
 
--- the moments (ns) at which a group was made and went, if it did, are within the latest
+-- the times (ns) at which a group was created and removed, if it was, are at most the latest of a
+-- trace
 pub record IsLifeWithin (latest : ℕ) (life : GroupLife) : Type 0 where
   pub made : life.made ≤ latest
   pub gone : IfSome life.gone (λ gone. gone ≤ latest)
 
 -- ---- laws
 
--- The totals that an engine tells of a group are those after the ticks for which it stands.
+-- The totals that an engine returns for a group are those after the ticks that it represents.
 abbrev pub TellsTotals : Type 0
 TellsTotals = (engine : EngineView) (cpus : ℕ) (lives : List GroupLife) (triggers : List TriggerSpec) (ticks : List Tick) (slot : ℕ) →
     StandsFor engine cpus lives triggers ticks → slot < length lives → totals_in engine slot ≡ totals_after cpus lives ticks slot
 
--- So are the averages.
+-- The same for the averages.
 abbrev pub TellsAverages : Type 0
 TellsAverages = (engine : EngineView) (cpus : ℕ) (lives : List GroupLife) (triggers : List TriggerSpec) (ticks : List Tick) (slot : ℕ) →
     StandsFor engine cpus lives triggers ticks → slot < length lives → averages_in engine slot ≡ group_averages cpus lives ticks slot
 
--- It tells the triggers that signalled at the last of them.
+-- It returns the triggers that fired at the last of them.
 abbrev pub TellsFired : Type 0
 TellsFired = (engine : EngineView) (cpus : ℕ) (lives : List GroupLife) (triggers : List TriggerSpec) (front : List Tick) (tick : Tick) →
     StandsFor engine cpus lives triggers (front ++ tick ∷ []) → engine.fired ≡ fired_at cpus lives triggers front tick
 
--- And it has the last of them.
+-- And its last tick is the last of them.
 abbrev pub TellsLast : Type 0
 TellsLast = (engine : EngineView) (cpus : ℕ) (lives : List GroupLife) (triggers : List TriggerSpec) (front : List Tick) (tick : Tick) →
     StandsFor engine cpus lives triggers (front ++ tick ∷ []) → engine.last ≡ tick

@@ -2,6 +2,6 @@
 use Rattle.std.specs.Prelude.{ℕ, List}
 use Rattle.pressure_spec.specs.Ticks.{Tick}
 
--- the tick at a moment (ns) with a table of times (ns)
+-- the tick at a time (ns) with a table of times (ns)
 abbrev pub tick_at : ℕ → List (List (List ℕ)) → Tick
 tick_at at table = record { at = at; table = table }

@@ -22,17 +22,17 @@ use psi_spec::GroupLife;
 use std::alloc::Global;
 use std::marker::Model;
 
-/// The totals and averages of all groups and the signals of all triggers, as the ticks so far left
-/// them: the kernel's `psi_avgs_work` and `update_triggers`, here on one grid of moments for all
-/// groups. It takes all memory at first, and none at a tick.
+/// The totals and averages of all groups and the signals of all triggers after the ticks so far:
+/// the kernel's `psi_avgs_work` and `update_triggers`, with the same ticks for all groups. It
+/// allocates everything up front, and nothing at a tick.
 #[derive(Drop)]
 pub struct Engine {
     last: LastTick,
     groups: Vec<Group>,
     watches: Vec<TriggerWatch>,
-    /// How many processors the tables have.
+    /// The number of processors of the tables.
     cpus: u32,
-    /// The numbers of the triggers that signalled at the last tick, with room for all of them.
+    /// The numbers of the triggers that fired at the last tick, with capacity for all of them.
     fired: Vec<u32>,
 }
 
@@ -73,8 +73,8 @@ fn watches_of(alloc: Global, triggers: &[TriggerSpec]) -> Result<Vec<TriggerWatc
 }
 
 impl Engine {
-    /// An engine of groups with these lives, by slot, with these triggers, on so many processors,
-    /// before the first tick. Takes all memory that it will need.
+    /// An engine for groups with these lives, by slot, and these triggers, on `cpus` processors,
+    /// before the first tick. Allocates everything that it will need.
     pub fn make(
         alloc: Global,
         lives: &[GroupLife],
@@ -100,16 +100,15 @@ impl Engine {
         })
     }
 
-    /// The next tick: its moment (ns), and the times (ns) of all groups on all processors up to it.
-    /// Each trigger whose line isn't later begins, if it hasn't; each group that is live is
-    /// sampled; and each trigger that has begun, and whose group is live, is stepped. Takes no
-    /// memory.
+    /// The next tick: its time (ns), and the times (ns) of all groups on all processors up to it.
+    /// Each trigger whose line isn't later becomes active; each live group is sampled; and each
+    /// active trigger whose group is live is stepped. Does not allocate.
     pub fn tick(&mut self, now: Ns, rows: &Rows)
         requires sizes { HasSizes self.old.cpus (length self.old.groups) rows.now }
         requires next { IsNextTick self.old.last (tick_at now rows.now) }
         ensures stands { EngineTakes self.old (tick_at now rows.now) self.new }
 
-        // Also of an engine of which nothing is known.
+        // Also for an engine about which nothing is known.
         ensures last { self.new.last ≡ tick_at now rows.now }
         ensures cpus { self.new.cpus ≡ self.old.cpus }
         ensures slots { length self.new.groups ≡ length self.old.groups }
@@ -119,7 +118,7 @@ impl Engine {
         step_all(&mut self.watches, &self.groups, now, &mut self.fired);
     }
 
-    /// The totals of a group (ns), in the order of the states, and last that of interrupt time.
+    /// The totals of a group (ns), ordered by state, followed by that of interrupt time.
     pub fn totals(&self, slot: Slot) -> Amounts
         requires { slot.0 < length self.now.groups }
         ensures { result ≡ totals_in self.now slot.0 }
@@ -135,8 +134,8 @@ impl Engine {
         &self.groups[slot.0 as usize].averages
     }
 
-    /// The numbers of the triggers that signalled at the last tick, ascending; none before the
-    /// first.
+    /// The numbers of the triggers that fired at the last tick, ascending; none before the first
+    /// tick.
     pub fn fired(&self) -> &[u32]
         ensures { result.now ≡ self.now.fired }
     {
@@ -144,7 +143,7 @@ impl Engine {
     }
 }
 
-/// Laws of the engine: what it tells is what the ticks make of the groups and of the triggers.
+/// Laws of the engine: what it returns is what the definitions give for the ticks so far.
 pub fn law_engine()
     ensures totals { TellsTotals }
     ensures averages { TellsAverages }

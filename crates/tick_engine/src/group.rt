@@ -1,4 +1,4 @@
-//! What is kept of one group.
+//! The state of one group.
 
 ghost use Rattle.std.specs.Prelude.{◌≡◌, ℕ, ◌≤◌, ◌<◌, ◌&&◌, length, nat_le, not};
 ghost use Rattle.aggregate.specs.Table.{HaveSameSizes};
@@ -19,8 +19,7 @@ use pressure_spec::Amounts;
 use psi_base::{Ns, Slot};
 use psi_spec::GroupLife;
 
-/// Whether what was made and went at these moments (ns) is live at another: it was made by then,
-/// and hasn't gone by then.
+/// Whether something created at `made` and removed at `gone` (ns) exists at `at`.
 fn is_live(made: Ns, gone: Option<Ns>, at: Ns) -> bool
     ensures { result ≡ nat_le made at && not (is_gone_by gone at) }
 {
@@ -31,14 +30,14 @@ fn is_live(made: Ns, gone: Option<Ns>, at: Ns) -> bool
     made <= at && !is_gone
 }
 
-/// Whether a group is live at a moment (ns): it was made by then, and hasn't gone by then.
+/// Whether a group is live at a time (ns): created by then, and not removed by then.
 pub fn is_live_at(life: &GroupLife, at: Ns) -> bool
     ensures { result ≡ is_live_at life.now at }
 {
     is_live(life.made, life.gone, at)
 }
 
-/// A group: when it was made and went (ns), its totals and its averages.
+/// A group: when it was created and removed (ns), its totals and its averages.
 #[derive(Drop)]
 pub(crate) struct Group {
     pub(crate) made: Ns,
@@ -48,7 +47,7 @@ pub(crate) struct Group {
 }
 
 impl Group {
-    /// A group that is made, before it is sampled.
+    /// A new group, without samples.
     pub(crate) fn of(life: &GroupLife) -> Group
         requires { life.now.made ≤ last_moment }
         ensures { result ≡ unsampled_group life.now }
@@ -61,14 +60,14 @@ impl Group {
         }
     }
 
-    /// It was made by this moment (ns), and hasn't gone by then.
+    /// It was created by this time (ns), and not removed by then.
     pub(crate) fn is_live(&self, at: Ns) -> bool
         ensures { result ≡ is_live_group self.now at }
     {
         is_live(self.made, self.gone, at)
     }
 
-    /// Adds the shares of an interval (ns) to the totals, and has the averages take them at the
+    /// Adds the shares of an interval (ns) to the totals, and updates the averages at the
     /// interval's end.
     fn sample(&mut self, now: Ns, shares: Amounts)
         requires early { now ≤ last_moment }
@@ -79,8 +78,8 @@ impl Group {
         self.averages.update(now, self.totals.get());
     }
 
-    /// Samples the group at a tick, by what its times grew by since the last one, where it is live.
-    /// Else it stays as it is, and costs no share.
+    /// Samples the group at a tick, if it is live, by the growth of its times since the last tick.
+    /// Otherwise it stays the same, and no share is computed.
     fn tick(&mut self, slot: Slot, last: &LastTick, now: Ns, rows: &Rows)
         requires few { length (row_at (tick_at now rows.now) slot.0) ≤ 64 }
         requires each { length (row_at last.now slot.0)
@@ -100,8 +99,8 @@ impl Group {
     }
 }
 
-/// Takes all groups over a tick, and takes the place of the last one: a group's times are taken
-/// over when it has been sampled by what they grew by.
+/// Advances all groups by one tick, and stores its times as the last tick's. A group's times are
+/// copied after it was sampled by their growth.
 pub(crate) fn tick_all(groups: &mut [Group], last: &mut LastTick, now: Ns, rows: &Rows)
     requires few { (slot : ℕ) → length (row_at (tick_at now rows.now) slot) ≤ 64 }
     requires slots { length groups.old ≤ most_groups }

@@ -4,8 +4,8 @@ use aggregate::Rows;
 use psi_base::Ns;
 use std::marker::Model;
 
-/// The last tick: its moment (ns), and the times of all groups on all processors up to it. Before
-/// the first tick the moment is 0, and so is each time.
+/// The last tick: its time (ns), and the times of all groups on all processors up to it. Before the
+/// first tick all of these are 0.
 #[derive(Drop)]
 pub(crate) struct LastTick {
     pub(crate) at: Ns,

@@ -1,4 +1,4 @@
-//! What is kept of one trigger.
+//! The state of one trigger.
 
 ghost use Rattle.std.specs.Prelude.{◌≡◌, ◌≤◌, ◌<◌, ◌+◌, ◌++◌, ◌∷◌, [], All, if◌then◌else◌, length, map, true, vec_capacity, vec_len};
 ghost use Rattle.pressure_spec.specs.Signal.{new_trigger};
@@ -12,8 +12,8 @@ use crate::group::Group;
 use psi_base::{Ns, State, TriggerSpec};
 use window_trigger::Trigger;
 
-/// A trigger as the trace sets it, and the trigger itself from the first tick on that isn't before
-/// its line.
+/// A trigger as the trace sets it, and the active trigger from the first tick that isn't before its
+/// line.
 #[derive(Drop)]
 pub(crate) struct TriggerWatch {
     pub(crate) spec: TriggerSpec,
@@ -43,7 +43,7 @@ fn trigger_with(spec: &TriggerSpec, total: u64) -> Trigger
 }
 
 impl TriggerWatch {
-    /// A watch of a trigger that hasn't begun.
+    /// The state of a trigger that isn't active yet.
     pub(crate) fn of(spec: TriggerSpec) -> TriggerWatch
         ensures { result ≡ new_watch spec }
     {
@@ -53,8 +53,8 @@ impl TriggerWatch {
         }
     }
 
-    /// Begins the trigger at the first tick that isn't before its line, with its total at the tick
-    /// before.
+    /// Activates the trigger at the first tick that isn't before its line, with its total at the
+    /// previous tick.
     fn begin(&mut self, groups: &[Group], now: Ns)
         requires spec { IsTriggerWithin last_moment (length groups.now) self.old.spec }
         requires totals { All (λ group. AreStatesWithin last_moment group) groups.now }
@@ -66,7 +66,8 @@ impl TriggerWatch {
         }
     }
 
-    /// Steps the trigger at a tick, if it has begun and its group is live. True where it signals.
+    /// Steps the trigger at a tick, if it is active and its group is live. Returns true if it
+    /// fires.
     fn step(&mut self, groups: &[Group], now: Ns) -> bool
         requires spec { IsTriggerWithin last_moment (length groups.now) self.old.spec }
         requires totals { All (λ group. AreStatesWithin last_moment group) groups.now }
@@ -85,8 +86,8 @@ impl TriggerWatch {
     }
 }
 
-/// Begins each trigger whose line isn't later than a tick and that hasn't begun, with its total at
-/// the tick before.
+/// Activates each trigger that isn't active and whose line isn't later than the tick, with its
+/// total at the previous tick.
 pub(crate) fn begin_all(watches: &mut [TriggerWatch], groups: &[Group], now: Ns)
     requires watches { AreWatchesWithin (length groups.now) watches.old }
     requires totals { All (λ group. AreStatesWithin last_moment group) groups.now }
@@ -97,7 +98,7 @@ pub(crate) fn begin_all(watches: &mut [TriggerWatch], groups: &[Group], now: Ns)
     }
 }
 
-/// Adds a number to those that signalled, where it did. There is room for it.
+/// Appends the number of a trigger to those that fired, if it did. There is capacity for it.
 fn add_where(fired: &mut Vec<u32>, number: u32, has_signalled: bool)
     requires { vec_len fired.old < vec_capacity fired.old }
     ensures items { fired.new.items
@@ -110,8 +111,7 @@ fn add_where(fired: &mut Vec<u32>, number: u32, has_signalled: bool)
     }
 }
 
-/// Steps each trigger that has begun and whose group is live, and puts in the numbers of those that
-/// signal.
+/// Steps each active trigger whose group is live, and collects the numbers of those that fire.
 pub(crate) fn step_all(
     watches: &mut [TriggerWatch],
     groups: &[Group],

@@ -1,9 +1,9 @@
--- What is true of each trigger.
+-- The invariant of each trigger.
 use Rattle.std.specs.Prelude.{ℕ, ◌≤◌, Option, IfSome}
 use Rattle.psi_spec.specs.Within.{last_moment}
 
--- The window (ns) is from half a second to ten. Neither the growth before it nor the last signal is
--- above the last moment.
+-- The window (ns) is from half a second to ten seconds. Neither the growth of the previous window
+-- nor the last signal is above the latest time of a trace.
 pub record IsTrigger (size growth : ℕ) (last_event : Option ℕ) : Type 0 where
   pub long : 500000000 ≤ size
   pub short : size ≤ 10000000000

@@ -8,15 +8,14 @@ ghost use Rattle.pressure_spec.specs.Signal as model;
 use psi_base::{Cause, Ns};
 use std::marker::Model;
 
-/// How many ns a microsecond has.
+/// The number of ns in a microsecond.
 const MICROSECOND: Ns = 1000;
 
-/// A watch on the growth of a group's stall time in a window that slides with time, as a user sets
-/// it by writing to a pressure file: the kernel's `psi_trigger`. Its events are signalled at least
-/// a window apart.
+/// A trigger on the growth of a group's stall time in a sliding window, as a user sets it by
+/// writing to a pressure file: the kernel's `psi_trigger`. Its signals are at least a window apart.
 #[derive(Drop)]
 pub struct Trigger {
-    /// How much growth makes an event (ns).
+    /// The growth that makes an event pending (ns).
     threshold: Ns,
     /// The window (ns).
     size: Ns,
@@ -26,11 +25,11 @@ pub struct Trigger {
     start_value: u64,
     /// The total at the last tick (ns).
     last_value: u64,
-    /// The growth in the window before (ns).
+    /// The growth in the previous window (ns).
     previous: u64,
-    /// An event waits to be signalled.
+    /// Whether an event is pending.
     pending: bool,
-    /// The moment of the last signal (ns).
+    /// The time of the last signal (ns).
     last_event: Option<Ns>,
 }
 
@@ -54,9 +53,9 @@ impl Model for Trigger {
     ghost invariant = { λ t. IsTrigger t.size t.previous t.last_event };
 }
 
-/// How much a total grew in the window, which isn't over: besides the growth since it began, a part
-/// of the growth in the window before, as large as the part of the window that is left. The product
-/// has up to 89 bits.
+/// The growth of a total in a window that hasn't expired: the growth since it began, plus a part of
+/// the growth in the previous window that is proportional to the remaining time. The product has up
+/// to 89 bits.
 fn slid(growth: u64, previous: u64, size: Ns, elapsed: Ns) -> u64
     requires growth { growth ≤ last_moment }
     requires previous { previous ≤ last_moment }
@@ -69,9 +68,9 @@ fn slid(growth: u64, previous: u64, size: Ns, elapsed: Ns) -> u64
 }
 
 impl Trigger {
-    /// A trigger that is set at the moment `at` (ns), where the total is `value` (ns), with its
-    /// threshold and its window (us). BadWindow, where the window isn't from 500 ms to 10 s, or the
-    /// threshold isn't from 1 us up to it.
+    /// A trigger that is set at the time `at` (ns), when the total is `value` (ns), with its
+    /// threshold and its window (us). `BadWindow` if the window isn't from 500 ms to 10 s, or the
+    /// threshold isn't from 1 us to the window.
     pub fn new(at: Ns, value: u64, threshold_us: u64, window_us: u64) -> Result<Trigger, Cause>
         requires at { at ≤ last_moment }
         requires value { value ≤ last_moment }
@@ -98,8 +97,8 @@ impl Trigger {
         })
     }
 
-    /// A tick at the moment `now` (ns) with the total `value` (ns). True where the trigger's event
-    /// is signalled.
+    /// A tick at the time `now` (ns) with the total `value` (ns). Returns true if the trigger
+    /// fires.
     #[tactic(auto, unfolding(pressure_spec::specs::Signal::trigger_step, pressure_spec::specs::Signal::fires))]
     pub fn step(&mut self, now: Ns, value: u64) -> bool
         requires now { now ≤ last_moment }
@@ -113,8 +112,8 @@ impl Trigger {
         self.signal(now)
     }
 
-    /// The total changed. A window that is over begins anew, and growth that reaches the threshold
-    /// makes an event pending.
+    /// The total changed. An expired window restarts, and growth that reaches the threshold makes
+    /// an event pending.
     fn grow(&mut self, now: Ns, value: u64)
         requires now { now ≤ last_moment }
         requires value { value ≤ last_moment }
@@ -136,8 +135,7 @@ impl Trigger {
         self.last_value = value;
     }
 
-    /// Signals the event that is pending, where the last one was at least a window ago or there was
-    /// none.
+    /// Signals the pending event, if the last signal was at least a window ago or there was none.
     fn signal(&mut self, now: Ns) -> bool
         requires { now ≤ last_moment }
         ensures state { self.new ≡ model.settled self.old now }
