@@ -1,4 +1,4 @@
--- What a fault of a drop-in file is told as.
+-- The text of a fault of a drop-in file.
 use Rattle.std.specs.Prelude.{ℕ, List, codes}
 use Rattle.ruleset_json.specs.FaultText.{placed_text, rules_cause_name}
 use Rattle.dropin_rules.specs.declared.fault.DropCause.{DropCause}

@@ -1,4 +1,4 @@
--- The patterns in rules are patterns.
+-- The patterns in rules are well formed.
 use Rattle.std.specs.Prelude.{List, All}
 use Rattle.path_match.specs.Answers.{ArePatterns}
 use Rattle.ruleset_json.specs.declared.types.Action.{Action}

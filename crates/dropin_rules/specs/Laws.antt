@@ -1,4 +1,4 @@
--- What holds of the text of rules. A file may have 1,048,576 bytes.
+-- Laws of rules as text. A file may have 1,048,576 bytes.
 use Rattle.std.specs.Prelude.{◌≡◌, ◌≤◌, List, length, Ok}
 use Rattle.ruleset_json.specs.declared.types.Rule.{Rule}
 use Rattle.ruleset_json.specs.declared.types.Rules.{Rules}
@@ -7,13 +7,14 @@ use Rattle.ruleset_json.specs.Rules.{rules_of}
 use Rattle.dropin_rules.specs.HasPatterns.{RulesHavePatterns}
 use Rattle.dropin_rules.specs.RulesText.{rules_text}
 
--- Rules within their ranges and limits are read again from their text, if a file may be so long.
+-- Round trip: the text of rules in range is parsed as the same rules, if it isn't too long for a
+-- file.
 abbrev pub ReadAgain : Type 0
 ReadAgain =
     (rules : List Rule) → FitsRules rules → RulesHavePatterns rules → length (rules_text rules) ≤ 1048576
     → rules_of (rules_text rules) ≡ Ok (record { rules = rules })
 
--- So what was read again has the same text.
+-- So writing parsed text again gives the same text.
 abbrev pub SameText : Type 0
 SameText = (rules : List Rule) (again : Rules) → FitsRules rules → RulesHavePatterns rules → length (rules_text rules) ≤ 1048576
     → rules_of (rules_text rules) ≡ Ok again

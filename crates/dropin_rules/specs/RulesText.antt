@@ -1,6 +1,5 @@
--- Rules as text: the compact JSON of a rules file that gives them, with every default filled in. An
--- argument has its own text, and the members of each object stand in the order of their keys'
--- bytes.
+-- Rules as text: the compact JSON of a rules file with every default filled in. Arguments are
+-- strings, and the members of each object are in byte order of their keys.
 use Rattle.std.specs.Prelude.{ℕ, ◌/◌, ◌%◌, List, [], ◌∷◌, ◌++◌, codes, decimal, map}
 use Rattle.psi_spec.specs.Fields.{resource_word}
 use Rattle.path_match.specs.Match.{patterns_text}
@@ -24,7 +23,7 @@ use Rattle.ruleset_json.specs.Names.{action_word, detector_word, key_word}
 
 -- ---- arguments
 
--- a ratio, which is in thousandths: three digits stand behind the point
+-- a ratio, given in thousandths, with three decimals
 abbrev pub ratio_text : ℕ → List ℕ
 ratio_text n = decimal (n / 1000) ++ codes "." ++ decimal (n / 100 % 10) ++ decimal (n / 10 % 10) ++ decimal (n % 10)
 
@@ -35,12 +34,12 @@ size_text (size.Percent n) = decimal n ++ codes "%"
 
 -- ---- plugins
 
--- texts, each under its key
+-- strings, each with its key
 abbrev pub texts : List (Key × List ℕ) → Members
 texts [] = no_members
 texts (argument ∷ arguments) = member (key_word argument.0) (string argument.1) (texts arguments)
 
--- the plugin of this name, with these arguments
+-- the plugin with this name and these arguments
 abbrev pub plugin_data : List ℕ → List (Key × List ℕ) → Data
 plugin_data name arguments = object (member (codes "args") (object (texts arguments)) (member (codes "name") (string name) no_members))
 
@@ -83,11 +82,11 @@ action_data (action.PgScan cgroup after) = plugin_data (action_word action_name.
 
 -- ---- rules
 
--- these in a list
+-- a list
 abbrev pub list_data : List Data → Data
 list_data ds = array (items_of ds)
 
--- a group: its name, and its detectors behind it in one list
+-- a group: its name, followed by its detectors in the same list
 abbrev pub group_data : DetectorGroup → Data
 group_data group = list_data (string group.name ∷ map detector_data group.detectors)
 
@@ -98,12 +97,12 @@ rule_data rule = object
     (member (codes "detectors") (list_data (map group_data rule.groups))
     (member (codes "name") (string rule.name) no_members)))
 
--- rulesets, as a file has them
+-- rulesets, as in a file
 abbrev pub rules_data : List Rule → Data
 rules_data rules = object (member (codes "rulesets") (list_data (map rule_data rules)) no_members)
 
--- the text of rules. In a text a quotation mark and a backslash have a backslash before them; a
--- byte below 32 is `\b`, `\t`, `\n`, `\f`, `\r`, or `\u00` with two lower-case digits; each other
--- byte stands for itself.
+-- the text of rules. In a string a quotation mark and a backslash are escaped by a backslash; a
+-- byte below 32 is `\b`, `\t`, `\n`, `\f`, `\r`, or `\u00` with two lower-case digits; every other
+-- byte is itself.
 unfoldable pub rules_text : List Rule → List ℕ
 rules_text rules = compact_text (rules_data rules)

@@ -1,4 +1,4 @@
-//! The arguments of a plugin, each a text under its key.
+//! The arguments of a plugin, each a string with its key.
 ghost use Rattle.std.specs.Prelude.{◌≡◌, codes, decimal, IfOk, OnOk, IsUtf8};
 ghost use Rattle.psi_spec.specs.Fields as fields;
 ghost use Rattle.path_match.specs.Match.{patterns_text};
@@ -15,7 +15,7 @@ use ruleset_json::{Key, Size};
 use serde_json::{Map, Value};
 use std::alloc::Global;
 
-/// A text as a value.
+/// A string as a JSON value.
 pub fn text_value(alloc: Global, bytes: &[u8]) -> Result<Value, NoMemory>
     requires { IsUtf8 bytes.now }
     ensures { IfOk result (λ v. view v ≡ string bytes.now) }
@@ -26,7 +26,6 @@ pub fn text_value(alloc: Global, bytes: &[u8]) -> Result<Value, NoMemory>
     }
 }
 
-// The text of patterns.
 fn patterns_value(alloc: Global, patterns: &Patterns) -> Result<Value, NoMemory>
     ensures value { IfOk result (λ v. view v ≡ string (patterns_text patterns.now)) }
     ensures formed { ArePatterns patterns.now }
@@ -36,14 +35,13 @@ fn patterns_value(alloc: Global, patterns: &Patterns) -> Result<Value, NoMemory>
     text_value(alloc, &text)
 }
 
-// How a truth is called.
 fn truth_word(truth: bool) -> &'static str
     ensures { result.now ≡ truth_text truth }
 {
     if truth { "true" } else { "false" }
 }
 
-// The text of a ratio, which is in thousandths.
+// The text of a ratio, given in thousandths.
 fn ratio_value(alloc: Global, ratio: u32) -> Result<Value, NoMemory>
     ensures { IfOk result (λ v. view v ≡ string (ratio_text ratio)) }
 {
@@ -57,7 +55,6 @@ fn ratio_value(alloc: Global, ratio: u32) -> Result<Value, NoMemory>
     Ok(Value::String(text))
 }
 
-// The text of a size.
 fn size_value(alloc: Global, size: Size) -> Result<Value, NoMemory>
     ensures { IfOk result (λ v. view v ≡ string (size_text size)) }
 {
@@ -75,7 +72,7 @@ pub struct Arguments {
 }
 
 impl Arguments {
-    /// None so far.
+    /// No arguments.
     pub fn new(alloc: Global) -> Arguments
         ensures { members_view result.members.entries ≡ no_members }
     {
@@ -85,7 +82,7 @@ impl Arguments {
         }
     }
 
-    // Puts an argument among the others.
+    // Adds an argument.
     fn put(&mut self, key: Key, value: Value) -> Result<(), NoMemory>
         ensures { OnOk result (members_view self.new.members.entries
             ≡ with_member (key_word key) (view value) (members_view self.old.members.entries)) }
@@ -93,7 +90,7 @@ impl Arguments {
         Ok(serde_json::put(&mut self.members, self.alloc, key.text(), value)?)
     }
 
-    /// Puts patterns.
+    /// Adds patterns.
     pub fn patterns(&mut self, key: Key, patterns: &Patterns) -> Result<(), NoMemory>
         ensures value { OnOk result (members_view self.new.members.entries
             ≡ with_member (key_word key) (string (patterns_text patterns.now))
@@ -104,7 +101,7 @@ impl Arguments {
         self.put(key, value)
     }
 
-    /// Puts a resource.
+    /// Adds a resource.
     pub fn resource(&mut self, key: Key, resource: Res) -> Result<(), NoMemory>
         ensures { OnOk result (members_view self.new.members.entries
             ≡ with_member (key_word key) (string (fields.resource_word resource))
@@ -114,7 +111,7 @@ impl Arguments {
         self.put(key, value)
     }
 
-    /// Puts a number.
+    /// Adds a number.
     pub fn number(&mut self, key: Key, number: u32) -> Result<(), NoMemory>
         ensures { OnOk result (members_view self.new.members.entries
             ≡ with_member (key_word key) (string (decimal number))
@@ -124,7 +121,7 @@ impl Arguments {
         self.put(key, Value::String(text))
     }
 
-    /// Puts a ratio, in thousandths.
+    /// Adds a ratio, given in thousandths.
     pub fn ratio(&mut self, key: Key, ratio: u32) -> Result<(), NoMemory>
         ensures { OnOk result (members_view self.new.members.entries
             ≡ with_member (key_word key) (string (ratio_text ratio))
@@ -134,7 +131,7 @@ impl Arguments {
         self.put(key, value)
     }
 
-    /// Puts a size.
+    /// Adds a size.
     pub fn size(&mut self, key: Key, size: Size) -> Result<(), NoMemory>
         ensures { OnOk result (members_view self.new.members.entries
             ≡ with_member (key_word key) (string (size_text size))
@@ -144,7 +141,7 @@ impl Arguments {
         self.put(key, value)
     }
 
-    /// Puts a truth.
+    /// Adds a Boolean.
     pub fn truth(&mut self, key: Key, truth: bool) -> Result<(), NoMemory>
         ensures { OnOk result (members_view self.new.members.entries
             ≡ with_member (key_word key) (string (truth_text truth))
@@ -154,7 +151,7 @@ impl Arguments {
         self.put(key, value)
     }
 
-    /// The plugin of this name with these arguments.
+    /// The plugin object with this name and these arguments.
     pub fn plugin(self, name: &str) -> Result<Value, NoMemory>
         ensures { IfOk result (λ v. view v ≡ object
             (member (codes "args") (object (members_view self.members.entries))

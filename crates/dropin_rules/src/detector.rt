@@ -1,4 +1,4 @@
-//! Detectors as plugin objects: for each a function with a line an argument.
+//! Detectors as plugin objects: one function each, with one line for each argument.
 ghost use Rattle.std.specs.Prelude.{◌≡◌, IfOk};
 ghost use Rattle.path_match.specs.Answers.{ArePatterns};
 ghost use Rattle.serde_json.specs.View.{view};

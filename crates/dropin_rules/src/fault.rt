@@ -1,24 +1,24 @@
-//! Why a drop-in file is refused, and where.
+//! Why a drop-in file is rejected, and where.
 use psi_base::Fault;
 use ruleset_json::{Place, RulesCause, RulesFault};
 
-/// Why a drop-in file is refused.
+/// Why a drop-in file is rejected.
 #[derive(Clone, Copy, Debug, PartialEq, Eq)]
 pub enum DropCause {
-    /// It can't be read: a fault that a rules file may have too.
+    /// It can't be parsed, with a cause that a rules file may have too.
     Rules(RulesCause),
-    /// A ruleset of it gives neither detectors nor actions.
+    /// One of its rulesets has neither detectors nor actions.
     NoParts,
-    /// No ruleset of the rules file has the name that a ruleset of it gives.
+    /// No ruleset of the rules file has the name of one of its rulesets.
     UnknownRule,
 }
 
 /// The first fault of a drop-in file.
 #[derive(Clone, Copy, Debug, PartialEq, Eq)]
 pub struct DropFault {
-    /// Where it stands in the drop-in file.
+    /// Its place in the drop-in file.
     pub place: Place,
-    /// What it is.
+    /// Its cause.
     pub what: DropCause,
 }
 

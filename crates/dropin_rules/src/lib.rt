@@ -1,7 +1,7 @@
 //! Drop-in files over a rules file, and rules as text.
 //!
-//! [`join`] puts the parts of a drop-in file into the rules of a rules file, and [`write_rules`]
-//! writes rules as a rules file that gives them.
+//! [`join`] applies the parts of a drop-in file to the rules of a rules file, and [`write_rules`]
+//! writes rules as a rules file. Parsing is ruleset_json's.
 #![tactic(auto)]
 
 mod action;

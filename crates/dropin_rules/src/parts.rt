@@ -1,4 +1,4 @@
-//! The parts of a drop-in file put into rules.
+//! Applies the parts of a drop-in file to rules.
 ghost use Rattle.std.specs.Prelude.{◌≡◌, ◌≢◌, ◌<◌, ◌^◌, length, position, Ok, Err, MatchResult};
 ghost use Rattle.psi_base.specs.Gives.{Gives, lacks_memory};
 ghost use Rattle.dropin_rules.specs.Joined.{is_named, parts_joined, part_joined};
@@ -7,14 +7,14 @@ use crate::fault::{DropCause, DropFault};
 use psi_base::Fault;
 use ruleset_json::{Part, Place, Rule, RuleList, Rules};
 
-// The number of the first ruleset of this name.
+// The number of the first ruleset with this name.
 fn first_named(rules: &[Rule], name: &[u8]) -> Option<usize>
     ensures { result ≡ position (is_named name.now) rules.now }
 {
     rules.iter().position(|rule| rule.name.bytes() == name)
 }
 
-// Puts one part, by its number, into rules. A refused one leaves them as they were.
+// Applies one part, with its number, to rules. If it is rejected, they stay unchanged.
 #[tactic(auto, unfolding(crate::specs::Joined::part_joined))]
 fn put_part(rules: &mut RuleList, number: u32, part: Part) -> Result<(), DropFault>
     ensures { MatchResult result
@@ -40,10 +40,10 @@ fn put_part(rules: &mut RuleList, number: u32, part: Part) -> Result<(), DropFau
     }
 }
 
-/// The rules with the parts of a drop-in file put into them, in order: each replaces the groups,
-/// the actions or both, as it gives them, of the first ruleset of its name. Refused, with both
-/// given up, at the first part that gives neither (`NoParts`) or whose name no ruleset has
-/// (`UnknownRule`). Takes no memory, so `NoMemory` never comes. A part's number has 32 bits.
+/// Applies the parts of a drop-in file to rules, in order: each replaces the groups, the actions or
+/// both, as it has them, of the first ruleset with its name. Rejected, with both dropped, at the
+/// first part that has neither (`NoParts`) or whose name no ruleset has (`UnknownRule`). Does not
+/// allocate, so `NoMemory` never occurs. A part's number has 32 bits.
 #[tactic(auto, unfolding(crate::specs::Joined::parts_joined))]
 pub fn join(base: Rules, parts: Vec<Part>) -> Result<Rules, Fault<DropFault>>
     requires { length parts.items < 2 ^ 32 }

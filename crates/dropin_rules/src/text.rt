@@ -15,7 +15,7 @@ use ruleset_json::{Action, DetectorGroup, Rule, Rules};
 use serde_json::{Map, Value};
 use std::alloc::Global;
 
-// A group: its name, and its detectors behind it in one list.
+// A group: its name, followed by its detectors in the same list.
 fn group_value(alloc: Global, group: &DetectorGroup) -> Result<Value, NoMemory>
     requires { FitsGroup group.now }
     ensures value { IfOk result (λ v. view v ≡ group_data group.now) }
@@ -89,7 +89,7 @@ fn rulesets_value(alloc: Global, rules: &[Rule]) -> Result<Value, NoMemory>
     Ok(Value::Array(items))
 }
 
-// Rulesets, as a file has them.
+// Rulesets, as in a file.
 fn rules_value(alloc: Global, rules: &[Rule]) -> Result<Value, NoMemory>
     requires { FitsRules rules.now }
     ensures value { IfOk result (λ v. view v ≡ rules_data rules.now) }
@@ -102,7 +102,7 @@ fn rules_value(alloc: Global, rules: &[Rule]) -> Result<Value, NoMemory>
 }
 
 /// Appends the rules as one line of compact JSON with every default filled in, without a newline: a
-/// rules file that gives these rules. `NoMemory` leaves the bytes as they were.
+/// rules file with these rules. After `NoMemory` the bytes are unchanged.
 pub fn write_rules(rules: &Rules, to: &mut Vec<u8>) -> Result<(), NoMemory>
     ensures text { OnOk result (to.new.items ≡ to.old.items ++ rules_text rules.now.rules) }
     ensures kept { OnErr result (to.new.items ≡ to.old.items) }

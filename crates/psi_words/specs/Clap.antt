@@ -1,4 +1,4 @@
--- The command of clap that takes options of one value and a positional, and what its rows say.
+-- The clap command with options of one value and a positional, and the meaning of its rows.
 use Rattle.std.specs.Prelude.{◌≡◌, ℕ, List, [], ◌∷◌, ◌++◌, map, filter, Bool, true, not, codes}
 use Rattle.std.specs.Prelude.{Some, is_some, unwrap_or, slice_get}
 use Rattle.std.specs.List.{list_all}
@@ -17,11 +17,11 @@ option_rule name = record (new_rule name) { long = Some name }
 abbrev pub positional_id : List ℕ
 positional_id = codes "TRACE"
 
--- a word that is no option
+-- the positional word
 abbrev pub positional_rule : Rule
 positional_rule = new_rule positional_id
 
--- a command that reads all the words that it is given, and has no help of its own
+-- a command that parses all the words that it is given, without help of its own
 abbrev pub plain_shape : List Rule → Shape
 plain_shape rules = record (new_shape (codes "words")) {
   no_binary_name = true;
@@ -36,7 +36,7 @@ plain_app names =
 
 -- ---- its rows
 
--- the row is an option's
+-- the row is that of an option
 abbrev pub is_option_row : Row → Bool
 is_option_row row = not (bytes_eq row.id positional_id)
 
@@ -44,7 +44,7 @@ is_option_row row = not (bytes_eq row.id positional_id)
 abbrev pub option_in : Row → List ℕ × List ℕ
 option_in row = (row.id, unwrap_or (slice_get row.values 0) [])
 
--- what the rows say
+-- the options and the positional of rows
 abbrev pub given_in : List Row → Given
 given_in rows = record {
   options = map option_in (filter is_option_row rows);

@@ -1,4 +1,4 @@
-//! What words say, as `clap` reads them: options of one value, and a positional.
+//! Command lines as `clap` parses them: options of one value, and a positional.
 ghost use Rattle.std.specs.Prelude.{◌≡◌, IfOk, map, false, [], string_bytes, option_copied};
 ghost use Rattle.std.specs.Str.{bytes_eq};
 ghost use Rattle.clap.specs.Words.{app_of, rule_of};
@@ -25,7 +25,7 @@ fn option<'a>(alloc: Global, name: &'a str) -> Arg<'a>
     Arg::new(alloc, name).long(name)
 }
 
-// One word that is no option.
+// The positional word.
 fn positional<'a>(alloc: Global) -> Arg<'a>
     ensures rule { rule_of result ≡ positional_rule }
     ensures local { result.global ≡ false }
@@ -33,7 +33,7 @@ fn positional<'a>(alloc: Global) -> Arg<'a>
     Arg::new(alloc, POSITIONAL)
 }
 
-// A command of clap that takes nothing and helps with nothing.
+// A clap command without arguments and without help.
 fn empty<'a>(alloc: Global) -> Command<'a>
     ensures { app_of result ≡ record { top = plain_shape []; subs = [] } }
 {
@@ -42,7 +42,7 @@ fn empty<'a>(alloc: Global) -> Command<'a>
         .disable_help_flag(true)
 }
 
-// A command of clap with options of these names, and a positional.
+// A clap command with options of these names, and a positional.
 fn command<'a>(alloc: Global, names: &[&'a str]) -> Result<Command<'a>, AllocError>
     ensures { IfOk result (λ command. app_of command ≡ plain_app (names_in names.now)) }
 {
@@ -53,7 +53,7 @@ fn command<'a>(alloc: Global, names: &[&'a str]) -> Result<Command<'a>, AllocErr
     command.arg(positional(alloc))
 }
 
-/// What words say: options with their values, and a positional.
+/// Parsed words: options with their values, and a positional.
 #[derive(Drop)]
 pub(crate) struct Parsed<'a> {
     found: ArgMatches<'a>,
@@ -72,7 +72,7 @@ impl<'a> Model for Parsed<'a> {
 }
 
 impl<'a> Parsed<'a> {
-    /// What words say, where options have these names.
+    /// Parses words, given the names of the options.
     pub(crate) fn read(
         alloc: Global,
         names: &[&'a str],
@@ -95,7 +95,7 @@ impl<'a> Parsed<'a> {
         }
     }
 
-    /// The value of the option of this name.
+    /// The value of the option with this name.
     pub(crate) fn value(&self, name: &str) -> Option<&'a str>
         requires { bytes_eq name.now positional_id ≡ false }
         ensures { option_copied result ≡ value_given name.now self.now }

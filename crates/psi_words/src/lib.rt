@@ -1,4 +1,7 @@
-//! The words of a command line as a command, each command over one simple `clap` command.
+//! Command lines: parses the words after the program's name into a command, with one simple `clap`
+//! command for each.
+//!
+//! Ranges and defaults are checked here; files are opened by nobody here.
 #![tactic(auto)]
 
 mod given;

@@ -1,4 +1,4 @@
-//! One table a command: its options, and what they say.
+//! One table for each command: its options and their meaning.
 ghost use Rattle.std.specs.Prelude.{map, string_bytes, IfOk, IfSome, IsUtf8};
 ghost use Rattle.psi_words.specs.Reads.{Finds, HasTextNames, ReadsWord};
 ghost use Rattle.run_spec.specs.Words as spec;
@@ -10,7 +10,7 @@ use psi_base::{Fault, Text};
 use run_spec::{Command, Options, Shape};
 use std::alloc::Global;
 
-// The name of the file that the trace is taken from.
+// The name of the trace file.
 fn trace(alloc: Global, given: &Parsed) -> Result<Text, Fault<BadWords>>
     ensures exact { ReadsWord result (spec.trace_given given.now) }
     ensures text { IfOk result IsUtf8 }
@@ -21,21 +21,21 @@ fn trace(alloc: Global, given: &Parsed) -> Result<Text, Fault<BadWords>>
     }
 }
 
-// The length of a tick in ms.
+// The tick length in ms.
 fn tick_ms(given: &Parsed) -> Result<u32, BadWords>
     ensures { Finds result (spec.tick_given given.now) }
 {
     number_or(2_000, 1, 60_000, given.value("tick-ms"))
 }
 
-// How many threads replay.
+// The number of worker threads.
 fn workers(given: &Parsed) -> Result<u32, BadWords>
     ensures { Finds result (spec.workers_given given.now) }
 {
     number_or(64, 1, 64, given.value("workers"))
 }
 
-// What the options of `replay` and `whatif` say.
+// The options of `replay` and `whatif`.
 #[tactic(auto, unfolding(run_spec::specs::Words::options_of))]
 fn options(alloc: Global, given: &Parsed) -> Result<Options, Fault<BadWords>>
     ensures exact { ReadsWord result (spec.options_of given.now) }
@@ -62,7 +62,7 @@ fn options(alloc: Global, given: &Parsed) -> Result<Options, Fault<BadWords>>
     })
 }
 
-// What is generated.
+// The shape of a generated trace.
 #[tactic(auto, unfolding(run_spec::specs::Words::shape_of))]
 fn shape(given: &Parsed) -> Result<Shape, BadWords>
     ensures { Finds result (spec.shape_of given.now) }
@@ -82,7 +82,6 @@ fn shape(given: &Parsed) -> Result<Shape, BadWords>
     })
 }
 
-// What the words behind `stall` say.
 #[tactic(auto, unfolding(run_spec::specs::Words::stall_of))]
 fn stall_given(alloc: Global, given: &Parsed) -> Result<Command, Fault<BadWords>>
     ensures exact { ReadsWord result (spec.stall_of given.now) }
@@ -92,7 +91,7 @@ fn stall_given(alloc: Global, given: &Parsed) -> Result<Command, Fault<BadWords>
     Ok(Command::Stall { trace })
 }
 
-/// The words behind `stall`.
+/// Parses the words after `stall`.
 pub(crate) fn read_stall(alloc: Global, words: &[String]) -> Result<Command, Fault<BadWords>>
     ensures exact { ReadsWord result (spec.spelled spec.stall_form (map string_bytes words.now)) }
     ensures texts { IfOk result HasTextNames }
@@ -103,7 +102,6 @@ pub(crate) fn read_stall(alloc: Global, words: &[String]) -> Result<Command, Fau
     command
 }
 
-// What the words behind `check` say.
 #[tactic(auto, unfolding(run_spec::specs::Words::check_of))]
 fn check_given(alloc: Global, given: &Parsed) -> Result<Command, Fault<BadWords>>
     ensures exact { ReadsWord result (spec.check_of given.now) }
@@ -114,7 +112,7 @@ fn check_given(alloc: Global, given: &Parsed) -> Result<Command, Fault<BadWords>
     Ok(Command::Check { trace, tick_ms })
 }
 
-/// The words behind `check`.
+/// Parses the words after `check`.
 pub(crate) fn read_check(alloc: Global, words: &[String]) -> Result<Command, Fault<BadWords>>
     ensures exact { ReadsWord result (spec.spelled spec.check_form (map string_bytes words.now)) }
     ensures texts { IfOk result HasTextNames }
@@ -125,7 +123,6 @@ pub(crate) fn read_check(alloc: Global, words: &[String]) -> Result<Command, Fau
     command
 }
 
-// What the words behind `replay` say.
 #[tactic(auto, unfolding(run_spec::specs::Words::replay_of))]
 fn replay_given(alloc: Global, given: &Parsed) -> Result<Command, Fault<BadWords>>
     ensures exact { ReadsWord result (spec.replay_of given.now) }
@@ -136,7 +133,7 @@ fn replay_given(alloc: Global, given: &Parsed) -> Result<Command, Fault<BadWords
     Ok(Command::Replay { trace, options })
 }
 
-/// The words behind `replay`.
+/// Parses the words after `replay`.
 pub(crate) fn read_replay(alloc: Global, words: &[String]) -> Result<Command, Fault<BadWords>>
     ensures exact { ReadsWord result (spec.spelled spec.replay_form (map string_bytes words.now)) }
     ensures texts { IfOk result HasTextNames }
@@ -157,7 +154,6 @@ pub(crate) fn read_replay(alloc: Global, words: &[String]) -> Result<Command, Fa
     command
 }
 
-// What the words behind `gen` say.
 #[tactic(auto, unfolding(run_spec::specs::Words::gen_of))]
 fn gen_given(given: &Parsed) -> Result<Command, Fault<BadWords>>
     ensures exact { ReadsWord result (spec.gen_of given.now) }
@@ -167,7 +163,7 @@ fn gen_given(given: &Parsed) -> Result<Command, Fault<BadWords>>
     Ok(Command::Gen { shape })
 }
 
-/// The words behind `gen`.
+/// Parses the words after `gen`.
 pub(crate) fn read_gen(alloc: Global, words: &[String]) -> Result<Command, Fault<BadWords>>
     ensures exact { ReadsWord result (spec.spelled spec.gen_form (map string_bytes words.now)) }
     ensures texts { IfOk result HasTextNames }
@@ -178,7 +174,6 @@ pub(crate) fn read_gen(alloc: Global, words: &[String]) -> Result<Command, Fault
     command
 }
 
-// What the words behind `stress` say.
 #[tactic(auto, unfolding(run_spec::specs::Words::stress_of))]
 fn stress_given(given: &Parsed) -> Result<Command, Fault<BadWords>>
     ensures exact { ReadsWord result (spec.stress_of given.now) }
@@ -189,7 +184,7 @@ fn stress_given(given: &Parsed) -> Result<Command, Fault<BadWords>>
     Ok(Command::Stress { shape, workers })
 }
 
-/// The words behind `stress`.
+/// Parses the words after `stress`.
 pub(crate) fn read_stress(alloc: Global, words: &[String]) -> Result<Command, Fault<BadWords>>
     ensures exact { ReadsWord result (spec.spelled spec.stress_form (map string_bytes words.now)) }
     ensures texts { IfOk result HasTextNames }
@@ -201,7 +196,6 @@ pub(crate) fn read_stress(alloc: Global, words: &[String]) -> Result<Command, Fa
     command
 }
 
-// What the words behind `import` say.
 #[tactic(auto, unfolding(run_spec::specs::Words::import_command_of))]
 fn import_given(alloc: Global, given: &Parsed) -> Result<Command, Fault<BadWords>>
     ensures exact { ReadsWord result (spec.import_command_of given.now) }
@@ -212,7 +206,7 @@ fn import_given(alloc: Global, given: &Parsed) -> Result<Command, Fault<BadWords
     Ok(Command::Import { file, cpus })
 }
 
-/// The words behind `import`.
+/// Parses the words after `import`.
 pub(crate) fn read_import(alloc: Global, words: &[String]) -> Result<Command, Fault<BadWords>>
     ensures exact { ReadsWord result (spec.spelled spec.import_form (map string_bytes words.now)) }
     ensures texts { IfOk result HasTextNames }
@@ -223,7 +217,6 @@ pub(crate) fn read_import(alloc: Global, words: &[String]) -> Result<Command, Fa
     command
 }
 
-// What the words behind `rules` say.
 #[tactic(auto, unfolding(run_spec::specs::Words::rules_command_of))]
 fn rules_given(alloc: Global, given: &Parsed) -> Result<Command, Fault<BadWords>>
     ensures exact { ReadsWord result (spec.rules_command_of given.now) }
@@ -234,7 +227,7 @@ fn rules_given(alloc: Global, given: &Parsed) -> Result<Command, Fault<BadWords>
     Ok(Command::Rules { file, drop_in })
 }
 
-/// The words behind `rules`.
+/// Parses the words after `rules`.
 pub(crate) fn read_rules(alloc: Global, words: &[String]) -> Result<Command, Fault<BadWords>>
     ensures exact { ReadsWord result (spec.spelled spec.rules_form (map string_bytes words.now)) }
     ensures texts { IfOk result HasTextNames }
@@ -245,7 +238,6 @@ pub(crate) fn read_rules(alloc: Global, words: &[String]) -> Result<Command, Fau
     command
 }
 
-// What the words behind `whatif` say.
 #[tactic(auto, unfolding(run_spec::specs::Words::whatif_of))]
 fn whatif_given(alloc: Global, given: &Parsed) -> Result<Command, Fault<BadWords>>
     ensures exact { ReadsWord result (spec.whatif_of given.now) }
@@ -260,7 +252,7 @@ fn whatif_given(alloc: Global, given: &Parsed) -> Result<Command, Fault<BadWords
     }
 }
 
-/// The words behind `whatif`.
+/// Parses the words after `whatif`.
 pub(crate) fn read_whatif(alloc: Global, words: &[String]) -> Result<Command, Fault<BadWords>>
     ensures exact { ReadsWord result (spec.spelled spec.whatif_form (map string_bytes words.now)) }
     ensures texts { IfOk result HasTextNames }

@@ -7,7 +7,7 @@ use crate::words::BadWords;
 use psi_base::{Fault, Path, Text, read_number};
 use std::alloc::Global;
 
-/// The number that a text spells, from the least to the most.
+/// The number that a text spells, if it is from `least` to `most`.
 pub(crate) fn number_within(least: u64, most: u64, text: &str) -> Result<u64, BadWords>
     ensures exact { Finds result (spec.number_within least most text.now) }
     ensures most { IfOk result (λ number. number ≤ most) }
@@ -18,7 +18,7 @@ pub(crate) fn number_within(least: u64, most: u64, text: &str) -> Result<u64, Ba
     }
 }
 
-/// The number that an option needs, from the least to the most.
+/// The number of a required option, from `least` to `most`.
 pub(crate) fn needed(least: u64, most: u64, given: Option<&str>) -> Result<u64, BadWords>
     ensures exact { Finds result (spec.needed least most (option_copied given.entry)) }
     ensures most { IfOk result (λ number. number ≤ most) }
@@ -29,7 +29,7 @@ pub(crate) fn needed(least: u64, most: u64, given: Option<&str>) -> Result<u64, 
     }
 }
 
-/// The number of an option, from the least to the most, or its default.
+/// The number of an optional option, from `least` to `most`, or its default.
 pub(crate) fn number_or(
     default: u32,
     least: u32,
@@ -47,7 +47,7 @@ pub(crate) fn number_or(
     }
 }
 
-/// The name of a rules file or a drop-in file, which isn't standard input, or that there is none.
+/// The name of a rules file or drop-in file, or none; it can't be standard input.
 pub(crate) fn rules(alloc: Global, given: Option<&str>) -> Result<Option<Text>, Fault<BadWords>>
     ensures exact { ReadsWord result (spec.rules_given (option_copied given.entry)) }
     ensures text { IfOk result (λ name. IfSome name IsUtf8) }
@@ -63,8 +63,7 @@ pub(crate) fn rules(alloc: Global, given: Option<&str>) -> Result<Option<Text>, 
     }
 }
 
-/// The name of the drop-in file over a rules file, or that there is none: without rules there is
-/// nothing that it could change.
+/// The name of the drop-in file, or none; it requires a rules file.
 pub(crate) fn drop_in(
     alloc: Global,
     rules_named: &Option<Text>,
@@ -80,7 +79,7 @@ pub(crate) fn drop_in(
     rules(alloc, given)
 }
 
-/// The path of a group, or that there is none.
+/// The path of a group, or none.
 pub(crate) fn live(alloc: Global, given: Option<&str>) -> Result<Option<Path>, Fault<BadWords>>
     ensures { ReadsWord result (spec.live_given (option_copied given.entry)) }
 {

@@ -1,4 +1,4 @@
-//! The command that words spell.
+//! The command of a command line.
 ghost use Rattle.std.specs.Prelude.{IfOk, map, string_bytes, ◌∷◌};
 ghost use Rattle.psi_words.specs.Reads.{HasTextNames, ReadsWord};
 ghost use Rattle.run_spec.specs.Words.{command_of};
@@ -12,7 +12,7 @@ use psi_base::Fault;
 use run_spec::Command;
 use std::alloc::Global;
 
-/// The words aren't those of a command.
+/// The words are not a valid command.
 #[derive(Clone, Copy, Debug, PartialEq, Eq)]
 pub struct BadWords;
 
@@ -27,7 +27,7 @@ impl From<BadWords> for Fault<BadWords> {
     }
 }
 
-// The command that its own word and the words behind it spell.
+// The command with this name and the words after it.
 #[tactic(auto, unfolding(run_spec::specs::Words::command_of))]
 fn read_named(alloc: Global, first: &str, words: &[String]) -> Result<Command, Fault<BadWords>>
     ensures exact { ReadsWord result (command_of (first.now ∷ map string_bytes words.now)) }
@@ -55,7 +55,7 @@ fn read_named(alloc: Global, first: &str, words: &[String]) -> Result<Command, F
     }
 }
 
-/// The command that the words spell, the program's name not among them.
+/// Parses the words of a command line, without the program's name, into a command.
 #[tactic(auto, unfolding(run_spec::specs::Words::command_of))]
 pub fn read_words(alloc: Global, words: &[String]) -> Result<Command, Fault<BadWords>>
     ensures exact { ReadsWord result (command_of (map string_bytes words.now)) }

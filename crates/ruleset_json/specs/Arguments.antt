@@ -1,5 +1,4 @@
--- The arguments of plugins: of what kind each is, what its text means, and what stands where it
--- isn't there.
+-- The arguments of plugins: the kind of each, the meaning of its text, and its default.
 use Rattle.std.specs.Prelude.{ℕ, List, [], ◌∷◌, Bool, true, false, codes, decimal, Option, None, Some, option_and_then, Result, Ok, Err}
 use Rattle.psi_base.specs.declared.event.Res.{Res}
 use Rattle.psi_base.specs.ResultSteps.{◌>>=◌}
@@ -19,19 +18,19 @@ use Rattle.ruleset_json.specs.Forms.{number_up_to, ratio_of, size_of, truth_of, 
 
 -- ---- the first fault on the walk
 
--- nothing is read, for this cause at this place
+-- a fault with this cause at this place
 abbrev pub refused_for : {A : Type 0} → Place → RulesCause → Result A RulesFault
 refused_for at what = Err (record { place = at; what = what })
 
--- what was found, or this cause
+-- the value, or a fault with this cause
 abbrev pub or_fault : {A : Type 0} → Place → RulesCause → Option A → Result A RulesFault
 or_fault at what None = refused_for at what
 or_fault at what (Some x) = Ok x
 
 -- ---- kinds of arguments
 
--- patterns of paths; a resource; a number of at most so much; a ratio, in thousandths; a size; a
--- truth
+-- patterns of paths; a resource; a number up to a maximum; a ratio in thousandths; a size; a
+-- Boolean
 pub data ArgumentKind : Type 0 where
   patterns : ArgumentKind
   resource : ArgumentKind
@@ -49,17 +48,17 @@ ArgumentValue ratio = ℕ
 ArgumentValue size = Size
 ArgumentValue truth = Bool
 
--- why a text of patterns is refused
+-- why a text of patterns is rejected
 abbrev pub pattern_cause : PatternFault → RulesCause
 pattern_cause pattern.BadPattern = cause.BadArg
 pattern_cause pattern.TooMany = cause.TooMany
 
--- what was read, or the cause against it
+-- the value, or a fault with the cause against it
 abbrev pub or_pattern : {A : Type 0} → Place → Result A PatternFault → Result A RulesFault
 or_pattern at (Ok x) = Ok x
 or_pattern at (Err fault) = refused_for at (pattern_cause fault)
 
--- what a text means as an argument of a kind
+-- the value of a text as an argument of a kind
 unfoldable pub argument_of : Place → (k : ArgumentKind) → List ℕ → Result (ArgumentValue k) RulesFault
 argument_of at patterns text = or_pattern at (patterns_of text)
 argument_of at resource text = or_fault at cause.BadArg (resource_of text)
@@ -70,24 +69,24 @@ argument_of at truth text = or_fault at cause.BadArg (truth_of text)
 
 -- ---- the texts of arguments
 
--- the text of a truth
+-- the text of a Boolean
 abbrev pub truth_text : Bool → List ℕ
 truth_text true = codes "true"
 truth_text false = codes "false"
 
--- the text of a whole number from 0 on
+-- the text of a natural number
 abbrev pub number_text : Num → Option (List ℕ)
 number_text (unsigned n) = Some (decimal n)
 number_text _ = None
 
--- the text that an argument is taken as: its own, or the spelling of a whole number or a truth
+-- the text of an argument: a string itself, or the spelling of a natural number or a Boolean
 abbrev pub argument_text : Data → Option (List ℕ)
 argument_text (string text) = Some text
 argument_text (numeric n) = number_text n
 argument_text (boolean b) = Some (truth_text b)
 argument_text _ = None
 
--- an argument that is there, as a value of its kind
+-- an argument that is present, as a value of its kind
 unfoldable pub value_at : Place → (k : ArgumentKind) → Data → Result (ArgumentValue k) RulesFault
 value_at at k d = do
   text ← or_fault at cause.WrongKind (argument_text d)
@@ -95,36 +94,36 @@ value_at at k d = do
 
 -- ---- tables of arguments
 
--- a known argument: its key, its kind, and what it is where it isn't there, if it needn't be there
+-- a known argument: its key, its kind, and its default if it is optional
 pub record Argument : Type 0 where
   pub key : Key
   pub kind : ArgumentKind
   pub default : Option (ArgumentValue kind)
 
--- one that must be there
+-- a required argument
 abbrev pub required : Key → ArgumentKind → Argument
 required key k = record { key = key; kind = k; default = None }
 
--- one that needn't
+-- an optional argument
 abbrev pub optional : Key → (k : ArgumentKind) → ArgumentValue k → Argument
 optional key k default = record { key = key; kind = k; default = Some default }
 
--- what stands where an argument isn't there, or what it is
+-- the value of an argument, or its default if it is missing
 abbrev pub found_or : Place → (k : ArgumentKind) → Option (ArgumentValue k) → Option Data → Result (ArgumentValue k) RulesFault
 found_or at k None None = refused_for at cause.MissingKey
 found_or at k (Some default) None = Ok default
 found_or at k default (Some d) = value_at at k d
 
--- the value of one argument among those of a plugin, of which there may be none
+-- the value of one argument of a plugin, whose `args` may be missing
 unfoldable pub argument_at : Place → (a : Argument) → Option Data → Result (ArgumentValue a.kind) RulesFault
 argument_at at a args = found_or at a.kind a.default (option_and_then (get (key_word a.key)) args)
 
--- what is made of arguments: a function of a value of each of them, in their order
+-- a function of the values of these arguments, in order
 abbrev pub ArgumentsMaker : List Argument → Type 0 → Type 0
 ArgumentsMaker [] Made = Made
 ArgumentsMaker (a ∷ known) Made = ArgumentValue a.kind → ArgumentsMaker known Made
 
--- what it gives for the arguments of a plugin, which are read in that order
+-- that function applied to the arguments of a plugin, which are parsed in order
 abbrev pub made_of_arguments : {Made : Type 0} → Place → (known : List Argument) → ArgumentsMaker known Made → Option Data
     → Result Made RulesFault
 made_of_arguments at [] made args = Ok made

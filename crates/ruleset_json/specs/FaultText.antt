@@ -1,4 +1,4 @@
--- What a fault of a rules file is told as.
+-- The text of a fault of a rules file.
 use Rattle.std.specs.Prelude.{ℕ, List, [], ◌∷◌, ◌++◌, codes, decimal}
 use Rattle.psi_spec.specs.Grammar.{joined}
 use Rattle.ruleset_json.specs.declared.fault.Place.{Place}
@@ -17,7 +17,7 @@ rules_cause_name cause.UnknownPlugin = codes "UnknownPlugin"
 rules_cause_name cause.BadArg = codes "BadArg"
 rules_cause_name cause.TooMany = codes "TooMany"
 
--- the words of a place: none for the whole file
+-- the words of a place; none for the whole file
 abbrev pub place_words : Place → List (List ℕ)
 place_words place.Whole = []
 place_words (place.Rule i) = codes "ruleset" ∷ decimal i ∷ []
@@ -25,7 +25,7 @@ place_words (place.Group i j) = codes "ruleset" ∷ decimal i ∷ codes "group" 
 place_words (place.Detector i j k) = codes "ruleset" ∷ decimal i ∷ codes "group" ∷ decimal j ∷ codes "item" ∷ decimal k ∷ []
 place_words (place.Action i k) = codes "ruleset" ∷ decimal i ∷ codes "action" ∷ decimal k ∷ []
 
--- what is told of a fault: the word for its file, its place there, and the name of its cause
+-- the text of a fault: the word for its file, its place, and the name of its cause
 abbrev pub placed_text : List ℕ → Place → List ℕ → List ℕ
 placed_text file at why = joined (file ∷ place_words at) ++ (codes ": " ++ why)
 

@@ -1,5 +1,4 @@
--- The texts of arguments, as this profile has them after oomd's: numbers, ratios, sizes, truths and
--- resources.
+-- The texts of arguments, which follow oomd's: numbers, ratios, sizes, Booleans and resources.
 use Rattle.std.specs.Prelude.{ℕ, ◌+◌, ◌-◌, ◌*◌, ◌/◌, ◌^◌, List, [], ◌∷◌, ◌++◌, take, length, slice_index, nat_lt, nat_le, ◌==◌, ◌&&◌, ◌||◌, Bool, true, false, if◌then◌else◌, codes, Option, None, Some, option_map}
 use Rattle.std.specs.List.{list_any}
 use Rattle.std.specs.Str.{bytes_eq}
@@ -12,22 +11,22 @@ use Rattle.psi_spec.specs.Fields.{named, resource_word}
 use Rattle.ruleset_json.specs.declared.types.Size.{Size}
 use Rattle.ruleset_json.specs.declared.types.Size.TheVariants as size
 
--- a number of at most so much
+-- a number up to a maximum
 abbrev pub at_most : ℕ → Option ℕ → Option ℕ
 at_most most None = None
 at_most most (Some n) = if nat_le n most then Some n else None
 
--- a number as a trace spells it, of at most so much
+-- a number up to a maximum, spelled as in a trace
 unfoldable pub number_up_to : ℕ → List ℕ → Option ℕ
 number_up_to most text = at_most most (number_of text)
 
 -- ---- numbers with a point
 
--- what one to three digits behind a point are, in thousandths: behind the last one stand zeros
+-- one to three digits after a point as thousandths, padded with zeros
 unfoldable pub fraction_of : List ℕ → Option ℕ
 fraction_of digits = if nat_lt 0 (length digits) && nat_le (length digits) 3 then digits_of (take 3 (digits ++ codes "00")) else None
 
--- a number of at most so much, and a fraction of it in thousandths behind a point, if there is one
+-- a number up to a maximum, and an optional fraction in thousandths after a point
 abbrev pub pointed : ℕ → List (List ℕ) → Option (ℕ × ℕ)
 pointed most [] = None
 pointed most (whole ∷ []) = do
@@ -39,20 +38,20 @@ pointed most (whole ∷ digits ∷ []) = do
   Some (n, fraction)
 pointed most (whole ∷ digits ∷ other ∷ parts) = None
 
--- the thousandths that a text spells: a number of at most so much, which may be followed by a point
--- and one to three digits
+-- the thousandths of a text: a number up to a maximum, optionally followed by a point and one to
+-- three digits
 unfoldable pub thousandths_of : ℕ → List ℕ → Option ℕ
 thousandths_of most text = do
   parts ← pointed most (parts_at 46 text)
   Some (parts.0 * 1000 + parts.1)
 
--- the ratio that a text spells, in thousandths: the number before the point is at most 1000
+-- the ratio of a text, in thousandths: the number before the point is at most 1000
 abbrev pub ratio_of : List ℕ → Option ℕ
 ratio_of text = thousandths_of 1000 text
 
 -- ---- sizes
 
--- what a letter behind a size multiplies it by
+-- the factor of a size's unit letter
 unfoldable pub unit_of : ℕ → Option ℕ
 unit_of letter =
     if letter == 75 || letter == 107 then Some (1024 ^ 1)  -- K, k
@@ -73,19 +72,18 @@ front text = take (length text - 1) text
 abbrev pub largest_size : ℕ
 largest_size = 2 ^ 60
 
--- the bytes that a number with this unit behind it is: it may have a point, and the bytes are
--- rounded down
+-- the bytes of a number with this unit, rounded down; it may have a point
 unfoldable pub scaled : ℕ → List ℕ → Option ℕ
 scaled unit text = do
   thousandths ← thousandths_of (2 ^ 64 - 1) text
   at_most largest_size (Some (thousandths * unit / 1000))
 
--- the bytes that a text spells which has this unit, or none
+-- the bytes of a text with this unit, or with no unit
 abbrev pub bytes_in : Option ℕ → List ℕ → Option ℕ
 bytes_in None text = number_up_to largest_size text
 bytes_in (Some unit) text = scaled unit (front text)
 
--- the size that a text spells: a number of 0 to 100 and `%`; or bytes, with a letter or without
+-- the size of a text: a number from 0 to 100 and `%`, or bytes with or without a unit letter
 unfoldable pub size_of : List ℕ → Option Size
 size_of text =
     if last text == 37 then option_map size.Percent (number_up_to 100 (front text))
@@ -97,13 +95,13 @@ size_of text =
 abbrev pub is_one_of : List (List ℕ) → List ℕ → Bool
 is_one_of words text = list_any (bytes_eq text) words
 
--- the truth that a text spells
+-- the Boolean of a text
 unfoldable pub truth_of : List ℕ → Option Bool
 truth_of text =
     if is_one_of (codes "true" ∷ codes "True" ∷ codes "1" ∷ []) text then Some true
     else if is_one_of (codes "false" ∷ codes "False" ∷ codes "0" ∷ []) text then Some false
     else None
 
--- the resource that a text spells: one that tasks stall for
+-- the resource of a text: one that tasks can stall on
 unfoldable pub resource_of : List ℕ → Option Res
 resource_of text = named resource_word (res.Io ∷ res.Memory ∷ []) text

@@ -1,9 +1,9 @@
--- What groups of detectors are within.
+-- The ranges of groups of detectors.
 use Rattle.std.specs.Prelude.{List, IsUtf8}
 use Rattle.ruleset_json.specs.declared.types.DetectorGroup.{DetectorGroup}
 use Rattle.ruleset_json.specs.Ranges.{FitsList, FitsDetectors}
 
--- a group has at most 16 detectors, with their arguments in their ranges, and its name is a text
+-- a group has at most 16 detectors, their arguments are in range, and its name is a text
 abbrev pub FitsGroup : DetectorGroup → Type 0
 FitsGroup group = FitsDetectors group.detectors × IsUtf8 group.name
 

@@ -1,5 +1,4 @@
--- What the walk through a list amounts to: all items are read, or the first that is refused gives
--- the fault.
+-- Laws of parsing a list: all items are accepted, or the first rejected one gives the fault.
 use Rattle.std.specs.Prelude.{◌≡◌, ◌↔◌, ℕ, ◌+◌, ◌<◌, List, length, Some, Result, Ok, Err}
 use Rattle.std.specs.List.{slice_get}
 use Rattle.std.specs.Result.{IsOk}
@@ -7,12 +6,12 @@ use Rattle.serde_json.specs.Data.{Data}
 use Rattle.ruleset_json.specs.declared.fault.RulesFault.{RulesFault}
 use Rattle.ruleset_json.specs.Rules.{each}
 
--- each item is read, with its number from this one on
+-- each item is accepted, numbered from this one
 pub record AreRead {A : Type 0} (read : ℕ → Data → Result A RulesFault) (from : ℕ) (items : List Data) (found : List A) : Type 0 where
   pub equally_many : length found ≡ length items
   pub each : (k : ℕ) (item : Data) (x : A) → slice_get items k ≡ Some item → slice_get found k ≡ Some x → read (from + k) item ≡ Ok x
 
--- some item is refused with this fault, and each before it is read
+-- some item is rejected with this fault, and each item before it is accepted
 pub record IsFirstFault {A : Type 0} (read : ℕ → Data → Result A RulesFault) (from : ℕ) (items : List Data)
     (fault : RulesFault) : Type 0 where
   pub at : ℕ
@@ -21,13 +20,13 @@ pub record IsFirstFault {A : Type 0} (read : ℕ → Data → Result A RulesFaul
   pub refused : read (from + at) item ≡ Err fault
   pub before : (k : ℕ) (earlier : Data) → k < at → slice_get items k ≡ Some earlier → IsOk (read (from + k) earlier)
 
--- A list is read exactly where each of its items is.
+-- A list is accepted if and only if each of its items is.
 abbrev pub ReadsEach : (A : Type 0) → Type 0
 ReadsEach A =
     (read : ℕ → Data → Result A RulesFault) (from : ℕ) (items : List Data) (found : List A)
     → (each read from items ≡ Ok found) ↔ AreRead read from items found
 
--- A list is refused exactly with the fault of its first item that is.
+-- A list is rejected exactly with the fault of its first rejected item.
 abbrev pub RefusesFirst : (A : Type 0) → Type 0
 RefusesFirst A =
     (read : ℕ → Data → Result A RulesFault) (from : ℕ) (items : List Data) (fault : RulesFault)

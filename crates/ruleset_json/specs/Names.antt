@@ -1,4 +1,4 @@
--- The names of detectors and actions, and the keys of their arguments: oomd's.
+-- The names of detectors and actions, and the keys of their arguments, as in oomd.
 use Rattle.std.specs.Prelude.{ℕ, List, [], ◌∷◌, codes, Option}
 use Rattle.psi_spec.specs.Fields.{named}
 use Rattle.ruleset_json.specs.declared.name.DetectorName.{DetectorName}
@@ -8,7 +8,7 @@ use Rattle.ruleset_json.specs.declared.name.ActionName.TheVariants as action
 use Rattle.ruleset_json.specs.declared.name.Key.{Key}
 use Rattle.ruleset_json.specs.declared.name.Key.TheVariants as key
 
--- how a detector is called
+-- the name of a detector
 unfoldable pub detector_word : DetectorName → List ℕ
 detector_word detector.PressureAbove = codes "pressure_above"
 detector_word detector.PressureRisingBeyond = codes "pressure_rising_beyond"
@@ -17,32 +17,32 @@ detector_word detector.MemoryReclaim = codes "memory_reclaim"
 detector_word detector.SwapFree = codes "swap_free"
 detector_word detector.Exists = codes "exists"
 
--- the detectors that there are
+-- all detectors
 abbrev pub detector_names : List DetectorName
 detector_names =
     detector.PressureAbove ∷ detector.PressureRisingBeyond ∷ detector.MemoryAbove ∷ detector.MemoryReclaim ∷ detector.SwapFree
     ∷ detector.Exists ∷ []
 
--- the detector that is called so
+-- the detector with this name
 unfoldable pub detector_named : List ℕ → Option DetectorName
 detector_named text = named detector_word detector_names text
 
--- how an action is called
+-- the name of an action
 unfoldable pub action_word : ActionName → List ℕ
 action_word action.SizeOrGrowth = codes "kill_by_memory_size_or_growth"
 action_word action.SwapUsage = codes "kill_by_swap_usage"
 action_word action.Pressure = codes "kill_by_pressure"
 action_word action.PgScan = codes "kill_by_pg_scan"
 
--- the actions that there are
+-- all actions
 abbrev pub action_names : List ActionName
 action_names = action.SizeOrGrowth ∷ action.SwapUsage ∷ action.Pressure ∷ action.PgScan ∷ []
 
--- the action that is called so
+-- the action with this name
 unfoldable pub action_named : List ℕ → Option ActionName
 action_named text = named action_word action_names text
 
--- how a key is written
+-- the text of a key
 unfoldable pub key_word : Key → List ℕ
 key_word key.Cgroup = codes "cgroup"
 key_word key.Resource = codes "resource"

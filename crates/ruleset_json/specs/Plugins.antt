@@ -1,5 +1,5 @@
--- The detectors and the actions: their arguments in the order in which they are read, and what
--- these make. They are core plugins of oomd, with the arguments that this profile knows of them.
+-- The detectors and the actions: their arguments in the order in which they are parsed, and the
+-- result. They are core plugins of oomd, with the arguments that this program supports.
 use Rattle.std.specs.Prelude.{ℕ, List, [], ◌∷◌, false}
 use Rattle.ruleset_json.specs.declared.name.DetectorName.{DetectorName}
 use Rattle.ruleset_json.specs.declared.name.DetectorName.TheVariants.{PressureAbove, PressureRisingBeyond, MemoryAbove, MemoryReclaim, SwapFree, Exists}
@@ -14,16 +14,16 @@ use Rattle.ruleset_json.specs.declared.types.Action.{Action}
 use Rattle.ruleset_json.specs.declared.types.Action.TheVariants as action
 use Rattle.ruleset_json.specs.Arguments.{Argument, ArgumentsMaker, required, optional, patterns, resource, number, ratio, size, truth}
 
--- a plugin: its arguments, and what their values make
+-- a plugin: its arguments, and a function of their values
 pub record Plugin (Made : Type 0) : Type 0 where
   pub arguments : List Argument
   pub make : ArgumentsMaker arguments Made
 
--- the plugin of these parts
+-- the plugin with these parts
 abbrev pub plugin : {Made : Type 0} (arguments : List Argument) → ArgumentsMaker arguments Made → Plugin Made
 plugin arguments make = record { arguments = arguments; make = make }
 
--- the greatest percentage
+-- the highest percentage
 abbrev pub percent : ℕ
 percent = 100
 
@@ -45,7 +45,7 @@ detector_of MemoryReclaim = plugin (required key.Cgroup patterns ∷ required ke
 detector_of SwapFree = plugin (required key.ThresholdPct (number percent) ∷ []) detector.SwapFree
 detector_of Exists = plugin (required key.Cgroup patterns ∷ optional key.Negate truth false ∷ []) detector.Exists
 
--- the actions: what their own arguments make, once it is known what each says beside its choice
+-- the actions: from their own arguments and the settings that all actions share
 unfoldable pub action_of : ActionName → Plugin (After → Action)
 action_of SizeOrGrowth =
     plugin (required key.Cgroup patterns ∷ optional key.SizeThreshold (number percent) 50
@@ -59,8 +59,7 @@ action_of Pressure =
     (λ cgroup resource after. action.Pressure cgroup resource after)
 action_of PgScan = plugin (required key.Cgroup patterns ∷ []) (λ cgroup after. action.PgScan cgroup after)
 
--- what every action takes behind its own arguments, in a ruleset that rests for so long (s) after a
--- kill
+-- the arguments that every action has after its own, in a ruleset with this delay (s) after a kill
 unfoldable pub after_arguments : ℕ → Plugin After
 after_arguments delay =
     plugin (optional key.Recursive truth false ∷ optional key.AlwaysContinue truth false

@@ -1,4 +1,4 @@
--- What the arguments of detectors and actions are within.
+-- The ranges of the arguments of detectors and actions.
 use Rattle.std.specs.Prelude.{ℕ, ◌≤◌, ◌^◌, List, All, length}
 use Rattle.psi_base.specs.declared.event.Res.{Res}
 use Rattle.psi_base.specs.declared.event.Res.TheVariants as res
@@ -21,7 +21,7 @@ IsTime n = n ≤ 1000000
 abbrev pub IsRatio : ℕ → Type 0
 IsRatio n = n ≤ 1000999
 
--- a resource is one that tasks stall for
+-- a resource is one that tasks can stall on
 abbrev pub IsStallable : Res → Type 0
 IsStallable res.Io = Unit {0}
 IsStallable res.Memory = Unit {0}
@@ -32,7 +32,7 @@ abbrev pub IsSize : Size → Type 0
 IsSize (size.Bytes n) = n ≤ 2 ^ 60
 IsSize (size.Percent n) = IsPercent n
 
--- a detector's arguments are in their ranges
+-- a detector's arguments are in range
 abbrev pub FitsDetector : DetectorSpec → Type 0
 FitsDetector (detector.PressureAbove cgroup resource threshold duration) = IsStallable resource × IsPercent threshold × IsTime duration
 FitsDetector (detector.PressureRisingBeyond cgroup resource threshold duration ratio) =
@@ -42,7 +42,7 @@ FitsDetector (detector.MemoryReclaim cgroup duration) = IsTime duration
 FitsDetector (detector.SwapFree threshold) = IsPercent threshold
 FitsDetector (detector.Exists cgroup negate) = Unit {0}
 
--- an action's arguments are in their ranges
+-- an action's arguments are in range
 abbrev pub FitsAction : Action → Type 0
 FitsAction (action.SizeOrGrowth cgroup size_threshold percentile ratio after) =
     IsPercent size_threshold × IsPercent percentile × IsRatio ratio × IsTime after.delay_s
@@ -50,7 +50,7 @@ FitsAction (action.SwapUsage cgroup threshold after) = IsSize threshold × IsTim
 FitsAction (action.Pressure cgroup resource after) = IsStallable resource × IsTime after.delay_s
 FitsAction (action.PgScan cgroup after) = IsTime after.delay_s
 
--- a list is of at most so many, each of which fits
+-- a list has at most n items, and each is in range
 pub record FitsList {A : Type 0} (Fits : A → Type 0) (most : ℕ) (xs : List A) : Type 0 where
   pub few : length xs ≤ most
   pub each : All Fits xs

@@ -1,11 +1,11 @@
--- What rulesets are within.
+-- The ranges of rulesets.
 use Rattle.std.specs.Prelude.{List, IsUtf8}
 use Rattle.ruleset_json.specs.declared.types.Rule.{Rule}
 use Rattle.ruleset_json.specs.Ranges.{FitsList, FitsActions}
 use Rattle.ruleset_json.specs.GroupRanges.{FitsGroups}
 
--- a ruleset has at most 16 groups and 16 actions, with their arguments in their ranges, and its
--- name is a text
+-- a ruleset has at most 16 groups and 16 actions, their arguments are in range, and its name is a
+-- text
 abbrev pub FitsRule : Rule → Type 0
 FitsRule rule = FitsGroups rule.groups × FitsActions rule.actions × IsUtf8 rule.name
 

@@ -1,5 +1,4 @@
--- The rules that a file's bytes give, or the first fault on the walk through it: down into each
--- part before the next.
+-- The rules of a file's bytes, or the first fault in depth-first order.
 use Rattle.std.specs.Prelude.{ℕ, ◌+◌, List, [], ◌∷◌, drop, length, nat_lt, if◌then◌else◌, codes, Option, None, Some, is_some, Result, Ok}
 use Rattle.std.specs.List.{slice_get}
 use Rattle.std.specs.Str.{is_utf8}
@@ -28,11 +27,11 @@ use Rattle.ruleset_json.specs.Plugins.{Plugin, detector_of, action_of, after_arg
 abbrev pub object_at : Place → Data → Result Data RulesFault
 object_at at d = if is_some (as_object d) then Ok d else refused_for at cause.WrongKind
 
--- the member of this key, which must be there
+-- the member with this key, which is required
 abbrev pub member_at : Place → List ℕ → Data → Result Data RulesFault
 member_at at key d = or_fault at cause.MissingKey (get key d)
 
--- a text
+-- a string
 abbrev pub text_at : Place → Data → Result (List ℕ) RulesFault
 text_at at d = or_fault at cause.WrongKind (as_str d)
 
@@ -41,17 +40,17 @@ abbrev pub items_list : Items → List Data
 items_list no_items = []
 items_list (item d ds) = d ∷ items_list ds
 
--- at most so many items
+-- at most n items
 abbrev pub few : Place → ℕ → List Data → Result (List Data) RulesFault
 few at most ds = if nat_lt most (length ds) then refused_for at cause.TooMany else Ok ds
 
--- a list of at most so many items, of whatever kinds
+-- a list of at most n items of any kind
 unfoldable pub list_at : Place → ℕ → Data → Result (List Data) RulesFault
 list_at at most d = do
   items ← or_fault at cause.WrongKind (as_array d)
   few at most (items_list items)
 
--- each item in order, with its number from this one on
+-- each item in order, numbered from this one
 abbrev pub each : {A : Type 0} → (ℕ → Data → Result A RulesFault) → ℕ → List Data → Result (List A) RulesFault
 each f i [] = Ok []
 each f i (d ∷ ds) = do
@@ -61,25 +60,26 @@ each f i (d ∷ ds) = do
 
 -- ---- plugins
 
--- the arguments of a plugin object: none where it has none
+-- the arguments of a plugin object, or None if it has none
 abbrev pub arguments_in : Place → Option Data → Result (Option Data) RulesFault
 arguments_in at None = Ok None
 arguments_in at (Some d) = do
   whole ← object_at at d
   Ok (Some whole)
 
--- what a plugin makes of its arguments
+-- the result of a plugin for its arguments
 unfoldable pub made_at : {Made : Type 0} → Place → Plugin Made → Option Data → Result Made RulesFault
 made_at at known args = made_of_arguments at known.arguments known.make args
 
--- what an action makes of its arguments, in a ruleset that rests for so long (s) after a kill
+-- the result of an action for its arguments, in a ruleset with this delay (s) after a kill
 unfoldable pub action_made_at : Place → ℕ → ActionName → Option Data → Result Action RulesFault
 action_made_at at delay name args = do
   make ← made_at at (action_of name) args
   after ← made_at at (after_arguments delay) args
   Ok (make after)
 
--- what a plugin object makes, by the names of its kind and what each of these makes of arguments
+-- the result of a plugin object, given the names of its kind and the result of each for its
+-- arguments
 unfoldable pub plugin_at : {Name Made : Type 0} → (List ℕ → Option Name) → (Name → Option Data → Result Made RulesFault) → Place
     → Data → Result Made RulesFault
 plugin_at name_of made at d = do
@@ -90,17 +90,17 @@ plugin_at name_of made at d = do
   args ← arguments_in at (get (codes "args") whole)
   made name args
 
--- the detector that a plugin object is
+-- the detector of a plugin object
 abbrev pub detector_in : Place → Data → Result DetectorSpec RulesFault
 detector_in at d = plugin_at detector_named (λ name. made_at at (detector_of name)) at d
 
--- the action that a plugin object is, in a ruleset that rests for so long (s) after a kill
+-- the action of a plugin object, in a ruleset with this delay (s) after a kill
 abbrev pub action_in : ℕ → Place → Data → Result Action RulesFault
 action_in delay at d = plugin_at action_named (action_made_at at delay) at d
 
 -- ---- groups, rulesets and the file
 
--- a group: its name and at most 16 detectors behind it in one list
+-- a group: its name, followed by at most 16 detectors in the same list
 unfoldable pub group_at : ℕ → ℕ → Data → Result DetectorGroup RulesFault
 group_at i j d = do
   items ← list_at (place.Group i j) 17 d
@@ -109,7 +109,7 @@ group_at i j d = do
   found ← each (λ k. detector_in (place.Detector i j k)) 0 (drop 1 items)
   Ok (record { name = name; detectors = found })
 
--- how long a ruleset rests after a kill by an action that doesn't say it itself, in seconds
+-- the delay (s) after a kill by an action that has none of its own
 abbrev pub delay_at : Place → Data → Result ℕ RulesFault
 delay_at at whole = argument_at at (optional key.PostActionDelay (number longest) 15) (Some whole)
 
@@ -120,7 +120,7 @@ groups_at i whole = do
   items ← list_at (place.Rule i) 16 found
   each (group_at i) 0 items
 
--- the actions of a ruleset that rests for so long
+-- the actions of a ruleset with this delay
 abbrev pub actions_at : ℕ → ℕ → Data → Result (List Action) RulesFault
 actions_at i delay whole = do
   found ← member_at (place.Rule i) (codes "actions") whole
@@ -138,24 +138,24 @@ rule_at i d = do
   chain ← actions_at i delay whole
   Ok (record { name = name; groups = groups; actions = chain })
 
--- the list of rulesets that a file has
+-- the list of rulesets of a file
 unfoldable pub rulesets_in : Data → Result (List Data) RulesFault
 rulesets_in d = do
   whole ← object_at place.Whole d
   found ← member_at place.Whole (codes "rulesets") whole
   list_at place.Whole 64 found
 
--- the JSON data of a text; what isn't UTF-8 is no text
+-- the JSON data of a text; bytes that aren't UTF-8 are not a text
 abbrev pub data_of : List ℕ → Option Data
 data_of bytes = if is_utf8 bytes then json.read bytes else None
 
--- the list of rulesets of a file of these bytes
+-- the list of rulesets of a file with these bytes
 abbrev pub rulesets_of : List ℕ → Result (List Data) RulesFault
 rulesets_of bytes =
     if nat_lt 1048576 (length bytes) then refused_for place.Whole cause.TooLong
     else or_fault place.Whole cause.BadJson (data_of bytes) >>= rulesets_in
 
--- the rules that a file's bytes give, or the first fault
+-- the rules of a file's bytes, or the first fault
 unfoldable pub rules_of : List ℕ → Result Rules RulesFault
 rules_of bytes = do
   items ← rulesets_of bytes

@@ -1,4 +1,4 @@
-//! The actions: for each a function with a line an argument.
+//! Parsing of actions: one function each, with one line for each argument.
 ghost use Rattle.std.specs.Prelude.{◌≡◌, option_map, IfOk};
 ghost use Rattle.serde_json.specs.View.{view};
 ghost use Rattle.ruleset_json.specs.declared.fault.RulesCause.TheVariants as cause;
@@ -19,8 +19,7 @@ use psi_base::Fault;
 use serde_json::Value;
 use std::alloc::Global;
 
-// What every action takes behind its own arguments, in a ruleset that rests for so long after a
-// kill.
+// The arguments that every action has after its own, in a ruleset with this delay after a kill.
 #[tactic(auto, unfolding(crate::specs::Rules::made_at, crate::specs::Plugins::after_arguments))]
 fn after(args: &Arguments, delay_s: u32) -> Result<After, Fault<RulesFault>>
     requires { IsTime delay_s }
@@ -110,7 +109,6 @@ fn pg_scan(args: &Arguments, delay_s: u32) -> Result<Action, Fault<RulesFault>>
     Ok(Action::PgScan { cgroup, after })
 }
 
-// What the action of this name makes of its arguments.
 fn made(name: ActionName, args: &Arguments, delay_s: u32) -> Result<Action, Fault<RulesFault>>
     requires { IsTime delay_s }
     ensures value { Gives result
@@ -125,7 +123,6 @@ fn made(name: ActionName, args: &Arguments, delay_s: u32) -> Result<Action, Faul
     }
 }
 
-// The action that is called so.
 fn named(text: &str, place: Place) -> Result<ActionName, RulesFault>
     ensures { result ≡ or_fault place cause.UnknownPlugin (action_named text.now) }
 {
@@ -138,7 +135,7 @@ fn named(text: &str, place: Place) -> Result<ActionName, RulesFault>
     }
 }
 
-/// The action that a plugin object is, in a ruleset that rests for so long after a kill.
+/// The action of a plugin object, in a ruleset with this delay (s) after a kill.
 #[tactic(auto, unfolding(crate::specs::Rules::plugin_at))]
 pub fn action(
     alloc: Global,

@@ -1,4 +1,4 @@
-//! The arguments of a plugin: each is looked up by its key and read as its kind.
+//! The arguments of a plugin: each is looked up by its key and parsed according to its kind.
 ghost use Rattle.std.specs.Prelude.{◌≡◌, ◌<◌, ◌≤◌, Option, Some, None, option_map, option_and_then, string_bytes, IfOk, codes};
 ghost use Rattle.serde_json.specs.View.{view};
 ghost use Rattle.serde_json.specs.Find as json;
@@ -21,13 +21,13 @@ use psi_base::{Fault, NoMemory, Res};
 use serde_json::Value;
 use std::alloc::Global;
 
-/// The greatest percentage.
+/// The highest percentage.
 pub const PERCENT: u32 = 100;
 
 /// The longest time, in seconds.
 pub const LONGEST_S: u32 = 1_000_000;
 
-// The text that an argument is taken as: its own, or the spelling of a whole number or a truth.
+// The text of an argument: a string itself, or the spelling of a natural number or a Boolean.
 fn text_in(alloc: Global, value: &Value) -> Result<Option<String>, NoMemory>
     ensures { IfOk result (λ text.
         option_map string_bytes text ≡ argument_text (view value.now)) }
@@ -45,7 +45,7 @@ fn text_in(alloc: Global, value: &Value) -> Result<Option<String>, NoMemory>
     }
 }
 
-// The same, or WrongKind.
+// The same, or `WrongKind`.
 fn text_of(alloc: Global, value: &Value, place: Place) -> Result<String, Fault<RulesFault>>
     ensures { GivesBy string_bytes result
         (or_fault place cause.WrongKind (argument_text (view value.now))) }
@@ -56,7 +56,6 @@ fn text_of(alloc: Global, value: &Value, place: Place) -> Result<String, Fault<R
     }
 }
 
-// Why a text of patterns is refused.
 fn cause_of(fault: PatternFault) -> RulesCause
     ensures { result ≡ pattern_cause fault }
 {
@@ -66,7 +65,6 @@ fn cause_of(fault: PatternFault) -> RulesCause
     }
 }
 
-// An argument that is there, as patterns.
 #[tactic(auto, unfolding(crate::specs::Arguments::value_at, crate::specs::Arguments::argument_of))]
 fn patterns(alloc: Global, value: &Value, place: Place) -> Result<Patterns, Fault<RulesFault>>
     ensures { Gives result (value_at place kind.patterns (view value.now)) }
@@ -79,7 +77,6 @@ fn patterns(alloc: Global, value: &Value, place: Place) -> Result<Patterns, Faul
     }
 }
 
-// An argument that is there, as a resource.
 #[tactic(auto, unfolding(crate::specs::Arguments::value_at, crate::specs::Arguments::argument_of))]
 fn resource(alloc: Global, value: &Value, place: Place) -> Result<Res, Fault<RulesFault>>
     ensures value { Gives result (value_at place kind.resource (view value.now)) }
@@ -92,7 +89,6 @@ fn resource(alloc: Global, value: &Value, place: Place) -> Result<Res, Fault<Rul
     }
 }
 
-// An argument that is there, as a number of at most so much.
 #[tactic(auto, unfolding(crate::specs::Arguments::value_at, crate::specs::Arguments::argument_of))]
 fn number(alloc: Global, value: &Value, most: u32, place: Place) -> Result<u32, Fault<RulesFault>>
     ensures value { Gives result (value_at place (kind.number most) (view value.now)) }
@@ -105,7 +101,6 @@ fn number(alloc: Global, value: &Value, most: u32, place: Place) -> Result<u32, 
     }
 }
 
-// An argument that is there, as a ratio in thousandths.
 #[tactic(auto, unfolding(crate::specs::Arguments::value_at, crate::specs::Arguments::argument_of))]
 fn ratio(alloc: Global, value: &Value, place: Place) -> Result<u32, Fault<RulesFault>>
     ensures value { Gives result (value_at place kind.ratio (view value.now)) }
@@ -118,7 +113,6 @@ fn ratio(alloc: Global, value: &Value, place: Place) -> Result<u32, Fault<RulesF
     }
 }
 
-// An argument that is there, as a size.
 #[tactic(auto, unfolding(crate::specs::Arguments::value_at, crate::specs::Arguments::argument_of))]
 fn size(alloc: Global, value: &Value, place: Place) -> Result<Size, Fault<RulesFault>>
     ensures value { Gives result (value_at place kind.size (view value.now)) }
@@ -131,7 +125,6 @@ fn size(alloc: Global, value: &Value, place: Place) -> Result<Size, Fault<RulesF
     }
 }
 
-// An argument that is there, as a truth.
 #[tactic(auto, unfolding(crate::specs::Arguments::value_at, crate::specs::Arguments::argument_of))]
 fn truth(alloc: Global, value: &Value, place: Place) -> Result<bool, Fault<RulesFault>>
     ensures { Gives result (value_at place kind.truth (view value.now)) }
@@ -143,7 +136,7 @@ fn truth(alloc: Global, value: &Value, place: Place) -> Result<bool, Fault<Rules
     }
 }
 
-/// The arguments of a plugin, and the place where their faults stand.
+/// The arguments of a plugin, and the place that their faults report.
 #[derive(Drop)]
 pub struct Arguments<'v> {
     alloc: Global,
@@ -153,7 +146,7 @@ pub struct Arguments<'v> {
 }
 
 impl<'v> Arguments<'v> {
-    /// The arguments that an object has.
+    /// The arguments in an object.
     pub fn of(alloc: Global, object: &'v Value, place: Place) -> Self
         ensures place { result.place ≡ place }
         ensures found { option_map (λ v. view v.now) result.found ≡ Some (view object.now) }
@@ -165,8 +158,7 @@ impl<'v> Arguments<'v> {
         }
     }
 
-    /// The arguments under the key `args` of a plugin, which is an object: none where it isn't
-    /// there.
+    /// The arguments under the key `args` of a plugin object; none if there is no such key.
     pub fn of_plugin(alloc: Global, plugin: &'v Value, place: Place) -> Result<Self, RulesFault>
         ensures found { ReadsBy (λ given. option_map (λ v. view v.now) given.found) result
             (arguments_in place (json.get (codes "args") (view plugin.now))) }
@@ -183,7 +175,6 @@ impl<'v> Arguments<'v> {
         })
     }
 
-    // The argument of this key.
     fn get(&self, key: Key) -> Option<&'v Value>
         ensures { option_map (λ v. view v.now) result
             ≡ option_and_then (json.get (key_word key))
@@ -195,7 +186,6 @@ impl<'v> Arguments<'v> {
         }
     }
 
-    // The argument of this key, which must be there.
     fn needed(&self, key: Key) -> Result<&'v Value, RulesFault>
         ensures { ReadsBy (λ v. view v.now) result
             (or_fault self.now.place cause.MissingKey
@@ -211,7 +201,7 @@ impl<'v> Arguments<'v> {
         }
     }
 
-    /// The patterns of this key.
+    /// The required patterns with this key.
     #[tactic(auto, unfolding(crate::specs::Arguments::argument_at))]
     pub fn patterns(&self, key: Key) -> Result<Patterns, Fault<RulesFault>>
         ensures { Gives result
@@ -221,7 +211,7 @@ impl<'v> Arguments<'v> {
         patterns(self.alloc, self.needed(key)?, self.place)
     }
 
-    /// The resource of this key.
+    /// The required resource with this key.
     #[tactic(auto, unfolding(crate::specs::Arguments::argument_at))]
     pub fn resource(&self, key: Key) -> Result<Res, Fault<RulesFault>>
         ensures value { Gives result
@@ -232,7 +222,7 @@ impl<'v> Arguments<'v> {
         resource(self.alloc, self.needed(key)?, self.place)
     }
 
-    /// The number of this key, at most so much.
+    /// The required number with this key, at most `most`.
     #[tactic(auto, unfolding(crate::specs::Arguments::argument_at))]
     pub fn number(&self, key: Key, most: u32) -> Result<u32, Fault<RulesFault>>
         ensures value { Gives result
@@ -243,7 +233,7 @@ impl<'v> Arguments<'v> {
         number(self.alloc, self.needed(key)?, most, self.place)
     }
 
-    /// The size of this key.
+    /// The required size with this key.
     #[tactic(auto, unfolding(crate::specs::Arguments::argument_at))]
     pub fn size(&self, key: Key) -> Result<Size, Fault<RulesFault>>
         ensures value { Gives result
@@ -254,7 +244,7 @@ impl<'v> Arguments<'v> {
         size(self.alloc, self.needed(key)?, self.place)
     }
 
-    /// The number of this key, at most so much, or what stands for it where it isn't there.
+    /// The number with this key, at most `most`, or its default if it is missing.
     #[tactic(auto, unfolding(crate::specs::Arguments::argument_at))]
     pub fn number_or(&self, key: Key, most: u32, default: u32) -> Result<u32, Fault<RulesFault>>
         requires { default ≤ most }
@@ -269,7 +259,7 @@ impl<'v> Arguments<'v> {
         }
     }
 
-    /// The ratio of this key in thousandths, or what stands for it where it isn't there.
+    /// The ratio with this key in thousandths, or its default if it is missing.
     #[tactic(auto, unfolding(crate::specs::Arguments::argument_at))]
     pub fn ratio_or(&self, key: Key, default: u32) -> Result<u32, Fault<RulesFault>>
         requires { IsRatio default }
@@ -284,7 +274,7 @@ impl<'v> Arguments<'v> {
         }
     }
 
-    /// The size of this key, or what stands for it where it isn't there.
+    /// The size with this key, or its default if it is missing.
     #[tactic(auto, unfolding(crate::specs::Arguments::argument_at))]
     pub fn size_or(&self, key: Key, default: Size) -> Result<Size, Fault<RulesFault>>
         requires { IsSize default }
@@ -299,7 +289,7 @@ impl<'v> Arguments<'v> {
         }
     }
 
-    /// The truth of this key, or what stands for it where it isn't there.
+    /// The Boolean with this key, or its default if it is missing.
     #[tactic(auto, unfolding(crate::specs::Arguments::argument_at))]
     pub fn truth_or(&self, key: Key, default: bool) -> Result<bool, Fault<RulesFault>>
         ensures { Gives result

@@ -1,4 +1,4 @@
-//! Rules once more, each part in memory of its own.
+//! Copies of rules. Cloning allocates and can fail, so each type has a function.
 ghost use Rattle.std.specs.Prelude.{◌≡◌, IfOk};
 ghost use Rattle.ruleset_json.specs.declared.types.DetectorSpec.TheVariants as detector;
 
@@ -9,14 +9,12 @@ use path_match::Patterns;
 use psi_base::{NoMemory, Res, Text};
 use std::alloc::Global;
 
-// The same text.
 fn copy_text(alloc: Global, text: &Text) -> Result<Text, NoMemory>
     ensures { IfOk result (λ copied. copied ≡ text.now) }
 {
     Text::make(alloc, text.bytes())
 }
 
-// Pressure that rises, with these arguments.
 fn rising_beyond(
     cgroup: Patterns,
     resource: Res,
@@ -37,7 +35,7 @@ fn rising_beyond(
 }
 
 impl DetectorSpec {
-    /// The same detector.
+    /// A copy of a detector.
     pub fn copy(&self, alloc: Global) -> Result<DetectorSpec, NoMemory>
         ensures { IfOk result (λ copied. copied ≡ self.now) }
     {
@@ -91,7 +89,7 @@ impl DetectorSpec {
 }
 
 impl Action {
-    /// The same action.
+    /// A copy of an action.
     pub fn copy(&self, alloc: Global) -> Result<Action, NoMemory>
         ensures { IfOk result (λ copied. copied ≡ self.now) }
     {
@@ -136,7 +134,7 @@ impl Action {
 }
 
 impl SpecList {
-    /// The same detectors.
+    /// A copy of detectors.
     pub fn copy(&self, alloc: Global) -> Result<SpecList, NoMemory>
         ensures { IfOk result (λ copied. copied ≡ self.now) }
     {
@@ -150,7 +148,7 @@ impl SpecList {
 }
 
 impl DetectorGroup {
-    /// The same group.
+    /// A copy of a group of detectors.
     pub fn copy(&self, alloc: Global) -> Result<DetectorGroup, NoMemory>
         ensures { IfOk result (λ copied. copied ≡ self.now) }
     {
@@ -162,7 +160,7 @@ impl DetectorGroup {
 }
 
 impl GroupList {
-    /// The same groups.
+    /// A copy of groups of detectors.
     pub fn copy(&self, alloc: Global) -> Result<GroupList, NoMemory>
         ensures { IfOk result (λ copied. copied ≡ self.now) }
     {
@@ -176,7 +174,7 @@ impl GroupList {
 }
 
 impl ActionList {
-    /// The same actions.
+    /// A copy of actions.
     pub fn copy(&self, alloc: Global) -> Result<ActionList, NoMemory>
         ensures { IfOk result (λ copied. copied ≡ self.now) }
     {
@@ -190,7 +188,7 @@ impl ActionList {
 }
 
 impl Rule {
-    /// The same ruleset.
+    /// A copy of a ruleset.
     pub fn copy(&self, alloc: Global) -> Result<Rule, NoMemory>
         ensures { IfOk result (λ copied. copied ≡ self.now) }
     {
@@ -203,7 +201,7 @@ impl Rule {
 }
 
 impl RuleList {
-    /// The same rulesets.
+    /// A copy of rulesets.
     pub fn copy(&self, alloc: Global) -> Result<RuleList, NoMemory>
         ensures { IfOk result (λ copied. copied ≡ self.now) }
     {
@@ -217,7 +215,7 @@ impl RuleList {
 }
 
 impl Rules {
-    /// The same rules.
+    /// A copy of rules.
     pub fn copy(&self, alloc: Global) -> Result<Rules, NoMemory>
         ensures { IfOk result (λ copied. copied ≡ self.now) }
     {

@@ -1,4 +1,4 @@
-//! The detectors: for each a function with a line an argument.
+//! Parsing of detectors: one function each, with one line for each argument.
 ghost use Rattle.std.specs.Prelude.{◌≡◌, option_map, IfOk};
 ghost use Rattle.serde_json.specs.View.{view};
 ghost use Rattle.ruleset_json.specs.declared.fault.RulesCause.TheVariants as cause;
@@ -111,7 +111,6 @@ fn exists(args: &Arguments) -> Result<DetectorSpec, Fault<RulesFault>>
     Ok(DetectorSpec::Exists { cgroup, negate })
 }
 
-// What the detector of this name makes of its arguments.
 fn made(name: DetectorName, args: &Arguments) -> Result<DetectorSpec, Fault<RulesFault>>
     ensures value { Gives result
         (made_at args.now.place (detector_of name) (option_map (λ v. view v.now) args.now.found)) }
@@ -127,7 +126,6 @@ fn made(name: DetectorName, args: &Arguments) -> Result<DetectorSpec, Fault<Rule
     }
 }
 
-// The detector that is called so.
 fn named(text: &str, place: Place) -> Result<DetectorName, RulesFault>
     ensures { result ≡ or_fault place cause.UnknownPlugin (detector_named text.now) }
 {
@@ -140,7 +138,7 @@ fn named(text: &str, place: Place) -> Result<DetectorName, RulesFault>
     }
 }
 
-/// The detector that a plugin object is.
+/// The detector of a plugin object.
 #[tactic(auto, unfolding(crate::specs::Rules::plugin_at))]
 pub fn detector(
     alloc: Global,

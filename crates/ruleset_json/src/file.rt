@@ -1,4 +1,4 @@
-//! The walk through a rules file: down into each part before the next.
+//! Parsing of a rules file, in depth-first order.
 ghost use Rattle.std.specs.Prelude.{◌≡◌, ◌≤◌, ◌-◌, codes, drop, if◌then◌else◌, map, nat_lt, length, IfOk, Err};
 ghost use Rattle.std.specs.List.{slice_get};
 ghost use Rattle.serde_json.specs.Find.{get};
@@ -25,19 +25,18 @@ use psi_base::{Fault, Text};
 use serde_json::Value;
 use std::alloc::Global;
 
-/// The most bytes of a rules file.
+/// The maximum number of bytes of a rules file.
 const MOST_BYTES: usize = 1_048_576;
 
-/// The most rulesets of a file.
+/// The maximum number of rulesets of a file.
 const MOST_RULES: usize = 64;
 
-/// The most groups of a ruleset, detectors of a group, and actions of a ruleset.
+/// The maximum number of groups of a ruleset, detectors of a group, and actions of a ruleset.
 const MOST_PARTS: usize = 16;
 
-/// How long a ruleset rests after a kill where nothing is said, in seconds: oomd's default.
+/// The default delay of a ruleset after a kill, in seconds: oomd's.
 const DELAY_S: u32 = 15;
 
-// The detectors of a group.
 fn detectors(
     alloc: Global,
     rule: u32,
@@ -61,7 +60,7 @@ fn detectors(
     Ok(SpecList::new(found))
 }
 
-// The actions of a ruleset that rests for so long after a kill.
+// The actions of a ruleset with this delay (s) after a kill.
 fn actions(
     alloc: Global,
     rule: u32,
@@ -86,7 +85,7 @@ fn actions(
     Ok(ActionList::new(found))
 }
 
-// The first item of a list, which must be there.
+// The first item of a list, which is required.
 fn first(items: &[Value], place: Place) -> Result<&Value, RulesFault>
     ensures { ReadsBy (λ v. view v.now) result
         (or_fault place cause.MissingKey (slice_get (map view items.now) 0)) }
@@ -100,7 +99,7 @@ fn first(items: &[Value], place: Place) -> Result<&Value, RulesFault>
     }
 }
 
-// The items of a list behind the first.
+// The items of a list after the first.
 fn rest(items: &[Value]) -> &[Value]
     ensures rest { map view result.now ≡ drop 1 (map view items.now) }
     ensures fewer { length result.now ≤ length items.now - 1 }
@@ -130,7 +129,6 @@ fn group(
     Ok(DetectorGroup { name, detectors })
 }
 
-// The groups of a ruleset.
 fn groups(alloc: Global, rule: u32, items: &[Value]) -> Result<GroupList, Fault<RulesFault>>
     requires { length items.now ≤ 16 }
     ensures value { Gives result (each (group_at rule) 0 (map view items.now)) }
@@ -147,7 +145,7 @@ fn groups(alloc: Global, rule: u32, items: &[Value]) -> Result<GroupList, Fault<
     Ok(GroupList::new(found))
 }
 
-// The groups that a ruleset has, which must be there.
+// The groups of a ruleset, which are required.
 fn groups_in(alloc: Global, rule: u32, whole: &Value) -> Result<GroupList, Fault<RulesFault>>
     ensures value { Gives result (groups_at rule (view whole.now)) }
 {
@@ -156,7 +154,7 @@ fn groups_in(alloc: Global, rule: u32, whole: &Value) -> Result<GroupList, Fault
     groups(alloc, rule, items)
 }
 
-// The actions that a ruleset has, which must be there. It rests for so long after a kill.
+// The actions of a ruleset, which are required, with this delay (s) after a kill.
 fn actions_in(
     alloc: Global,
     rule: u32,
@@ -171,7 +169,7 @@ fn actions_in(
     actions(alloc, rule, delay_s, items)
 }
 
-// How long a ruleset rests after a kill by an action that doesn't say it itself, in seconds.
+// The delay (s) of a ruleset after a kill, for actions that have none of their own.
 fn delay(alloc: Global, whole: &Value, place: Place) -> Result<u32, Fault<RulesFault>>
     ensures value { Gives result (delay_at place (view whole.now)) }
     ensures range { IfOk result IsTime }
@@ -179,7 +177,6 @@ fn delay(alloc: Global, whole: &Value, place: Place) -> Result<u32, Fault<RulesF
     Arguments::of(alloc, whole, place).number_or(Key::PostActionDelay, LONGEST_S, DELAY_S)
 }
 
-// A ruleset.
 #[tactic(auto, unfolding(crate::specs::Rules::rule_at))]
 fn rule(alloc: Global, index: u32, value: &Value) -> Result<Rule, Fault<RulesFault>>
     ensures value { Gives result (rule_at index (view value.now)) }
@@ -199,7 +196,7 @@ fn rule(alloc: Global, index: u32, value: &Value) -> Result<Rule, Fault<RulesFau
     })
 }
 
-// The groups that a part gives, if it gives any.
+// The groups of a part, if it has any.
 fn groups_if_there(
     alloc: Global,
     rule: u32,
@@ -214,7 +211,7 @@ fn groups_if_there(
     }
 }
 
-// The actions that a part gives, if it gives any. They rest for so long after a kill.
+// The actions of a part, if it has any, with this delay (s) after a kill.
 fn actions_if_there(
     alloc: Global,
     rule: u32,
@@ -251,7 +248,6 @@ fn part(alloc: Global, index: u32, value: &Value) -> Result<Part, Fault<RulesFau
     })
 }
 
-// The rulesets of the file.
 fn rules(alloc: Global, items: &[Value]) -> Result<RuleList, Fault<RulesFault>>
     requires { length items.now ≤ 64 }
     ensures value { Gives result (each rule_at 0 (map view items.now)) }
@@ -268,7 +264,6 @@ fn rules(alloc: Global, items: &[Value]) -> Result<RuleList, Fault<RulesFault>>
     Ok(RuleList::new(found))
 }
 
-// The rulesets of a drop-in file.
 fn parts(alloc: Global, items: &[Value]) -> Result<Vec<Part>, Fault<RulesFault>>
     requires { length items.now ≤ 64 }
     ensures value { GivesBy (λ found. found.items) result (each part_at 0 (map view items.now)) }
@@ -285,7 +280,7 @@ fn parts(alloc: Global, items: &[Value]) -> Result<Vec<Part>, Fault<RulesFault>>
     Ok(found)
 }
 
-// The list of rulesets that a file has.
+// The list of rulesets of a file.
 #[tactic(auto, unfolding(crate::specs::Rules::rulesets_in))]
 fn rulesets(value: &Value) -> Result<&[Value], RulesFault>
     ensures read { ReadsBy (λ items. map view items.now) result (rulesets_in (view value.now)) }
@@ -299,7 +294,7 @@ fn rulesets(value: &Value) -> Result<&[Value], RulesFault>
     )
 }
 
-// The value that the bytes of a file are.
+// The JSON value of a file's bytes.
 fn value_in(alloc: Global, bytes: &[u8]) -> Result<Value, Fault<RulesFault>>
     ensures value { GivesBy view result (if nat_lt 1048576 (length bytes.now)
         then refused_for place.Whole cause.TooLong
@@ -312,12 +307,12 @@ fn value_in(alloc: Global, bytes: &[u8]) -> Result<Value, Fault<RulesFault>>
     value_of(alloc, bytes)
 }
 
-/// The rules that a file's bytes give, or the first fault on the walk through it, which goes down
-/// into each part before the next: the file, its list `rulesets`, and of each ruleset `name`,
-/// `post_action_delay`, `detectors` and `actions`. A list is taken before its items; of a plugin
-/// its name, its `args` and each argument in the order of its table. Beyond the length and UTF-8
-/// the text is what `serde_json` reads of it: at most 127 nested lists and objects, and of a key
-/// that comes twice the last value. `NoMemory` comes only for a file that isn't too long.
+/// Parses a rules file: the rules with every default filled in, or the first fault in depth-first
+/// order: the file, its list `rulesets`, and of each ruleset `name`, `post_action_delay`,
+/// `detectors` and `actions`. A list is checked before its items; for a plugin, its name, its
+/// `args` and then each argument in the order of its table. The JSON is what `serde_json` accepts:
+/// at most 127 nested lists and objects, and the last value of a repeated key. `NoMemory` is only
+/// possible if the file isn't too long.
 #[tactic(auto, unfolding(crate::specs::Rules::rules_of))]
 pub fn read(alloc: Global, bytes: &[u8]) -> Result<Rules, Fault<RulesFault>>
     ensures exact { Gives result (rules_of bytes.now) }
@@ -328,9 +323,9 @@ pub fn read(alloc: Global, bytes: &[u8]) -> Result<Rules, Fault<RulesFault>>
     Ok(Rules { rules })
 }
 
-/// The parts that a drop-in file's bytes give, at most 64, or the first fault on the walk through
-/// it. The file is read as a rules file, by [`read`], but `detectors` and `actions` may be missing
-/// from a ruleset. Actions that give no `post_action_delay` have their part's, else 15 s.
+/// Parses a drop-in file: its parts, at most 64, or the first fault. It is parsed like a rules file
+/// ([`read`]), but a ruleset may lack `detectors` or `actions`. Actions without `post_action_delay`
+/// have their part's, or else 15 s.
 #[tactic(auto, unfolding(crate::specs::Parts::parts_of))]
 pub fn read_parts(alloc: Global, bytes: &[u8]) -> Result<Vec<Part>, Fault<RulesFault>>
     ensures exact { GivesBy (λ parts. parts.items) result (parts_of bytes.now) }

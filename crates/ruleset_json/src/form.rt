@@ -1,4 +1,4 @@
-//! The texts of arguments: numbers, ratios, sizes, truths and resources.
+//! The texts of arguments: numbers, ratios, sizes, Booleans and resources.
 ghost use Rattle.std.specs.Prelude.{◌≡◌, ◌<◌, ◌≤◌, ◌^◌, ◌*◌, ◌+◌, ◌++◌, ◌&&◌, nat_le, nat_lt, length, take, codes, if◌then◌else◌, Some, None, IfSome};
 ghost use Rattle.ruleset_json.specs.Forms as form;
 ghost use Rattle.ruleset_json.specs.Ranges.{IsRatio, IsSize, IsStallable};
@@ -12,7 +12,6 @@ const LARGEST_BYTES: u64 = 1 << 60;
 /// The largest number before the point of a ratio.
 const LARGEST_RATIO: u64 = 1000;
 
-// A number of at most so much.
 #[tactic(auto, unfolding(crate::specs::Forms::number_up_to))]
 fn long_number(text: &[u8], most: u64) -> Option<u64>
     ensures value { result ≡ form.number_up_to most text.now }
@@ -24,7 +23,7 @@ fn long_number(text: &[u8], most: u64) -> Option<u64>
     }
 }
 
-/// A number of at most so much.
+/// A number of at most `most`.
 pub fn number(text: &[u8], most: u32) -> Option<u32>
     ensures value { result ≡ form.number_up_to most text.now }
     ensures range { IfSome result (λ n. n ≤ most) }
@@ -35,7 +34,7 @@ pub fn number(text: &[u8], most: u32) -> Option<u32>
     }
 }
 
-// One to three digits behind a point, with zeros behind them: three in all.
+// One to three digits after a point, padded with zeros to three.
 fn padded(digits: &[u8]) -> Option<[u8; 3]>
     ensures { result
         ≡ (if nat_lt 0 (length digits.now) && nat_le (length digits.now) 3
@@ -49,7 +48,7 @@ fn padded(digits: &[u8]) -> Option<[u8; 3]>
     }
 }
 
-// What one to three digits behind a point are, in thousandths.
+// One to three digits after a point, as thousandths.
 #[tactic(auto, unfolding(crate::specs::Forms::fraction_of), using(crate::proofs::Fractions::padded_most))]
 fn fraction(digits: &[u8]) -> Option<u32>
     ensures value { result ≡ form.fraction_of digits.now }
@@ -61,7 +60,7 @@ fn fraction(digits: &[u8]) -> Option<u32>
     }
 }
 
-// The thousandths of a number of at most so much, which may be followed by a point and one to three
+// The thousandths of a number of at most `most`, optionally followed by a point and one to three
 // digits.
 #[tactic(auto, unfolding(crate::specs::Forms::thousandths_of))]
 fn thousandths(text: &[u8], most: u64) -> Option<u128>
@@ -79,7 +78,7 @@ fn thousandths(text: &[u8], most: u64) -> Option<u128>
     Some(whole + u128::from(fraction(digits)?))
 }
 
-/// A ratio in thousandths: a number of at most 1000, which may be followed by a point and one to
+/// A ratio in thousandths: a number of at most 1000, optionally followed by a point and one to
 /// three digits.
 pub fn ratio(text: &[u8]) -> Option<u32>
     ensures value { result ≡ form.ratio_of text.now }
@@ -91,7 +90,7 @@ pub fn ratio(text: &[u8]) -> Option<u32>
     }
 }
 
-// What a letter behind a size multiplies it by.
+// The factor of a size's unit letter.
 #[tactic(auto, unfolding(crate::specs::Forms::unit_of))]
 fn unit(letter: u8) -> Option<u128>
     ensures value { result ≡ form.unit_of letter }
@@ -121,7 +120,7 @@ fn scaled(text: &[u8], unit: u128) -> Option<u64>
     }
 }
 
-// The bytes of a text, of which the last may be the letter of a unit.
+// The bytes of a text whose last byte may be a unit letter.
 fn bytes(text: &[u8], front: &[u8], last: u8) -> Option<u64>
     requires { front.now ≡ form.front text.now }
     ensures value { result ≡ form.bytes_in (form.unit_of last) text.now }
@@ -133,9 +132,8 @@ fn bytes(text: &[u8], front: &[u8], last: u8) -> Option<u64>
     }
 }
 
-/// A size: a number of 0 to 100 and `%`; or at most 2^60 bytes, as a number, or as a number with or
-/// without a point and one of the letters `K`, `M`, `G`, `T` in either case, which are powers of
-/// 1024.
+/// A size: a number from 0 to 100 and `%`; or at most 2^60 bytes, as a number, or as a number with
+/// or without a point and one of the letters `K`, `M`, `G`, `T` in either case, for powers of 1024.
 #[tactic(auto, using(crate::proofs::Texts::empty_size), unfolding(crate::specs::Forms::size_of))]
 pub fn size(text: &[u8]) -> Option<Size>
     ensures value { result ≡ form.size_of text.now }
@@ -159,7 +157,7 @@ pub fn size(text: &[u8]) -> Option<Size>
     }
 }
 
-/// A truth: `true`, `True` or `1`, and `false`, `False` or `0`.
+/// A Boolean: `true`, `True` or `1`, and `false`, `False` or `0`.
 #[tactic(auto, unfolding(crate::specs::Forms::truth_of))]
 pub fn truth(text: &[u8]) -> Option<bool>
     ensures { result ≡ form.truth_of text.now }
@@ -176,7 +174,7 @@ pub fn truth(text: &[u8]) -> Option<bool>
     }
 }
 
-/// A resource that tasks stall for: `io` or `memory`.
+/// A resource that tasks can stall on: `io` or `memory`.
 #[tactic(auto, unfolding(crate::specs::Forms::resource_of))]
 pub fn resource(text: &[u8]) -> Option<Res>
     ensures value { result ≡ form.resource_of text.now }

@@ -1,4 +1,4 @@
-//! Values of a rules file by their kinds, and the faults of other kinds.
+//! JSON values of the expected kinds, or the faults of other kinds.
 ghost use Rattle.std.specs.Prelude.{◌≤◌, map, length, IfOk};
 ghost use Rattle.serde_json.specs.View.{view};
 ghost use Rattle.ruleset_json.specs.Arguments.{or_fault};
@@ -12,7 +12,7 @@ use psi_base::Fault;
 use serde_json::Value;
 use std::alloc::{AllocError, Global};
 
-/// The value that the bytes are, or BadJson.
+/// The JSON value of the bytes, or `BadJson`.
 pub fn value_of(alloc: Global, bytes: &[u8]) -> Result<Value, Fault<RulesFault>>
     ensures { GivesBy view result (or_fault place.Whole cause.BadJson (data_of bytes.now)) }
 {
@@ -28,7 +28,7 @@ pub fn value_of(alloc: Global, bytes: &[u8]) -> Result<Value, Fault<RulesFault>>
     }
 }
 
-/// The value, if it is an object.
+/// The value as an object, or a fault.
 pub fn object<'v>(value: &'v Value, place: Place) -> Result<&'v Value, RulesFault>
     ensures { ReadsBy (λ v. view v.now) result (object_at place (view value.now)) }
 {
@@ -42,7 +42,7 @@ pub fn object<'v>(value: &'v Value, place: Place) -> Result<&'v Value, RulesFaul
     }
 }
 
-/// The member of this key, which must be there.
+/// The member with this key, which is required.
 pub fn member<'v>(value: &'v Value, key: &str, place: Place) -> Result<&'v Value, RulesFault>
     ensures { ReadsBy (λ v. view v.now) result (member_at place key.now (view value.now)) }
 {
@@ -55,7 +55,7 @@ pub fn member<'v>(value: &'v Value, key: &str, place: Place) -> Result<&'v Value
     }
 }
 
-/// The value's text.
+/// The value as a string, or a fault.
 pub fn text<'v>(value: &'v Value, place: Place) -> Result<&'v str, RulesFault>
     ensures { ReadsBy (λ s. s.now) result (text_at place (view value.now)) }
 {
@@ -68,7 +68,7 @@ pub fn text<'v>(value: &'v Value, place: Place) -> Result<&'v str, RulesFault>
     }
 }
 
-/// The value's items, if it is a list of at most so many.
+/// The value as a list of at most `most` items, or a fault.
 #[tactic(auto, using(crate::proofs::Views::listed_view), unfolding(crate::specs::Rules::list_at))]
 pub fn list<'v>(value: &'v Value, most: usize, place: Place) -> Result<&'v [Value], RulesFault>
     ensures read { ReadsBy (λ v. map view v.now) result (list_at place most (view value.now)) }

@@ -1,11 +1,11 @@
-//! Laws of the walk. Each function has an empty body: its contract is the law.
+//! Laws of parsing lists. Each function has an empty body: its contract is the law.
 ghost use Rattle.ruleset_json.specs.Laws.{ReadsEach, RefusesFirst};
 ghost use Rattle.ruleset_json.specs.declared.types.Action.{Action};
 ghost use Rattle.ruleset_json.specs.declared.types.DetectorGroup.{DetectorGroup};
 ghost use Rattle.ruleset_json.specs.declared.types.DetectorSpec.{DetectorSpec};
 ghost use Rattle.ruleset_json.specs.declared.types.Rule.{Rule};
 
-/// A list is read exactly where each of its items is.
+/// A list is accepted if and only if each of its items is.
 pub fn law_lists_are_read()
     ensures detectors { ReadsEach DetectorSpec }
     ensures groups { ReadsEach DetectorGroup }
@@ -13,7 +13,7 @@ pub fn law_lists_are_read()
     ensures rules { ReadsEach Rule }
 {}
 
-/// A list is refused exactly with the fault of its first item that is.
+/// A list is rejected exactly with the fault of its first rejected item.
 pub fn law_first_faults()
     ensures detectors { RefusesFirst DetectorSpec }
     ensures groups { RefusesFirst DetectorGroup }

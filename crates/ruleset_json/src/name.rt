@@ -2,7 +2,7 @@
 ghost use Rattle.std.specs.Prelude.{◌≡◌};
 ghost use Rattle.ruleset_json.specs.Names as names;
 
-/// A detector by its name.
+/// The name of a detector.
 #[derive(Clone, Copy, Debug, PartialEq, Eq)]
 pub enum DetectorName {
     PressureAbove,
@@ -14,7 +14,7 @@ pub enum DetectorName {
 }
 
 impl DetectorName {
-    /// How it is called.
+    /// Its text in a file.
     #[tactic(auto, unfolding(crate::specs::Names::detector_word))]
     pub fn text(self) -> &'static str
         ensures { result.now ≡ names.detector_word self }
@@ -29,7 +29,7 @@ impl DetectorName {
         }
     }
 
-    /// The detector that is called so.
+    /// The detector with this name, or `None`.
     #[tactic(auto, unfolding(crate::specs::Names::detector_named))]
     pub fn of(text: &str) -> Option<DetectorName>
         ensures { result ≡ names.detector_named text.now }
@@ -52,7 +52,7 @@ impl DetectorName {
     }
 }
 
-/// An action by its name.
+/// The name of an action.
 #[derive(Clone, Copy, Debug, PartialEq, Eq)]
 pub enum ActionName {
     SizeOrGrowth,
@@ -62,7 +62,7 @@ pub enum ActionName {
 }
 
 impl ActionName {
-    /// How it is called.
+    /// Its text in a file.
     #[tactic(auto, unfolding(crate::specs::Names::action_word))]
     pub fn text(self) -> &'static str
         ensures { result.now ≡ names.action_word self }
@@ -75,7 +75,7 @@ impl ActionName {
         }
     }
 
-    /// The action that is called so.
+    /// The action with this name, or `None`.
     #[tactic(auto, unfolding(crate::specs::Names::action_named))]
     pub fn of(text: &str) -> Option<ActionName>
         ensures { result ≡ names.action_named text.now }
@@ -113,7 +113,7 @@ pub enum Key {
 }
 
 impl Key {
-    /// How it is written.
+    /// Its text in a file.
     #[tactic(auto, unfolding(crate::specs::Names::key_word))]
     pub fn text(self) -> &'static str
         ensures { result.now ≡ names.key_word self }

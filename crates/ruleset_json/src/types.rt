@@ -1,4 +1,4 @@
-//! What a rules file says.
+//! Rules: rulesets with their detectors and actions.
 use path_match::Patterns;
 use psi_base::{Res, Text};
 use std::marker::Model;
@@ -6,21 +6,20 @@ use std::marker::Model;
 /// A size: a number of bytes, at most 2^60, or a percentage, at most 100.
 #[derive(Clone, Copy, Debug, PartialEq, Eq)]
 pub enum Size {
-    /// So many bytes.
+    /// Bytes.
     Bytes(u64),
-    /// So many hundredths of a whole that the plugin names.
+    /// A percentage of a total that the plugin names.
     Percent(u32),
 }
 
-/// What every action says beside its choice: whether it goes down to children, and what comes after
-/// its kill.
+/// The settings that every action has: whether it descends to children, and what follows its kill.
 #[derive(Clone, Copy, Debug, PartialEq, Eq)]
 pub struct After {
-    /// Whether the victim is looked for among the chosen group's children too.
+    /// Whether the victim is also searched among the chosen group's children.
     pub recursive: bool,
-    /// Whether the actions behind it are taken although it killed.
+    /// Whether the actions after it are taken although it killed.
     pub always_continue: bool,
-    /// How long the ruleset rests after the kill, in seconds, at most 1,000,000.
+    /// How long the ruleset pauses after the kill, in seconds, at most 1,000,000.
     pub delay_s: u32,
 }
 
@@ -38,8 +37,8 @@ pub enum DetectorSpec {
         duration_s: u32,
     },
     /// `pressure_rising_beyond`: full pressure over 60 s is above the threshold (percent) for the
-    /// duration (s); that over 10 s is above it too, and at least this part (thousandths) of what
-    /// it was at the evaluation before.
+    /// duration (s); full pressure over 10 s is also above it now, and at least this fraction
+    /// (thousandths) of its value at the previous evaluation.
     PressureRisingBeyond {
         cgroup: Patterns,
         resource: Res,
@@ -62,20 +61,20 @@ pub enum DetectorSpec {
     SwapFree {
         threshold_pct: u32,
     },
-    /// `exists`: there is such a group, or, with `negate`, there is none.
+    /// `exists`: there is such a group; or, with `negate`, there is none.
     Exists {
         cgroup: Patterns,
         negate: bool,
     },
 }
 
-/// An action: how the group to be killed is chosen. Percentages are at most 100, a ratio in
-/// thousandths at most 1,000,999, and a resource is IO or memory.
+/// An action: how the victim is chosen. Percentages are at most 100, a ratio in thousandths at most
+/// 1,000,999, and a resource is IO or memory.
 #[derive(Drop)]
 pub enum Action {
-    /// `kill_by_memory_size_or_growth`: the largest group, if it has a share of the memory
-    /// (percent); else the one that grew most of those with at least this ratio (thousandths) of
-    /// the mean of their past, among the largest above the percentile; else the largest.
+    /// `kill_by_memory_size_or_growth`: the largest group, if it has this share of the memory
+    /// (percent); otherwise, among the largest above the percentile, the one that grew most, if its
+    /// size is at least this ratio (thousandths) of the mean of its history; otherwise the largest.
     SizeOrGrowth {
         cgroup: Patterns,
         size_threshold: u32,
@@ -83,7 +82,7 @@ pub enum Action {
         ratio: u32,
         after: After,
     },
-    /// `kill_by_swap_usage`: the group with the most swap, of at least the threshold.
+    /// `kill_by_swap_usage`: the group that uses the most swap, at least the threshold.
     SwapUsage {
         cgroup: Patterns,
         threshold: Size,
@@ -95,14 +94,14 @@ pub enum Action {
         resource: Res,
         after: After,
     },
-    /// `kill_by_pg_scan`: the group whose scanned pages rose most.
+    /// `kill_by_pg_scan`: the group with the most pages scanned since the previous evaluation.
     PgScan {
         cgroup: Patterns,
         after: After,
     },
 }
 
-/// Detectors in order, at most 16, each in its ranges.
+/// Detectors in order, at most 16, with their arguments in range.
 #[derive(Drop)]
 pub struct SpecList {
     specs: Vec<DetectorSpec>,
@@ -124,7 +123,7 @@ impl SpecList {
     ghost use Rattle.std.specs.Prelude.{◌≡◌};
     ghost use Rattle.ruleset_json.specs.Ranges.{FitsDetectors};
 
-    /// The list of these.
+    /// A list of these detectors.
     pub fn new(specs: Vec<DetectorSpec>) -> Self
         requires { FitsDetectors specs.items }
         ensures { result ≡ specs.items }
@@ -140,7 +139,7 @@ impl SpecList {
         &self.specs
     }
 
-    /// The same as a vector, without taking memory.
+    /// The list as a vector. Does not allocate.
     pub fn into_items(self) -> Vec<DetectorSpec>
         ensures items { result.items ≡ self }
         ensures fits { FitsDetectors result.items }
@@ -149,8 +148,8 @@ impl SpecList {
     }
 }
 
-/// A group of detectors with a name. It holds where all its detectors do; one without detectors
-/// always holds.
+/// A group of detectors with a name. It is true if all its detectors are; one without detectors is
+/// always true.
 #[derive(Drop)]
 pub struct DetectorGroup {
     /// Its name.
@@ -181,7 +180,7 @@ impl GroupList {
     ghost use Rattle.std.specs.Prelude.{◌≡◌};
     ghost use Rattle.ruleset_json.specs.GroupRanges.{FitsGroups};
 
-    /// The list of these.
+    /// A list of these groups.
     pub fn new(groups: Vec<DetectorGroup>) -> Self
         requires { FitsGroups groups.items }
         ensures { result ≡ groups.items }
@@ -197,7 +196,7 @@ impl GroupList {
         &self.groups
     }
 
-    /// The same as a vector, without taking memory.
+    /// The list as a vector. Does not allocate.
     pub fn into_items(self) -> Vec<DetectorGroup>
         ensures items { result.items ≡ self }
         ensures fits { FitsGroups result.items }
@@ -206,7 +205,7 @@ impl GroupList {
     }
 }
 
-/// Actions in order, at most 16, each in its ranges.
+/// Actions in order, at most 16, with their arguments in range.
 #[derive(Drop)]
 pub struct ActionList {
     actions: Vec<Action>,
@@ -228,7 +227,7 @@ impl ActionList {
     ghost use Rattle.std.specs.Prelude.{◌≡◌};
     ghost use Rattle.ruleset_json.specs.Ranges.{FitsActions};
 
-    /// The list of these.
+    /// A list of these actions.
     pub fn new(actions: Vec<Action>) -> Self
         requires { FitsActions actions.items }
         ensures { result ≡ actions.items }
@@ -244,7 +243,7 @@ impl ActionList {
         &self.actions
     }
 
-    /// The same as a vector, without taking memory.
+    /// The list as a vector. Does not allocate.
     pub fn into_items(self) -> Vec<Action>
         ensures items { result.items ≡ self }
         ensures fits { FitsActions result.items }
@@ -253,7 +252,7 @@ impl ActionList {
     }
 }
 
-/// A ruleset: where one of its groups holds, its actions are taken in order.
+/// A ruleset: if one of its groups is true, its actions are taken in order.
 #[derive(Drop)]
 pub struct Rule {
     /// Its name. Several rulesets may have the same.
@@ -269,7 +268,7 @@ impl Rule {
     ghost use Rattle.ruleset_json.specs.Replaced.{replaced};
     ghost use Rattle.ruleset_json.specs.RuleRanges.{FitsRule};
 
-    // Puts these groups in place of its own, if any are given.
+    // Replaces its groups, if any are given.
     fn put_groups(&mut self, groups: Option<GroupList>)
         ensures value { self.new ≡ replaced groups None self.old }
         ensures fits { FitsRule self.old → FitsRule self.new }
@@ -279,7 +278,7 @@ impl Rule {
         }
     }
 
-    // Puts these actions in place of its own, if any are given.
+    // Replaces its actions, if any are given.
     fn put_actions(&mut self, actions: Option<ActionList>)
         ensures value { self.new ≡ replaced None actions self.old }
         ensures fits { FitsRule self.old → FitsRule self.new }
@@ -290,15 +289,15 @@ impl Rule {
     }
 }
 
-/// A ruleset of a drop-in file: what it puts in place of the groups, of the actions, or of both of
-/// a ruleset with its name.
+/// A ruleset of a drop-in file: replaces the groups, the actions, or both of the ruleset with its
+/// name.
 #[derive(Drop)]
 pub struct Part {
-    /// The name of the ruleset that it speaks of.
+    /// The name of the ruleset that it changes.
     pub name: Text,
-    /// Its groups of detectors, if it gives any list of them.
+    /// The new groups of detectors, if any.
     pub groups: Option<GroupList>,
-    /// Its actions, if it gives any list of them.
+    /// The new actions, if any.
     pub actions: Option<ActionList>,
 }
 
@@ -325,7 +324,7 @@ impl RuleList {
     ghost use Rattle.ruleset_json.specs.Replaced.{replaced_at};
     ghost use Rattle.ruleset_json.specs.RuleRanges.{FitsRules};
 
-    /// The list of these.
+    /// A list of these rulesets.
     pub fn new(rules: Vec<Rule>) -> Self
         requires { FitsRules rules.items }
         ensures { result ≡ rules.items }
@@ -341,8 +340,8 @@ impl RuleList {
         &self.rules
     }
 
-    /// Puts what is given in place of the groups and the actions of the ruleset with this number,
-    /// from 0. All else stays. Takes no memory.
+    /// Replaces the groups and actions, as far as they are given, of the ruleset with this number,
+    /// from 0. Nothing else changes. Does not allocate.
     pub fn replace(&mut self, rule: u32, groups: Option<GroupList>, actions: Option<ActionList>)
         requires { rule < length self.old }
         ensures { self.new ≡ replaced_at rule groups actions self.old }
@@ -352,7 +351,7 @@ impl RuleList {
         rule.put_actions(actions);
     }
 
-    /// The same as a vector, without taking memory.
+    /// The list as a vector. Does not allocate.
     pub fn into_items(self) -> Vec<Rule>
         ensures items { result.items ≡ self }
         ensures fits { FitsRules result.items }
