@@ -8,6 +8,7 @@ import contextlib
 import gzip
 import hashlib
 import os
+import re
 import subprocess
 import sys
 import tarfile
@@ -83,6 +84,13 @@ def change(folder: str, name: str, edit: Callable[[bytes], bytes]) -> None:
     must(after != before, f"{name} is changed")
     with open(path, "wb") as file:
         file.write(after)
+
+
+def count_bytes(folder: str) -> None:
+    """Lets `meta` count the bytes of pages that there are."""
+    names = [os.path.join(folder, name) for name in os.listdir(folder) if ".raw" in name]
+    count = sum(os.path.getsize(name) for name in names)
+    change(folder, "meta", lambda it: re.sub(rb"(?m)^bytes \d+$", b"bytes %d" % count, it))
 
 
 def end_of(trace: bytes) -> int:

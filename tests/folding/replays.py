@@ -138,7 +138,7 @@ def check_kills_that_happen(program: str) -> None:
             words = ("whatif", f"--rules={file.name}", f"--tick-ms={maker.tick // MS}", "--report-s=1", "--interval-s=1")
             wanted = printed(program, trace, *words)
             other, fold = folded(trace, maker.tick, list(victims_in(rules)))
-            must_be(f"trace {number}: tasks that came to victims later", fold.world.came, 0)
+            must_be(f"trace {number}: when tasks came to victims or moved", fold.world.changes.last, 0)
             must_print_alike(f"whatif of trace {number}", wanted, printed(program, other, *words))
             near += printed(program, folded(trace, maker.tick)[0], *words) != wanted
         kills += b"kill " in wanted

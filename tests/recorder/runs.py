@@ -72,7 +72,7 @@ class Run:
     def values(self, key: str) -> list[str]:
         """The values that a key of `meta` has."""
         lines = self.file("meta").decode().splitlines()
-        must(lines[0] == "recording 1" and lines[-1].startswith("end "), f"the first and the last line of meta: {lines}")
+        must(lines[0] == "recording 2" and lines[-1].startswith("end "), f"the first and the last line of meta: {lines}")
         return [it.partition(" ")[2] for it in lines if it.partition(" ")[0] == key]
 
     def instance(self) -> str:

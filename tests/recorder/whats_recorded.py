@@ -60,6 +60,7 @@ task 101 101 R 1 {WEB} web) S 9 (x
 task 102 101 D 0 {WEB} two lines
 group /user\x20slice none
 type /user\x20slice domain
+end
 """
     must_be("the snapshot", rest, wanted)
 

@@ -93,6 +93,8 @@ class Clocks:
         }  # fmt: skip
         for line in lines:
             words = line.split()
+            if int(words[0]) < self.now:
+                raise ValueError("time goes back")
             self.now = int(words[0])
             act = acts.get(words[1])
             if act:

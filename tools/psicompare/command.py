@@ -25,15 +25,17 @@ from collections.abc import Callable, Iterable, Iterator, Sequence
 from typing import NamedTuple
 
 from psiconvert.wakeups import bounds_of, lag_bounds, with_wakeups
+from psiread.kinds import kind_of_file
 from psiread.pressure import compared, machine_readings, made_in, readings_within, replay_series
 from psiread.recording import read_recording
 from psiread.source import Source, Unreadable
-from psiread.words import SECOND, Parser, length, nanoseconds, number_from, share
+from psiread.words import SECOND, Parser, guarded, length, nanoseconds, number_from, share
 from psireplay.program import named_program
 
 from .agreement import Growth, asked_of, growths_of, sampling_of
 from .clocks import Clocks
 from .moments import COMMON_RATE, Moments, period_of
+from .origin import must_be_in_order, must_be_of, must_have_switches_of
 from .table import LEVELS, MICROSECONDS, Limits, Row, Shown, Span, cell_of, report
 
 BEYOND, NOTHING = 1, 2
@@ -110,9 +112,10 @@ def end_of(trace: str) -> int:
             file.seek(max(0, file.tell() - 64))
             words = file.read().split(b"\n")[-2].split(b" ")
     except (OSError, IndexError) as fault:
-        raise Unreadable(f"{trace}: {getattr(fault, 'strerror', None) or 'this is no trace'}") from None
+        text = kind_of_file(trace) or getattr(fault, "strerror", None)
+        raise Unreadable(f"{trace}: {text or 'this is no trace'}") from None
     if len(words) != 2 or words[1] != b"end" or not words[0].isdigit():
-        raise Unreadable(f"{trace}: it has no end line")
+        raise Unreadable(f"{trace}: {kind_of_file(trace) or 'it has no end line'}")
     return int(words[0])
 
 
@@ -133,6 +136,7 @@ def by_replay(options: Options, tick_ms: int) -> tuple[list[Row], Shown]:
     """What a replay says of the trace."""
     source = read_recording(options.folder, True)
     start, end = start_of(options, source), end_of(options.trace)
+    must_be_of(source, options.trace, start, end, options.lead_in)
     series = replay_series(replayed(options.trace, tick_ms))
     found = compared(machine_readings(options.folder, source), series, made_in(source), start, start + end)
     if found is None:
@@ -151,16 +155,18 @@ def clocks_of(trace: str, edited: Callable[[Iterable[str]], Iterable[str]] = ite
     def counted(lines: Iterable[str]) -> Iterator[str]:
         nonlocal number
         for number, line in enumerate(lines, 2):
+            if not line.isascii():
+                raise Unreadable(f"{trace}: line {number} has bytes that aren't ASCII")
             yield line
 
     try:
-        with open(trace, encoding="ascii") as file:
+        with open(trace, encoding="ascii", errors="surrogateescape") as file:
             if file.readline().split()[:1] != ["psitrace"]:
-                raise Unreadable(f"{trace}: this is no trace")
+                raise Unreadable(f"{trace}: {kind_of_file(trace) or 'this is no trace'}")
             clocks = Clocks(edited(counted(file)))
     except OSError as fault:
-        raise Unreadable(f"{trace}: {fault.strerror}") from None
-    except (LookupError, ValueError, TypeError):
+        raise Unreadable(f"{trace}: {kind_of_file(trace) or fault.strerror}") from None
+    except (LookupError, ValueError, TypeError, OverflowError):
         raise Unreadable(f"{trace}: line {number} can't be followed: psi_oomd check says what is wrong with it") from None
     if clocks.now != end_of(trace):
         raise Unreadable(f"{trace}: it goes on after its end")
@@ -197,6 +203,8 @@ def by_moments(options: Options) -> tuple[list[Row], Shown]:
     """What the trace says where each group is sampled when the kernel did."""
     source = read_recording(options.folder, True)
     start, clocks = start_of(options, source), clocks_of(options.trace)
+    must_be_of(source, options.trace, start, clocks.now, options.lead_in)
+    must_have_switches_of(source, options.trace, start)
     told = Moments(source, machine_readings(options.folder, source))
     inside = readings_within(told.readings, start, start + clocks.now)
     if len(inside) < 2:
@@ -270,7 +278,10 @@ def main(given: list[str]) -> int:
     """Runs the command; answers its status."""
     options = options_of(given)
     try:
-        return run(options)
+        must_be_in_order(options.folder, options.trace)
+        return guarded("compare", lambda: run(options), NOTHING)
     except Unreadable as fault:
         print(f"compare: {fault}", file=sys.stderr)
-        return NOTHING
+    except MemoryError:
+        print("compare: out of memory", file=sys.stderr)
+    return NOTHING

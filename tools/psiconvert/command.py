@@ -8,8 +8,8 @@ the start of the recording. The trace begins at 0 wherever it is cut. It has ver
 accounted all the time (its cgroup.pressure was 0); else version 1.
 
 The status is 0; 1 for faulty words; 2 where something can't be read or written; 3 where events were lost or a limit of traces
-was met: then nothing is written, unless --force is given, with which the longest stretch without loss is; and 4 where the check of
-a folded trace found a difference, which is a fault of this tool.
+was met, and where folding makes the trace longer: then nothing is written, unless --force is given, with which the longest stretch
+without loss is; and 4 where the check of a folded trace found a difference, which is a fault of this tool.
 """
 from __future__ import annotations
 
@@ -21,21 +21,23 @@ from collections.abc import Iterable
 from typing import NamedTuple
 
 from psifold.check import Different
-from psifold.words import Folding, add_window, folding_lines, folding_of
+from psifold.words import Folding, add_window, folding_lines, folding_of, is_longer
+from psifold.world import NotATrace
 from psiftrace.text import read_text
-from psiread.events import Event, Interrupts, SwitchProbe, WaitEnds
+from psiread.events import Interrupts, SwitchProbe, WaitEnds
+from psiread.files import text_of
 from psiread.pressure import spans_of
-from psiread.recording import read_recording, text_of
+from psiread.recording import read_recording
 from psiread.slices import Survey
 from psiread.source import Faulty, Source, Unreadable
 from psiread.waits import Method, best_method
 from psiread.window import Window, longest_stretch, loss_text, overlapping
-from psiread.words import SECOND, Parser, length, nanoseconds, number_from
+from psiread.words import SECOND, Parser, guarded, length, nanoseconds, number_from
 from psirec.layout import PRESSURE, RESOURCES, escaped_path
-from psiworld.limits import MOST_PROCESSORS
+from psiworld.limits import LEAST_WINDOW, MOST_PROCESSORS, MOST_WINDOW
 
 from .convert import Converted, Past, Wanted, convert
-from .folded import convert_folded
+from .folded import Slices, convert_folded, looked_ahead
 from .lead_in import TICK, averages_in
 from .summary import limit_lines, summary_of
 from .unwritten import UNWRITTEN, silent_tasks, with_unwritten
@@ -48,8 +50,6 @@ LARGE = 16 << 20
 MOST_TRIGGERS = 256
 # A lead-in, ns.
 LEAST_PAST, MOST_PAST = 300 * SECOND, 3600 * SECOND
-# A trigger's window in us.
-LEAST_WINDOW, MOST_WINDOW = 500_000, 10_000_000
 DEFAULT_PREFERENCES = {"prefer": "prefer", "avoid": "avoid", "omit": "avoid"}
 
 
@@ -148,7 +148,7 @@ class Reading(NamedTuple):
     tasks that never leave a processor."""
 
     source: Source
-    slices: Iterable[list[Event]]
+    slices: Slices
     silent: set[int]
 
 
@@ -156,14 +156,14 @@ def reading_of(options: Options) -> Reading:
     """Reads what is to be converted."""
     if not os.path.isdir(options.source):
         source = read_text(options.source, options.processors)
-        return Reading(source, [source.events], silent_tasks(source.events))
+        return Reading(source, lambda: [source.events], silent_tasks(source.events))
     if options.processors:
         raise Faulty("--cpus is for texts: a recording says how many processors it has")
     if options.folding is None:
-        return Reading(read_recording(options.source, options.is_forced), [], set())
+        return Reading(read_recording(options.source, options.is_forced), lambda: [], set())
     survey = Survey(options.source, is_large(options))
     source = read_recording(options.source, options.is_forced, survey.read)
-    return Reading(source, survey.slices(source.whole_from), survey.silent)
+    return Reading(source, lambda: survey.slices(source.whole_from), survey.silent)
 
 
 def part_of(options: Options, whole: Window) -> Window:
@@ -236,15 +236,15 @@ def losses_of(source: Source, window: Window, whole: Window) -> list[str]:
 
 def write(options: Options, parts: Iterable[bytes]) -> None:
     """Writes the trace."""
+    if options.output is None:
+        sys.stdout.buffer.writelines(parts)
+        sys.stdout.buffer.flush()
+        return
     try:
-        if options.output is None:
-            sys.stdout.buffer.writelines(parts)
-            sys.stdout.buffer.flush()
-        else:
-            with open(options.output, "wb") as file:
-                file.writelines(parts)
+        with open(options.output, "wb") as file:
+            file.writelines(parts)
     except OSError as fault:
-        raise Unreadable(f"{options.output or 'standard output'}: {fault.strerror}") from None
+        raise Unreadable(f"{options.output}: {fault.strerror}") from None
 
 
 def is_large(options: Options) -> bool:
@@ -260,6 +260,7 @@ class Made(NamedTuple):
     converted: Converted
     parts: Iterable[bytes]
     told: list[str]
+    is_longer: bool = False
 
 
 def converted_of(options: Options, reading: Reading, wanted: Wanted) -> Made:
@@ -271,10 +272,13 @@ def converted_of(options: Options, reading: Reading, wanted: Wanted) -> Made:
         put_in_unwritten(source, wanted.window)
         converted = convert(source, wanted)
         return Made(converted, [("\n".join(converted.lines) + "\n").encode("ascii")], [])
-    slices = wakeups.slices(reading.slices)
-    made = convert_folded(source, slices, reading.silent, wanted, options.folding, is_large(options))
+    early = Wakeups(wakeups.counting).slices(reading.slices())
+    ahead = looked_ahead(source, early, reading.silent, wanted.window)
+    folding, silent = options.folding, reading.silent
+    made = convert_folded(source, lambda: wakeups.slices(reading.slices()), ahead, silent, wanted, folding, is_large(options))
     source.notes.append(wakeups.text())
-    return Made(made.converted, made.spool.parts(), folding_lines(options.folding, made.outcome))
+    longer = is_longer(made.outcome.counts)
+    return Made(made.converted, made.spool.parts(), folding_lines(options.folding, made.outcome), longer)
 
 
 def run(options: Options) -> int:
@@ -298,7 +302,7 @@ def run(options: Options) -> int:
     never_made = [path for path, words in upon.items() if any(it.startswith("trigger") for it in words)]
     if never_made:
         raise Faulty(f"--trigger: there is no group {never_made[0]} in the trace")
-    losses += limit_lines(source, converted)
+    losses += limit_lines(source, converted) + ["limit: the folded trace is longer than the trace"] * made.is_longer
     for line in [*summary_of(source, converted, method, window, whole), *made.told, *losses]:
         tell(line)
     if losses and not options.is_forced:
@@ -311,13 +315,17 @@ def run(options: Options) -> int:
 def main(given: list[str]) -> int:
     """Runs the command; answers its status."""
     try:
-        return run(options_of(given))
+        options = options_of(given)
+        return guarded("psitrace", lambda: run(options), UNREADABLE)
     except Faulty as fault:
         tell(str(fault))
         return FAULTY
     except Unreadable as fault:
         tell(str(fault))
         return UNREADABLE
-    except Different as fault:
+    except MemoryError:
+        tell("out of memory")
+        return UNREADABLE
+    except (Different, NotATrace) as fault:
         tell(f"the check of the folded trace found a difference, and nothing is written: {fault}")
         return DIFFERENT

@@ -8,6 +8,7 @@ from dataclasses import dataclass, field
 from typing import NamedTuple
 
 from psiread.events import NAMES, NEVER, Attach, Event, GroupMade, GroupRemoved
+from psiread.missing import MOST_LENGTH
 from psiread.source import Snapshot, Source
 from psiread.waits import Method, waits_for_io
 from psiread.window import Window
@@ -136,7 +137,7 @@ def late_state(known: Known | None) -> State:
 
 def begin_task(world: World, number: int, known: Known, first: First, is_stalled: bool) -> None:
     """Writes a task that is there at the first moment: turns of no length make it sleep, wait or stall."""
-    processor = first.processor if first.processor < world.processors else 0
+    processor = first.processor if 0 <= first.processor < world.processors else 0
     task = world.fork(number, known.path, processor, known.process)
     if first.state is State.RUNNING and not world.running(processor):
         world.run(number, processor)
@@ -221,6 +222,8 @@ def limit_of(world: World) -> str | None:
         return f"{MOST_EVENTS} events"
     if len(world.tasks) > MOST_TASKS:
         return f"{MOST_TASKS} tasks"
+    if world.now > MOST_LENGTH:
+        return f"{MOST_LENGTH // 10**9} s"
     return f"{MOST_SWITCHES} switches of accounting" if world.switches > MOST_SWITCHES else None
 
 

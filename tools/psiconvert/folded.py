@@ -1,8 +1,9 @@
 """Makes a folded trace of a recording of any length: slice by slice of its events, and window by window of its lines.
 
-It does what `convert` does of all events at once, with two differences that a short recording doesn't show. What a task did at the
-start is known by the events of the first two slices; and a switch that wasn't written is put back to where the task that left was seen
-last, but not beyond the slice before.
+It does what `convert` does of all events at once, with differences that a short recording doesn't show. What a task did at the start
+is known by the events of the first minute, which are read once more for that. A switch that wasn't written is put back to where the
+task that left was seen last, but not beyond the slice before; and a wait for IO that only its end shows is known if that is in the
+same slice or the next one. A slice has 2 s at least.
 """
 from __future__ import annotations
 
@@ -19,23 +20,28 @@ from typing import NamedTuple
 from psifold.fold import Fold, Outcome, TooMany
 from psifold.process import Elsewhere, Here
 from psifold.words import Folding, Progress
-from psiread.events import NAMES, Event, Exec, Marker, Migration, Switch, SwitchProbe, Wakeup
+from psiread.events import NAMES, NEVER, Event, Exec, Marker, Migration, Switch, SwitchProbe, Wakeup
 from psiread.slices import WaitingSwitch
 from psiread.source import Source, Unreadable
 from psiread.waits import Method, by_probe, by_state, by_statistics
+from psiread.window import Window
 from psiworld.groups import Groups
 from psiworld.limits import MOST_EVENTS
 from psiworld.world import World
 
 from .accounts import accounts_of
 from .convert import Converted, Prior, Wanted, begin, begin_groups, snapshot_prior, world_prior
-from .first import Beginning, beginning_of, tells_of_births
+from .first import LONGEST_READY, Beginning, tells_of_births
 from .player import Player
 from .unwritten import UNWRITTEN, Chains
 
 # So many lines are folded at once.
 LINES = 5_000
+# For how long (ns) events are looked at to know what each task did at the start.
+LOOK_AHEAD = 60 * 10**9
 MOMENT = itemgetter(0)
+# Gives the events in slices, from the first on, each time it is called.
+Slices = Callable[[], Iterable[list[Event]]]
 
 
 class Spool:
@@ -52,7 +58,7 @@ class Spool:
     def put(self, lines: list[str]) -> None:
         """Takes lines, as long as the end has room after them."""
         if self.events + len(lines) >= MOST_EVENTS and not lines[-1].endswith(" end"):
-            raise TooMany
+            raise TooMany(f"{MOST_EVENTS} events")
         self.events += len(lines)
         self.write("".join(f"{line}\n" for line in lines))
 
@@ -133,6 +139,55 @@ class Mender:
         return whole[first:], whole[:first]
 
 
+# ---------------------------------------------------------------- what each task did at the start
+
+
+class Ahead:
+    """What each task did when the recording began, and when the window did, by the events of LOOK_AHEAD ns from there on."""
+
+    def __init__(self, source: Source, window: Window) -> None:
+        self.source, self.start, self.end = source, window.start, min(window.end, window.start + LOOK_AHEAD)
+        self.latest_ready = None if tells_of_births(source.events) else LONGEST_READY
+        self.recording, self.window = self.new(source.events[0].moment), self.new(window.start)
+        self.until = source.events[0].moment + LOOK_AHEAD
+        self.is_begun = False
+
+    def new(self, moment: int) -> Beginning:
+        """What is known before the first event, whose time (ns) is `moment`."""
+        return Beginning(NEVER if self.latest_ready is None else moment + self.latest_ready)
+
+    def take(self, events: list[Event]) -> bool:
+        """Takes the next events; whether more are needed."""
+        for event in events:
+            moment = event[0]
+            if moment <= self.until:
+                self.recording.take(event)
+            if self.start <= moment <= self.end:
+                if not self.is_begun:
+                    self.window, self.is_begun = self.new(moment), True
+                self.window.take(event)
+        return not events or events[-1][0] <= max(self.until, self.end)
+
+    def take_late(self) -> None:
+        """Takes the first event of each processor that was silent: it shows who ran there since the start."""
+        begins_there = self.start <= self.source.start
+        for event in self.source.events:
+            if event[1] not in self.recording.runs:
+                self.recording.take(event)
+            if begins_there and self.start <= event[0] and event[1] not in self.window.runs:
+                self.window.take(event)
+
+
+def looked_ahead(source: Source, slices: Iterable[list[Event]], silent: set[int], window: Window) -> Ahead:
+    """Reads as far as is needed to know what each task did at the start."""
+    ahead = Ahead(source, window)
+    for part in Mender(source, silent).pairs(slices):
+        if not ahead.take(part.events):
+            break
+    ahead.take_late()
+    return ahead
+
+
 # ---------------------------------------------------------------- slice by slice
 
 
@@ -140,9 +195,8 @@ class Conversion:
     """Plays the events of a recording, and hands the lines that come of it on. `accounts` has what was found of accounting by the
     markers that tell it."""
 
-    def __init__(self, source: Source, wanted: Wanted, put: Callable[[list[str]], None]) -> None:
-        self.source, self.wanted, self.put = source, wanted, put
-        self.has_births = tells_of_births(source.events)
+    def __init__(self, source: Source, wanted: Wanted, ahead: Ahead, put: Callable[[list[str]], None]) -> None:
+        self.source, self.wanted, self.ahead, self.put = source, wanted, ahead, put
         told = accounts_of(source.events, source.snapshot)
         self.off, self.accounts = told.off, {source.events[place]: found for place, found in told.found.items()}
         self.player: Player | None = None
@@ -171,7 +225,7 @@ class Conversion:
         for place, event in enumerate(part.both() if part.has(Marker, Exec) else ()):
             if type(event) is Marker and event in self.accounts and place < len(part.events):
                 player.accounts[place] = self.accounts[event]
-            elif type(event) is Exec and event.task != event.old:
+            elif type(event) is Exec and event.task != event.old and event.task:
                 player.changes[event.task].append((place, event.old))
         for task, count in self.early.items():
             del player.changes[task][:count]
@@ -189,7 +243,7 @@ class Conversion:
         start, end = (bisect_left(events, moment, key=MOMENT) for moment in (window.start, window.end + 1))
         waits = self.waits_in(part)
         if self.prior is None:
-            beginning = beginning_of(part.both(), self.has_births)
+            beginning = self.ahead.recording
             self.prior = snapshot_prior(self.source.snapshot, self.source.events, beginning, self.off)
             if start:
                 self.player = self.new_player(World(self.source.processors, Groups(self.wanted.deepest)), beginning)
@@ -200,7 +254,7 @@ class Conversion:
                 self.player.world.lines.clear()
         if start < len(events):
             if not self.is_begun:
-                self.begin(part, start)
+                self.begin()
             assert self.player
             self.tell(self.player, part, waits)
             self.play_window(self.player, events, range(start, end))
@@ -216,8 +270,8 @@ class Conversion:
         begin(world, self.prior, beginning)
         return Player(world, [], set(), {}, self.source.snapshot.types)
 
-    def begin(self, part: Slice, place: int) -> None:
-        """Begins the trace before the event at this place of a slice."""
+    def begin(self) -> None:
+        """Begins the trace."""
         wanted, source = self.wanted, self.source
         if self.player:
             is_sound = not any(gap.start < wanted.window.start for gap in source.gaps)
@@ -228,8 +282,7 @@ class Conversion:
         world = World(source.processors, Groups(wanted.deepest), wanted.has_interrupts)
         world.upon = wanted.upon
         world.mended.update(self.prior.mended)
-        seen = [event for event in part.both()[place:] if event.moment <= wanted.window.end]
-        self.player, self.is_begun = self.new_player(world, beginning_of(seen, self.has_births)), True
+        self.player, self.is_begun = self.new_player(world, self.ahead.window), True
 
     def play_window(self, player: Player, events: list[Event], places: range) -> None:
         """Plays these events, and hands on what comes of them. The commonest kinds are told by their types."""
@@ -258,7 +311,7 @@ class Conversion:
     def world(self) -> World:
         """The world of the trace."""
         if not self.is_begun:
-            self.begin(Slice([], []), 0)
+            self.begin()
         assert self.player
         return self.player.world
 
@@ -289,19 +342,17 @@ class Folded(NamedTuple):
     outcome: Outcome
 
 
-def convert_folded(
-    source: Source, slices: Iterable[list[Event]], silent: set[int], wanted: Wanted, folding: Folding, is_large: bool
-) -> Folded:
+def convert_folded(source: Source, slices: Slices, ahead: Ahead, silent: set[int], wanted: Wanted, folding: Folding, is_large: bool) -> Folded:
     """Makes the trace, and folds it; where it is large, in a process of its own."""
     # Events make no cycles, and looking for some among them takes a tenth of the time.
     gc.disable()
     spool = Spool()
     fold = Fold(source.processors, folding.length, spool.put, folding.victims)
     folder = Elsewhere(fold) if is_large else Here(fold)
-    conversion, mender, limit = Conversion(source, wanted, folder.take), Mender(source, silent), None
+    conversion, mender, limit = Conversion(source, wanted, ahead, folder.take), Mender(source, silent), None
     progress = Progress("psitrace", wanted.window.length())
     try:
-        for part in mender.pairs(slices):
+        for part in mender.pairs(slices()):
             progress.show(part.events[0].moment - wanted.window.start if part.events else 0)
             if not conversion.play(part):
                 break
@@ -310,10 +361,13 @@ def convert_folded(
         folder.end()
         outcome = folder.outcome()
         spool.events = outcome.counts.written
-    except TooMany:
-        limit, world, outcome = f"{MOST_EVENTS} events", conversion.world(), folder.outcome()
+    except TooMany as many:
+        limit, world, outcome = str(many), conversion.world(), folder.outcome()
         world.now = outcome.written
         spool.close(outcome.counts.written, world.now)
+    except BaseException:
+        folder.stop()
+        raise
     progress.end()
     source.mended[UNWRITTEN] += sum(wanted.window.start <= it <= wanted.window.end for it in mender.moments)
     spool.header = f"psitrace {world.version()} cpus={source.processors}"

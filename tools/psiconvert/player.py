@@ -11,14 +11,14 @@ from psiread.events import (
 )  # fmt: skip
 from psirec.layout import MARK, PLAIN_TYPE, escaped_path
 from psiworld.groups import ROOT
+from psiworld.limits import MOST_MEMORY
 from psiworld.world import How, State, Task, World
 
 from .accounts import Account
 
 # The letter of a task that leaves and stays ready.
 STAYS = "R"
-# A trace has no larger number of bytes or pages.
-MOST_MEMORY = 2**60
+
 
 
 class Samples:
@@ -47,7 +47,7 @@ class Player:
         # By exec a thread takes over a number, some time before that is told: the places where it is, and the old numbers.
         self.changes: dict[int, list[tuple[int, int]]] = defaultdict(list)
         for place, event in enumerate(events):
-            if isinstance(event, Exec) and event.task != event.old:
+            if isinstance(event, Exec) and event.task != event.old and event.task:
                 self.changes[event.task].append((place, event.old))
 
     def play(self, place: int, event: Event) -> None:
@@ -82,6 +82,12 @@ class Player:
             self.world.switch_accounting(*account)
 
     # ------------------------------------------------------------ who is who
+
+    def is_task(self, number: int) -> bool:
+        """Whether this can be a task's number: no event of a sound recording wakes, makes or renames task 0, which is idle."""
+        if not number:
+            self.mended["event of the idle task that it can't have, left out"] += 1
+        return number != 0
 
     def group_of(self, number: int) -> str:
         """The group of a task that is there, else the root."""
@@ -172,10 +178,10 @@ class Player:
         """A task that slept is ready. One that is woken before it slept goes on."""
         _, _, _, number, target = event
         task = self.task_of(number, place, Task.is_blocked)
-        if task is None:
+        if task is None and self.is_task(number):
             self.world.fork(number, ROOT, target, number)
             self.mended["task first met when it was woken"] += 1
-        elif task.is_blocked():
+        elif task and task.is_blocked():
             self.world.wake(task, target)
 
     def migrate(self, event: Migration) -> None:
@@ -190,6 +196,8 @@ class Player:
 
     def new_task(self, event: NewTask) -> None:
         """A task is made, asleep until its first wakeup, in the group of its parent, which is the one that runs."""
+        if not self.is_task(event.task):
+            return
         process = self.process_of(event.current) if event.flags & CLONE_THREAD else event.task
         path = self.group_of(event.current)
         if event.flags & CLONE_INTO_CGROUP:
@@ -213,14 +221,14 @@ class Player:
 
     def first_wakeup(self, event: FirstWakeup) -> None:
         """A task that was made is ready. Where only this was recorded it is made now, by the one that runs."""
-        if event.task not in self.world.tasks:
-            self.world.fork(event.task, self.group_of(event.current), event.target, event.task)
-        else:
+        if event.task in self.world.tasks:
             self.world.ready(event.task, event.target)
+        elif self.is_task(event.task):
+            self.world.fork(event.task, self.group_of(event.current), event.target, event.task)
 
     def exec(self, event: Exec) -> None:
         """The number of a thread has changed; often that was noticed before."""
-        if event.task == event.old or event.old not in self.world.tasks:
+        if event.task == event.old or event.old not in self.world.tasks or not self.is_task(event.task):
             return
         if event.task not in self.world.tasks or self.world.running(event.processor) == event.old:
             self.change_number(event.task, event.old)

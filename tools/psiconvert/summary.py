@@ -17,8 +17,11 @@ SETTLED_10, SETTLED_60 = 30, 180
 
 
 def moment_text(realtime: int) -> str:
-    """A moment in ns since 1970, in UTC."""
-    whole = datetime.fromtimestamp(realtime // SECOND, timezone.utc)
+    """A time in ns since 1970, in UTC."""
+    try:
+        whole = datetime.fromtimestamp(realtime // SECOND, timezone.utc)
+    except (OverflowError, ValueError, OSError):
+        return "unknown: meta has a time of day that there isn't"
     return f"{whole:%Y-%m-%d %H:%M:%S}.{realtime % SECOND // 10**6:03} UTC"
 
 

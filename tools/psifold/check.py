@@ -163,6 +163,9 @@ class Check:
         self.kept: list[str] = []
         # By how many ns each sum is behind, of all windows so far.
         self.behind: Counter[Key] = Counter()
+        # The last edge, with the groups that must have tasks once all lines of its time (ns) were played.
+        self.edge: tuple[int, set[str]] | None = None
+        self.most_tasks = 0
         self.verbs: dict[str, Callable[..., None]] = {
             "fork": self.fork, "wake": self.wake, "switch": self.switch, "stall": self.stall, "unstall": self.stall, "irq": self.irq,
         }  # fmt: skip
@@ -173,6 +176,7 @@ class Check:
         """Plays a line of a window."""
         moment, verb, *fields = line.split(" ")
         self.must(int(moment) >= self.now, line)
+        self.pass_edge(int(moment))
         self.now = int(moment)
         act = self.verbs.get(verb)
         if act is None:
@@ -198,6 +202,7 @@ class Check:
         """A task is made, ready on a processor."""
         self.must(number not in self.tasks and int(processor) < self.processors, line)
         task = self.tasks[number] = Task(path, int(processor))
+        self.most_tasks = max(self.most_tasks, len(self.tasks))
         for clocks in self.clocks:
             clocks.change(self.now, task, 1)
 
@@ -243,7 +248,8 @@ class Check:
 
     def between(self, line: str) -> None:
         """A line that stands between two windows."""
-        _, verb, *fields = line.split(" ")
+        moment, verb, *fields = line.split(" ")
+        self.pass_edge(int(moment) + (verb == "end"))
         if verb == "rmgroup":
             left = [number for number, task in self.tasks.items() if task.path == fields[0]]
             if left:
@@ -277,8 +283,19 @@ class Check:
         self.compare_sums(window, where)
         self.compare("what interrupts took", where, {**self.interrupts}, window.interrupts)
         if window.populated is not None:
-            self.compare("groups with tasks at the end", where, {task.path for task in self.tasks.values()}, window.populated)
+            self.compare_tasks(where, window.populated)
+            self.edge = window.end, window.populated
         self.kept, self.interrupts = [], Counter()
+
+    def pass_edge(self, moment: int) -> None:
+        """Before the first line after an edge: a tick there sees what all lines of its time have made."""
+        if self.edge and moment > self.edge[0]:
+            self.compare_tasks(f"at a tick at {self.edge[0]}", self.edge[1])
+            self.edge = None
+
+    def compare_tasks(self, where: str, wanted: set[str]) -> None:
+        """Refuses other groups with tasks than these."""
+        self.compare("which groups have tasks", where, {task.path for task in self.tasks.values()}, wanted)
 
     def compare(self, what: str, where: str, found: object, wanted: object) -> None:
         """Refuses what isn't the same."""

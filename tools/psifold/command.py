@@ -3,38 +3,41 @@
   tools/fold TRACE --window 1 > FOLDED
 
 Within each window of S seconds other events stand in place of those that were, so that each group was in each state for as long on
-each processor. A replay at a tick of S seconds, or of a multiple, prints what it prints of TRACE: totals, averages, signals and kills.
+each processor. A replay at a tick of S seconds, or of a multiple, prints what it prints of TRACE: totals, averages, signals and kills;
+but times are rounded to whole ns. So totals may differ by 1 us, and a signal or an average whose time is exactly at an edge may differ.
 What --live and a --tick-ms below S would show isn't kept, nor who did what when within a window.
 
 TRACE is a file that psi_oomd takes, or - for the standard input. `whatif` is exact up to the first kill, and after it where the
-victim is among those whom --victims or --rules name and no task came to it later; the last line on standard error tells.
+victim is among those whom --victims or --rules name, and no task came to it, left it or moved within it later; a line on standard
+error says until when some did.
 
 Each window is checked before it is written: its lines are played by other code, and its sums held against those of TRACE.
 
 The status is 0; 1 for faulty words; 2 where something can't be read or written, or TRACE isn't a trace; 3 where what comes has more
-events than a trace may have; and 4 where the check found a difference, which is a fault of this tool: then what was written ends
-before that window, and has no end.
+events or tasks than a trace may have, so that what was written has no end, or where it is longer than TRACE; and 4 where the check
+found a difference, which is a fault of this tool: then what was written ends before that window, and has no end.
 """
 from __future__ import annotations
 
-import contextlib
 import re
 import sys
 from collections.abc import Iterator
 from itertools import islice
 from typing import IO, NamedTuple
 
+from psiread.kinds import HEAD, kind_of, kind_of_file
 from psiread.source import Faulty, Unreadable
-from psiread.words import Parser
+from psiread.words import Parser, guarded
 from psiworld.limits import MOST_EVENTS, MOST_PROCESSORS
 
 from .check import Different
 from .fold import Fold, TooMany
-from .words import Folding, Progress, add_window, folding_lines, folding_of
-from .world import NotATrace
+from .words import Folding, Progress, add_window, folding_lines, folding_of, is_longer
+from .world import NotATrace, shortened
 
 FAULTY, UNREADABLE, TOO_MANY, DIFFERENT = 1, 2, 3, 4
 HEADER = re.compile("psitrace ([12]) cpus=([1-9][0-9]?)")
+MAKE_FEWER = ", and so does a longer window"
 # So many lines are read at once.
 LINES = 10_000
 
@@ -62,32 +65,31 @@ def options_of(given: list[str]) -> Options:
     return Options(found["trace"], folding)
 
 
-@contextlib.contextmanager
-def opened(name: str) -> Iterator[IO[str]]:
+def opened(name: str) -> IO[str]:
     """The trace."""
-    if name == "-":
-        yield sys.stdin
-        return
     try:
-        with open(name, encoding="ascii", newline="\n") as file:
-            yield file
+        return open(0 if name == "-" else name, encoding="ascii", errors="surrogateescape", newline="\n", closefd=name != "-")
     except OSError as fault:
-        raise Unreadable(f"{name}: {fault.strerror}") from None
+        kind = kind_of_file(name)
+        raise Unreadable(f"{name}: {kind or fault.strerror}") from None
 
 
 def processors_of(header: str) -> int:
     """The processors of a trace with this header."""
     found = HEADER.fullmatch(header)
     if not found or int(found[2]) > MOST_PROCESSORS:
-        raise NotATrace("line 1: there is no header of a trace")
+        kind = kind_of(f"{header}\n".encode("ascii", "surrogateescape")[:HEAD] if header else b"")
+        raise NotATrace(f"line 1: there is no header of a trace{f': {kind}' if kind else ''}")
     return int(found[2])
 
 
 def lines_of(file: IO[str]) -> Iterator[str]:
     """The lines after the header."""
-    for line in file:
+    for number, line in enumerate(file, 2):
+        if not line.isascii():
+            raise NotATrace(f"line {number} has bytes that aren't ASCII")
         if line[-1] != "\n":
-            raise NotATrace(f"the last line, '{line}', has no newline")
+            raise NotATrace(f"the last line, '{shortened(line)}', has no newline")
         yield line[:-1]
 
 
@@ -101,26 +103,16 @@ class Output:
         """Writes lines of events."""
         self.events += len(lines)
         if self.events > MOST_EVENTS:
-            raise TooMany
+            raise TooMany(f"{MOST_EVENTS} events")
         self.write(lines)
 
     def write(self, lines: list[str]) -> None:
         """Writes lines."""
-        try:
-            sys.stdout.write("".join(f"{line}\n" for line in lines))
-        except OSError as fault:
-            raise Unreadable(f"standard output: {fault.strerror}") from None
-
-    def flush(self) -> None:
-        """Writes what is held back."""
-        try:
-            sys.stdout.flush()
-        except OSError as fault:
-            raise Unreadable(f"standard output: {fault.strerror}") from None
+        sys.stdout.write("".join(f"{line}\n" for line in lines))
 
 
-def run(options: Options) -> None:
-    """Folds."""
+def run(options: Options) -> int:
+    """Folds; answers the status."""
     with opened(options.trace) as file:
         header = file.readline().rstrip("\n")
         output = Output()
@@ -133,25 +125,30 @@ def run(options: Options) -> None:
         progress.end()
         if not fold.is_ended:
             raise NotATrace("the last line isn't that of the end")
-        output.flush()
-        for line in folding_lines(options.folding, fold.outcome()):
+        sys.stdout.flush()
+        outcome = fold.outcome()
+        for line in folding_lines(options.folding, outcome):
             tell(line)
+        return TOO_MANY if is_longer(outcome.counts) else 0
 
 
 def main(given: list[str]) -> int:
     """Runs the command; answers its status."""
     try:
-        run(options_of(given))
+        options = options_of(given)
+        return guarded("fold", lambda: run(options), UNREADABLE)
     except Faulty as fault:
         tell(str(fault))
         return FAULTY
-    except (Unreadable, NotATrace, UnicodeDecodeError) as fault:
+    except Unreadable as fault:
         tell(str(fault))
         return UNREADABLE
-    except TooMany:
-        tell(f"more than {MOST_EVENTS} events come of it: a longer window makes fewer, and so does a trace of fewer levels of groups")
+    except NotATrace as fault:
+        tell(f"{options.trace}: {fault}")
+        return UNREADABLE
+    except TooMany as fault:
+        tell(f"more than {fault} come of it: a trace of fewer levels of groups makes fewer{MAKE_FEWER * ('events' in str(fault))}")
         return TOO_MANY
     except Different as fault:
         tell(f"the check found a difference, and nothing more is written: {fault}")
         return DIFFERENT
-    return 0

@@ -5,13 +5,16 @@ from __future__ import annotations
 import contextlib
 import multiprocessing
 import os
+import signal
 from collections import deque
-from collections.abc import Sequence
+from collections.abc import Iterator, Sequence
 from multiprocessing.connection import Connection
 from multiprocessing.process import BaseProcess
 from queue import Queue
 from threading import Thread
 from typing import NamedTuple
+
+from psiread.source import Unreadable
 
 from .processor import FoldedProcessor, Piece, Turn
 from .sums import Plan, Sums
@@ -50,11 +53,12 @@ class Share:
     def serve(self, own: Connection, others: Sequence[Connection]) -> None:
         """Folds what comes along a line, in a process of its own, as long as the line is held at the other end. It is taken off the
         line at once, so that who sends it never waits for who wants to be heard."""
+        signal.signal(signal.SIGINT, signal.SIG_IGN)
         for line in others:
             line.close()
         due: Queue[Work | None] = Queue()
         Thread(target=take_all, args=(own, due), daemon=True).start()
-        with contextlib.suppress(KeyboardInterrupt, BrokenPipeError):
+        with contextlib.suppress(BrokenPipeError):
             while (work := due.get()) is not None:
                 own.send(self.fold(work))
 
@@ -65,6 +69,15 @@ def take_all(line: Connection, due: Queue[Work | None]) -> None:
         while True:
             due.put(line.recv())
     due.put(None)
+
+
+@contextlib.contextmanager
+def answering() -> Iterator[None]:
+    """Reports a process that doesn't answer any more."""
+    try:
+        yield
+    except (EOFError, BrokenPipeError, ConnectionResetError):
+        raise Unreadable("a process that folds has ended: was it out of memory?") from None
 
 
 class Crew:
@@ -84,7 +97,8 @@ class Crew:
             self.start()
         if self.lines:
             for share, line in zip(self.shares, self.lines):
-                line.send(share.of(work))
+                with answering():
+                    line.send(share.of(work))
             self.waiting.append(None)
         else:
             self.waiting.append({number: piece for share in self.shares for number, piece in share.fold(share.of(work)).items()})
@@ -92,7 +106,10 @@ class Crew:
     def take_out(self) -> dict[int, Piece]:
         """What came of the first window that wasn't taken out yet, by processor."""
         pieces = self.waiting.popleft()
-        return {number: piece for line in self.lines for number, piece in line.recv().items()} if pieces is None else pieces
+        if pieces is not None:
+            return pieces
+        with answering():
+            return {number: piece for line in self.lines for number, piece in line.recv().items()}
 
     def start(self) -> None:
         """From now on each share has a process of its own."""

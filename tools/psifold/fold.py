@@ -14,13 +14,15 @@ from dataclasses import dataclass
 from heapq import merge
 from operator import itemgetter
 
+from psiworld.limits import MOST_TASKS, MOST_TIME
+
 from .check import Check, Key, Window
 from .crew import Crew, Work
 from .lines import MOST_AT_ONCE, Line
 from .processor import Piece, Turn, moments_of
 from .sums import Plan, plan_of
 from .victims import Victim, Victims
-from .world import Catalog, FoldWorld, NotATrace
+from .world import Catalog, Changes, FoldWorld, NotATrace, kept_path, shortened
 
 # What is about neither tasks nor accounts, nor about which groups there are.
 KEPT = ("mem", "host", "prefer", "trigger")
@@ -29,7 +31,7 @@ MOST_WAITING = 3
 
 
 class TooMany(Exception):
-    """There are more lines than a trace may have."""
+    """The folded trace would have more of something than a trace may have; the text says of what."""
 
 
 @dataclass
@@ -47,13 +49,13 @@ class Counts:
 @dataclass
 class Outcome:
     """What came of a trace: how much; up to which moment (ns) it is written; and of those who might be killed up to how many kills
-    it is exact, where not up to any, how many tasks came to them later, and when the last did (ns)."""
+    it is exact, where not up to any; and how many tasks came to their groups or moved from one of these later, and when the last
+    did (ns)."""
 
     counts: Counts
     written: int
     whole: int | None
-    came: int
-    last_came: int
+    changes: Changes
 
 
 class Fold:
@@ -69,6 +71,9 @@ class Fold:
         self.size = Catalog().size()
         # The moment (ns) up to which windows are handed in, the next edge, and the first moment that a line may have after it.
         self.start, self.edge, self.first = 0, length, 0
+        # The joint state of each processor at `start`; and if that is an edge, which groups have tasks then.
+        self.states = list(self.world.states)
+        self.present: set[str] | None = None
         self.interrupted = [0] * processors
         self.kept: list[Line] = []
         self.now = 0
@@ -83,7 +88,7 @@ class Fold:
 
     def outcome(self) -> Outcome:
         """What came of the lines so far."""
-        return Outcome(self.counts, self.written, self.victims.whole, self.world.came, self.world.last_came)
+        return Outcome(self.counts, self.written, self.victims.whole, self.world.changes)
 
     # ------------------------------------------------------------ lines
 
@@ -105,7 +110,7 @@ class Fold:
                     self.take_other(moment, words, line)
         except (KeyError, IndexError, ValueError, NotATrace) as fault:
             why = str(fault) if isinstance(fault, NotATrace) else "a trace can't have it there"
-            raise NotATrace(f"line {number + 1}, '{line}': {why}") from None
+            raise NotATrace(f"line {number + 1}, '{shortened(line)}': {why}") from None
         self.counts.lines = number
 
     def take_other(self, moment: int, words: list[str], line: str) -> None:
@@ -114,6 +119,7 @@ class Fold:
         if self.is_ended:
             raise NotATrace("it stands after the end")
         if verb in KEPT:
+            world.live[kept_path(line.partition(" ")[2])]
             self.kept.append((moment, line))
         elif verb == "group":
             self.between(moment, line, lambda: world.group(words[2]))
@@ -142,6 +148,8 @@ class Fold:
 
     def go_to(self, moment: int) -> None:
         """Ends the windows that end before this moment (ns). Those in which nothing happens are one."""
+        if moment > MOST_TIME:
+            raise NotATrace(f"its time is beyond {MOST_TIME} ns")
         self.flush(self.edge, True)
         last = (moment - 1) // self.length * self.length
         if last > self.edge:
@@ -164,9 +172,12 @@ class Fold:
                 self.interrupted[processor] = it.moment
                 window.interrupts[processor, it.path] = window.interrupts.get((processor, it.path), 0) + it.length
             kept = {path: self.kept_of(slot, processor) for path, slot in populated.items()} if is_edge else {}
-            turns[processor] = Turn(self.start, end, spent[processor], told, set(removed), window.populated, kept)
+            turns[processor] = Turn(
+                self.start, end, spent[processor], told, set(removed), window.populated, kept, self.states[processor], self.present
+            )
         self.crew.hand_in(Work(world.catalog.since(self.size), self.plan, turns))
         self.size, self.plan = world.catalog.size(), None
+        self.states, self.present = list(world.states), window.populated
         self.due.append(window)
         self.kept, self.start, self.first = [], end, end + is_edge
         self.counts.windows += is_edge
@@ -186,6 +197,8 @@ class Fold:
             if isinstance(due, Window):
                 lines = self.lines_of(due, self.crew.take_out())
                 self.check.window(due, lines)
+                if self.check.most_tasks > MOST_TASKS:
+                    raise TooMany(f"{MOST_TASKS} tasks")
             else:
                 lines = [due[0]]
                 self.check.between(due[0])

@@ -58,6 +58,11 @@ class Move(NamedTuple):
         return How.EXIT.word if self.after is None else LEAVES_TO[Kind(self.after & WAY)]
 
 
+def is_within(state: JointState, present: set[str] | None) -> bool:
+    """Whether all tasks of a joint state are of these groups. `None` allows every group."""
+    return present is None or all(element.path in present for element in state)
+
+
 def runs(kind: Kind | None) -> bool:
     """Whether a task of this kind runs."""
     return kind is not None and kind & WAY == Kind.RUNNING
@@ -85,15 +90,18 @@ class Writer:
         # Who runs, 0 for none.
         self.runner = 0
 
-    def write(self, start: int, durations: dict[JointState, int], interrupts: Sequence[Interrupt] = ()) -> list[Line]:
-        """The lines by which the processor is in these joint states, for so many ns each, from `start` on; and those of interrupts
-        among them, in the order of their moments."""
+    def write(
+        self, start: int, durations: dict[JointState, int], interrupts: Sequence[Interrupt] = (), present: set[str] | None = None
+    ) -> list[Line]:
+        """The lines by which the processor is in these joint states, each for its duration in ns, beginning at `start`; and the lines
+        of interrupts among them, in the order of time. If `present` is given, the first joint state has tasks of these groups only."""
         lines: list[Line] = []
         moment, due = start, list(interrupts)
         # In an order that is the same each time, whatever the order of sets.
         left = {state: durations[state] for state in sorted(durations, key=sorted)}
         while left:
-            state = min(left, key=self.distance)
+            fitting = left if moment > start else [state for state in left if is_within(state, present)]
+            state = min(fitting or left, key=self.distance)
             lines += self.change(moment, state)
             moment += left.pop(state)
             while due and (due[0].moment < moment or not left):

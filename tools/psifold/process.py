@@ -4,6 +4,7 @@ from __future__ import annotations
 
 import contextlib
 import multiprocessing
+import signal
 from multiprocessing.connection import Connection
 
 from psiread.source import Unreadable
@@ -25,6 +26,9 @@ class Here:
 
     def end(self) -> None:
         """All was taken."""
+
+    def stop(self) -> None:
+        """Nothing more comes."""
 
     def outcome(self) -> Outcome:
         """What came of the lines so far."""
@@ -66,6 +70,11 @@ class Elsewhere:
         if fault is not None:
             raise fault
 
+    def stop(self) -> None:
+        """Nothing more comes, and nobody waits for what came of the lines: the other process ends."""
+        self.lines.close()
+        self.told.close()
+
     def outcome(self) -> Outcome:
         """What came of all lines."""
         assert self.found
@@ -74,13 +83,14 @@ class Elsewhere:
 
 def serve(fold: Fold, lines: Connection, told: Connection, others: tuple[Connection, Connection]) -> None:
     """Folds the lines that come, and tells what came of them."""
+    signal.signal(signal.SIGINT, signal.SIG_IGN)
     for line in others:
         line.close()
     fault: Exception | None = None
     try:
         while part := lines.recv_bytes():
             fold.take(part.decode("ascii").split("\n"))
-    except (EOFError, KeyboardInterrupt):
+    except EOFError:
         return
     except Exception as found:  # it is raised again where the lines come from
         fault = found

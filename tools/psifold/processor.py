@@ -6,7 +6,8 @@ from collections.abc import Sequence
 from typing import NamedTuple
 
 from .basis import FIELD_BITS, Basis, Fields, Units
-from .lines import Interrupt, Line, Writer
+from .joint import JointState
+from .lines import Interrupt, Line, Writer, is_within
 from .rounding import Left, whole_times
 from .sums import Sum, Sums
 from .world import Catalog, Interrupts, bits_of
@@ -67,7 +68,8 @@ def moments_of(interrupts: Interrupts, paths: Sequence[str], last: int, first: i
 class Turn(NamedTuple):
     """What is asked of a processor for a window: from when to when it goes (ns), in which joint states the processor was for how long
     (ns), and what interrupts took. At its end no task may be in `removed`, or where `populated` is given in any group but these; and
-    there must be so many in each of `kept`."""
+    there must be so many in each of `kept`. `first` is the joint state at its start. If it starts at an edge, where a tick may be,
+    `present` has the groups that have tasks then: no other group may get one before 1 ns has passed."""
 
     start: int
     end: int
@@ -76,6 +78,8 @@ class Turn(NamedTuple):
     removed: set[str]
     populated: set[str] | None
     kept: dict[str, int]
+    first: int = 0
+    present: set[str] | None = None
 
 
 class Piece(NamedTuple):
@@ -88,6 +92,25 @@ class Piece(NamedTuple):
     kept: int
 
 
+def states_of(few: Few, catalog: Catalog) -> dict[JointState, int]:
+    """The joint states with their times (ns)."""
+    return {catalog.joint_state(state): time for state, time in few.times.items()}
+
+
+def with_first(turn: Turn, sums: Sums, left: Left) -> Few:
+    """Few joint states for a window, and among them the one at its start, which keeps its first ns."""
+    spent = dict(turn.spent)
+    spent[turn.first] -= 1
+    few = few_of({state: time for state, time in spent.items() if time}, sums, left)
+    column = sums.of(turn.first)
+    first = sums.least(turn.first, column)
+    few.times[first] = few.times.get(first, 0) + 1
+    for bit in bits_of(column):
+        one = sums.sum_of(bit)
+        few.sums[one] = few.sums.get(one, 0) + 1
+    return few._replace(had=len(turn.spent))
+
+
 class FoldedProcessor:
     """A processor, and its lines so far."""
 
@@ -97,9 +120,14 @@ class FoldedProcessor:
 
     def fold(self, turn: Turn, sums: Sums, catalog: Catalog) -> Piece:
         """The lines of a window."""
+        before = Counter(self.left)
         few = few_of(turn.spent, sums, self.left)
-        durations = {catalog.joint_state(state): time for state, time in few.times.items()}
-        lines = self.writer.write(turn.start, durations, turn.interrupts)
+        durations = states_of(few, catalog)
+        if durations and not any(is_within(state, turn.present) for state in durations):
+            self.left = before
+            few = with_first(turn, sums, self.left)
+            durations = states_of(few, catalog)
+        lines = self.writer.write(turn.start, durations, turn.interrupts, turn.present)
         groups = self.writer.groups()
         lines += self.writer.empty(turn.end, groups & turn.removed if turn.populated is None else groups - turn.populated)
         lines += self.writer.keep(turn.end, turn.kept)

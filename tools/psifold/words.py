@@ -10,9 +10,13 @@ from psiread.source import Faulty
 from psiread.window import seconds
 from psiread.words import SECOND, nanoseconds
 
-from .fold import Outcome
+from .fold import Counts, Outcome
 from .victims import Victim, victims_of, victims_of_rules
 
+ROUNDING = (
+    "but times are rounded to whole ns: totals may differ by 1 us, and so may a signal exactly at its threshold, and an average of a"
+    " tick whose share is exactly a whole percent"
+)
 # A tick lasts a whole number of ms, 60 s at most.
 MILLISECOND, LONGEST_TICK = 10**6, 60 * SECOND
 
@@ -58,8 +62,22 @@ def folding_lines(folding: Folding, outcome: Outcome) -> list[str]:
     return [
         f"folded into {counts.windows} windows: lines {counts.lines} to {counts.written}, joint states {counts.had} to {counts.kept}",
         f"a replay at ticks of {tick}, or of a multiple, prints what it prints of the trace that wasn't folded",
+        ROUNDING,
         whatif_line(folding, outcome),
+        *longer_lines(outcome.counts),
     ]
+
+
+def is_longer(counts: Counts) -> bool:
+    """Whether folding made a trace longer."""
+    return counts.written > counts.lines
+
+
+def longer_lines(counts: Counts) -> list[str]:
+    """What to do about a folded trace that is longer than the trace."""
+    if not is_longer(counts):
+        return []
+    return [f"the folded trace is longer, {counts.written} lines from {counts.lines}: take the trace itself, or a longer window"]
 
 
 def whatif_line(folding: Folding, outcome: Outcome) -> str:
@@ -69,9 +87,11 @@ def whatif_line(folding: Folding, outcome: Outcome) -> str:
     said = "`whatif` is exact after kills of those who were named"
     if outcome.whole is not None:
         said += f", up to {outcome.whole} of them: more are at a time than can be told apart"
-    if outcome.came:
-        said += f"; but to these {outcome.came} tasks came later, the last at {seconds(outcome.last_came)} s: after a kill before that it is near"
-    return said
+    changes = outcome.changes
+    if not changes.last:
+        return said
+    what = [f"{count} tasks {verb}" for count, verb in ((changes.came, "came to"), (changes.moved, "moved out of or within")) if count]
+    return f"{said}, if the kills come after {seconds(changes.last)} s; before, it is near: {' and '.join(what)} these groups until then"
 
 
 class Progress:

@@ -5,17 +5,50 @@ exclusive or, and the time of a joint state is found by the number.
 """
 from __future__ import annotations
 
+import re
 from collections import Counter, defaultdict
 from collections.abc import Callable, Iterator, Sequence
 
+from psiworld.groups import MOST_BYTES
+from psiworld.limits import LEAST_WINDOW, MOST_LABEL, MOST_MEMORY, MOST_WINDOW
+
 from .joint import KINDS, LEFT_BY, STALLED, WAY, Element, JointState, Kind
 
+# So long (ns) may the interrupts of one line be.
+MOST_INTERRUPTS = 10**9
 # As plain numbers, since they are used at each line.
 READY, RUNNING = int(Kind.READY), int(Kind.RUNNING)
 
 
+# So many letters of a line are shown.
+SHOWN = 100
+NUMBER = r"(?:0|[1-9][0-9]{0,18})"
+PATH = r"(?:/|(?:/(?!\.{1,2}(?:/|$))[A-Za-z0-9_.@:\\-]+){1,32}(?= |$))"
+# Lines that stay as they are, without their times. Numbers are checked below.
+GROUP = re.compile(PATH)
+SAMPLE = re.compile(rf"mem ({PATH}) {NUMBER} {NUMBER} {NUMBER}|host {NUMBER} {NUMBER} {NUMBER}")
+PREFERENCE = re.compile(rf"prefer ({PATH}) (?:prefer|avoid|none)")
+TRIGGER = re.compile(rf"trigger ({PATH}) (?:io|memory|cpu) (?:some|full) ([1-9][0-9]{{0,7}}) ([1-9][0-9]{{0,7}})")
+
+
 class NotATrace(Exception):
     """A line isn't one that a trace may have here."""
+
+
+def shortened(line: str) -> str:
+    """The line, or its first letters if it is long."""
+    return line if len(line) <= SHOWN else f"{line[:SHOWN]} .."
+
+
+def kept_path(line: str) -> str:
+    """The group of a line that stays as it is, of which only the time is left out: `/` if it has none."""
+    found = SAMPLE.fullmatch(line) or PREFERENCE.fullmatch(line)
+    if found and all(int(word) <= MOST_MEMORY for word in line.split(" ") if word.isdigit()):
+        return found[1] or "/"
+    found = TRIGGER.fullmatch(line)
+    if found and LEAST_WINDOW <= int(found[3]) <= MOST_WINDOW and int(found[2]) <= int(found[3]):
+        return found[1]
+    raise NotATrace("it is malformed")
 
 
 class Task:
@@ -41,6 +74,19 @@ class Interrupts:
             self.first = (slot, length)
         else:
             self.others[slot] += length
+
+
+class Changes:
+    """How many tasks came into groups that might be killed, and how many moved out of these or from one to another; and when the
+    last did either (ns)."""
+
+    def __init__(self) -> None:
+        self.came, self.moved, self.last = 0, 0, 0
+
+    def note(self, moment: int, came: bool, moved: bool) -> None:
+        """Counts a task that came, moved or did both. At 0 the trace says what there is at its start."""
+        if moment and (came or moved):
+            self.came, self.moved, self.last = self.came + came, self.moved + moved, moment
 
 
 class Catalog:
@@ -86,6 +132,8 @@ class FoldWorld:
     def __init__(self, processors: int) -> None:
         self.processors = processors
         self.tasks: dict[int, Task] = {}
+        # By the word of a trace: the number of each processor.
+        self.places = {str(place): place for place in range(processors)}
         # Who runs on each processor, 0 for none.
         self.runs = [0] * processors
         self.catalog = Catalog()
@@ -102,9 +150,9 @@ class FoldWorld:
         self.interrupts = [Interrupts() for _ in range(processors)]
         # The bit of each element by its key.
         self.bits: dict[int, int] = {}
-        # By group those watched groups that it is or is below; and how many tasks came into watched groups, and when the last did (ns).
+        # By group those watched groups that it is or is below; and what tasks of these did that no folded trace can keep.
         self.watched: dict[int, set[int]] = {}
-        self.came, self.last_came = 0, 0
+        self.changes = Changes()
         self.verbs: dict[str, Callable[[int, list[str]], None]] = {
             "fork": self.fork, "wake": self.ready, "migrate": self.ready, "switch": self.switch, "stall": self.stall,
             "unstall": self.stall, "move": self.move, "irq": self.interrupt,
@@ -144,16 +192,18 @@ class FoldWorld:
         number, place = int(text), self.live[path] * KINDS
         if number in self.tasks:
             raise NotATrace(f"task {number} is there already")
-        task = self.tasks[number] = Task(place, int(processor))
+        if not 0 < number <= MOST_LABEL or str(number) != text:
+            raise NotATrace(f"{text} can't be a task's number")
+        task = self.tasks[number] = Task(place, self.places[processor])
         self.members[place // KINDS] += 1
         if self.watched:
-            self.note_coming(moment, 0, place // KINDS)
+            self.changes.note(moment, place // KINDS in self.watched, False)
         self.change(task.processor, moment, 0, place + READY)
 
     def ready(self, moment: int, words: list[str]) -> None:
         """A task is ready, perhaps on another processor than before."""
         _, verb, number, processor = words
-        task, target, kind = self.tasks[int(number)], int(processor), 0
+        task, target, kind = self.tasks[int(number)], self.places[processor], 0
         if (verb == "wake") == (task.kind & READY):
             raise NotATrace(f"task {number} can't be the task of a {verb}")
         before, kind = task.place + task.kind, task.kind & STALLED | READY
@@ -168,7 +218,7 @@ class FoldWorld:
     def switch(self, moment: int, words: list[str]) -> None:
         """The running task leaves, and another runs, or none."""
         _, _, text, following, how = words
-        processor, tasks = int(text), self.tasks
+        processor, tasks = self.places[text], self.tasks
         number = self.runs[processor]
         if number:
             task = tasks[number]
@@ -208,14 +258,16 @@ class FoldWorld:
         before = task.place + task.kind
         self.members[task.place // KINDS] -= 1
         if self.watched:
-            self.note_coming(moment, task.place // KINDS, self.live[path])
+            self.note_move(moment, task.place // KINDS, self.live[path])
         task.place = self.live[path] * KINDS
         self.members[task.place // KINDS] += 1
         self.change(task.processor, moment, before, task.place + task.kind)
 
     def interrupt(self, moment: int, words: list[str]) -> None:
         """Interrupts took time from the task that runs, or from nobody."""
-        processor, length = int(words[2]), int(words[3])
+        processor, length = self.places[words[2]], int(words[3])
+        if not 0 <= length <= MOST_INTERRUPTS or len(words) != 4:
+            raise NotATrace("a line of interrupts has at most a second")
         number = self.runs[processor]
         if number and length:
             self.interrupts[processor].add(self.tasks[number].place // KINDS, length)
@@ -225,8 +277,8 @@ class FoldWorld:
     def group(self, path: str) -> int:
         """A group is made; its number."""
         parent = path.rpartition("/")[0] or "/"
-        if path in self.live or parent not in self.live:
-            raise NotATrace(f"{path} can't be made")
+        if path in self.live or parent not in self.live or not GROUP.fullmatch(path) or len(path) > MOST_BYTES:
+            raise NotATrace(f"{shortened(path)} can't be made")
         slot = self.live[path] = len(self.paths)
         self.paths.append(path)
         self.parents.append(self.live[parent])
@@ -243,6 +295,8 @@ class FoldWorld:
 
     def pressure(self, path: str, switched: str) -> None:
         """The account of a group is switched."""
+        if path == "/" or switched not in ("on", "off"):
+            raise NotATrace("it is malformed")
         (self.off.discard if switched == "on" else self.off.add)(self.live[path])
 
     def watch(self, slots: Sequence[int]) -> None:
@@ -250,10 +304,10 @@ class FoldWorld:
         each = ((slot, {slot, *self.catalog.above(slot)}.intersection(slots)) for slot in self.live.values()) if slots else ()
         self.watched = {slot: found for slot, found in each if found}
 
-    def note_coming(self, moment: int, source: int, target: int) -> None:
-        """A task comes from one group to another. Those of the first moment were there from the start."""
-        if moment and not self.watched.get(target, set()) <= self.watched.get(source, set()):
-            self.came, self.last_came = self.came + 1, moment
+    def note_move(self, moment: int, source: int, target: int) -> None:
+        """A task goes from one group to another."""
+        before, after = self.watched.get(source, set()), self.watched.get(target, set())
+        self.changes.note(moment, not after <= before, bool(before) and source != target)
 
     # ------------------------------------------------------------ windows
 

@@ -14,8 +14,9 @@ from __future__ import annotations
 
 import sys
 
+from psiread.kinds import HEAD, TRACE_HEADER, kind_of
 from psiread.source import Unreadable
-from psiread.words import Parser
+from psiread.words import Parser, guarded
 
 from .checks import Check
 from .text import bytes_of
@@ -32,11 +33,22 @@ def main(given: list[str]) -> int:
     """Runs the command; answers its status."""
     words = Parser("ftrace-check", __doc__, UNREADABLE)
     words.add_argument("text", metavar="TEXT", help="the file, or - for the standard input")
+    name = words.words_of(given)["text"]
     try:
-        data = bytes_of(words.words_of(given)["text"])
+        return guarded("ftrace-check", lambda: checked(name), UNREADABLE)
     except Unreadable as fault:
         tell(str(fault))
-        return UNREADABLE
+    except MemoryError:
+        tell("out of memory")
+    return UNREADABLE
+
+
+def checked(name: str) -> int:
+    """Looks at a text, and says what it finds; answers the status."""
+    data = bytes_of(name)
+    kind = "it is a trace: psi_oomd check takes it" if TRACE_HEADER.match(data) else kind_of(data[:HEAD])
+    if kind and data and not data.startswith(b"#"):
+        raise Unreadable(f"{name}: {kind}")
     check = Check()
     lines = data.split(b"\n")
     rest = lines.pop()

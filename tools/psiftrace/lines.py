@@ -16,13 +16,13 @@ from psiread.events import (
 )  # fmt: skip
 
 TIME = rb"(\d{1,10})\.(\d{1,9}):"
-FTRACE = rb"-(\d+) +(?:\([ \d-]+\) +)?\[(\d{1,5})\](?: +[A-Za-z0-9.*#]{4,6})? +" + TIME + rb" +([A-Za-z0-9_]+):(?: +(.*))?$"
+FTRACE = rb"-(\d{1,10}) +(?:\([ \d-]+\) +)?\[(\d{1,5})\](?: +[A-Za-z0-9.*#]{4,6})? +" + TIME + rb" +([A-Za-z0-9_]+):(?: +(.*))?$"
 PERF = rb" +(?:\d+ +)?[a-z0-9_]+:([A-Za-z0-9_]+):(?: +(.*))?$"
 HEADS = (
     # The kernel writes names with 16 columns, so the dash after them stands at one place.
     re.compile(rb".{16}" + FTRACE, re.DOTALL),
     re.compile(rb" *\S.*?" + FTRACE, re.DOTALL),
-    re.compile(rb" *\S.*? +(?:\d+/)?(\d+) +\[(\d{1,5})\] +" + TIME + PERF, re.DOTALL),
+    re.compile(rb" *\S.*? +(?:\d+/)?(\d{1,10}) +\[(\d{1,5})\] +" + TIME + PERF, re.DOTALL),
 )
 
 
@@ -108,29 +108,29 @@ def marker(line: Line, fields: tuple[bytes, ...]) -> Event:
 # After the ones that the kernel's own print formats give stand those of trace-cmd's plugins.
 PRIORITY = rb"(?: prio=-?\d+)?"
 PLAIN = rb"\[-?\d+\]"
-LEAVES = rb"prev_comm=.* prev_pid=(\d+)(?: prev_prio=-?\d+)? prev_state=(\S+)"
-COMES = rb"next_comm=.* next_pid=(\d+)(?: next_prio=-?\d+)?"
+LEAVES = rb"prev_comm=.* prev_pid=(\d{1,10})(?: prev_prio=-?\d+)? prev_state=(\S+)"
+COMES = rb"next_comm=.* next_pid=(\d{1,10})(?: next_prio=-?\d+)?"
 FORMS: dict[str, tuple[Form, ...]] = {
     "sched_switch": (
         form(LEAVES + b" ==> " + COMES, switch),
-        form(rb".*:(\d+) " + PLAIN + rb" (\S+) ==> .*:(\d+) " + PLAIN, switch),
+        form(rb".*:(\d{1,10}) " + PLAIN + rb" (\S+) ==> .*:(\d{1,10}) " + PLAIN, switch),
     ),
     "sched_wakeup": (
-        form(rb"comm=.* pid=(\d+)" + PRIORITY + rb"(?: success=\d+)? target_cpu=(\d+)", numbers(Wakeup)),
-        form(rb".*:(\d+) " + PLAIN + rb"(?: success=\d+)? CPU:(\d+)", numbers(Wakeup)),
+        form(rb"comm=.* pid=(\d{1,10})" + PRIORITY + rb"(?: success=\d+)? target_cpu=(\d{1,10})", numbers(Wakeup)),
+        form(rb".*:(\d{1,10}) " + PLAIN + rb"(?: success=\d+)? CPU:(\d{1,10})", numbers(Wakeup)),
     ),
     "sched_wakeup_new": (
-        form(rb"comm=.* pid=(\d+)" + PRIORITY + rb"(?: success=\d+)? target_cpu=(\d+)", numbers(FirstWakeup)),
-        form(rb".*:(\d+) " + PLAIN + rb"(?: success=\d+)? CPU:(\d+)", numbers(FirstWakeup)),
+        form(rb"comm=.* pid=(\d{1,10})" + PRIORITY + rb"(?: success=\d+)? target_cpu=(\d{1,10})", numbers(FirstWakeup)),
+        form(rb".*:(\d{1,10}) " + PLAIN + rb"(?: success=\d+)? CPU:(\d{1,10})", numbers(FirstWakeup)),
     ),
-    "sched_migrate_task": (form(rb"comm=.* pid=(\d+)" + PRIORITY + rb" orig_cpu=(\d+) dest_cpu=(\d+)", numbers(Migration)),),
-    "sched_process_exec": (form(rb"filename=.* pid=(\d+) old_pid=(\d+)", numbers(Exec)),),
-    "sched_stat_iowait": (form(rb"comm=.* pid=(\d+) delay=\d+ \[ns\]", numbers(WaitEnds)),),
-    "task_newtask": (form(rb"pid=(\d+) comm=.* clone_flags=([0-9a-f]+) oom_score_adj=-?\d+", new_task),),
-    "cgroup_attach_task": (form(rb"dst_root=(\d+) dst_id=\d+ dst_level=\d+ dst_path=(.*) pid=(\d+) comm=.*", attach),),
-    "cgroup_mkdir": (form(rb"root=(\d+) id=\d+ level=\d+ path=(.*)", group(GroupMade)),),
-    "cgroup_rmdir": (form(rb"root=(\d+) id=\d+ level=\d+ path=(.*)", group(GroupRemoved)),),
-    "mark_victim": (form(rb"pid=(\d+)(?: .*)?", numbers(Victim)),),
+    "sched_migrate_task": (form(rb"comm=.* pid=(\d{1,10})" + PRIORITY + rb" orig_cpu=(\d{1,10}) dest_cpu=(\d{1,10})", numbers(Migration)),),
+    "sched_process_exec": (form(rb"filename=.* pid=(\d{1,10}) old_pid=(\d{1,10})", numbers(Exec)),),
+    "sched_stat_iowait": (form(rb"comm=.* pid=(\d{1,10}) delay=\d+ \[ns\]", numbers(WaitEnds)),),
+    "task_newtask": (form(rb"pid=(\d{1,10}) comm=.* clone_flags=([0-9a-f]+) oom_score_adj=-?\d+", new_task),),
+    "cgroup_attach_task": (form(rb"dst_root=(\d{1,10}) dst_id=\d+ dst_level=\d+ dst_path=(.*) pid=(\d{1,10}) comm=.*", attach),),
+    "cgroup_mkdir": (form(rb"root=(\d{1,10}) id=\d+ level=\d+ path=(.*)", group(GroupMade)),),
+    "cgroup_rmdir": (form(rb"root=(\d{1,10}) id=\d+ level=\d+ path=(.*)", group(GroupRemoved)),),
+    "mark_victim": (form(rb"pid=(\d{1,10})(?: .*)?", numbers(Victim)),),
     "tracing_mark_write": (form(rb"(.*)", marker),),
     "print": (form(rb"tracing_mark_write: (.*)", marker),),
 }  # fmt: skip
@@ -139,8 +139,8 @@ FORMS: dict[str, tuple[Form, ...]] = {
 PROBES = {
     b"(psi_memstall_enter": form(rb"\(\S+\)", numbers(StallBegins)),
     b"(psi_memstall_leave": form(rb"\(\S+\)(?: .*)? flags=0x([0-9a-f]+)(?: .*)?", stall_ends),
-    b"(psi_task_switch": form(rb"\(\S+\) pid=(\d+) io=(\d+)(?: .*)?", numbers(SwitchProbe)),
-    b"(cgroup_attach_task": form(rb"\(\S+\) pid=(\d+) all=(\d+)(?: .*)?", numbers(AttachProbe)),
+    b"(psi_task_switch": form(rb"\(\S+\) pid=(\d{1,10}) io=(\d{1,10})(?: .*)?", numbers(SwitchProbe)),
+    b"(cgroup_attach_task": form(rb"\(\S+\) pid=(\d{1,10}) all=(\d{1,10})(?: .*)?", numbers(AttachProbe)),
 }
 
 

@@ -3,22 +3,28 @@ buffer whose beginning was overwritten, ends of lines as in files of Windows."""
 from __future__ import annotations
 
 import gzip
+import io
 import re
 import sys
+import zlib
 from collections import Counter
 from operator import itemgetter
 
 from psiread.events import NEVER, Event, FirstWakeup, Gap, Switch, Wakeup
+from psiread.kinds import HEAD, TRACE_HEADER, kind_of
+from psiread.missing import bound_times
 from psiread.recording import first_moment, first_moments
 from psiread.source import Faulty, Source, Unreadable
 from psirec.layout import START, STOP
 
 from .lines import Line, event_of, forms_of, head_of
 
-LOST = re.compile(rb"CPU:(\d+) \[(?:LOST )?(\d*) ?EVENTS(?: DROPPED)?\]")
-ENTRIES = re.compile(rb"# entries-in-buffer/entries-written: (\d+)/(\d+)")
-PROCESSORS = re.compile(rb"#.*#P:(\d+)|cpus=(\d+)$")
+LOST = re.compile(rb"CPU:(\d{1,5}) \[(?:LOST )?(\d{0,18}) ?EVENTS(?: DROPPED)?\]")
+ENTRIES = re.compile(rb"# entries-in-buffer/entries-written: (\d{1,18})/(\d{1,18})")
+PROCESSORS = re.compile(rb"#.*#P:(\d{1,6})|cpus=(\d{1,6})$")
 GZIP = b"\x1f\x8b"
+# A text that is compressed may have this many bytes: 4,000,000 events have about 600 MB.
+MOST_UNPACKED, PIECE = 2 << 30, 8 << 20
 # A name of 15 bytes that holds newlines reaches over so many lines more.
 MOST_JOINED = 3
 # The times of one processor go back by so much only where another recording begins, ns.
@@ -33,9 +39,21 @@ def bytes_of(name: str) -> bytes:
         else:
             with open(name, "rb") as file:
                 data = file.read()
-        return gzip.decompress(data) if data.startswith(GZIP) else data
-    except (OSError, EOFError) as fault:
+        return unpacked(name, data) if data.startswith(GZIP) else data
+    except (OSError, EOFError, zlib.error) as fault:
         raise Unreadable(f"{name}: {getattr(fault, 'strerror', None) or fault}") from None
+
+
+def unpacked(name: str, data: bytes) -> bytes:
+    """The bytes that were compressed."""
+    with gzip.GzipFile(fileobj=io.BytesIO(data)) as file:
+        pieces, size = [], 0
+        while piece := file.read(PIECE):
+            pieces.append(piece)
+            size += len(piece)
+            if size > MOST_UNPACKED:
+                raise Unreadable(f"{name}: unpacked it has more than {MOST_UNPACKED} bytes: unpack it, and give a part")
+    return b"".join(pieces)
 
 
 class Text:
@@ -177,9 +195,12 @@ def processors_of(text: Text, given: int | None, greatest: int) -> int:
 
 def read_text(name: str, processors: int | None) -> Source:
     """Reads a text of the machine's events."""
-    text = Text(bytes_of(name))
+    data = bytes_of(name)
+    text = Text(data)
     if not any(isinstance(event, Switch) for event in text.events):
-        raise Unreadable(f"{name}: no sched_switch can be read in it; is it text of ftrace with a clock in seconds?")
+        kind = "it is a trace already" if TRACE_HEADER.match(data) else None if data.startswith(b"#") else kind_of(data[:HEAD])
+        advice = kind or "is it text of ftrace with a clock in seconds?"
+        raise Unreadable(f"{name}: no sched_switch can be read in it; {advice}")
     source = Source([], 0, 0, 0)
     source.events = ordered(text, source)
     source.processors = processors_of(text, processors, max(event.processor for event in source.events))
@@ -189,4 +210,5 @@ def read_text(name: str, processors: int | None) -> Source:
     source.stop = source.events[-1].moment if stop is None else stop
     source.mended = text.mended
     tell_missing(source)
+    bound_times(source)
     return source

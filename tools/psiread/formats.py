@@ -11,9 +11,11 @@ import struct
 from collections.abc import Callable, Sequence
 from typing import NamedTuple
 
-FIELD = re.compile(r"\s+field:(.*?)([A-Za-z0-9_]+)(\[[^\]]*\])?;\s*offset:(\d+);\s*size:(\d+);\s*signed:([01]);")
+FIELD = re.compile(r"\s+field:(.*?)([A-Za-z0-9_]+)(\[[^\]]*\])?;\s*offset:([0-9]{1,7});\s*size:([0-9]{1,7});\s*signed:([01]);")
 INTEGERS = {(1, True): "b", (1, False): "B", (2, True): "h", (2, False): "H",
             (4, True): "i", (4, False): "I", (8, True): "q", (8, False): "Q"}  # fmt: skip
+# The largest pages of ring buffers have 1 MB.
+MOST_PAGE = 1 << 21
 # What reads fields that are whole numbers from a record at a place.
 IntegerReader = Callable[[bytes, int], tuple[int, ...]]
 
@@ -69,7 +71,7 @@ def formats_of(sections: dict[str, list[str]]) -> dict[str, Format]:
     """The formats of all events, by the event's name without its system's."""
     formats = {}
     for path, lines in sections.items():
-        number = next((int(line[4:]) for line in lines if re.fullmatch(r"ID: \d+", line)), None)
+        number = next((int(line[4:]) for line in lines if re.fullmatch("ID: [0-9]{1,9}", line)), None)
         if number is not None:
             name = path.rpartition("/")[2]
             texts = [line for line in lines if line.startswith("print fmt:")]
@@ -95,13 +97,15 @@ def page_format_of(sections: dict[str, list[str]]) -> PageFormat:
         raise FormatFault(f"header_page has no field {missing}") from None
     if commit.size not in (4, 8) or commit.offset != 8:
         raise FormatFault(f"header_page: commit has {commit.size} bytes at {commit.offset}")
+    if data.offset < 16 or not data.offset < data.offset + data.size <= MOST_PAGE:
+        raise FormatFault(f"header_page: data has {data.size} bytes at {data.offset}")
     return PageFormat(data.offset + data.size, commit.size, data.offset)
 
 
 def state_letters(print_format: str) -> tuple[dict[int, str], int]:
     """The letter of each bit of `prev_state` by the print format of `sched_switch`, and the bit of `R+`: a task that made
     way while it was about to sleep, and stays ready. It is the one above the letters' bits."""
-    letters = {int(bit, 16): letter for bit, letter in re.findall(r"\{\s*(0x[0-9a-fA-F]+),\s*\"(\w)\"", print_format)}
+    letters = {int(bit, 16): letter for bit, letter in re.findall(r"\{\s*(0x[0-9a-fA-F]{1,16}),\s*\"(\w)\"", print_format)}
     if not letters:
         raise FormatFault("the format of sched_switch has no letters of states")
     return letters, 2 * max(letters)

@@ -9,12 +9,12 @@ from typing import NamedTuple
 from psirec.layout import MARK, PRESSURE, escaped_path
 
 from .events import GroupMade, Marker
-from .recording import text_of
+from .files import text_of
 from .source import Source
 
-SAMPLE = re.compile(r"sample (\d+) (\S+) (io|memory|cpu)\nsome [^\n]*total=(\d+)\nfull [^\n]*total=(\d+)\n")
-REPORT = re.compile(r"report (\d+) (\S+) (io|memory|cpu)\nsome [^\n]*total=(\d+)\nfull [^\n]*total=(\d+)\n")
-READING = re.compile(rb"pressure (\d+) (begin|end)\s*")
+SAMPLE = re.compile(r"sample ([0-9]{1,18}) (\S+) (io|memory|cpu)\nsome [^\n]*total=([0-9]{1,20})\nfull [^\n]*total=([0-9]{1,20})\n")
+REPORT = re.compile(r"report ([0-9]{1,20}) (\S+) (io|memory|cpu)\nsome [^\n]*total=([0-9]{1,20})\nfull [^\n]*total=([0-9]{1,20})\n")
+READING = re.compile(rb"pressure ([0-9]{1,18}) (begin|end)\s*")
 
 
 class File(NamedTuple):

@@ -1,22 +1,23 @@
 """Reads the folder of a recording. Its names are those of `psirec.layout`."""
 from __future__ import annotations
 
-import gzip
 import os
 import re
 import struct
-import zlib
 from collections.abc import Callable
 from operator import itemgetter
-from typing import BinaryIO, NamedTuple
+from typing import NamedTuple
 
 from psirec.layout import (
-    FORMATS, LOST_STATS, MARK, META, PREFERENCES, SKETCH_END, SNAPSHOT, SNAPSHOT_BEGINS, START, STOP, VERSION, Key, Probe, Reason,
-    PACKED, escaped_path, part_name, raw_name,
+    FORMATS, LOST_STATS, MARK, META, PREFERENCES, SKETCH_END, SNAPSHOT, SNAPSHOT_BEGINS, SNAPSHOT_END, START, STOP, VERSION, VERSIONS,
+    WITHOUT_END, Key, Probe, Reason, escaped_path, raw_name,
 )  # fmt: skip
 
 from .events import NEVER, Event, Gap, Marker
+from .files import Raw, text_of
 from .formats import FormatFault, PageFormat, formats_of, page_format_of, sections_of
+from .kinds import recording_below
+from .missing import Expected, bound_times, tell_missing
 from .pages import PageFault, read_pages
 from .records import Decoder, decoders_of
 from .source import ListedTask, Snapshot, Source, Unreadable
@@ -24,60 +25,8 @@ from .words import ns_of
 
 # What a marker of a reading of the pressure files begins with, after MARK.
 READING = "pressure"
+NUMBER = re.compile("[0-9]{1,18}")
 BIG_ENDIAN = ("s390x", "ppc64", "sparc64")
-
-
-def bytes_of(folder: str, name: str) -> bytes:
-    """What stands in a file of the folder."""
-    try:
-        with open(os.path.join(folder, name), "rb") as file:
-            return file.read()
-    except OSError as fault:
-        raise Unreadable(f"{name}: {fault.strerror}") from None
-
-
-class Parts:
-    """The pages of a processor that stand in parts, as one file."""
-
-    def __init__(self, names: list[str]) -> None:
-        self.names, self.file = names, open_part(names[0])
-
-    def read(self, size: int = -1) -> bytes:
-        """So many bytes, or all; fewer are the last."""
-        data = bytearray(self.file.read(size))
-        while self.names[1:] and (size < 0 or len(data) < size):
-            self.file.close()
-            self.names = self.names[1:]
-            self.file = open_part(self.names[0])
-            data += self.file.read(-1 if size < 0 else size - len(data))
-        return bytes(data)
-
-
-def open_part(name: str) -> BinaryIO | gzip.GzipFile:
-    """A part, which may be compressed."""
-    return gzip.open(name, "rb") if name.endswith(PACKED) else open(name, "rb")
-
-
-def open_raw(folder: str, processor: int) -> BinaryIO | Parts:
-    """The pages of a processor. A part that stands there twice was about to be compressed."""
-    names = set(os.listdir(folder))
-    parts: list[str] = []
-    while found := {part_name(processor, len(parts)), part_name(processor, len(parts)) + PACKED} & names:
-        parts.append(os.path.join(folder, min(found)))
-    return Parts(parts) if parts else open(os.path.join(folder, raw_name(processor)), "rb")
-
-
-def raw_bytes(folder: str, processor: int) -> bytes:
-    """All pages of a processor."""
-    try:
-        return open_raw(folder, processor).read()
-    except (OSError, EOFError, zlib.error) as fault:
-        raise Unreadable(f"{raw_name(processor)}: {getattr(fault, 'strerror', None) or fault}") from None
-
-
-def text_of(folder: str, name: str) -> str:
-    """The same as text, in which no byte is lost."""
-    return bytes_of(folder, name).decode("utf-8", "surrogateescape")
 
 
 class Meta:
@@ -105,7 +54,7 @@ class Meta:
     def version_fault(self) -> str | None:
         """Why the folder isn't in a layout that is known, if so."""
         version, words = self.one(Key.RECORDING), (self.one(Key.UNAME) or "").split()
-        if version not in (None, VERSION):
+        if version is not None and version not in VERSIONS:
             return f"{META}: this is a recording of version {version}, and {VERSION} is known"
         if words and words[-1] in BIG_ENDIAN:
             return f"{META}: pages of {words[-1]}, whose numbers are big-endian, aren't read"
@@ -124,11 +73,20 @@ class Meta:
     def ring_start(self) -> int:
         """The moment in ns from which on all processors have events, in a flight recorder's ring; else 0."""
         start = self.one(Key.RING_START) or ""
-        return ns_of(start) if re.fullmatch(r"\d+(\.\d+)?", start) else 0
+        return ns_of(start) if re.fullmatch(r"[0-9]{1,10}(\.[0-9]{1,9})?", start) else 0
+
+    def bytes(self) -> int | None:
+        """How many bytes all pages have together, as the recorder counted them; None if it was killed."""
+        count = self.one(Key.BYTES) or ""
+        return int(count) if re.fullmatch("[0-9]{1,15}", count) else None
+
+    def has_snapshot_end(self) -> bool:
+        """Whether the recorder put SNAPSHOT_END into its snapshots."""
+        return self.one(Key.RECORDING) not in (None, WITHOUT_END)
 
     def realtime(self) -> int | None:
         """How many ns CLOCK_REALTIME was ahead of CLOCK_MONOTONIC."""
-        found = re.fullmatch(r"realtime (\d+\.\d+) monotonic (\d+\.\d+)", self.one(Key.MOMENT) or "")
+        found = re.fullmatch(r"realtime ([0-9]{1,12}\.[0-9]{1,9}) monotonic ([0-9]{1,12}\.[0-9]{1,9})", self.one(Key.MOMENT) or "")
         return ns_of(found[1]) - ns_of(found[2]) if found else None
 
     def had_event(self, name: str) -> bool:
@@ -137,7 +95,7 @@ class Meta:
 
     def lost(self, line: str) -> dict[int, int]:
         """How many events each processor lost by this line of its `stats`."""
-        found = (re.fullmatch(rf"cpu(\d+) {line}: (\d+)", it) for it in self.values.get(Key.STATS, ()))
+        found = (re.fullmatch(rf"cpu([0-9]{{1,5}}) {line}: ([0-9]{{1,19}})", it) for it in self.values.get(Key.STATS, ()))
         return {int(it[1]): int(it[2]) for it in found if it and int(it[2])}
 
 
@@ -148,7 +106,9 @@ def snapshot_of(text: str) -> Snapshot:
     """What a snapshot's lines list. A line that isn't one is passed over: a task's name may hold anything."""
     snapshot = Snapshot()
     for words in (line.split(" ", 6) for line in text.split("\n")):
-        if words[0] == "at" and len(words) == 2 and words[1].isdigit():
+        if words == [SNAPSHOT_END]:
+            snapshot.has_end = True
+        elif words[0] == "at" and len(words) == 2 and NUMBER.fullmatch(words[1]):
             snapshot.moment = int(words[1])
         elif words[0] == "group" and len(words) == 3 and words[2] in PREFERENCES:
             snapshot.groups[path_of(words[1])] = words[2]
@@ -156,8 +116,10 @@ def snapshot_of(text: str) -> Snapshot:
             snapshot.types[path_of(words[1])] = words[2]
         elif words[0] == "unaccounted" and len(words) == 2:
             snapshot.unaccounted.append(path_of(words[1]))
-        elif words[0] == "task" and len(words) >= 6 and all(words[place].isdigit() for place in (1, 2, 4)):
+        elif words[0] == "task" and len(words) >= 6 and all(NUMBER.fullmatch(words[place]) for place in (1, 2, 4)):
             snapshot.tasks[int(words[1])] = ListedTask(int(words[2]), words[3], int(words[4]), path_of(words[5]))
+    snapshot.tasks.pop(0, None)
+    snapshot.is_cut = not text.endswith("\n")
     return snapshot
 
 
@@ -200,13 +162,15 @@ def read_processors(folder: str, meta: Meta, source: Source) -> None:
     for processor in range(source.processors):
         name = raw_name(processor)
         try:
-            read = read_pages(raw_bytes(folder, processor), processor, kernel.page, kernel.decoders, meta.is_ring())
+            data = Raw(folder, processor, meta.bytes()).read_all()
+            read = read_pages(data, processor, kernel.page, kernel.decoders, meta.is_ring())
         except (PageFault, struct.error, IndexError) as fault:
             raise Unreadable(f"{name}: {fault}") from None
         source.gaps += read.gaps
         source.gaps += gaps_behind(processor, overrun.get(processor, 0), read.gaps, read.events[-1] if read.events else None)
         if read.rest:
             source.mended[f"bytes at the end of {name} that are no whole page"] += read.rest
+        source.bytes += len(data)
         source.events += read.events
     source.events.sort(key=itemgetter(0))
 
@@ -237,6 +201,9 @@ def begin_ring(source: Source, start: int) -> None:
     on, at the next reading of the pressure files, so that what it is compared with is known."""
     whole_from = max([start, *first_moments(source.events).values()])
     source.events = [event for event in source.events if event.moment >= whole_from]
+    if not source.events:
+        raise Unreadable("no event is left in the ring from where all processors have events")
+    source.gaps = [gap for gap in source.gaps if gap.end > whole_from]
     source.whole_from = whole_from
     source.start = first_moment(source.events, READING) or whole_from
 
@@ -256,7 +223,7 @@ def tell_losses(source: Source, meta: Meta) -> None:
 
 def read_recording(folder: str, is_forced: bool, read: Callable[[str, Meta, Source], None] = read_processors) -> Source:
     """Reads a folder. One whose recorder was killed is read only where that is forced. `read` reads its events."""
-    meta = Meta(text_of(folder, META))
+    meta = meta_of(folder)
     fault = meta.version_fault()
     if fault is None and meta.end() is None and not is_forced:
         fault = f"{META}: the recording has no end: its recorder was killed, or still runs; --force reads what is there"
@@ -277,4 +244,21 @@ def read_recording(folder: str, is_forced: bool, read: Callable[[str, Meta, Sour
     source.stop = source.events[-1].moment if stop is None else stop
     source.snapshot.moment = source.snapshot.moment or first_moment(source.events, SNAPSHOT_BEGINS) or source.start
     tell_losses(source, meta)
+    count = meta.bytes() if has_all_bytes(meta) else None
+    tell_missing(source, folder, Expected(count, stop is not None, meta.has_snapshot_end()))
+    bound_times(source)
     return source
+
+
+def meta_of(folder: str) -> Meta:
+    """The folder's `meta`. Without it this may be the folder above a recording."""
+    if os.path.isdir(folder) and not os.path.lexists(os.path.join(folder, META)):
+        below = recording_below(folder)
+        advice = f": did you mean {below}?" if below else ""
+        raise Unreadable(f"{META}: No such file or directory: {folder} is no recording{advice}")
+    return Meta(text_of(folder, META))
+
+
+def has_all_bytes(meta: Meta) -> bool:
+    """Whether all pages that `meta` counts must be there: on a full disk some couldn't be written."""
+    return meta.end() is not None and (meta.end() or "").split(" ")[0] not in (Reason.DISK_FULL, Reason.FAILED)

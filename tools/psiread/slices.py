@@ -8,8 +8,8 @@ from __future__ import annotations
 import contextlib
 import multiprocessing
 import os
+import signal
 import struct
-import zlib
 from bisect import bisect_left
 from collections.abc import Iterator
 from multiprocessing.connection import Connection
@@ -19,9 +19,10 @@ from threading import Thread
 from psirec.layout import FORMATS, MARK, Probe, raw_name
 
 from .events import NEVER, Event, Gap, Marker, Switch
+from .files import Raw, text_of
 from .formats import Format, IntegerReader, formats_of, integers_of, sections_of
 from .pages import Page, PageFault, page_at, records_of
-from .recording import Meta, gaps_behind, kernel_of, open_raw, text_of
+from .recording import Meta, gaps_behind, kernel_of
 from .source import Source, Unreadable
 
 # Events of which a machine writes thousands a second; and so it does of markers that are samples of memory.
@@ -30,6 +31,10 @@ OFTEN = (
     Probe.INTERRUPT, Probe.READY, Probe.SHOW, Probe.AVERAGE,
 )  # fmt: skip
 SAMPLES = (MARK + "mem ").encode(), (MARK + "host ").encode()
+# By the first samples of memory of each processor the snapshot is checked; there are at most this many groups.
+FIRST_SAMPLES = 2048
+# How long (ns) a slice is at least. If some processors have few events, what is read at once may be far shorter.
+LEAST_SLICE = 2 * 10**9
 # So many bytes of all processors are read at once.
 READ_BYTES = 8 << 20
 MOMENT = itemgetter(0)
@@ -64,26 +69,21 @@ class Reader:
     """The pages of one processor's file, a part after another. `gaps` are those that were met so far, and `rest` is how many bytes
     at the end are no whole page."""
 
-    def __init__(self, folder: str, processor: int, records: Records, is_ring: bool, size: int) -> None:
+    def __init__(self, folder: str, processor: int, records: Records, is_ring: bool, size: int, most: int | None) -> None:
         self.name, self.processor, self.records, self.is_ring = raw_name(processor), processor, records, is_ring
         self.form = records.kernel.page
         self.size = max(size // self.form.size, 1) * self.form.size
         self.rest, self.before, self.gaps = 0, 0, list[Gap]()
         # What the probe told last whose switch is still to come: the task, and whether it waits.
         self.told: tuple[int, ...] | None = None
-        try:
-            self.file = open_raw(folder, processor)
-        except OSError as fault:
-            raise Unreadable(f"{self.name}: {fault.strerror}") from None
+        self.file = Raw(folder, processor, most)
 
     def data(self) -> bytes:
         """The next whole pages; nothing at the end."""
-        try:
-            data = self.file.read(self.size)
-        except (OSError, EOFError, zlib.error) as fault:
-            raise Unreadable(f"{self.name}: {getattr(fault, 'strerror', None) or fault}") from None
-        self.rest = len(data) % self.form.size
-        return data[: len(data) - self.rest]
+        data = self.file.read(self.size)
+        rest = len(data) % self.form.size
+        self.rest += rest
+        return data[: len(data) - rest]
 
     def pages(self, data: bytes) -> Iterator[Page]:
         """The heads of pages. Whatever was lost is noted."""
@@ -136,6 +136,7 @@ class Surveyed:
         self.coming, self.leaving = set[int](), set[int]()
         self.last: Event | None = None
         self.seen: set[int] = set()
+        self.samples = 0
         while data := reader.data():
             try:
                 self.take(reader, data)
@@ -143,7 +144,7 @@ class Surveyed:
                 raise Unreadable(f"{reader.name}: {fault}") from None
         if self.last is not None and self.last is not (self.rare or [None])[-1]:
             self.rare.append(self.last)
-        self.gaps, self.rest = reader.gaps, reader.rest
+        self.gaps, self.rest, self.bytes = reader.gaps, reader.rest, reader.file.count
 
     def take(self, reader: Reader, data: bytes) -> None:
         """Takes the next pages. Of what is often the first is kept of each kind."""
@@ -168,8 +169,10 @@ class Surveyed:
             self.last = decoders[number](last[0], processor, data, *last[1:])
 
     def take_rare(self, event: Event, number: int) -> None:
-        """Takes an event that may be rare: samples of memory aren't."""
-        if not (type(event) is Marker and event.text.startswith(SAMPLES)) or number not in self.seen:
+        """Takes an event that may be rare: samples of memory aren't, but for the first of them."""
+        is_sample = type(event) is Marker and event.text.startswith(SAMPLES)
+        self.samples += is_sample
+        if not is_sample or self.samples <= FIRST_SAMPLES:
             self.rare.append(event)
         self.seen.add(number)
 
@@ -177,10 +180,11 @@ class Surveyed:
 def survey_share(readers: list[Reader], own: Connection, others: list[Connection]) -> None:
     """Surveys some of the processors, in a process of its own, as long as the line is held at the other end: what it finds goes along
     that, or why something can't be read."""
+    signal.signal(signal.SIGINT, signal.SIG_IGN)
     for line in others:
         line.close()
     Thread(target=end_with, args=(own,), daemon=True).start()
-    with contextlib.suppress(KeyboardInterrupt, BrokenPipeError):
+    with contextlib.suppress(BrokenPipeError):
         try:
             own.send([Surveyed(reader) for reader in readers])
         except Unreadable as fault:
@@ -227,15 +231,16 @@ class Survey:
     def __init__(self, folder: str, is_large: bool) -> None:
         self.folder, self.is_large, self.silent = folder, is_large, set[int]()
         self.records, self.processors, self.is_ring = Records(folder), 0, False
+        self.most: int | None = None
 
     def readers(self) -> list[Reader]:
         """What reads each processor's pages from the first on."""
-        size = READ_BYTES // self.processors
-        return [Reader(self.folder, processor, self.records, self.is_ring, size) for processor in range(self.processors)]
+        size, most = READ_BYTES // self.processors, self.most
+        return [Reader(self.folder, processor, self.records, self.is_ring, size, most) for processor in range(self.processors)]
 
     def read(self, _: str, meta: Meta, source: Source) -> None:
         """Reads all of the recording: the source gets what is rare, and what was lost."""
-        self.processors, self.is_ring = source.processors, meta.is_ring()
+        self.processors, self.is_ring, self.most = source.processors, meta.is_ring(), meta.bytes()
         overrun = {} if self.is_ring else meta.lost("overrun")
         coming, leaving = set[int](), set[int]()
         readers = self.readers()
@@ -247,6 +252,7 @@ class Survey:
             source.gaps += gaps_behind(reader.processor, overrun.get(reader.processor, 0), found.gaps, found.last)
             if found.rest:
                 source.mended[f"bytes at the end of {reader.name} that are no whole page"] += found.rest
+            source.bytes += found.bytes
             source.events += found.rare
         source.events.sort(key=MOMENT)
         self.silent = coming - leaving
@@ -261,7 +267,19 @@ class Survey:
 
 
 def slices_of(readers: list[Reader]) -> Iterator[list[Event]]:
-    """The events of all processors in their order, in slices: each has all events up to a moment that weren't in one before."""
+    """The events of all processors in their order, in slices: each has all events up to some time that weren't in one before, and all
+    but the last cover LEAST_SLICE ns at least."""
+    events: list[Event] = []
+    for part in parts_of(readers):
+        events += part
+        if events and events[-1].moment - events[0].moment >= LEAST_SLICE:
+            yield events
+            events = []
+    yield events
+
+
+def parts_of(readers: list[Reader]) -> Iterator[list[Event]]:
+    """The same in parts, which may be short: each ends where the first of all processors has no more events in memory."""
     waiting: dict[int, list[Event]] = {place: [] for place in range(len(readers))}
     ended: set[int] = set()
     boundary = 0

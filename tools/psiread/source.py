@@ -35,6 +35,9 @@ class Snapshot:
     unaccounted: list[str] = field(default_factory=list)
     tasks: dict[int, ListedTask] = field(default_factory=dict)
     types: dict[str, str] = field(default_factory=dict)
+    # Whether its last line is the end, and whether its last line is cut.
+    has_end: bool = False
+    is_cut: bool = False
 
 
 @dataclass
@@ -58,5 +61,7 @@ class Source:
     # Whether the moment at which psi counts a wakeup is.
     has_ready_probe: bool = False
     realtime: int | None = None
+    # How many bytes of pages were read.
+    bytes: int = 0
     # Of a flight recorder's ring: what is before this moment isn't whole.
     whole_from: int = 0

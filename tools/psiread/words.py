@@ -2,12 +2,15 @@
 from __future__ import annotations
 
 import argparse
+import os
 import re
 import sys
 from collections.abc import Callable
 from typing import Any, NoReturn
 
 SECOND = 10**9
+# The status of a command that Ctrl-C ended.
+INTERRUPTED = 130
 
 
 class Parser(argparse.ArgumentParser):
@@ -25,6 +28,27 @@ class Parser(argparse.ArgumentParser):
     def words_of(self, given: list[str]) -> dict[str, Any]:
         """The values by the names of their options."""
         return vars(self.parse_args(given))
+
+
+def guarded(name: str, work: Callable[[], int], unwritable: int) -> int:
+    """Runs a tool's work and writes what is left of its output; returns the status. If the reader of the output has closed it, as
+    `head` does, nothing is said."""
+    try:
+        status = work()
+        sys.stdout.flush()
+        return status
+    except KeyboardInterrupt:
+        print(f"{name}: interrupted", file=sys.stderr)
+        status = INTERRUPTED
+    except BrokenPipeError:
+        status = unwritable
+    except OSError as fault:
+        print(f"{name}: {fault.filename or 'standard output'}: {fault.strerror}", file=sys.stderr)
+        status = unwritable
+    # What is still in the buffer must not fail again at the end.
+    with open(os.devnull, "wb") as nothing:
+        os.dup2(nothing.fileno(), 1)
+    return status
 
 
 def ns_of(seconds: str) -> int:

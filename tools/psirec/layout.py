@@ -11,7 +11,8 @@ formats     for each event a line `== SYSTEM/EVENT` and the text of the kernel's
 cpuN.raw    the pages of the ring buffer of processor N, in the order in which they came; of a recording that is compressed
             parts of them, cpuN.K.raw with K from 0 on, as they came or as cpuN.K.raw.gz.
 snapshot    what there was when the recording had begun: lines `at NS`, `group PATH PREFERENCE`, `type PATH TYPE` (its
-            `cgroup.type`), `unaccounted PATH` (its `cgroup.pressure` is 0) and `task TID TGID STATE CPU PATH NAME`.
+            `cgroup.type`), `unaccounted PATH` (its `cgroup.pressure` is 0) and `task TID TGID STATE CPU PATH NAME`; the last
+            line is `end`.
 pressure    for each reading `sample NUMBER PATH RESOURCE` and the two lines of that pressure file.
 
 NS is CLOCK_MONOTONIC in ns, as all times of events are (`trace_clock` is `mono`). Sizes of memory are bytes.
@@ -20,9 +21,11 @@ from __future__ import annotations
 
 import re
 
-# The version of this layout, which `meta` tells first: `recording 1`. Where it doesn't, a sketch of the recorder wrote the
+# The version of this layout, which `meta` tells first: `recording 2`. Where it doesn't, a sketch of the recorder wrote the
 # folder: all of the above but the end, for which SKETCH_END stands last.
-VERSION = "1"
+VERSION = "2"
+# The versions that can be read. The first put no SNAPSHOT_END into its snapshot.
+WITHOUT_END, VERSIONS = "1", ("1", VERSION)
 
 # ---------------------------------------------------------------- files
 
@@ -163,6 +166,10 @@ RESOURCES = ("io", "memory", "cpu")
 def at_line(moment_ns: int) -> str:
     """When a snapshot was begun: CLOCK_MONOTONIC in ns."""
     return f"at {moment_ns}"
+
+
+# The last line of a snapshot: without it the file was cut.
+SNAPSHOT_END = "end"
 
 
 def group_line(path: str, preference: str) -> str:

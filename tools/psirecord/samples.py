@@ -168,7 +168,7 @@ class Snapshot:
 
     def text(self) -> bytes:
         """The file."""
-        return "".join(f"{it}\n" for it in [layout.at_line(self.moment), *self.lines]).encode(errors="surrogateescape")
+        return "".join(f"{it}\n" for it in [layout.at_line(self.moment), *self.lines, layout.SNAPSHOT_END]).encode(errors="surrogateescape")
 
 
 def preference(group: Group) -> str:

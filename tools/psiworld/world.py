@@ -9,6 +9,7 @@ from collections import Counter
 from enum import Enum, auto
 
 from .groups import ROOT, Groups, parent_of
+from .limits import MOST_LABEL
 
 # A label is the kernel's number of the task, unless that is taken: then it is this much more.
 LABEL_STEP = 100_000_000
@@ -161,14 +162,28 @@ class World:
         if number in self.tasks:
             self.vanish(number)
         place = self.make_group(path)
-        label = number
-        while label in self.labels:
-            label += LABEL_STEP
+        label, processor = self.free_label(number), self.place_of(processor)
         task = self.tasks[number] = Task(label, place, processor, process)
         self.labels.add(label)
         self.groups.enter(place)
         self.put(f"fork {label} {place} {processor}")
         return task
+
+    def free_label(self, number: int) -> int:
+        """A number for a task in the trace: the kernel's, unless another task has it or a trace can't have it."""
+        if not 0 < number <= MOST_LABEL:
+            self.mended["number of a task that a trace can't have, replaced"] += 1
+        label = (number - 1) % MOST_LABEL + 1
+        while label in self.labels:
+            label = (label + LABEL_STEP - 1) % MOST_LABEL + 1
+        return label
+
+    def place_of(self, processor: int) -> int:
+        """The processor, or the first one if the machine doesn't have this one."""
+        if 0 <= processor < self.processors:
+            return processor
+        self.mended["processor that the machine doesn't have, taken to be the first"] += 1
+        return 0
 
     def running(self, processor: int) -> int:
         """Who runs there, 0 for none."""
@@ -176,7 +191,7 @@ class World:
 
     def ready(self, number: int, processor: int) -> None:
         """Makes the task ready on the processor."""
-        task = self.tasks[number]
+        task, processor = self.tasks[number], self.place_of(processor)
         if task.state is State.RUNNING:
             self.leave(task.processor, How.PREEMPT)
         if task.is_blocked():
@@ -187,6 +202,8 @@ class World:
 
     def wake(self, task: Task, processor: int) -> None:
         """Wakes the task, which is blocked, on the processor."""
+        if not 0 <= processor < self.processors:
+            processor = self.place_of(processor)
         self.lines.append(f"{self.now} wake {task.label} {processor}")
         task.state, task.processor = State.READY, processor
 

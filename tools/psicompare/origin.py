@@ -1,0 +1,80 @@
+"""Whether a trace was made of a recording: a comparison with another machine's says nothing. The trace's processors, groups and
+length must be those of the recording, and its switches be at the times of the recording's."""
+from __future__ import annotations
+
+import os
+import re
+from collections.abc import Iterator
+
+from psiread.events import Attach, GroupMade, Switch
+from psiread.kinds import is_trace
+from psiread.source import Source, Unreadable
+from psiread.window import seconds
+from psirec.layout import escaped_path
+from psiworld.groups import ROOT, prefixes_of
+
+HEADER = re.compile("psitrace [12] cpus=([1-9][0-9]?)")
+# By how much (ns) a trace may be longer than what is left of its recording: --to rounds nothing, so hardly at all.
+SLACK = 10**9
+# The least share of a trace's switches that are at times of the recording's. A task that begins to sleep or to wait, or exits, is
+# switched to for no time, and so is a task that the converter puts to sleep: these aren't events of the recording.
+LEAST_SHARE = 0.5
+
+
+def must_be_in_order(folder: str, trace: str) -> None:
+    """Refuses words in the wrong order."""
+    if os.path.isdir(trace) and is_trace(folder):
+        raise Unreadable(f"the words are swapped: compare {trace} {folder}")
+
+
+def lines_of(trace: str) -> Iterator[str]:
+    """The lines of a trace."""
+    try:
+        with open(trace, encoding="ascii", errors="replace") as file:
+            yield from file
+    except OSError as fault:
+        raise Unreadable(f"{trace}: {fault.strerror}") from None
+
+
+def must_be_of(source: Source, trace: str, start: int, length: int, lead_in: int) -> None:
+    """Refuses a trace with other processors, with groups that the recording doesn't have, or that is longer than what is left of the
+    recording from `start` on. Times are ns."""
+    lines = lines_of(trace)
+    header = HEADER.match(next(lines, ""))
+    processors = int(header[1]) if header else 0
+    if processors < source.processors or (processors > source.processors and not lead_in):
+        raise Unreadable(other(trace, f"it has {processors} processors, and the recording {source.processors}"))
+    left = source.stop - start
+    if length > left + SLACK:
+        raise Unreadable(other(trace, f"it lasts {seconds(length)} s, and the recording {seconds(max(left, 0))} s from there on"))
+    known = groups_of(source)
+    for line in lines:
+        words = line.split()
+        if words[1:2] == ["group"] and words[2] not in known:
+            raise Unreadable(other(trace, f"the recording has no group {words[2]}"))
+
+
+def groups_of(source: Source) -> set[str]:
+    """All groups that a recording names, and those above them."""
+    made = {escaped_path(event.path) for event in source.events if isinstance(event, (GroupMade, Attach))}
+    named = {*source.snapshot.groups, *(task.path for task in source.snapshot.tasks.values()), *made}
+    return {ROOT, *(above for path in named for above in prefixes_of(path))}
+
+
+def must_have_switches_of(source: Source, trace: str, start: int) -> None:
+    """Refuses a trace most of whose switches aren't at times of the recording's."""
+    moments = {event.moment - start for event in source.events if isinstance(event, Switch)}
+    found = count = 0
+    for line in lines_of(trace):
+        moment, _, rest = line.partition(" ")
+        if rest.startswith("switch ") and moment != "0":
+            count += 1
+            found += int(moment) in moments
+    if found < LEAST_SHARE * count:
+        why = f"{found} of its {count} switches are at times of the recording's"
+        raise Unreadable(other(trace, f"{why}. Was it made with --from, or folded (--tick-ms compares a folded one)?"))
+
+
+def other(trace: str, why: str) -> str:
+    """How a trace is refused."""
+    return f"{trace}: this trace isn't of this recording: {why}"

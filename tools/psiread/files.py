@@ -1,0 +1,94 @@
+"""Opens the files of a recording's folder: regular files only, since a device or a FIFO would block or never end; and of compressed
+pages no more than `meta` counts."""
+from __future__ import annotations
+
+import gzip
+import os
+import stat
+import zlib
+from typing import IO
+
+from psirec.layout import PACKED, part_name, raw_name
+
+from .source import Unreadable
+
+# Without a count in `meta` (the recorder was killed): the pages of a part are at most this many bytes, eight times what the
+# recorder puts into one.
+MOST_PART_BYTES = 64 << 20
+PIECE = 8 << 20
+
+
+def open_regular(path: str) -> IO[bytes]:
+    """A regular file to read."""
+    file = os.open(path, os.O_RDONLY | os.O_NONBLOCK | os.O_CLOEXEC)
+    if not stat.S_ISREG(os.fstat(file).st_mode):
+        os.close(file)
+        raise Unreadable(f"{os.path.basename(path)}: it isn't a regular file")
+    return os.fdopen(file, "rb")
+
+
+def bytes_of(folder: str, name: str) -> bytes:
+    """The bytes of a file of the folder."""
+    try:
+        with open_regular(os.path.join(folder, name)) as file:
+            return file.read()
+    except OSError as fault:
+        raise Unreadable(f"{name}: {fault.strerror}") from None
+
+
+def text_of(folder: str, name: str) -> str:
+    """The same as text, in which no byte is lost."""
+    return bytes_of(folder, name).decode("utf-8", "surrogateescape")
+
+
+class Raw:
+    """The pages of a processor: one file, or parts as one. Reading more than `most` bytes of it is a fault; `count` is how many were
+    read."""
+
+    def __init__(self, folder: str, processor: int, most: int | None) -> None:
+        self.name = raw_name(processor)
+        self.names = parts_of(folder, processor) or [os.path.join(folder, self.name)]
+        self.most = most if most is not None else MOST_PART_BYTES * len(self.names)
+        self.count = 0
+        try:
+            self.file = open_part(self.names[0])
+        except OSError as fault:
+            raise Unreadable(f"{self.name}: {fault.strerror}") from None
+
+    def read(self, size: int) -> bytes:
+        """The next `size` bytes; fewer are the last."""
+        try:
+            data = bytearray(self.file.read(size))
+            while self.names[1:] and len(data) < size:
+                self.file.close()
+                self.names = self.names[1:]
+                self.file = open_part(self.names[0])
+                data += self.file.read(size - len(data))
+        except (OSError, EOFError, zlib.error) as fault:
+            raise Unreadable(f"{self.name}: {getattr(fault, 'strerror', None) or fault}") from None
+        self.count += len(data)
+        if self.count > self.most and self.names[0].endswith(PACKED):
+            raise Unreadable(f"{self.name}: unpacked it has more than {self.most} bytes, which is more than the recorder wrote")
+        return bytes(data)
+
+    def read_all(self) -> bytes:
+        """All bytes."""
+        pieces = []
+        while piece := self.read(PIECE):
+            pieces.append(piece)
+        return b"".join(pieces)
+
+
+def parts_of(folder: str, processor: int) -> list[str]:
+    """The paths of a processor's parts. A part that is there twice was about to be compressed."""
+    names = set(os.listdir(folder))
+    parts: list[str] = []
+    while found := {part_name(processor, len(parts)), part_name(processor, len(parts)) + PACKED} & names:
+        parts.append(os.path.join(folder, min(found)))
+    return parts
+
+
+def open_part(name: str) -> IO[bytes]:
+    """A part, which may be compressed."""
+    file = open_regular(name)
+    return gzip.GzipFile(fileobj=file) if name.endswith(PACKED) else file  # type: ignore[return-value]

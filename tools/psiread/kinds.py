@@ -1,0 +1,69 @@
+"""What a file is that isn't what a tool expects, by its first bytes, with advice."""
+from __future__ import annotations
+
+import glob
+import os
+import re
+
+# How many bytes are looked at.
+HEAD = 64
+TRACE_HEADER = re.compile(rb"psitrace [0-9]+ cpus=")
+# By the first bytes of a file: what it is, and what to do about it.
+KINDS = (
+    (b"\x1f\x8b", "it is compressed by gzip: unpack it with gunzip -c"),
+    (b"\xfd7zXZ\0", "it is compressed by xz: unpack it, an archive with tar xf"),
+    (b"\x28\xb5\x2f\xfd", "it is compressed by zstd: unpack it with zstd -dc"),
+    (b"\x17\x08Dtracing", "it is trace-cmd's binary file: trace-cmd report prints its text"),
+    (b"PERFILE2", "it is perf's binary file: perf script prints its text"),
+    (b"report ", "it is what psi_oomd replay printed, not a trace"),
+    (b"kill ", "it is what psi_oomd replay printed, not a trace"),
+    (b"event ", "it is what psi_oomd replay printed, not a trace"),
+    (b"stall cpu=", "it is what psi_oomd stall printed, not a trace"),
+    (b"# tracer:", "it is text of ftrace: tools/psitrace makes a trace of it"),
+    (b"{", "it seems to be a rules file"),
+)  # fmt: skip
+
+
+def kind_of(head: bytes) -> str | None:
+    """What a file with these first bytes is, and what to do about it. None if that is unknown."""
+    if not head:
+        return "it is empty"
+    if TRACE_HEADER.match(head):
+        line = head.split(b"\n")[0]
+        return "its lines end as on Windows: remove the carriage returns" if line.endswith(b"\r") else None
+    return next((text for start, text in KINDS if head.startswith(start)), None)
+
+
+def kind_of_file(name: str) -> str | None:
+    """The same of a file or a folder; None if it can't be read, or `name` is the standard input."""
+    if os.path.isdir(name):
+        return "it is a recording: tools/psitrace makes a trace of it" if has_meta(name) else "it is a folder"
+    try:
+        if not os.path.isfile(name):
+            return None
+        with open(name, "rb") as file:
+            return kind_of(file.read(HEAD))
+    except OSError:
+        return None
+
+
+def is_trace(name: str) -> bool:
+    """Whether a file has the first bytes of a trace."""
+    try:
+        if not os.path.isfile(name):
+            return False
+        with open(name, "rb") as file:
+            return TRACE_HEADER.match(file.read(HEAD)) is not None
+    except OSError:
+        return False
+
+
+def has_meta(folder: str) -> bool:
+    """Whether a folder has a recording's file `meta`."""
+    return os.path.isfile(os.path.join(folder, "meta"))
+
+
+def recording_below(folder: str) -> str | None:
+    """A folder with `meta` one or two levels below this one, if there is exactly one."""
+    found = [path for pattern in ("*", "*/*") for path in glob.glob(os.path.join(glob.escape(folder), pattern)) if has_meta(path)]
+    return found[0] if len(found) == 1 else None

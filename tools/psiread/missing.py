@@ -1,0 +1,142 @@
+"""What is missing of a recording: pages that `meta` counts, a part of the snapshot, files that aren't read, and sound times."""
+from __future__ import annotations
+
+import os
+import re
+from collections.abc import Iterator
+from typing import NamedTuple
+
+from psirec.layout import MARK, escaped_path
+
+from .events import NEVER, Event, Gap, GroupMade, GroupRemoved, Marker
+from .source import Source
+from .window import seconds
+from .words import SECOND
+
+# If pages are missing, a processor whose first or last event is this far (ns) from the recording's start or end lost some there.
+FAR = SECOND // 10
+# A trace has at most a million ticks; at ticks of 2 s this is its greatest length (ns).
+MOST_LENGTH = 10**6 * 2 * SECOND
+RAW = re.compile(r"cpu([0-9]{1,9})(?:\.[0-9]+)?\.raw(?:\.gz)?")
+GROUP_SAMPLE = f"{MARK}mem ".encode()
+
+
+class Expected(NamedTuple):
+    """What must be there: how many bytes of pages `meta` counts (None if it doesn't say so, or not all could be written), whether the
+    recorder's last marker is among the events, and whether its snapshots have an end mark."""
+
+    count: int | None
+    has_stop: bool
+    has_end: bool
+
+
+def tell_missing(source: Source, folder: str, expected: Expected) -> None:
+    """Notes what is missing as losses."""
+    if expected.count is not None and source.bytes != expected.count:
+        tell_bytes(source, expected.count, expected.has_stop)
+    for processor in unread_processors(folder, source.processors):
+        source.losses.append(f"cpu {processor}: its pages aren't read, since meta says that there are {source.processors} processors")
+    if expected.has_end:
+        if not source.snapshot.has_end:
+            source.losses.append("the snapshot has no end: groups and tasks are missing in it")
+        return
+    missing = missing_in_snapshot(source)
+    if missing:
+        source.losses.append(f"the snapshot is cut: {missing}")
+    else:
+        source.notes.append("the snapshot has no end mark, since the recorder is older; it lists what it must, so it seems whole")
+
+
+def tell_bytes(source: Source, count: int, has_stop: bool) -> None:
+    """Notes that the pages are more than `meta` counts, or fewer. If all processors' events end at one time, before the recorder's last
+    marker, nothing up to then is missing: that is no loss."""
+    if source.bytes > count:
+        source.losses.append(f"the pages have {source.bytes} bytes, and meta counts {count}: some aren't of this recording")
+        return
+    what, found = f"{count - source.bytes} of {count} bytes of pages that meta counts are missing", list(missing_ends(source))
+    source.gaps += [gap for gap, _ in found]
+    if found or has_stop:
+        source.losses += [what, *(text for _, text in found)]
+    else:
+        source.notes.append(f"{what}: all processors' events end at {seconds(source.stop - source.start)} s, and so does what is known")
+
+
+def missing_ends(source: Source) -> Iterator[tuple[Gap, str]]:
+    """Which processors' events begin late or end early, and when; each with its gap."""
+    length, (firsts, lasts) = source.stop - source.start, ends_of(source)
+    for processor in range(source.processors):
+        if processor not in firsts:
+            yield Gap(processor, 0, NEVER, 0), f"cpu {processor}: there are no events in {seconds(length)} s"
+            continue
+        first, last = firsts[processor], lasts[processor]
+        if first > source.start + FAR and not source.whole_from:
+            when = f"{seconds(first - source.start)} s of {seconds(length)} s"
+            yield Gap(processor, 0, first, 0), f"cpu {processor}: events begin at {when}"
+        if last < source.stop - FAR:
+            when = f"{seconds(max(last - source.start, 0))} s of {seconds(length)} s"
+            yield Gap(processor, last, NEVER, 0), f"cpu {processor}: events end at {when}"
+
+
+def ends_of(source: Source) -> tuple[dict[int, int], dict[int, int]]:
+    """The times (ns) of each processor's first and last event."""
+    firsts: dict[int, int] = {}
+    lasts: dict[int, int] = {}
+    for event in source.events:
+        firsts.setdefault(event[1], event[0])
+        lasts[event[1]] = event[0]
+    return firsts, lasts
+
+
+def unread_processors(folder: str, processors: int) -> list[int]:
+    """Processors with files in the folder, but beyond the number that `meta` says."""
+    found = (RAW.fullmatch(name) for name in os.listdir(folder))
+    return sorted({int(it[1]) for it in found if it and int(it[1]) >= processors})
+
+
+# ---------------------------------------------------------------- the snapshot
+
+
+def missing_in_snapshot(source: Source) -> str | None:
+    """What a snapshot without an end mark must list and doesn't: the recorder itself, and all groups of the first sample of memory
+    that no event has made. None if it lists all of these."""
+    snapshot = source.snapshot
+    if snapshot.is_cut:
+        return "its last line has no newline"
+    if not snapshot.tasks:
+        return "it lists no task"
+    made = {escaped_path(event.path) for event in source.events if isinstance(event, (GroupMade, GroupRemoved))}
+    for event in source.events:
+        if isinstance(event, Marker) and event.text.startswith(MARK.encode()):
+            if event.current not in snapshot.tasks:
+                return f"it doesn't list the recorder, which is task {event.current}"
+            break
+    absent = sorted(first_sampled(source.events) - set(snapshot.groups) - made)
+    return f"it doesn't list the group {absent[0]}" if absent else None
+
+
+def first_sampled(events: list[Event]) -> set[str]:
+    """The groups of the first sample of memory: the recorder writes a line for each."""
+    found: set[str] = set()
+    for event in events:
+        if isinstance(event, Marker) and event.text.startswith(GROUP_SAMPLE):
+            path = escaped_path(event.text[len(GROUP_SAMPLE) :].split(b" ")[0])
+            if path in found:
+                break
+            found.add(path)
+    return found
+
+
+# ---------------------------------------------------------------- times
+
+
+def bound_times(source: Source) -> None:
+    """Notes times that a trace can't have as losses, and leaves them out."""
+    if source.stop < source.start:
+        source.losses.append("the recording ends before it begins: times of its pages are damaged")
+        source.stop = source.start
+    latest = source.start + MOST_LENGTH
+    if source.stop > latest:
+        source.losses.append(
+            f"events reach to {seconds(source.stop - source.start)} s, and a trace to {seconds(MOST_LENGTH)} s: their times are damaged"
+        )
+        source.stop = max((event[0] for event in source.events if event[0] <= latest), default=source.start)
