@@ -65,6 +65,16 @@ def other_kind(joint_state: Any) -> Any:
     return lambda self, state: frozenset(Element(it.path, swap.get(it.kind, it.kind)) for it in joint_state(self, state))
 
 
+def early(write: Any) -> Any:
+    """Begins with any joint state, and writes the first lines of a window 1 ns before its time."""
+
+    def change(self: Any, start: int, durations: Any, interrupts: Any = (), present: Any = None) -> list[Line]:
+        lines: list[Line] = write(self, start, durations, interrupts)
+        return [(start if moment == start + 1 else moment, words) for moment, words in lines]
+
+    return change
+
+
 WRONG: tuple[tuple[str, object, str, Callable[[Any], Any]], ...] = (
     ("a joint state is lost", processor, "few_of", state_lost),
     ("moments are a us later", Writer, "write", wrong_lines(us_later)),
@@ -76,6 +86,7 @@ WRONG: tuple[tuple[str, object, str, Callable[[Any], Any]], ...] = (
     ("a wait is another kind", fold.Catalog, "joint_state", other_kind),
     ("tasks stay in a removed group", Writer, "empty", lambda _: lambda *__: []),
     ("a group has no task any more", Writer, "keep", lambda _: lambda *__: []),
+    ("a group has a task at the tick before", Writer, "write", early),
     ("a sample is moved over an edge", fold.Fold, "lines_of", lambda lines_of: moved(lines_of)),
     ("a sample is lost", fold.Fold, "lines_of", lambda lines_of: lost(lines_of)),
 )
@@ -83,6 +94,7 @@ WRONGED = """psitrace 2 cpus=2
 0 group /a
 0 group /b
 0 group /c
+0 group /d
 0 fork 4 /c 1
 0 switch 1 4 idle
 0 switch 1 0 sleep
@@ -97,6 +109,7 @@ WRONGED = """psitrace 2 cpus=2
 600000000 mem /a 5 0 0
 700000000 switch 0 1 sleep
 800000000 unstall 1
+1000000001 fork 9 /d 1
 1200000000 switch 0 0 iowait
 1300000000 move 1 /b
 1300000000 rmgroup /a

@@ -1,0 +1,137 @@
+"""Compares the kills of replays of folded traces with those of the traces themselves, by brute force: over random traces and recordings,
+with random rules."""
+from __future__ import annotations
+
+import json
+import os
+import random
+import sys
+import tempfile
+from collections.abc import Callable, Iterator
+from importlib.machinery import SourceFileLoader
+from importlib.util import module_from_spec, spec_from_loader
+from types import ModuleType
+from typing import Any, NamedTuple
+
+from folds import Settled, folded, printed, window_of
+from must import must, must_be
+from program import TOP
+from traces import MS, Maker
+
+from .replays import FOLDERS, TEXTS, both_of, names_of
+
+# How many random traces the gate compares, and with how many random rules each.
+TRACES, RULES = 40, 3
+SECOND = 1000 * MS
+
+
+class Found(NamedTuple):
+    """How many replays were compared, how many kill lines they printed, and each that differs: what it is of, and both lines."""
+
+    replays: int
+    kills: int
+    differing: list[str]
+
+
+def whatif() -> ModuleType:
+    """The random rules of tests/whatif."""
+    if "whatif" not in sys.modules:
+        loader = SourceFileLoader("whatif", os.path.join(TOP, "tests", "whatif"))
+        spec = spec_from_loader("whatif", loader)
+        assert spec
+        sys.modules["whatif"] = module_from_spec(spec)
+        loader.exec_module(sys.modules["whatif"])
+    return sys.modules["whatif"]
+
+
+def kills_of(program: str, trace: str, rules: str, tick: int) -> list[str]:
+    """The kill lines of a replay at a tick (ns)."""
+    words = ("replay", f"--rules={rules}", f"--tick-ms={tick // MS}", "--report-s=0", "--interval-s=1")
+    return [line for line in printed(program, trace, *words).decode().splitlines() if line.startswith("kill ")]
+
+
+def compare(program: str, what: str, traces: tuple[str, str], rules: list[Any], ticks: Iterator[int] | list[int]) -> Found:
+    """Compares the kills of a trace and of the folded one, by these rules and at these ticks (ns)."""
+    replays, kills, differing = 0, 0, []
+    with tempfile.NamedTemporaryFile("w", suffix=".json") as file:
+        json.dump({"rulesets": rules}, file)
+        file.flush()
+        for tick in ticks:
+            wanted, found = (kills_of(program, trace, file.name, tick) for trace in traces)
+            replays, kills = replays + 1, kills + len(wanted)
+            if wanted != found:
+                lines = sorted({*wanted} ^ {*found}) or ["in another order"]
+                differing.append(f"{what}, tick {tick // MS} ms: {lines[0]}; rules {json.dumps(rules)}")
+    return Found(replays, kills, differing)
+
+
+def total(parts: Iterator[Found]) -> Found:
+    """All of them together."""
+    found = list(parts)
+    return Found(sum(it.replays for it in found), sum(it.kills for it in found), [line for it in found for line in it.differing])
+
+
+def random_traces(program: str, numbers: range, count: int) -> Iterator[Found]:
+    """Compares random traces of these numbers, each with `count` random rules, at its window and at two windows."""
+    makers: tuple[Callable[[int, int], Maker], ...] = (whatif().Load, Maker, Settled)
+    for number in numbers:
+        draw = random.Random(number)
+        maker = makers[number % 3](number, 1 + draw.randrange(2))
+        trace, window = maker.trace(), window_of(maker, number)
+        other, _ = folded(trace, window)
+        for _ in range(count):
+            rules = whatif().some_rules(draw)
+            ticks = [tick for tick in (window, 2 * window) if tick <= 60 * SECOND]
+            yield compare(program, f"random trace {number}", (trace, other), rules, ticks)
+
+
+# ---------------------------------------------------------------- recordings
+
+
+def patterns_of(trace: str, draw: random.Random) -> str:
+    """Patterns of some of a trace's groups."""
+    groups = [line.split(" ")[2] for line in trace.splitlines() if " group " in line] or ["/"]
+    some = draw.sample(groups, min(len(groups), draw.randint(1, 3)))
+    return draw.choice(("*", "*/*", "*,*/*", "*/*,*/*/*", ",".join(some), some[0].rpartition("/")[0].lstrip("/") + "/*" if "/" in some[0][1:] else "*"))
+
+
+def rules_of(trace: str, draw: random.Random) -> list[Any]:
+    """Random rules for the groups of a recording."""
+    rules = whatif().some_rules(draw)
+    for ruleset in rules:
+        for group in ruleset["detectors"]:
+            for detector in group[1:]:
+                if "cgroup" in detector["args"]:
+                    detector["args"]["cgroup"] = patterns_of(trace, draw)
+                if "threshold" in detector["args"]:
+                    detector["args"]["threshold"] = str(draw.choice((0, 0, 1, 5)))
+        for action in ruleset["actions"]:
+            action["args"]["cgroup"] = patterns_of(trace, draw)
+    return list(rules)
+
+
+def recordings(program: str, names: list[str], count: int) -> Iterator[Found]:
+    """Compares stored recordings, folded into windows of a second, with `count` random rules each, at ticks of 1 and 2 s."""
+    for name in names:
+        plain, made = (it.decode() for it in both_of(name))
+        draw = random.Random(name)
+        for _ in range(count):
+            yield compare(program, name, (plain, made), rules_of(plain, draw), [SECOND, 2 * SECOND])
+
+
+def stored() -> list[str]:
+    """The names of all stored recordings and texts."""
+    return [*names_of(FOLDERS), *names_of(TEXTS)]
+
+
+# ---------------------------------------------------------------- the gate's part
+
+
+def check_kills_by_random_rules(program: str) -> None:
+    """Whether random rules kill the same groups at the same ticks, in random traces and in a recording whose groups come and go."""
+    found = total(random_traces(program, range(TRACES), RULES))
+    must_be("kill lines that differ", found.differing, [])
+    must(found.kills > TRACES, f"there are kills: {found.kills}")
+    found = total(recordings(program, ["cg-2"], 5))
+    must_be("kill lines that differ, in cg-2", found.differing, [])
+    must(found.kills > 5, f"there are kills of cg-2: {found.kills}")
