@@ -25,15 +25,15 @@ class Expected(NamedTuple):
     """What must be there: how many bytes of pages `meta` counts (None if it doesn't say so, or not all could be written), whether the
     recorder's last marker is among the events, and whether its snapshots have an end mark."""
 
-    count: int | None
+    byte_count: int | None
     has_stop: bool
     has_end: bool
 
 
 def tell_missing(source: Source, folder: str, expected: Expected) -> None:
     """Notes what is missing as losses."""
-    if expected.count is not None and source.bytes != expected.count:
-        tell_bytes(source, expected.count, expected.has_stop)
+    if expected.byte_count is not None and source.bytes != expected.byte_count:
+        tell_bytes(source, expected.byte_count, expected.has_stop)
     for processor in unread_processors(folder, source.processors):
         source.losses.append(f"cpu {processor}: its pages aren't read, since meta says that there are {source.processors} processors")
     if expected.has_end:
