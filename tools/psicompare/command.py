@@ -204,7 +204,7 @@ def by_moments(options: Options) -> tuple[list[Row], Shown]:
     source = read_recording(options.folder, True)
     start, clocks = start_of(options, source), clocks_of(options.trace)
     must_be_of(source, options.trace, start, clocks.now, options.lead_in)
-    must_have_switches_of(source, options.trace, start)
+    must_have_switches_of(source, options.trace, start, options.lead_in)
     told = Moments(source, machine_readings(options.folder, source))
     inside = readings_within(told.readings, start, start + clocks.now)
     if len(inside) < 2:

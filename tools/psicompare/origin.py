@@ -61,13 +61,13 @@ def groups_of(source: Source) -> set[str]:
     return {ROOT, *(above for path in named for above in prefixes_of(path))}
 
 
-def must_have_switches_of(source: Source, trace: str, start: int) -> None:
-    """Refuses a trace most of whose switches aren't at times of the recording's."""
+def must_have_switches_of(source: Source, trace: str, start: int, lead_in: int) -> None:
+    """Refuses a trace most of whose switches, after a pretended past, aren't at times of the recording's. Times are ns."""
     moments = {event.moment - start for event in source.events if isinstance(event, Switch)}
     found = count = 0
     for line in lines_of(trace):
         moment, _, rest = line.partition(" ")
-        if rest.startswith("switch ") and moment != "0":
+        if rest.startswith("switch ") and int(moment) > lead_in:
             count += 1
             found += int(moment) in moments
     if found < LEAST_SHARE * count:
