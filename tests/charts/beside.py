@@ -117,7 +117,7 @@ def check_what_was_and_cannot_be_read(program: str) -> None:
     must_be("no file", chart_fault(printed, "--beside=/nowhere"), "chart: no file: /nowhere\n")
     must_be("a folder", chart_fault(printed, "--beside=tests"), "chart: tests: Is a directory\n")
     said = chart_fault(printed, "--beside=examples/runaway.json")
-    must_say(said, "examples/runaway.json: line 1: replay prints no such line here")
+    must_say(said, "examples/runaway.json: the input: it is JSON, like a rules file, not the output of replay")
     must_say(chart_fault(printed, "--beside"), "usage: chart ")
     with tempfile.NamedTemporaryFile() as file:
         file.write(run([program, "replay", "examples/one-wait.trace"]))

@@ -45,7 +45,7 @@ def memory(cgroup: str, threshold: str) -> dict[str, Any]:
 
 def rules_of(*detectors: dict[str, Any], name: str = "R") -> dict[str, Any]:
     """Rules of one ruleset with these detectors, each in a group of its own."""
-    action = {"name": "kill_by_pressure", "args": {"cgroup": "*", "resource": "io"}}
+    action = {"name": "kill_by_pressure", "args": {"cgroup": "*/*", "resource": "io"}}
     groups = [["group", {"name": "exists", "args": {"cgroup": "x"}}, it] for it in detectors]
     return {"rulesets": [{"name": name, "detectors": groups or [["none"]], "actions": [action]}]}
 

@@ -2,9 +2,12 @@
 from __future__ import annotations
 
 import functools
+import gzip
+import json
+import os
 import tempfile
 
-from checking import fault_of, story
+from checking import TOP, fault_of, run, story
 from must import must, must_be
 
 from .drawn import CHART
@@ -41,21 +44,30 @@ def check_unknown_lines(program: str) -> None:
         text = lines[:place] + instead + lines[place + 1 :]
         # The first line that can't stand where it does: the edited one, the one that took its place, or the one after it.
         number = place + (2 if len(instead) == 2 else 1)
-        wanted = f"chart: line {number}: replay prints no such line here{ADVICE}\n"
+        shown = text[number - 1].decode("latin-1")
+        told = repr(shown[:60].rstrip("\n")) + (".." if len(shown) > 60 else "")
+        wanted = f"chart: line {number}: replay prints no such line here: {told}{ADVICE}\n"
         must_be(f"{instead} for line {place + 1}", chart_fault(b"".join(text)), wanted)
 
 
 def check_too_little(program: str) -> None:
     printed = story(program)
     stops = f"chart: the input stops before the last line of a replay, which begins with `end`{ADVICE}\n"
-    for front in (b"", b"".join(printed.splitlines(keepends=True)[:-1])):
-        must_be("an input that stops", chart_fault(front), stops)
-    for words in (
-        ["--group=/x"], ["--group", "batch"], ["--from=298.5", "--to=299.5"], ["--from=300"], ["--from=7", "--to=7"],
-        ["--group=/batch", "--group=/x"], ["--resource=irq"], ["--group=/batch/import", "--from=222"],
-    ):  # fmt: skip
+    must_be("an input that stops", chart_fault(b"".join(printed.splitlines(keepends=True)[:-1])), stops)
+    must_be("an empty input", chart_fault(b""), f"chart: the input is empty{ADVICE}\n")
+    for words in (["--from=298.5", "--to=299.5"], ["--resource=irq"], ["--group=/batch/import", "--from=222"]):
         said = chart_fault(printed, *words)
         must(said.startswith("chart: no report of ") and "--report-s" in said, f"{words}: {said}")
+    for words, told in (
+        (["--group=/x"], "no group /x in the replay, which has /, /batch, /batch/import, /batch/index, /web"),
+        (["--group", "batch"], "no group batch in the replay, which has /batch, .."),
+        (["--group=/batch", "--group=/wbe"], "no group /wbe in the replay, which has /web, .."),
+        (["--from=400"], "--from 400 is after the end of the replay, 300 s"),
+        (["--from=300"], "--from 300 isn't before --to 300: no time is left between"),
+        (["--from=7", "--to=7"], "--from 7 isn't before --to 7: no time is left between"),
+        (["--from=100", "--to=50"], "--from 100 isn't before --to 50: no time is left between"),
+    ):
+        must_be(f"{words}", chart_fault(printed, *words), f"chart: {told}\n")
     no_report = chart_fault(b"end 5 ticks=0 events=0 kills=0\n")
     must(no_report.startswith("chart: no report of / from 0 s to 0.000000005 s of 0.000000005 s: "), no_report)
 
@@ -82,7 +94,7 @@ def check_rules_that_cannot_be_read(program: str) -> None:
     must_be("no rules file", chart_fault(printed, "--rules=/nowhere"), "chart: no file: /nowhere\n")
     must_be("a folder", chart_fault(printed, "--rules=tests"), "chart: tests: Is a directory\n")
     said = chart_fault(printed, "--rules=examples/runaway.trace")
-    must_be("no rules", said, "chart: psi_oomd refuses the rules file examples/runaway.trace: rules: BadJson\n")
+    must_be("no rules", said, "chart: psi_oomd refuses the rules file examples/runaway.trace: rules: BadJson: it is a trace, not a rules file\n")
     other = '{"rulesets":[{"name":"R","detectors":[],"actions":[]}]}'
     with tempfile.NamedTemporaryFile("w", suffix=".json") as file:
         file.write(other)
@@ -90,6 +102,67 @@ def check_rules_that_cannot_be_read(program: str) -> None:
         said = chart_fault(printed, "--rules", file.name)
         advice = "which kills /batch/import: give the rules file of this replay"
         must_be("other rules", said, f"chart: {file.name} has no ruleset 0, action 0, {advice}\n")
+
+
+def check_rules_of_another_replay(program: str) -> None:
+    """A kill that the rules can't do: they aren't those of the replay, and the kill gets no label of theirs."""
+    printed = story(program)
+    kill = {"name": "kill_by_memory_size_or_growth", "args": {"cgroup": "web,*", "post_action_delay": "0"}}
+    for recursive in ("false", "true"):
+        kill["args"]["recursive"] = recursive  # type: ignore[index]
+        with tempfile.NamedTemporaryFile("w", suffix=".json") as file:
+            json.dump({"rulesets": [{"name": "the database", "detectors": [["always"]], "actions": [kill]}]}, file)
+            file.flush()
+            told = f"{file.name}: ruleset 0, action 0 is of 'web,*', and the replay's kills /batch/import: give the rules file of this replay"
+            for tool, *words in ((CHART,), (os.path.join(TOP, "tools", "openmetrics"), "--start", "2026-11-28T13:58:12Z")):
+                if recursive == "false":
+                    said = fault_of(tool, printed, *words, "--rules", file.name)
+                    must_be("other rules", said, f"{os.path.basename(tool)}: {told}\n")
+                else:  # then `*` reaches /batch/import through /batch
+                    must(b"the database" in run([tool, *words, "--rules", file.name], printed), f"{tool}: the kill has its label")
+
+
+def check_a_summary_of_another_trace(program: str) -> None:
+    """Its time of day would be wrong: the trace has another length."""
+    printed = story(program)
+    for length, is_same in (("300.000", True), ("300.001", True), ("20.093", False), ("3000.000", False)):
+        with tempfile.NamedTemporaryFile("w") as file:
+            file.write(f"psitrace: {length} s, processors 2, groups 5, lines 77151\npsitrace: 0 is 2026-11-28 13:58:12.000 UTC\n")
+            file.flush()
+            if is_same:
+                must(b"28 November 2026" in run([CHART, "--summary", file.name], printed), "the time of day is there")
+                continue
+            said = chart_fault(printed, "--summary", file.name)
+            shown = length.rstrip("0").rstrip(".")
+            lengths = f"a trace of {shown} s, and the replay's has 300 s"
+            must_be(length, said, f"chart: {file.name} is the summary of {lengths}: give the summary of this trace\n")
+    with tempfile.NamedTemporaryFile("w") as file:
+        file.write("psitrace: 0 is 2026-13-45 13:58:12.000 UTC\n")
+        file.flush()
+        must("is no time with its zone" in chart_fault(printed, "--summary", file.name), "a date that isn't one")
+
+
+def check_inputs_of_another_kind(program: str) -> None:
+    """What the input is instead, and what to do with it."""
+    printed = story(program)
+    with open(os.path.join(TOP, "examples", "runaway.trace"), "rb") as file:
+        trace = file.read()
+    for given, told in (
+        (trace, "it is a trace, not the output of replay: `psi_oomd replay FILE` prints what this tool reads"),
+        (gzip.compress(printed), "it is compressed by gzip, not the output of replay: `gunzip -c FILE` prints its content"),
+        (printed.replace(b"\n", b"\r\n"), "it is a text whose lines end in CR LF, not the output of replay: `tr -d '\\r' < FILE`"
+         " removes each CR"),
+        (b'{"rulesets":[]}', "it is JSON, like a rules file, not the output of replay"),
+    ):  # fmt: skip
+        for tool, *words in ((CHART,), (os.path.join(TOP, "tools", "top"),),
+                             (os.path.join(TOP, "tools", "openmetrics"), "--start", "2026-11-28T13:58:12Z")):  # fmt: skip
+            must_be(told, fault_of(tool, given, *words), f"{os.path.basename(tool)}: the input: {told}\n")
+    huge = b"report " + b"9" * 5000 + b" / io\n"
+    must("replay prints no such line here" in chart_fault(huge), "a number that no replay prints")
+    name = os.path.join(TOP, "examples", "runaway.want")
+    must_say(chart_fault(printed, name), f"unrecognized arguments: {name}: the input is standard input: chart < {name}")
+    said = fault_of(os.path.join(TOP, "tools", "top"), printed, name)
+    must(f"{name} isn't a number from 1 to 999999: the input is standard input: top < {name}" in said, said)
 
 
 def check_traces_that_cannot_be_read(program: str) -> None:

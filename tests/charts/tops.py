@@ -65,7 +65,7 @@ def check_what_the_summary_tells(program: str) -> None:
         must(drawn_of(story(program), "--summary", file) == given, "it is the chart by --start and --from")
         must(drawn_of(story(program), "--summary", file, "--from", "0") != given, "--from goes before it")
         must("give one of both" in chart_fault(story(program), f"--summary={file}", "--start=2026-11-30T03:01:36Z"), "not both")
-    with summary("psitrace: 60.097 s, processors 2, groups 5, lines 77151\n") as file:
+    with summary("psitrace: 300.000 s, processors 2, groups 5, lines 77151\n") as file:
         must(drawn_of(story(program), "--summary", file) == drawn_of(story(program)), "without a time of day nothing changes")
     with summary("no summary\n") as file:
         must("has no line of psitrace" in chart_fault(story(program), f"--summary={file}"), "another file is refused")

@@ -6,7 +6,7 @@ import re
 import sys
 from typing import NamedTuple, Optional
 
-from psireplay.command import Fault, Words
+from psireplay.command import INTERRUPTED, Fault, Words
 from psireplay.times import SECOND, seconds
 
 from .check import must_add_up
@@ -136,6 +136,14 @@ def work(given: Given) -> str:
 
 def main() -> int:
     try:
+        return run()
+    except KeyboardInterrupt:
+        return INTERRUPTED
+
+
+def run() -> int:
+    """Prints what the words ask for; the status."""
+    try:
         text = work(read_words())
     except Stop as fault:
         return told(str(fault), fault.status)
@@ -146,6 +154,8 @@ def main() -> int:
     try:
         with open(1, "wb", closefd=False) as stream:
             stream.write(text.encode())
+    except BrokenPipeError:
+        return WRITE
     except OSError as fault:
         return told(f"the output: {fault.strerror}", WRITE)
     return 0

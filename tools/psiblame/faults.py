@@ -1,14 +1,10 @@
 """Why the tool prints nothing, with a status for each. Those that psi_oomd has too have its numbers."""
 from __future__ import annotations
 
-import difflib
-
-from psireplay.command import Fault
+from psireplay.command import Fault, groups_told
 
 WORDS, REFUSED, NO_FILE, READ, WRITE, MEMORY = 1, 2, 4, 5, 6, 7
 NO_GROUP, NO_TIME, NO_SUM, NO_PROGRAM = 11, 12, 13, 70
-# How many groups a message names.
-NAMED = 8
 
 
 class Stop(Fault):
@@ -21,6 +17,4 @@ class Stop(Fault):
 
 def no_such_group(word: str, names: list[str]) -> Stop:
     """That no group of the trace ever had this path, and which it may have been."""
-    near = difflib.get_close_matches(word, names, NAMED) or names[:NAMED]
-    more = "" if len(near) == len(names) else ", .."
-    return Stop(NO_GROUP, f"no group {word} ever lived in the trace, which has {', '.join(near)}{more}")
+    return Stop(NO_GROUP, f"no group {word} ever lived in the trace, which has {groups_told(word, names)}")

@@ -5,15 +5,16 @@ from typing import NamedTuple
 
 
 class Growth(NamedTuple):
-    """By how many bytes a group's memory grew from the first of its samples to the highest, and by how much its count of scanned
-    pages rose."""
+    """By how many bytes a group's memory grew in a time, from the last sample before it to the highest in it (from the first one in
+    it, if there is none before), and by how much its count of scanned pages rose."""
 
     grown: int
     scanned: int
 
 
 class Samples:
-    """The samples of each group, by number, since the sums were taken: the last one before that is the first of them."""
+    """The samples of each group, by number, since the sums were taken. The last one before that counts as the first of them: the
+    group had that memory when the time began."""
 
     def __init__(self) -> None:
         self.first: dict[int, int] = {}

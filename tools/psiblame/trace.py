@@ -12,6 +12,7 @@ import time
 from typing import Iterator, NamedTuple
 
 from psireplay.command import Fault
+from psireplay.kinds import folder_told, why_refused
 from psireplay.program import ADVICE, LAUNCHER, built_program, program_path
 
 from .faults import MEMORY, NO_FILE, NO_PROGRAM, READ, REFUSED, Stop
@@ -67,7 +68,9 @@ def stalls(file: str, name: str) -> Stalls:
         done = subprocess.run([path, "stall", "--", file], capture_output=True, encoding="latin-1")
     except OSError as fault:
         raise Stop(NO_PROGRAM, f"{path} can't be run ({fault.strerror}): {ADVICE}") from None
-    said = done.stderr.strip()
+    said = why_refused(done.stderr.strip(), file, name)
+    if os.path.isdir(file):
+        raise Stop(READ, folder_told(name))
     if done.returncode in TOLD:
         raise Stop(done.returncode, TOLD[done.returncode].format(name=name, said=said))
     lines = done.stdout.splitlines(keepends=True)

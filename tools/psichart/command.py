@@ -9,7 +9,7 @@ import tempfile
 from typing import IO, NamedTuple, Optional, Union
 from xml.etree import ElementTree
 
-from psireplay.command import Fault, Words, run_tool
+from psireplay.command import Fault, Words, groups_told, run_tool
 from psireplay.lines import RESOURCES
 from psireplay.program import opened
 from psireplay.rules import Rules, unmatched
@@ -41,6 +41,7 @@ class Given(NamedTuple):
     trace: Optional[str]
     beside: Optional[str]
     top: Optional[int]
+    summary: Optional[Summary]
 
 
 def moment(word: str) -> Moment:
@@ -61,10 +62,19 @@ def count(word: str) -> int:
 
 
 class Summary(NamedTuple):
-    """What tools/psitrace said of a trace: when that began, where it said so, and where (ns) the recording begins in it."""
+    """What tools/psitrace said of a trace: when that began, if it said so, where (ns) the recording begins in it, and how long (ns,
+    rounded to ms) the trace is."""
 
+    name: str
     wall: Optional[WallTime]
     begins: int
+    length: Optional[int]
+
+    def must_be_of(self, replay: Replay) -> None:
+        """A trace of another length is another recording's, and has another time of day."""
+        if self.length is not None and abs(self.length - replay.end.moment) > SECOND // 1000:
+            lengths = f"a trace of {seconds(self.length)} s, and the replay's has {seconds(replay.end.moment)} s"
+            raise Fault(f"{self.name} is the summary of {lengths}: give the summary of this trace")
 
 
 def summary_of(name: str) -> Summary:
@@ -75,8 +85,13 @@ def summary_of(name: str) -> Summary:
         raise Fault(f"{name} has no line of psitrace: give what it said of the recording, by `2> FILE`")
     start = re.search(r"^psitrace: 0 is (\S+) (\S+) UTC$", said, re.MULTILINE)
     begins = re.search(r"^psitrace: the recording begins at (\d+)\.(\d{3}) s", said, re.MULTILINE)
-    lead_in = int(begins[1]) * SECOND + int(begins[2]) * SECOND // 1000 if begins else 0
-    return Summary(wall_time(f"{start[1]}T{start[2]}Z") if start else None, lead_in)
+    length = re.search(r"^psitrace: (\d+)\.(\d{3}) s, processors ", said, re.MULTILINE)
+    lead_in, whole = (int(it[1]) * SECOND + int(it[2]) * SECOND // 1000 if it else None for it in (begins, length))
+    try:
+        wall = wall_time(f"{start[1]}T{start[2]}Z") if start else None
+    except argparse.ArgumentTypeError as fault:
+        raise Fault(f"{name}: {fault}") from None
+    return Summary(name, wall, lead_in or 0, whole)
 
 
 HELP = {
@@ -95,6 +110,7 @@ HELP = {
 
 def words() -> Words:
     parser = Words("chart", ABOUT, AFTER)
+    parser.reads_input = True
     option = parser.add_argument
     option("--group", action="append", metavar="PATH", help=HELP["group"])
     option("--top", type=count, metavar="N", help=HELP["top"])
@@ -124,15 +140,17 @@ def read_words() -> Given:
     given = words().parse_args()
     if given.top and given.group:
         raise Fault("--top chooses the groups: not with --group")
+    summary = None
     if given.summary is not None:
         if given.wall:
             raise Fault("--summary has the time of --start: give one of both")
-        given.wall, begins = summary_of(given.summary)
-        given.start = begins if given.start is None else given.start
+        summary = summary_of(given.summary)
+        given.wall = summary.wall
+        given.start = summary.begins if given.start is None else given.start
     start = since_start(given.start or 0, given.wall, "--from")
     end = None if given.end is None else since_start(given.end, given.wall, "--to")
     groups = list(dict.fromkeys(given.group or ["/"]))
-    return Given(groups, given.resource, start, end, given.wall, given.rules, given.trace, given.beside, given.top)
+    return Given(groups, given.resource, start, end, given.wall, given.rules, given.trace, given.beside, given.top, summary)
 
 
 def resources_of(replay: Replay, given: Given) -> list[str]:
@@ -141,6 +159,22 @@ def resources_of(replay: Replay, given: Given) -> list[str]:
         return [given.resource]
     has_interrupts = any(resource == "irq" for _, resource in replay.series)
     return list(RESOURCES if has_interrupts else RESOURCES[:3])
+
+
+def must_be_times(start: int, end: int, replay: Replay) -> None:
+    """Some time of the replay must be left between the two (ns)."""
+    if start > replay.end.moment:
+        raise Fault(f"--from {seconds(start)} is after the end of the replay, {seconds(replay.end.moment)} s")
+    if start >= end > 0:
+        raise Fault(f"--from {seconds(start)} isn't before --to {seconds(end)}: no time is left between")
+
+
+def must_be_groups(replay: Replay, groups: list[str]) -> None:
+    """Each group must have reports at some time."""
+    paths = replay.rounds.paths
+    for path in groups if paths else ():
+        if path not in paths:
+            raise Fault(f"no group {path} in the replay, which has {groups_told(path, sorted(paths))}")
 
 
 def must_have_reports(replay: Replay, resources: list[str], start: int, end: int, groups: list[str]) -> None:
@@ -185,7 +219,11 @@ def chart() -> bytes:
         given, replay = read_top(printed, given) if given.top else (given, read_replay(printed, given.groups))
     for what in unmatched(rules.rulesets, replay.rounds.paths | {"/"}) if rules else ():
         print(f"chart: note: no group of the replay matches {what}", file=sys.stderr)
+    if given.summary:
+        given.summary.must_be_of(replay)
     end = replay.end.moment if given.end is None else min(given.end, replay.end.moment)
+    must_be_times(given.start, end, replay)
+    must_be_groups(replay, given.groups)
     resources = resources_of(replay, given)
     for path in given.groups:
         must_have_reports(replay, resources, 0, max(1, replay.end.moment), [path])

@@ -35,6 +35,7 @@ def label(word: str) -> Label:
 
 def words() -> Words:
     parser = Words("openmetrics", ABOUT, AFTER)
+    parser.reads_input = True
     option = parser.add_argument
     option("--start", type=wall_time, required=True, metavar="TIME", help="when the trace began, as 2026-11-28T13:58:12Z")
     option("--label", type=label, action="append", default=[], metavar="NAME=VALUE", help="a label for each metric, or several")

@@ -5,6 +5,7 @@ import re
 from typing import Iterable, Iterator, NamedTuple, Optional, Union
 
 from .command import Fault
+from .kinds import REPLAY, kind_of, told_kind
 
 RESOURCES = ("io", "memory", "cpu", "irq")
 LEVELS = ("some", "full")
@@ -62,8 +63,11 @@ class End(NamedTuple):
 
 Line = Union[Report, Event, Kill, End]
 
+# At most this many bytes of a line are shown in a message.
+SHOWN = 60
 ADVICE = ": give all that `psi_oomd replay` prints, and see what it says on standard error"
-NUMBER = "(?:0|[1-9][0-9]*)"
+# No number that replay prints has more digits.
+NUMBER = "(?:0|[1-9][0-9]{0,18})"
 PATH = r"/[A-Za-z0-9_.@:\\/-]*"
 SHARES = " ".join(rf"{average}=({NUMBER})\.([0-9][0-9])" for average in AVERAGES)
 FORMS = {
@@ -132,15 +136,27 @@ class Reader:
         return report
 
 
+def refused(number: int, text: bytes) -> Fault:
+    """That replay prints no such line there; if it is the first one, what the input is instead."""
+    found = told_kind(kind_of(text), REPLAY, "FILE") if number == 1 else ""
+    if found:
+        return Fault(f"the input: {found}")
+    shown = repr(text[:SHOWN].decode("latin-1").rstrip("\n")) + (".." if len(text) > SHOWN else "")
+    return Fault(f"line {number}: replay prints no such line here: {shown}{ADVICE}")
+
+
 def read(printed: Iterable[bytes]) -> Iterator[Line]:
-    """What stands in the lines, but for live clocks. A line that replay doesn't print there is a fault, or no last one."""
+    """The lines, without those of live clocks. A line that replay doesn't print there is a fault, or no last one."""
     reader = Reader()
+    number = 0
     for number, text in enumerate(printed, 1):
         try:
             line = reader.take(text.decode("latin-1"))
         except ValueError:
-            raise Fault(f"line {number}: replay prints no such line here{ADVICE}") from None
+            raise refused(number, text) from None
         if line:
             yield line
+    if not number:
+        raise Fault(f"the input is empty{ADVICE}")
     if not reader.is_ended:
         raise Fault(f"the input stops before the last line of a replay, which begins with `end`{ADVICE}")

@@ -9,6 +9,7 @@ import tempfile
 from typing import IO, Iterator
 
 from .command import Fault
+from .kinds import why_refused
 
 TOP = os.path.dirname(os.path.dirname(os.path.dirname(os.path.abspath(__file__))))
 LAUNCHER = os.path.join(TOP, "psi_oomd")
@@ -52,8 +53,9 @@ def start(words: list[str], notes: IO[bytes]) -> subprocess.Popen[bytes]:
         raise Fault(f"{path} can't be run ({fault.strerror}): {ADVICE}") from None
 
 
-def finish(run: subprocess.Popen[bytes], notes: IO[bytes], what: str) -> str:
-    """What the run printed. Where its status isn't 0 that is a fault, in the program's own words."""
+def finish(run: subprocess.Popen[bytes], notes: IO[bytes], what: str, name: str) -> str:
+    """What the run printed. If its status isn't 0 that is a fault, in the program's own words, with what the file is instead. The
+    message calls the file what it is to be, and by its name."""
     assert run.stdin and run.stdout
     try:
         run.stdin.close()
@@ -65,7 +67,8 @@ def finish(run: subprocess.Popen[bytes], notes: IO[bytes], what: str) -> str:
     if status:
         notes.seek(0)
         said = notes.read().decode("utf-8", "replace").strip() or f"its status is {status}"
-        raise Fault(f"psi_oomd {'refuses' if status in REFUSALS else 'failed on'} {what}: {said}")
+        told = why_refused(said, name)
+        raise Fault(f"psi_oomd {'refuses' if status in REFUSALS else 'failed on'} {what} {name}: {told}")
     return printed
 
 
@@ -92,7 +95,7 @@ def accepted_rules(name: str) -> bytes:
             run.stdin.write(NO_EVENTS)
         except BrokenPipeError:
             pass  # A refused rules file ends the run before the trace is read.
-        finish(run, notes, f"the rules file {name}")
+        finish(run, notes, "the rules file", name)
     return given
 
 
@@ -114,4 +117,4 @@ class CheckedTrace:
                 except BrokenPipeError:
                     break
                 yield line
-            self.end = int(finish(run, notes, f"the trace {self.name}").rpartition("=")[2])
+            self.end = int(finish(run, notes, "the trace", self.name).rpartition("=")[2])

@@ -12,6 +12,7 @@ from .command import Fault
 from .lines import Kill
 from .program import accepted_rules
 
+TRUTHS = ("true", "True", "1")
 POWERS = {"K": 1, "M": 2, "G": 3, "T": 4}
 
 
@@ -24,6 +25,12 @@ class Plugin(NamedTuple):
     def covers(self, path: str) -> bool:
         """Whether one of its patterns matches this path."""
         return any(does_match(pattern, path) for pattern in self.args["cgroup"].split(","))
+
+    def may_kill(self, path: str) -> bool:
+        """Whether an action of this kind can choose the path: it matches, or a group above it does and the action goes down."""
+        above = [path[:place] for place, letter in enumerate(path) if letter == "/" and place]
+        goes_down = self.args.get("recursive", "false") in TRUTHS
+        return self.covers(path) or goes_down and any(self.covers(it) for it in ["/", *above])
 
 
 class Ruleset(NamedTuple):
@@ -91,12 +98,18 @@ class Rules:
         self.rulesets = [ruleset_of(it) for it in json.loads(accepted_rules(name))["rulesets"]]
 
     def killer(self, kill: Kill) -> Killer:
-        """Who kills here. A kill by none of these rules is a fault."""
+        """Who kills here. A kill that none of these rules can do is a fault: the replay was by other rules."""
         ruleset = self.rulesets[kill.ruleset] if kill.ruleset < len(self.rulesets) else None
+        which = f"ruleset {kill.ruleset}, action {kill.action}"
         if not ruleset or kill.action >= len(ruleset.actions):
-            which = f"ruleset {kill.ruleset}, action {kill.action}"
             raise Fault(f"{self.name} has no {which}, which kills {kill.path}: give the rules file of this replay")
-        return Killer(ruleset.name, ruleset.actions[kill.action].name)
+        action = ruleset.actions[kill.action]
+        if not action.may_kill(kill.path):
+            cgroup = action.args.get("cgroup", "")
+            raise Fault(
+                f"{self.name}: {which} is of '{cgroup}', and the replay's kills {kill.path}: give the rules file of this replay"
+            )
+        return Killer(ruleset.name, action.name)
 
 
 def size(text: str, host: Optional[int]) -> Optional[int]:

@@ -2,6 +2,7 @@
 from __future__ import annotations
 
 import argparse
+import os
 import re
 
 from .command import Fault, Words, run_tool
@@ -21,7 +22,8 @@ MICROSECONDS = SECOND // 1000
 def count(word: str) -> int:
     """How many groups are listed."""
     if not re.fullmatch("[1-9][0-9]{0,5}", word):
-        raise argparse.ArgumentTypeError(f"{word} is no number from 1 on")
+        file = f": the input is standard input: top < {word}" if os.path.isfile(word) else ""
+        raise argparse.ArgumentTypeError(f"{word} isn't a number from 1 to 999999{file}")
     return int(word)
 
 
@@ -40,6 +42,7 @@ def table(rows: list[list[str]]) -> str:
 def top() -> bytes:
     """The table."""
     words = Words("top", ABOUT)
+    words.reads_input = True
     words.add_argument("count", nargs="?", type=count, default=DEFAULT, metavar="N", help="how many groups are listed: %(default)s")
     given = words.parse_args()
     with open(0, "rb", closefd=False) as printed:

@@ -19,6 +19,7 @@ ABOUT = """Replays each trace by the rules of OLD and by those of NEW, and says 
   later by S     or later
   other victim   another group is killed
   only in FILE   there is such a kill by these rules alone"""
+ORDER = "OLD NEW TRACE, with rules files for OLD and NEW"
 STATUS = "The status is 0 where all traces are the same, 1 where some aren't, and 2 where something couldn't be run."
 
 
@@ -84,8 +85,8 @@ def run(given: argparse.Namespace) -> int:
     program = Program()
     program.prepare()
     with contextlib.ExitStack() as files:
-        old, old_file = accepted(program, given.old, files)
-        new, new_file = accepted(program, given.new, files)
+        old, old_file = accepted(program, given.old, files, ORDER)
+        new, new_file = accepted(program, given.new, files, ORDER)
         replays = Traces(given.traces, given.pace, given.jobs).replays(program, [old_file, new_file])
     whole = [trace for trace, *found in zip(given.traces, *replays) if not any(isinstance(it, Fault) for it in found)]
     note_unmatched(whole, [old, new])

@@ -6,7 +6,7 @@ from collections.abc import Iterable
 from psirules import by_systemd, expectations, telling
 from psirules.expectations import Expectation
 from psirules.program import Kill, Program
-from psirules.replays import STANDARD_INPUT, Traces, accepted, note_unmatched
+from psirules.replays import STANDARD_INPUT, Traces, accepted, all_groups, note_unmatched, read_again
 from psirules.rules_file import RulesFile, bytes_of
 from psirules.telling import Outcome
 from psirules.wording import Fault
@@ -20,7 +20,7 @@ ABOUT = """Replays each trace by the rules of FILE, and holds its kills against 
   no kill before S         the first kill, if there is one, isn't earlier
 
 What follows a # is a comment. PATH and PATTERN are written as in rules files: in a component, * is any run of bytes.
-TRACE may be - for the standard input, once.
+Each has to match a group of each trace; `no kill of PATTERN if present` may match none. TRACE may be - for the standard input, once.
 
 With --by systemd-oomd the kills are those of tools/systemd-oomd by the settings of FOLDER; RULESET is `memory pressure` or `swap`."""
 STATUS = "The status is 0 where all holds, 1 where something doesn't, and 2 where something couldn't be run."
@@ -31,11 +31,15 @@ class Judged:
 
     def __init__(self, trace: str, found: list[Kill] | Fault, wanted: list[Expectation], rules: RulesFile) -> None:
         self.trace, self.found, self.wanted, self.rules = trace, found, wanted, rules
+        self.groups = None if isinstance(found, Fault) else all_groups(trace)
         self.outcomes = [self.outcome(it) for it in wanted]
 
     def outcome(self, wanted: Expectation) -> Outcome:
         if isinstance(self.found, Fault):
             return Outcome(wanted.text, None, str(self.found))
+        missing = None if self.groups is None else wanted.missing(self.groups)
+        if missing:
+            return Outcome(wanted.text, None, missing)
         verdict = wanted.verdict(self.found, self.rules)
         return Outcome(wanted.text, verdict.holds, verdict.told)
 
@@ -58,6 +62,9 @@ def tell_lines(judged: Iterable[Judged], is_named: bool) -> None:
             continue
         for outcome in trace.outcomes:
             name = f"{trace.trace}: {outcome.name}" if is_named else outcome.name
+            if outcome.is_ok is None:
+                telling.complain(f"{trace.trace}: {outcome.name}: {outcome.told}")
+                continue
             print(f"{'ok' if outcome.is_ok else 'FAIL':<6}{name}: {outcome.told}")
 
 
@@ -89,6 +96,8 @@ def judge(given: argparse.Namespace, program: Program) -> list[Judged]:
     check_words(given)
     wanted = expectations.read(given.want, bytes_of(given.want))
     program.prepare()
+    if STANDARD_INPUT in given.traces:
+        read_again()
     traces = Traces(given.traces, given.pace, given.jobs)
     with contextlib.ExitStack() as files:
         if given.by == by_systemd.NAME:

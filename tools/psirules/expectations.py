@@ -4,12 +4,15 @@ import re
 from abc import ABC, abstractmethod
 from dataclasses import dataclass
 
+from psireplay.command import groups_told
 from psirules.patterns import is_pattern, matches
 from psirules.program import Kill
 from psirules.rules_file import RulesFile
 from psirules.wording import Fault, counted, listed, moment, quoted, seconds
 
 FORMS = ("first PATH from S to S", "kill PATH by RULESET", "no kill of PATTERN", "at most N kills", "no kill before S")
+ABSENT = " if present"
+"""At the end of `no kill of PATTERN`: a trace may have no group that the pattern matches."""
 MOST_MOMENTS = 10
 
 
@@ -51,6 +54,17 @@ class Expectation(ABC):
     def check(self, rules: RulesFile) -> None:
         """Raises a fault where it can't be judged by these rules."""
 
+    def pattern_needed(self) -> str | None:
+        """The path or pattern that some group of each trace has to match: without one the line says nothing of the trace."""
+        return None
+
+    def missing(self, groups: set[str]) -> str | None:
+        """What is wrong if no group of a trace matches, with the groups that were probably meant."""
+        pattern = self.pattern_needed()
+        if pattern is None or any(matches(pattern, path) for path in groups):
+            return None
+        return f"no group of it matches {pattern}: it has {groups_told(pattern, sorted(groups))}"
+
 
 @dataclass(frozen=True)
 class First(Expectation):
@@ -59,6 +73,9 @@ class First(Expectation):
     path: str
     start: int
     end: int
+
+    def pattern_needed(self) -> str | None:
+        return self.path
 
     def verdict(self, kills: list[Kill], rules: RulesFile) -> Verdict:
         if not kills:
@@ -79,6 +96,9 @@ class KilledBy(Expectation):
     path: str
     ruleset: str
 
+    def pattern_needed(self) -> str | None:
+        return self.path
+
     def check(self, rules: RulesFile) -> None:
         if not rules.numbers_of(self.ruleset):
             raise Fault(f"{rules.name} has no ruleset {quoted(self.ruleset)}{nearest(self.ruleset, rules.ruleset_names())}")
@@ -94,9 +114,17 @@ class KilledBy(Expectation):
 
 @dataclass(frozen=True)
 class NoKillOf(Expectation):
-    """No kill is of a group that the pattern matches."""
+    """No kill is of a group that the pattern matches. It may be absent only where the line says so."""
 
     pattern: str
+    may_be_absent: bool
+
+    def pattern_needed(self) -> str | None:
+        return None if self.may_be_absent else self.pattern
+
+    def missing(self, groups: set[str]) -> str | None:
+        found = super().missing(groups)
+        return f"{found}; `no kill of {self.pattern}{ABSENT}` says that this is intended" if found else None
 
     def verdict(self, kills: list[Kill], rules: RulesFile) -> Verdict:
         found = [kill for kill in kills if matches(self.pattern, kill.path)]
@@ -151,8 +179,8 @@ def read_line(line: int, text: str) -> Expectation:
         return First(line, text, pattern(found[1]), start, end)
     if found := re.fullmatch(r"kill (\S+) by (.+)", text):
         return KilledBy(line, text, pattern(found[1]), found[2])
-    if found := re.fullmatch(r"no kill of (\S+)", text):
-        return NoKillOf(line, text, pattern(found[1]))
+    if found := re.fullmatch(rf"no kill of (\S+)({ABSENT})?", text):
+        return NoKillOf(line, text, pattern(found[1]), bool(found[2]))
     if found := re.fullmatch(r"at most ([0-9]{1,9}) kills?", text):
         return AtMost(line, text, int(found[1]))
     if found := re.fullmatch(r"no kill before (\S+)", text):

@@ -6,11 +6,13 @@ import sys
 from dataclasses import asdict
 from typing import Any
 
+from psireplay.kinds import RULES, kind_of, told_kind
 from psirules import telling
 from psirules.mending import Finding, Kind, Mender
 from psirules.program import Program, Refusal
 from psirules.relaxed import Reading
 from psirules.rules_file import bytes_of, kept
+from psirules.shapes import first_fault
 from psirules.telling import Form
 from psirules.wording import Fault, quoted
 
@@ -58,7 +60,8 @@ def verdict(data: bytes, read: Any) -> Finding | None:
             if not refusal.said.startswith("rules"):
                 raise
             cause = refusal.said.rpartition(": ")[2]
-            what = f"{refusal.said}: {CAUSES.get(cause, 'docs/RULES.md has its cause')}"
+            why = first_fault(read) if cause in ("MissingKey", "WrongKind") else None
+            what = f"{refusal.said}: {why or CAUSES.get(cause, 'docs/RULES.md has its cause')}"
             return Finding(place_told(refusal.said, read), Kind.REFUSED, what)
     return None
 
@@ -79,7 +82,8 @@ class Linted:
         try:
             reading = Reading(data)
         except Fault as fault:
-            self.findings.append(Finding(WHOLE_FILE, Kind.REFUSED, f"{fault}: oomd doesn't take this either"))
+            found = told_kind(kind_of(data), RULES, "FILE") or f"{fault}: oomd doesn't take this either"
+            self.findings.append(Finding(WHOLE_FILE, Kind.REFUSED, found))
             return
         self.findings += [Finding(WHOLE_FILE, Kind.REFUSED, *change) for change in reading.changes]
         for key in reading.doubles:

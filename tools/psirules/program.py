@@ -9,6 +9,7 @@ from concurrent.futures import ThreadPoolExecutor
 from dataclasses import dataclass
 from typing import IO, TypeVar
 
+from psireplay.kinds import folder_told, why_refused
 from psireplay.program import VARIABLE, named_program, program_path
 from psirules.wording import Fault
 
@@ -17,7 +18,7 @@ EMPTY_TRACE = b"psitrace 1 cpus=1\n0 end\n"
 KILL = re.compile(r"kill ([0-9]+) ruleset=([0-9]+) action=([0-9]+) (/\S*)\n")
 END = re.compile(r"end ([0-9]+) ticks=[0-9]+ events=[0-9]+ kills=([0-9]+)\n")
 
-WRONG_WORDS, RULES_REFUSED = 1, 3
+WRONG_WORDS, RULES_REFUSED, NO_FILE, READ_FAULT = 1, 3, 4, 5
 ADVICE = {
     WRONG_WORDS: "the program doesn't take these words; docs/COMMANDS.md has those of `replay`",
     2: "that line can't stand there; docs/TRACES.md has the cause under `Causes`, and `psi_oomd check {file}` looks again",
@@ -65,9 +66,18 @@ class RulesAt:
 class Refusal(Fault):
     """That the program ended without its output: over which file, what it said, and its status."""
 
-    def __init__(self, file: str, said: str, status: int) -> None:
+    def __init__(self, file: str, said: str, status: int, path: str | None = None) -> None:
+        """What the file is instead is looked up at its path."""
         advice = ADVICE.get(status, f"the program ended by status {status}").format(file=shlex.quote(file))
-        super().__init__(": ".join(filter(None, [file, said, advice])))
+        told = why_refused(said, file if path is None else path, file)
+        name = file
+        if status == NO_FILE:
+            name = ""  # the program names it
+        elif status == READ_FAULT and os.path.isdir(file):
+            name, told, advice = "", "", folder_told(file)
+        elif told != said:
+            advice = ""
+        super().__init__(": ".join(filter(None, [name, told, advice])))
         self.said, self.status = said, status
 
 
@@ -96,7 +106,8 @@ class Program:
             if child.returncode:
                 said.seek(0)
                 file = {WRONG_WORDS: self.path, RULES_REFUSED: rules.name}.get(child.returncode, trace)
-                raise Refusal(file, said.read(4096).decode("utf-8", "replace").strip(), child.returncode)
+                path = rules.path if file == rules.name else file
+                raise Refusal(file, said.read(4096).decode("utf-8", "replace").strip(), child.returncode, path)
         if kills is None:
             raise Fault(f"{self.path} printed no replay: let the variable {VARIABLE} name a psi_oomd")
         return kills
@@ -154,4 +165,8 @@ def side_by_side(calls: Sequence[Callable[[int], Answer]], jobs: int) -> list[An
             return fault
 
     with ThreadPoolExecutor(lanes) as pool:
-        return list(pool.map(answer, calls))
+        try:
+            return list(pool.map(answer, calls))
+        except KeyboardInterrupt:
+            pool.shutdown(wait=False, cancel_futures=True)
+            raise

@@ -135,7 +135,7 @@ def run(given: argparse.Namespace) -> int:
     program = Program()
     program.prepare()
     with contextlib.ExitStack() as files:
-        rules, _ = accepted(program, given.file, files)
+        rules, _ = accepted(program, given.file, files, "FILE TRACE, with a rules file for FILE")
     axes = [axis(rules, text) for text in given.vary]
     rows = rows_of(axes, rules, given)
 

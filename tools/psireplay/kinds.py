@@ -1,0 +1,88 @@
+"""Recognises files of another kind than the one that is expected, so that a message can say what a file is and what to do."""
+from __future__ import annotations
+
+import os
+import re
+from typing import Callable, NamedTuple, Optional
+
+# A file is recognised by its first bytes.
+HEAD = 4096
+TRACE, RULES, REPLAY, JSON = "a trace", "a rules file", "the output of replay", "JSON, like a rules file"
+
+
+class Kind(NamedTuple):
+    """What a file is, and what to do with it; `{name}` in the advice is its name."""
+
+    what: str
+    advice: str = ""
+
+
+def starts(*prefixes: bytes) -> Callable[[bytes], bool]:
+    return lambda head: head.startswith(prefixes)
+
+
+def has(pattern: bytes) -> Callable[[bytes], bool]:
+    return lambda head: re.match(pattern, head) is not None
+
+
+# The first test that a file's prefix passes says what it is.
+KINDS: tuple[tuple[Callable[[bytes], bool], Kind], ...] = (
+    (lambda head: not head, Kind("empty")),
+    (starts(b"\x1f\x8b"), Kind("compressed by gzip", "`gunzip -c {name}` prints its content")),
+    (starts(b"\xfd7zXZ\0"), Kind("compressed by xz", "`xz -dc {name}` prints its content")),
+    (starts(b"\x28\xb5\x2f\xfd"), Kind("compressed by zstd", "`zstd -dc {name}` prints its content")),
+    (starts(b"BZh"), Kind("compressed by bzip2", "`bzip2 -dc {name}` prints its content")),
+    (starts(b"\x17\x08\x44tracing"), Kind(
+        "trace-cmd's binary format", "`trace-cmd report -N {name}` prints text that `psi_oomd import` reads")),
+    (has(rb"\s*[\[{]"), Kind(JSON)),
+    (has(rb"[^\n]*\r\n"), Kind("a text whose lines end in CR LF", "`tr -d '\\r' < {name}` removes each CR")),
+    (has(rb"psitrace [0-9]"), Kind(TRACE)),
+    (has(rb"(report|event|kill|live|end) [0-9]"), Kind(REPLAY, "give the trace that was replayed")),
+    (has(rb"# tracer:|cpus=[0-9]+\n|version = [0-9]+\n"), Kind(
+        "text of ftrace", "`psi_oomd import {name} --cpus N` converts it to a trace")),
+)  # fmt: skip
+
+
+def kind_of(head: bytes) -> Optional[Kind]:
+    """The kind of a file that begins with these bytes, if it is known."""
+    return next((kind for test, kind in KINDS if test(head)), None)
+
+
+def file_kind(path: str) -> Optional[Kind]:
+    """The kind of a regular file, if it is known. No other file is opened: a pipe can't be read twice."""
+    if not os.path.isfile(path):
+        return None
+    try:
+        with open(path, "rb") as file:
+            return kind_of(file.read(HEAD))
+    except OSError:
+        return None
+
+
+def told_kind(kind: Optional[Kind], expected: str, name: str) -> str:
+    """What a file is in place of what was expected, to follow its name; empty if that isn't known."""
+    if not kind or (kind.what, expected) in ((expected, expected), (JSON, RULES)):
+        return ""
+    advice = kind.advice.format(name=name)
+    if (kind.what, expected) == (TRACE, REPLAY):
+        advice = f"`psi_oomd replay {name}` prints what this tool reads"
+    return f"it is {kind.what}, not {expected}" + (f": {advice}" if advice else "")
+
+
+def what_it_is(path: str, expected: str, name: Optional[str] = None) -> str:
+    """What a file is in place of what was expected; empty if that isn't known. Messages call it by its name."""
+    return told_kind(file_kind(path), expected, path if name is None else name)
+
+
+def why_refused(said: str, path: str, name: Optional[str] = None) -> str:
+    """What the program said of a trace or of rules, with what the file is instead, if its very beginning was refused."""
+    expected = TRACE if said.startswith("trace line 1: ") else RULES if said.endswith("BadJson") else ""
+    found = what_it_is(path, expected, name) if expected else ""
+    return f"{said}: {found}" if found else said
+
+
+def folder_told(name: str) -> str:
+    """What a folder is, if it is given in place of a trace."""
+    if os.path.isfile(os.path.join(name, "meta")):
+        return f"{name} is a recording: `tools/psitrace {name}` makes a trace of it"
+    return f"{name} is a folder"

@@ -1,0 +1,85 @@
+"""Which key of a rules file is missing, and which value has the wrong kind. psi_oomd names the place and the cause alone."""
+from collections.abc import Iterator
+from typing import Any
+
+from psirules.plugins import ACTIONS, DETECTORS
+from psirules.wording import quoted
+
+KINDS = {dict: "an object", list: "a list", str: "a text", bool: "true or false", int: "a number", float: "a number"}
+
+
+def kind_of(value: object) -> str:
+    """The JSON kind of a value."""
+    return KINDS.get(type(value), "null")
+
+
+def first_fault(data: Any) -> str | None:
+    """The first key that is missing, or value of a wrong kind, in the order in which psi_oomd looks; None if there is none."""
+    return next(faults(data), None)
+
+
+def faults(data: Any) -> Iterator[str]:
+    """All of them."""
+    if not isinstance(data, dict):
+        yield f"the file is {kind_of(data)}, and has to be an object with the key 'rulesets'"
+        return
+    yield from key_faults("the file", data, {"rulesets": list})
+    for number, ruleset in enumerate(items(data, "rulesets")):
+        yield from ruleset_faults(f"ruleset {number}", ruleset)
+
+
+def ruleset_faults(place: str, ruleset: Any) -> Iterator[str]:
+    if not isinstance(ruleset, dict):
+        yield f"{place} is {kind_of(ruleset)}, and has to be an object"
+        return
+    yield from key_faults(place, ruleset, {"name": str, "detectors": list, "actions": list})
+    for number, group in enumerate(items(ruleset, "detectors")):
+        yield from group_faults(f"{place}, group {number}", group)
+    for number, action in enumerate(items(ruleset, "actions")):
+        yield from plugin_faults(f"{place}, action {number}", action)
+
+
+def group_faults(place: str, group: Any) -> Iterator[str]:
+    if not isinstance(group, list):
+        yield f"{place} is {kind_of(group)}, and has to be a list: a name and detectors"
+    elif not group:
+        yield f"{place} is an empty list: its name is missing"
+    else:
+        if not isinstance(group[0], str):
+            yield f"the name of {place} is {kind_of(group[0])}, and has to be a text"
+        for number, detector in enumerate(group[1:]):
+            yield from plugin_faults(f"{place}, item {number}", detector)
+
+
+def plugin_faults(place: str, plugin: Any) -> Iterator[str]:
+    if not isinstance(plugin, dict):
+        yield f"{place} is {kind_of(plugin)}, and has to be an object"
+        return
+    yield from key_faults(place, plugin, {"name": str})
+    args = plugin.get("args", {})
+    if not isinstance(args, dict):
+        yield f"the value of 'args' in {place} is {kind_of(args)}, and has to be an object"
+        return
+    name = plugin.get("name")
+    known = {**DETECTORS, **ACTIONS}.get(name) if isinstance(name, str) else None
+    for argument in known.required if known else ():
+        if argument not in args:
+            yield f"{place} {quoted(str(name))} has no argument {quoted(argument)}"
+    for argument, value in args.items():
+        if not isinstance(value, (str, int)):
+            yield f"the argument {quoted(argument)} of {place} is {kind_of(value)}, and has to be a text"
+
+
+def key_faults(place: str, at: dict[str, Any], wanted: dict[str, type]) -> Iterator[str]:
+    """Keys that an object has to have, each with a value of a kind."""
+    for key, kind in wanted.items():
+        if key not in at:
+            yield f"{place} has no key {quoted(key)}"
+        elif not isinstance(at[key], kind):
+            yield f"the value of {quoted(key)} in {place} is {kind_of(at[key])}, and has to be {KINDS[kind]}"
+
+
+def items(at: dict[str, Any], key: str) -> list[Any]:
+    """The list at this key; empty if there is none."""
+    found = at.get(key)
+    return found if isinstance(found, list) else []
