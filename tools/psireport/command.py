@@ -7,7 +7,7 @@ import re
 import sys
 from collections.abc import Callable
 
-from psireplay.command import Fault, Words
+from psireplay.command import INTERRUPTED, Fault, Words
 from psireplay.times import wall_time
 
 from .facts import Given, collect
@@ -18,7 +18,8 @@ ABOUT = "Writes an incident on one page: an HTML file that needs no network and 
 AFTER = (
     "It runs psi_oomd (the one above this tool's folder, or that which the variable PSI_OOMD names) and the tools beside this one; the "
     "page names each command. Statuses: 1 wrong words, 6 the page can't be written, 70 psi_oomd can't be run; else that of the "
-    "command that failed, with its words, as 2 where psi_oomd refuses the trace and 3 where it refuses the rules."
+    "command that failed, with its words, as 2 where psi_oomd refuses the trace and 3 where it refuses the rules; 4 no such file, 11 no "
+    "such group."
 )
 WRITE = 6
 HELP = {
@@ -73,28 +74,48 @@ def read_words() -> Given:
 
 
 def write(page: bytes, name: str | None) -> None:
-    """Writes the page, whole or not at all where it is a file."""
+    """Writes the page; a file whole or not at all."""
     if name is None:
         with open(1, "wb", closefd=False) as stream:
             stream.write(page)
         return
     part = f"{name}.part"
-    with open(part, "wb") as file:
-        file.write(page)
-    os.replace(part, name)
+    try:
+        with open(part, "wb") as file:
+            file.write(page)
+        os.replace(part, name)
+    except OSError:
+        if os.path.isfile(part):
+            os.unlink(part)
+        raise
 
 
 def main() -> int:
     try:
+        return run()
+    except KeyboardInterrupt:
+        return INTERRUPTED
+
+
+def run() -> int:
+    """Writes the page that the words ask for; the status."""
+    try:
         given = read_words()
+        if given.output is not None and os.path.isdir(given.output):
+            raise Stop(WRITE, f"{given.output} is a folder: name a file in it")
         runs = Runs()
-        page = html(collect(runs, given), runs)
+        facts = collect(runs, given)
+        page = html(facts, runs)
     except Stop as fault:
         return told(str(fault), fault.status)
     except Fault as fault:
         return told(str(fault), WORDS)
+    for what in facts.unmatched:
+        told(f"note: no group of the trace matches {what}", 0)
     try:
         write(page, given.output)
+    except BrokenPipeError:
+        return WRITE
     except OSError as fault:
         return told(f"{fault.filename or 'the output'}: {fault.strerror}", WRITE)
     return 0

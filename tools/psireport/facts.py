@@ -11,15 +11,17 @@ from datetime import datetime, timezone
 from typing import Any, NamedTuple, Optional
 
 from psichart.replay import Replay, read_replay
+from psireplay.command import groups_told
+from psireplay.kinds import folder_told
 from psireplay.lines import RESOURCES, Kill
-from psireplay.rules import Rules
+from psireplay.rules import Rules, unmatched
 from psireplay.samples import Samples
 from psireplay.times import SECOND, WallTime, seconds
 
 from .nearness import Watch, watch
 from .reading import Peaks, read_peaks, thin
-from .runs import Done, Runs
-from .story import After, Stretch, Subject, after, stretch_of, subject_of
+from .runs import NO_FILE, NO_GROUP, READ, Done, Runs, Stop
+from .story import After, Stretch, Subject, after, greater_than, stretch_of, subject_of
 from .truths import ALWAYS, Truths, truths
 
 BEGAN = re.compile(r"psitrace: 0 is (\d{4}-\d\d-\d\d \d\d:\d\d:\d\d)\.(\d{3}) UTC")
@@ -86,7 +88,8 @@ class Supposed(NamedTuple):
 
 
 class Facts(NamedTuple):
-    """All that the page has. The replay has series of the drawn groups; `worst` is blame of the subject in the worst stretch."""
+    """All that the page has. The replay has series of the drawn groups; `worst` is blame of the subject in the worst stretch, and
+    `greatest` what stalled more than the subject, which the rules watch. `unmatched` are patterns that match no group."""
 
     given: Given
     replay_run: Done
@@ -94,6 +97,8 @@ class Facts(NamedTuple):
     peaks: Peaks
     subject: Subject
     stretch: Stretch
+    greatest: Optional[tuple[Subject, Stretch]]
+    unmatched: list[str]
     drawn: list[tuple[str, str]]
     samples: Optional[Samples]
     wall: Optional[WallTime]
@@ -131,7 +136,10 @@ def began(summary: str) -> Optional[WallTime]:
     found = BEGAN.search(summary)
     if not found:
         return None
-    whole = datetime.strptime(found[1], "%Y-%m-%d %H:%M:%S").replace(tzinfo=timezone.utc)
+    try:
+        whole = datetime.strptime(found[1], "%Y-%m-%d %H:%M:%S").replace(tzinfo=timezone.utc)
+    except ValueError:
+        return None
     return WallTime(int(whole.timestamp()) * SECOND + int(found[2]) * 10**6, 0)
 
 
@@ -190,15 +198,24 @@ def suppose(runs: Runs, given: Given, replay: Replay, subject: Subject) -> Optio
     return Supposed(run, supposed, kills, blamed, groups)
 
 
-def drawn_of(peaks: Peaks, subject: Subject, given: Given) -> list[tuple[str, str]]:
+def drawn_of(peaks: Peaks, subject: Subject, greatest: Optional[Subject], given: Given) -> list[tuple[str, str]]:
     """Which groups and resources are drawn, the subject's first: of each resource the subject's group, and those that stalled most, or
     those that the words name."""
     resources = [it for it in RESOURCES if it in peaks.resources]
     resources.sort(key=lambda it: it != subject.resource)
     paths = {path for path, _, _ in peaks.found}
-    named = [path for path in given.groups if path in paths]
+    for path in given.groups:
+        if path not in paths:
+            raise Stop(NO_GROUP, f"no group {path} in the replay, which has {groups_told(path, sorted(paths))}")
+    named = given.groups
     found = [(path, resource) for resource in resources for path in (subject.path, *(named or peaks.worst(resource)))]
-    return list(dict.fromkeys(found))
+    first = [(subject.path, subject.resource)] if subject.resource in resources else []
+    return list(dict.fromkeys([*first, *([(greatest.path, greatest.resource)] if greatest else []), *found]))
+
+
+def stretch_in(replay: Replay, subject: Subject) -> Stretch:
+    """The worst stretch of a group that is drawn."""
+    return stretch_of(replay.series[subject], subject.level) if subject in replay.series else Stretch(0, 0, 0, 0)
 
 
 def blamed(runs: Runs, given: Given, *words: str) -> tuple[Done, dict[str, Any]]:
@@ -212,18 +229,35 @@ def samples_of(given: Given, groups: list[str], end: int) -> Optional[Samples]:
     return samples if any(life.samples for lives in samples.lives.values() for life in lives) else None
 
 
+def must_be_files(given: Given) -> None:
+    """Each file is there and is no folder; else the fault says which one."""
+    for what, name in (("trace", given.trace), ("rules file", given.rules), ("drop-in file", given.drop_in)):
+        if name is None:
+            continue
+        if not os.path.exists(name):
+            raise Stop(NO_FILE, f"there is no {what} {name}")
+        if os.path.isdir(name):
+            raise Stop(READ, folder_told(name) if name == given.trace else f"the {what} {name} is a folder")
+    if given.recording is not None and not os.path.isdir(given.recording):
+        raise Stop(NO_FILE, f"the recording {given.recording} isn't a folder")
+
+
 def collect(runs: Runs, given: Given) -> Facts:
     """Runs all commands."""
+    must_be_files(given)
     known = recorded(runs, given)
     run = runs.program("replay", "--report-s=1", *given.rules_words(), *given.pace(), "--", given.trace)
     peaks = read_peaks(run.lines())
     judged = judge(runs, given, run)
     subject = subject_of(peaks, judged.rules if judged else None, peaks.kills)
-    drawn = drawn_of(peaks, subject, given)
+    greatest = greater_than(subject, peaks)
+    drawn = drawn_of(peaks, subject, greatest, given)
     groups = list(dict.fromkeys(path for path, _ in drawn))
     replay = read_replay(run.lines(), groups)
     supposed = suppose(runs, given, replay, subject)
-    stretch = stretch_of(replay.series[subject], subject.level) if subject in replay.series else Stretch(0, 0, 0, 0)
+    stretch = stretch_in(replay, subject)
+    more = (greatest, stretch_in(replay, greatest)) if greatest else None
+    missing = unmatched(judged.rules.rulesets, replay.rounds.paths | {"/"}) if judged else []
     thin(replay)
     if supposed:
         thin(supposed.replay)
@@ -235,5 +269,6 @@ def collect(runs: Runs, given: Given) -> Facts:
     wall = given.wall or (began(known.summary.said) if known else None)
     samples = samples_of(given, groups, replay.end.moment)
     return Facts(
-        given, run, replay, peaks, subject, stretch, drawn, samples, wall, blame_run, blame, worst_run, worst, judged, supposed, known
+        given, run, replay, peaks, subject, stretch, more, missing, drawn, samples, wall, blame_run, blame, worst_run, worst, judged,
+        supposed, known,
     )

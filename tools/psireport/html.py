@@ -2,6 +2,7 @@
 from __future__ import annotations
 
 import json
+import re
 from typing import Any, Iterable, Union
 from xml.etree import ElementTree
 
@@ -54,6 +55,21 @@ def folded(parent: Element, summary: str) -> Element:
     found = add(parent, "details")
     say(found, "summary", summary)
     return found
+
+
+CONTROLS = re.compile(r"[\x00-\x08\x0b-\x1f\x7f-\x9f]")
+
+
+def escape_controls(page: Element) -> None:
+    """Writes each control character of a name as its escape, as `\\x1b`: no browser shows it, and HTML has none."""
+
+    def escaped(text: str) -> str:
+        return CONTROLS.sub(lambda found: f"\\x{ord(found[0]):02x}", text)
+
+    for element in page.iter():
+        element.text, element.tail = (it and escaped(it) for it in (element.text, element.tail))
+        for name, value in element.attrib.items():
+            element.set(name, escaped(value))
 
 
 def data_of(value: Any) -> str:

@@ -9,6 +9,8 @@ from psireplay.rules import Plugin, argument, size
 from psireplay.times import seconds
 
 Looked = dict[str, "Group"]
+# The detectors of pressure, each with the seconds over which its average is.
+PRESSURE = {"pressure_above": 10, "pressure_rising_beyond": 60}
 
 
 class Group(NamedTuple):
@@ -69,12 +71,13 @@ class Watch:
     def __init__(self, detector: dict[str, Any]) -> None:
         self.plugin = Plugin(detector["name"], {key: argument(it) for key, it in detector["args"].items()})
         self.nearest: Optional[Nearest] = None
-        self.has_matched = False
+        self.has_matched = self.lacks_swap = False
 
     def look(self, moment: int, groups: Looked, memory: Memory) -> None:
         """Looks at an evaluation."""
         name = self.plugin.name
         if name == "swap_free":
+            self.lacks_swap = bool(memory.host and not memory.host[1])
             if memory.host and memory.host[1]:
                 self.take(-100 * 100 * memory.host[2] // memory.host[1], moment, "")
             return
@@ -95,16 +98,43 @@ class Watch:
         if value is not None and (self.nearest is None or value > self.nearest.value):
             self.nearest = Nearest(value, moment, path)
 
+    def part(self, host: Optional[int]) -> float:
+        """Which part of the way to its threshold it went at most, from 0 to 1. The host's memory is in bytes."""
+        name, args = self.plugin
+        if self.nearest is None or name == "exists":
+            return 0.0
+        value = self.nearest.value
+        if name in PRESSURE:
+            return reached(value, int(args["threshold"]) * 100)
+        if name == "memory_above":
+            return reached(value, size(args["threshold"], host) or 0)
+        return reached(100 * int(args["threshold_pct"]), -value) if name == "swap_free" else float(value > 0)
+
+    def nearest_told(self, host: Optional[int]) -> str:
+        """The nearest value beside the threshold, in a sentence's words."""
+        name, args = self.plugin
+        if self.nearest is None or name in ("exists", "memory_reclaim"):
+            return self.came(host)
+        value, moment, path = self.nearest
+        at = f"at {seconds(moment)} s"
+        if name in PRESSURE:
+            what = f"full {args['resource']} pressure of {path} over {PRESSURE[name]} s was {share(value)} percent {at}"
+            limit = int(args["threshold"])
+            return f"{what}, with a threshold of {limit}{lasting(args) if value > 100 * limit else ''}"
+        if name == "memory_above":
+            return f"memory of {path} was {mebibytes(value)} MiB {at}, with a threshold of {args['threshold']}"
+        return f"{share(-value)} percent of the swap was free {at}, with a threshold of {args['threshold_pct']}"
+
     def wanted(self) -> str:
         """What the detector waits for."""
         name, args = self.plugin
-        lasting = f" for {args['duration']} s" if args.get("duration", "0") != "0" else ""
+        long = lasting(args)
         whom = args.get("cgroup", "")
         return {
-            "pressure_above": f"{whom}: full {args.get('resource')} pressure over 10 s above {args.get('threshold')} %{lasting}",
+            "pressure_above": f"{whom}: full {args.get('resource')} pressure over 10 s above {args.get('threshold')} %{long}",
             "pressure_rising_beyond": f"{whom}: full {args.get('resource')} pressure over 60 s, and over 10 s, above "
-            f"{args.get('threshold')} %{lasting}, and not falling fast",
-            "memory_above": f"{whom}: memory above {args.get('threshold')}{lasting}",
+            f"{args.get('threshold')} %{long}, and not falling fast",
+            "memory_above": f"{whom}: memory above {args.get('threshold')}{long}",
             "memory_reclaim": f"{whom}: pages were scanned within {args.get('duration')} s",
             "swap_free": f"less than {args.get('threshold_pct')} % of the swap is free",
             "exists": f"{whom}: there is {'no such' if args.get('negate') == 'true' else 'such a'} group",
@@ -115,10 +145,11 @@ class Watch:
         name, args = self.plugin
         if self.nearest is None:
             none = "the trace has no sample of its memory" if self.has_matched else "there never was such a group"
-            return "the trace says nothing of swap" if name == "swap_free" else none
+            swap = "the machine has no swap" if self.lacks_swap else "the trace says nothing of swap"
+            return swap if name == "swap_free" else none
         value, moment, path = self.nearest
         at = f"({path} at {seconds(moment)} s)"
-        if name in ("pressure_above", "pressure_rising_beyond"):
+        if name in PRESSURE:
             missing = int(args["threshold"]) * 100 - value
             return f"highest {share(value)} % {at}" + (f", {share(missing)} % below" if missing > 0 else "")
         if name == "memory_above":
@@ -130,6 +161,16 @@ class Watch:
         if name == "swap_free":
             return f"lowest {share(-value)} % free (at {seconds(moment)} s)"
         return f"first there: {path} at {seconds(moment)} s"
+
+
+def reached(value: int, limit: int) -> float:
+    """The part of a limit that a value is, at most 1."""
+    return min(1.0, value / limit) if limit > 0 else 1.0
+
+
+def lasting(args: dict[str, str]) -> str:
+    """For how long a condition must hold, if it must."""
+    return f" for {args['duration']} s" if args.get("duration", "0") != "0" else ""
 
 
 def share(hundredths: int) -> str:

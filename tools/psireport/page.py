@@ -12,7 +12,7 @@ from psireplay.times import SECOND, rounded, shown, zone
 
 from . import judgement, sections, trust
 from .facts import Facts, sum_of, sums
-from .html import Element, data_of, folded, say, table, word
+from .html import Element, data_of, escape_controls, folded, say, table, word
 from .pictures import MS, Picture
 from .runs import Runs
 
@@ -70,9 +70,10 @@ def data(facts: Facts, pictures: list[Picture]) -> str:
 
 def body(page: Element, facts: Facts, runs: Runs) -> None:
     main = add(page, "main")
-    say(main, "h1", f"Incident: {sections.RESOURCES[facts.subject.resource]} pressure of {facts.subject.path}")
+    say(main, "h1", sections.title(facts))
     say(main, "p", when(facts), class_="soft")
     say(main, "p", *sections.lead(facts), class_="lead")
+    sections.notes(main, facts)
     pictures = sections.time_lines(main, facts)
     sections.blame(main, facts)
     judgement.rules(main, facts)
@@ -88,8 +89,9 @@ def html(facts: Facts, runs: Runs) -> bytes:
     head = add(page, "head")
     add(head, "meta", charset="utf-8")
     add(head, "meta", name="viewport", content="width=device-width, initial-scale=1")
-    add(head, "title", f"Incident: {sections.RESOURCES[facts.subject.resource]} pressure of {facts.subject.path}")
+    add(head, "title", sections.title(facts))
     beside = STYLE_BESIDE.replace(".series", ".whatif .series")
     add(head, "style", file_of("page.css") + STYLE + beside)
     body(add(page, "body"), facts, runs)
+    escape_controls(page)
     return b"<!DOCTYPE html>\n" + ElementTree.tostring(page, "utf-8", method="html") + b"\n"

@@ -10,6 +10,7 @@ from collections.abc import Iterator
 from typing import IO, NamedTuple
 
 from psireplay.command import Fault
+from psireplay.kinds import why_refused
 from psireplay.program import ADVICE, LAUNCHER, TOP, built_program, program_path
 
 PROGRAM = "psi_oomd"
@@ -23,7 +24,7 @@ class Stop(Fault):
         self.status = status
 
 
-WORDS, NO_PROGRAM = 1, 70
+WORDS, NO_FILE, READ, NO_GROUP, NO_PROGRAM = 1, 4, 5, 11, 70
 
 
 class Done(NamedTuple):
@@ -44,6 +45,12 @@ class Done(NamedTuple):
     def text(self) -> str:
         self.output.seek(0)
         return self.output.read().decode("utf-8", "replace")
+
+
+def refused_file(words: list[str], said: str) -> str:
+    """The file of these words that the program refused: the trace is the last one."""
+    rules = [word.partition("=")[2] for word in words if word.startswith("--rules=")]
+    return rules[0] if rules and said.startswith("rules") else words[-1]
 
 
 class Runs:
@@ -76,6 +83,7 @@ class Runs:
             raise Stop(NO_PROGRAM, f"{words[0]} can't be run ({fault.strerror}): {ADVICE}") from None
         said = done.stderr.decode("utf-8", "replace").strip()
         if done.returncode not in taken:
+            said = why_refused(said, refused_file(words, said))
             raise Stop(max(1, done.returncode), f"{shlex.join(told)}: {said or f'its status is {done.returncode}'}")
         found = Done(len(self.done) + 1, shlex.join(told), done.returncode, said, output)
         self.done.append(found)

@@ -13,8 +13,9 @@ from .html import Element, Words, folded, say, table, word
 from .nearness import share
 from .pictures import Album, Picture
 from .runs import Done
-from .story import machine_sentence, percent
+from .story import After, caveat, early, machine_sentence, percent
 from .truths import Place
+from .verdict import nearest_ruleset
 
 SHOWN = 8
 # So many figures of each resource are printed.
@@ -29,6 +30,7 @@ MEANWHILE = (
     ("memory_at_the_same_time", "memory_ns", "{group} was in a memory stall for {time} s: tasks of these groups were at the same time"),
 )
 RESOURCES = {"io": "IO", "memory": "memory", "cpu": "CPU", "irq": "interrupts", "use": "memory in use"}
+PRESSURES = {"io": "IO pressure", "memory": "memory pressure", "cpu": "CPU pressure", "irq": "interrupt pressure"}
 
 
 def source(run: Done) -> Element:
@@ -52,20 +54,52 @@ def killer(facts: Facts, kill: Kill) -> str:
 
 def lead(facts: Facts) -> list[Words]:
     """What the machine went through, and what the rules would have done."""
-    found: list[Words] = [machine_sentence(facts.subject, facts.stretch, facts.replay.end.moment) + " ", source(facts.replay_run)]
+    end = facts.replay.end.moment
+    found: list[Words] = []
+    if facts.greatest:
+        found += [machine_sentence(*facts.greatest, end, caveat(end)) + " ", source(facts.replay_run), " "]
+        found += [machine_sentence(facts.subject, facts.stretch, end, "", ", which the rules watch,") + " ", source(facts.replay_run)]
+    else:
+        found += [machine_sentence(facts.subject, facts.stretch, end, caveat(end)) + " ", source(facts.replay_run)]
     kills = facts.replay.kills
     if not facts.judged:
         return found
     if not kills:
-        return [*found, " The rules would have killed nobody ", source(facts.judged.run), "; " + nearest_ruleset(facts.judged) + "."]
+        nobody = f" The rules would have killed nobody{early(end)} "
+        return [*found, nobody, source(facts.judged.run), "; " + nearest_ruleset(facts.judged) + "."]
     first = kills[0]
     more = f" (the first of {len(kills)} kills)" if len(kills) > 1 else ""
-    found += [f" {killer(facts, first)} would have killed {first.path} at {seconds(first.moment)} s{more} ", source(facts.judged.run)]
+    at = f"{seconds(first.moment)} s{more}{early(first.moment)}"
+    found += [f" {killer(facts, first)} would have killed {first.path} at {at} ", source(facts.judged.run)]
     later = facts.supposed.after[0][1] if facts.supposed and facts.supposed.after else None
     if not later or not facts.supposed:
         return [*found, "."]
-    what = f"; without it {facts.subject.path} would have had at most {percent(later.most)} percent in place of {percent(later.was)}"
-    return [*found, what + f" at {seconds(later.moment)} s ", source(facts.supposed.run), "."]
+    return [*found, f"; {outcome(facts.subject.path, later)} ", source(facts.supposed.run), "."]
+
+
+def outcome(path: str, later: After) -> str:
+    """What the kill would have changed for a group."""
+    was, most, at = percent(later.was), percent(later.most), f"at {seconds(later.moment)} s"
+    if was != most:
+        return f"without it {path} would have had at most {most} percent in place of {was} {at}"
+    if later.was_over:
+        return "the kill would have changed nothing: the stall was over"
+    return f"the kill would have changed nothing: {path} would have had {was} percent {at} all the same"
+
+
+def title(facts: Facts) -> str:
+    """What the page is about: the group that stalled most, and the one that the rules watch."""
+    subjects = [facts.greatest[0], facts.subject] if facts.greatest else [facts.subject]
+    kinds = [PRESSURES[it.resource] for it in subjects]
+    if len(subjects) == 2 and kinds[0] == kinds[1]:
+        return f"Incident: {kinds[0]} of {subjects[0].path} and {subjects[1].path}"
+    return "Incident: " + ", ".join(f"{kind} of {it.path}" for kind, it in zip(kinds, subjects))
+
+
+def notes(page: Element, facts: Facts) -> None:
+    """What is to be known before the rest: rules that can do nothing in this trace."""
+    for what in facts.unmatched:
+        say(page, "p", f"No group of the trace matches {what}: there the rules can do nothing.", class_="note")
 
 
 class Near(NamedTuple):
@@ -88,19 +122,6 @@ def nearness(judged: Judged, number_: int) -> Near:
         found = [Near(sum(moment in it for it in true), len(detectors), moment) for moment in judged.evaluations]
         best = max([best, *found], key=lambda it: (it.part, it.many > 0))
     return best
-
-
-def nearest_ruleset(judged: Judged) -> str:
-    """The ruleset of which the most detectors were true at once."""
-    found = [nearness(judged, number_) for number_ in range(len(judged.json))]
-    best = max(found, key=lambda it: it.part, default=Near(0, 0, 0))
-    if not best.true:
-        return "no detector of theirs was ever true"
-    number_ = found.index(best)
-    name = f"ruleset {number_} ‘{judged.rules.rulesets[number_].name}’"
-    if best.true == best.many:
-        return f"{name} fired at {seconds(best.moment)} s, and found no victim"
-    return f"nearest was {name}, with {best.true} of {best.many} detectors true at {seconds(best.moment)} s"
 
 
 # ---------------------------------------------------------------- 2. time lines

@@ -9,10 +9,12 @@ from psireplay.rules import Rules
 from psireplay.times import SECOND, seconds
 
 from .nearness import share
-from .reading import Peaks
+from .reading import LEAST, Peaks
 
-# After a kill it is looked so much later (ns) at what became of others.
+# So long (ns) after a kill the page looks at what became of others.
 LATER = 30 * SECOND
+# Averages begin at 0: those over 10 s, and over 60 and 300 s, mean little before these times (ns).
+SETTLED, ALL_SETTLED = 30 * SECOND, 180 * SECOND
 NAMES = {"io": "IO", "memory": "memory", "cpu": "a processor", "irq": "interrupts"}
 
 
@@ -38,11 +40,13 @@ class Stretch(NamedTuple):
 
 
 class After(NamedTuple):
-    """What the subject had some time after a kill (ns), and would have had at most, in hundredths of a percent."""
+    """What the subject had some time after a kill (ns), and would have had at most, in hundredths of a percent; and whether its
+    share only fell from the kill on, so that the stall was over."""
 
     moment: int
     was: int
     most: int
+    was_over: bool
 
 
 def watched(rules: Rules, kill: Kill, peaks: Peaks) -> Optional[Subject]:
@@ -63,20 +67,50 @@ def watched(rules: Rules, kill: Kill, peaks: Peaks) -> Optional[Subject]:
 
 
 def subject_of(peaks: Peaks, rules: Optional[Rules], kills: list[Kill]) -> Subject:
-    """What the first kill's ruleset looks at; else the group all of whose work stood still most, but not the root where there are
-    others. Of the root alone, whose `full` of cpu says nothing, it is what some of its work waited for most."""
-    if rules and kills:
-        found = watched(rules, kills[0], peaks)
-        if found:
-            return found
-    groups = {path for path, _, _ in peaks.found}
-    levels = ("some", "full") if len(groups) == 1 else ("full", "some")
+    """What the first kill's ruleset looks at, or else what stalled most."""
+    return (watched(rules, kills[0], peaks) if rules and kills else None) or worst_of(peaks)
+
+
+def worst_of(peaks: Peaks) -> Subject:
+    """The group all of whose work stood still most. If next to nothing of any group did, it is the root, for what some of its work
+    waited for, since its `full` of cpu says nothing; or else who was held up by interrupts."""
+    best: Optional[tuple[int, Subject]] = None
+    for found in (ranked(peaks, False), ranked(peaks, True), interrupted(peaks)):
+        if found and found[0] >= LEAST:
+            return found[1]
+        if found and found[0] and not best:
+            best = found
+    return best[1] if best else Subject("/", "cpu")
+
+
+def ranked(peaks: Peaks, is_root: bool) -> Optional[tuple[int, Subject]]:
+    """The worst of the groups below the root, or the root: its highest share, in hundredths of a percent, and what it is."""
+    levels = ("some", "full") if is_root else ("full", "some")
     order = [
         ([peaks.highest(path, resource, it).share for it in levels], path, resource)
         for path, resource, level in peaks.found
-        if level == "some" and (path != "/" or len(groups) == 1)
+        if level == "some" and (path == "/") == is_root
     ]
-    return Subject(*max(order, key=lambda it: it[0], default=([], "/", "cpu"))[1:])
+    shares, path, resource = max(order, key=lambda it: it[0], default=([0], "", ""))
+    return (max(shares), Subject(path, resource)) if path else None
+
+
+def interrupted(peaks: Peaks) -> Optional[tuple[int, Subject]]:
+    """Who was held up by interrupts for the greatest share, the root first."""
+    order = [(peaks.highest(path, "irq", "full").share, path == "/", path) for path, resource, _ in peaks.found if resource == "irq"]
+    share_, _, path = max(order, default=(0, False, ""))
+    return (share_, Subject(path, "irq")) if path else None
+
+
+def greater_than(subject: Subject, peaks: Peaks) -> Optional[Subject]:
+    """What stalled most, if that is another stall than the subject's: of another resource, or of a group neither above nor below."""
+    worst = worst_of(peaks)
+    paths = [f"{it.path.rstrip('/')}/" for it in (worst, subject)]
+    is_same = worst.resource == subject.resource and (paths[0].startswith(paths[1]) or paths[1].startswith(paths[0]))
+    is_more = max(peaks.highest(worst.path, worst.resource, it).share for it in ("some", "full")) > max(
+        peaks.highest(subject.path, subject.resource, it).share for it in ("some", "full")
+    )
+    return worst if is_more and not is_same else None
 
 
 def stretch_of(series: Series, level: str) -> Stretch:
@@ -106,7 +140,9 @@ def after(subject: Subject, kill: Kill, recorded: Replay, supposed: Replay) -> O
         return None
     moment, was = value_at(one, subject.level, kill.moment + LATER)
     same, most = value_at(other, subject.level, moment)
-    return After(moment, was, most) if same == moment else None
+    shares = [share_ for at, share_ in zip(one.moments, one.shares[subject.level, "avg10"]) if kill.moment <= at <= moment]
+    was_over = all(later <= before for before, later in zip(shares, shares[1:]))
+    return After(moment, was, most, was_over) if same == moment else None
 
 
 def percent(hundredths: int) -> str:
@@ -114,15 +150,27 @@ def percent(hundredths: int) -> str:
     return f"{hundredths // 100}.{hundredths % 100 // 10}"
 
 
-def machine_sentence(subject: Subject, stretch: Stretch, end: int) -> str:
-    """What the machine went through."""
+def caveat(end: int) -> str:
+    """What a short trace can't say of averages, to follow the first sentence."""
+    if end < SETTLED:
+        return "; averages mean little before 30 s, those over 60 and 300 s before 3 min"
+    return "; averages over 60 and 300 s mean little before 3 min" if end < ALL_SETTLED else ""
+
+
+def early(moment: int) -> str:
+    """That a kill, or none, says little so early."""
+    return ", which says little before 30 s" if moment < SETTLED else ""
+
+
+def machine_sentence(subject: Subject, stretch: Stretch, end: int, caveat_: str = "", aside: str = "") -> str:
+    """What the machine went through; times in ns. What is said aside follows the group's name."""
     if not stretch.highest:
-        return f"No group stalled in the {seconds(end)} s of this trace."
+        return f"No group stalled in the {seconds(end)} s of this trace{caveat_}."
     who = "The machine" if subject.path == "/" else subject.path
     what = f"waited for {NAMES[subject.resource]}" if subject.resource in ("io", "cpu") else f"stalled for {NAMES[subject.resource]}"
     what = "was held up by interrupts" if subject.resource == "irq" else what
     when = f"from {seconds(stretch.start)} s to {seconds(stretch.end)} s"
     return (
-        f"{who} {what}, at its worst {when}: up to {share(stretch.highest)} percent of the time over 10 s "
-        f"(at {seconds(stretch.at)} s)."
+        f"{who}{aside} {what}, at its worst {when}: up to {share(stretch.highest)} percent of the time over 10 s "
+        f"(at {seconds(stretch.at)} s){caveat_}."
     )

@@ -19,6 +19,8 @@ WEAK = {
 
 
 # What compare says of all totals, among what it says of single ones and of how it came to them.
+# Repairs that make nothing wrong: the kernel does the same, or the event has a number of its own for a task.
+HARMLESS = ("wait for IO ended at a migration", "number changed by exec")
 VERDICT = re.compile(r"(all \d+|\d+ of \d+) totals |no total ")
 
 
@@ -37,17 +39,22 @@ def recording(page: Element, facts: Facts) -> None:
     notes = [line for line in lines if line and not line.startswith("|")]
     verdict = next(line for line in notes if VERDICT.match(line))
     say(section, "p", f"Against the machine’s own pressure files: {verdict} ", source(known.compared), ".")
+    # After the verdict stands why totals are beyond their limits.
+    causes = notes[notes.index(verdict) + 1 :]
+    for line in causes:
+        say(section, "p", line)
     rows = [cells_of(line) for line in lines if line.startswith("|")]
     box = folded(section, "Table: totals of the machine and of the trace") if len(rows) > 2 else section
     if len(rows) > 2:
         table(box, notes[0], rows[0], rows[2:], 2)
     for line in notes[1:]:
-        if line != verdict:
+        if line != verdict and line not in causes:
             say(box, "p", line)
     if not known.is_same:
         say(section, "p", "What follows is of the trace that psitrace makes of this recording by itself; the one of this page is another.")
     said = [re.sub(r"^psitrace: ", "", line) for line in known.summary.said.splitlines()]
     weak = [line for line in said if re.match(r"(lost|mended|limit|not accounted|the machine doesn't|waits for IO by state D|omit)", line)]
+    weak = [line for line in weak if line.removeprefix("mended: ").partition(":")[0] not in HARMLESS]
     say(section, "h3", "What the converter says of it ", source(known.summary))
     for kind, meaning in WEAK.items():
         lines = [line.partition(": ")[2] for line in weak if line.startswith(f"{kind}:")]
@@ -57,7 +64,7 @@ def recording(page: Element, facts: Facts) -> None:
             for line in lines:
                 say(found, "li", line)
     others = [line for line in weak if line.partition(":")[0] not in WEAK]
-    for line in others or ([] if weak else ["Nothing was lost, and nothing was mended."]):
+    for line in others or ([] if weak else ["Nothing was lost, and nothing was mended that matters."]):
         say(section, "p", line)
     rest_ = [line for line in said if line not in weak]
     if rest_:
