@@ -8,7 +8,7 @@ from typing import Any, Sequence
 from checking import NEAR, must_be_near, run, story
 from must import must, must_be
 
-from .drawn import LEFT, RIGHT, Drawn, compare, compare_paths, drawn_of, inner, scale_of
+from .drawn import LEFT, RIGHT, SVG, Drawn, Element, compare, compare_paths, drawn_of, inner, number_at, scale_of
 from .printed import AVERAGES, Printed
 
 Steps = list[tuple[float, float]]
@@ -143,6 +143,37 @@ def check_thresholds_that_are_near(program: str) -> None:
     for side in ("start", "end"):
         heights = sorted(y for anchor, y in places if anchor == side)
         must(all(b - a >= 11 for a, b in zip(heights, heights[1:])), f"texts at the {side} stand apart: {heights}")
+
+
+def boxes_of(panel: Element) -> list[tuple[str, float, float, float, float]]:
+    """Each label of a threshold: its text, and its left, right, top and bottom. Letters of 11 pixels are 6 wide on average."""
+    found = []
+    for it in panel.iter(f"{SVG}text"):
+        if it.get("class") == "note":
+            text, x, y = it.text or "", number_at(it, "x"), number_at(it, "y")
+            width = 6 * len(text)
+            left = x - {"start": 0, "middle": width / 2, "end": width}[it.get("text-anchor") or "start"]
+            found.append((text, left, left + width, y - 9, y + 2))
+    return found
+
+
+def check_labels_cover_nothing(program: str) -> None:
+    """A threshold's label is inside its panel, which the title is above, and no curve goes through it."""
+    shown = 0
+    for limit in range(0, 101, 20):
+        for group in ("/batch", "/batch/import", "/web"):
+            rules = rules_of(pressure(group, str(limit)), pressure(group, str(min(100, limit + 5)), rises=True), name="a long name")
+            panel = (drawn := drawn_with(without_kill(program), rules, f"--group={group}", "--resource=memory")).panel("memory")
+            (_, low), *_, (_, high) = drawn.numbers(panel)
+            curves = [drawn.lines(panel, f"{level} {average}") for level in ("some", "full") for average in AVERAGES]
+            for text, left, right, top, bottom in boxes_of(panel):
+                shown += 1
+                must(LEFT <= left and right <= RIGHT and high <= top and bottom <= low, f"{text} at {limit} % is in the panel")
+                for (x, y), (end, level) in (pair for lines in curves for line in lines for pair in zip(line, line[1:])):
+                    steps = [(x + (end - x) * part / 16, y + (level - y) * part / 16) for part in range(17)]
+                    is_over = any(left <= one <= right and top <= other <= bottom for one, other in steps)
+                    must(not is_over, f"a curve of {group} goes through {text} at {limit} %")
+    must(shown > 15, f"there are labels: {shown}")
 
 
 def memory_replay(program: str) -> bytes:

@@ -185,6 +185,29 @@ def check_looks(program: str) -> None:
     must_be("pages of paper", re.findall(rb"/Count ([0-9]+)", base64.b64decode(printed["data"])), [b"2"])
 
 
+def check_a_phone(program: str) -> None:
+    """Each picture is as wide as the screen, and no label is cut: there are none."""
+    if is_skipped():
+        return
+    with shown(program) as page:
+        page.look(390)
+        widths = page.value('[...document.querySelectorAll("figure[data-panel]:not([hidden]) svg")].map((it) => it.clientWidth)')
+        must(len(widths) >= 6 and all(300 < it <= 390 for it in widths), f"the pictures' widths: {widths}")
+        labels = page.value('[...document.querySelectorAll("figure[data-panel] svg .path")].filter((it) => it.getClientRects().length).length')
+        must_be("labels of upright lines", labels, 0)
+        height = page.value(f"parseFloat(getComputedStyle({PICTURE}.querySelector('.time text')).fontSize)")
+        must(height * widths[0] / 960 > 8, f"numbers of the time are {height * widths[0] / 960} pixels high")
+
+
+def check_one_label_for_each_kill(program: str) -> None:
+    """The first picture has them; upright lines go through all."""
+    figures = [it for it in read(story(program)).find("figure") if "data-panel" in it.attributes]
+    labels = [len([text for mark in it.find("g", class_="kill") for text in mark.find("text")]) for it in figures]
+    lines = [len([line for mark in it.find("g", class_="kill") for line in mark.find("line")]) for it in figures]
+    must_be("labels", labels, [1] + [0] * (len(figures) - 1))
+    must_be("lines", lines, [1] * len(figures))
+
+
 def check_by_the_browsers_own_words(program: str) -> None:
     """`--dump-dom` has the page as the script leaves it, and `--screenshot` a picture."""
     path = browser_path()

@@ -1,6 +1,7 @@
 """What is told to people: of one group a few lines, of all a table and a matrix."""
 from __future__ import annotations
 
+from collections.abc import Callable
 from typing import Optional
 
 from psireplay.times import seconds
@@ -45,6 +46,13 @@ def columns(rows: list[list[str]], indent: str = "") -> list[str]:
     widths = [max(len(row[place]) for row in rows) for place in range(len(rows[0]))]
     cells = ([row[0].ljust(widths[0]), *(cell.rjust(width) for cell, width in zip(row[1:], widths[1:]))] for row in rows)
     return [indent + "  ".join(row).rstrip() for row in cells]
+
+
+def without_same(found: list[Figures], shown: Callable[[Figures], object]) -> list[Figures]:
+    """The rows without those of groups for which the same is shown as for a group right below them: all that they have is of that one."""
+    by_group = {it.group: it for it in found}
+    hidden = {above for it in found if (above := it.group.parent) and above in by_group and shown(it) == shown(by_group[above])}
+    return [it for it in found if it.group not in hidden]
 
 
 class Teller:
@@ -120,13 +128,13 @@ class Teller:
 
     def table(self, found: list[Figures]) -> list[str]:
         """All groups that did something, the worst first."""
-        some = [it for it in found if it.has_some]
+        some = without_same([it for it in found if it.has_some], lambda it: self.row(it)[1:])
         victim = self.asked.victim
         heads = ["group", "ran", "waited: processor", "IO", "memory stall", "memory grown", "scanned"]
         heads += [f"while {shortened(victim)} ran", "at least less"] if victim is not None else []
         rows = [self.row(it) for it in some[: self.top]]
         lines = [f"times in s {self.when}, {self.asked.cpus} processors; the longest wait first", *columns([heads, *rows])]
-        rest, idle = len(some) - len(rows), len(found) - len(some)
+        rest, idle = len(some) - len(rows), sum(not it.has_some for it in found)
         lines += [f"and {rest} more groups: --top shows them"] if rest > 0 else []
         lines += [f"and {idle} groups that neither ran nor waited"] if idle else []
         return lines
@@ -139,7 +147,7 @@ class Teller:
 
     def matrix(self, found: list[Figures]) -> list[str]:
         """Who waited for whom: a row for each group that waited, a column for who ran there."""
-        waiting = [it for it in found if it.waited]
+        waiting = without_same([it for it in found if it.waited], lambda it: it.while_ran)
         if not waiting:
             return ["no group waited for a processor"]
         totals: dict[Optional[Group], int] = {}

@@ -87,7 +87,7 @@ class Panel:
             add(axis, "line", class_="grid" if value else "edge", x1=LEFT, y1=y, x2=RIGHT, y2=y)
             add(axis, "text", self.number(value, step), x=LEFT - 7, y=y, dy=".35em", text_anchor="end")
         self.draw_inside(panel, frame)
-        draw_thresholds(panel, self.thresholds, frame.bottom, frame.scale)
+        draw_thresholds(panel, self.thresholds, frame.top, frame.bottom, frame.scale)
 
 
 class Curves:

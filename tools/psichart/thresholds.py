@@ -5,11 +5,14 @@ from typing import Iterator, NamedTuple, Optional
 
 from psireplay.rules import Plugin, Rules, Ruleset, size
 
-from .svg import LEFT, RIGHT, Element, add, short
+from .svg import LEFT, RIGHT, Element, Point, add, short
 
 # What each detector of pressure looks at: the average whose colour its line has, and how that is told.
 WATCHED = {"pressure_above": ("avg10", "full over 10 s"), "pressure_rising_beyond": ("avg60", "full over 60 s and over 10 s")}
-NEAR = 13
+# A letter of a label is at most this wide (pixels); this much is free around it, and so far above or below its line is it.
+NOTE_LETTER = 6.6
+NEXT_TO = 2.0
+ABOVE, BELOW = -5.0, 14.0
 
 
 class Threshold(NamedTuple):
@@ -67,16 +70,74 @@ def merged(thresholds: list[Threshold]) -> list[Threshold]:
     return [Threshold(level, look, "; ".join(texts)) for (level, look), texts in found.items()]
 
 
-def draw_thresholds(panel: Element, thresholds: list[Threshold], bottom: float, scale: float) -> None:
-    """Draws them from the top down. A text stands above its line, at the left end or at the right, where no other is near."""
-    last = {"start": float("-inf"), "end": float("-inf")}
+class Box(NamedTuple):
+    """Where a text is: its sides, in pixels."""
+
+    left: float
+    right: float
+    top: float
+    bottom: float
+
+    def overlaps(self, other: Box) -> bool:
+        return self.left < other.right and other.left < self.right and self.top < other.bottom and other.top < self.bottom
+
+    def is_crossed(self, points: list[Point]) -> bool:
+        """Whether a line through these points goes through it."""
+        return any(self.meets(one, other) for one, other in zip(points, points[1:] or points))
+
+    def meets(self, one: Point, other: Point) -> bool:
+        """Whether a stretch between two points does: what of it is between the sides must be above or below."""
+        (x, y), (end, level) = sorted([one, other])
+        if end < self.left or x > self.right:
+            return False
+        slope = (level - y) / (end - x) if end > x else 0.0
+        first, last = (y + slope * (max(x, self.left) - x), y + slope * (min(end, self.right) - x)) if end > x else (y, level)
+        return min(first, last) < self.bottom and max(first, last) > self.top
+
+
+class Label(NamedTuple):
+    """A text beside a threshold: where it begins, is in the middle or ends."""
+
+    text: str
+    x: float
+    y: float
+    anchor: str
+
+    def box(self) -> Box:
+        width = NOTE_LETTER * len(self.text)
+        left = self.x - {"start": 0.0, "middle": width / 2, "end": width}[self.anchor]
+        return Box(left - NEXT_TO, left + width + NEXT_TO, self.y - 10 - NEXT_TO, self.y + 2 + NEXT_TO)
+
+
+def labels_of(it: Threshold, y: float) -> Iterator[Label]:
+    """Where the text of a threshold at this height may be, the best place first: at the right end or the left, in the middle or at a
+    quarter, above the line or below it; and the whole text rather than what comes before the ruleset's name."""
+    for text in dict.fromkeys((short(it.text, 100), short(it.text.partition(":")[0], 60))):
+        for part, anchor in ((1.0, "end"), (0.0, "start"), (0.5, "middle"), (0.25, "middle"), (0.75, "middle")):
+            x = LEFT + 6 + (RIGHT - LEFT - 12) * part
+            yield from (Label(text, x, y + shift, anchor) for shift in (ABOVE, BELOW))
+
+
+def draw_thresholds(panel: Element, thresholds: list[Threshold], top: float, bottom: float, scale: float) -> None:
+    """Draws them from the top down. A text is where it covers no curve, no other text and nothing outside of the panel; if there is no
+    such place the line has none, but for its tooltip."""
+    groups = [it for it in panel if (it.get("class") or "").startswith("series")]
+    curves = [points_of(line) for group in groups for line in group]
+    placed: list[Box] = []
     for it in sorted(merged(thresholds), reverse=True):
         y = bottom - it.level * scale
         group = add(panel, "g", class_="rule")
         add(group, "title", it.text)
         add(group, "polyline", class_=f"threshold {it.look}", points=f"{LEFT},{y:.2f} {RIGHT},{y:.2f}")
-        anchor = min(last, key=lambda side: last[side])
-        if y - last[anchor] >= NEAR:
-            last[anchor] = y
-            x = LEFT + 6 if anchor == "start" else RIGHT - 6
-            add(group, "text", short(it.text, 100), class_="note", x=x, y=y - 4, text_anchor=anchor)
+        for label in labels_of(it, y):
+            box = label.box()
+            is_inside = LEFT <= box.left and box.right <= RIGHT and top <= box.top and box.bottom <= bottom
+            if is_inside and not any(map(box.overlaps, placed)) and not any(map(box.is_crossed, curves)):
+                placed.append(box)
+                add(group, "text", label.text, class_="note", x=label.x, y=label.y, text_anchor=label.anchor)
+                break
+
+
+def points_of(line: Element) -> list[Point]:
+    """The points of a drawn line."""
+    return [(float(x), float(y)) for x, y in (it.split(",") for it in (line.get("points") or "").split())]

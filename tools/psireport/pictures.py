@@ -41,8 +41,12 @@ class Picture(NamedTuple):
 class Figure(Chart):
     """A chart of one group and one resource, without a title and a legend of its own."""
 
-    def __init__(self, wanted: Wanted) -> None:
+    def __init__(self, wanted: Wanted, has_labels: bool = True) -> None:
+        """Without labels the upright lines have their tooltips alone."""
         super().__init__(wanted)
+        for mark in [] if has_labels else self.marks:
+            mark.row = None
+        self.unnamed = self.unnamed if has_labels else []
         rows = max((mark.row + 1 for mark in self.marks if mark.row is not None), default=0)
         self.marks_top = TOP
         self.marks_bottom = self.marks_top + ROW * rows
@@ -71,7 +75,7 @@ class Figure(Chart):
     def legend(self) -> Element:
         """What the lines of all pictures mean."""
         self.svg = ElementTree.Element("svg", {"viewBox": f"0 38 {WIDTH} {46 if self.wanted.recorded else 26}", "role": "img"})
-        self.svg.set("aria-label", "what the lines mean")
+        self.svg.attrib.update({"aria-label": "what the lines mean", "class": "meaning"})
         self.draw_legend()
         if self.wanted.recorded:
             self.draw_legend_beside()
@@ -107,9 +111,9 @@ def memory_data(panel: MemoryPanel) -> dict[str, Any]:
     return {"t": moments, "s": {"memory-use": memory, **({"swap-use": swap} if panel.has_swap else {})}, "e": {}}
 
 
-def picture(wanted: Wanted) -> Picture:
-    """The picture of a group's pressure, or of its memory where that is wanted."""
-    figure = Figure(wanted)
+def picture(wanted: Wanted, has_labels: bool) -> Picture:
+    """The picture of a group's pressure, or of its memory if that is wanted."""
+    figure = Figure(wanted, has_labels)
     panel, path = figure.panels[0], wanted.replay.groups[0]
     if isinstance(panel, PressurePanel):
         data = pressure_data(wanted.replay, path, panel.kind)
@@ -136,17 +140,23 @@ def of_group(replay: Replay, path: str) -> Replay:
 
 
 class Album:
-    """Draws pictures of one replay on one axis."""
+    """Draws pictures of one replay on one axis. The first one has labels beside upright lines, which go through all."""
 
     def __init__(self, replay: Replay, axis: TimeAxis, rules: Optional[Rules], samples: Optional[Samples]) -> None:
         self.replay, self.axis, self.rules, self.samples = replay, axis, rules, samples
+        self.is_first = True
+
+    def picture(self, wanted: Wanted) -> Picture:
+        found = picture(wanted, self.is_first)
+        self.is_first = False
+        return found
 
     def pressure(self, path: str, resource: str, recorded: Optional[Replay] = None) -> Picture:
         beside = of_group(recorded, path) if recorded else None
-        return picture(Wanted(of_group(self.replay, path), [resource], self.axis, self.rules, None, beside))
+        return self.picture(Wanted(of_group(self.replay, path), [resource], self.axis, self.rules, None, beside))
 
     def memory(self, path: str) -> Picture:
-        return picture(Wanted(of_group(self.replay, path), [], self.axis, self.rules, self.samples, None))
+        return self.picture(Wanted(of_group(self.replay, path), [], self.axis, self.rules, self.samples, None))
 
     def legend(self, path: str, recorded: Optional[Replay] = None) -> Element:
         return Figure(Wanted(of_group(self.replay, path), ["io"], self.axis, self.rules, None, recorded)).legend()

@@ -23,6 +23,10 @@ PRINTED = 2
 # So many rows has the table of a picture.
 ROWS = 12
 NOBODY = "no task"
+NO_TASK = (
+    "“No task” is the time in which a task was ready on a processor and none ran there: the processor was just waking up, or ran what "
+    "a trace doesn’t have, as interrupts and a hypervisor’s other guests."
+)
 # What is shown of a group's times: the parts and the whole, by their names in blame's JSON, and what it is.
 MEANWHILE = (
     ("while_ran", "waited_ns", "{group} waited {time} s for a processor: while there ran"),
@@ -175,9 +179,9 @@ def controls(parent: Element, pictures: list[Picture], first: set[str]) -> None:
             if name == "resource" or value in first:
                 box_.set("checked", "")
     line = say(box, "span", "Time: ", word("output", "", id="time"), " ")
-    add(line, "button", "all of it", type="button", id="whole").tail = (
-        " Drag to zoom. On a picture: arrow keys move to a moment, + and − zoom, Escape shows all."
-    )
+    add(line, "button", "all of it", type="button", id="whole")
+    hint = " Drag to zoom. On a picture: arrow keys move to a moment, + and − zoom, Escape shows all."
+    say(line, "span", hint, class_="hint")
 
 
 def time_lines(page: Element, facts: Facts) -> list[Picture]:
@@ -209,8 +213,22 @@ def time_lines(page: Element, facts: Facts) -> list[Picture]:
 # ---------------------------------------------------------------- 3. blame
 
 
+# What blame says of a group in all of the trace; a group whose only child has the same is the same row.
+MEASURED = ("ran_ns", "waited_ns", "io_ns", "memory_ns", "memory_grown_bytes", "scanned_pages", "while_ran")
+
+
+def without_same(rows: list[dict[str, Any]], keys: tuple[str, ...]) -> list[dict[str, Any]]:
+    """The rows without those of groups that have what a group right below them has: all that they have is of that one."""
+    found = []
+    for it in rows:
+        below = [other for other in rows if other is not it and (other["path"].rpartition("/")[0] or "/") == it["path"]]
+        if not any(all(other[key] == it[key] for key in keys) for other in below):
+            found.append(it)
+    return found
+
+
 def groups_table(section: Element, facts: Facts) -> None:
-    rows = sorted(facts.blame["groups"], key=lambda it: -max(it["waited_ns"], it["io_ns"], it["memory_ns"]))
+    rows = sorted(without_same(facts.blame["groups"], MEASURED), key=lambda it: -max(it["waited_ns"], it["io_ns"], it["memory_ns"]))
     heads = ["group", "ran", "waited for a processor", "for IO", "in memory stalls", "memory grown, MiB", "pages scanned"]
     cells = [
         [
@@ -244,7 +262,7 @@ def parts_table(section: Element, it: dict[str, Any], parts: list[dict[str, Any]
 
 def matrix(section: Element, facts: Facts) -> None:
     """Who waited for whom."""
-    waiting = sorted((it for it in facts.blame["groups"] if it["waited_ns"]), key=lambda it: -it["waited_ns"])
+    waiting = sorted((it for it in without_same(facts.blame["groups"], ("while_ran",)) if it["waited_ns"]), key=lambda it: -it["waited_ns"])
     totals: dict[Optional[str], int] = {}
     for it in waiting:
         for part in it["while_ran"]:
@@ -277,5 +295,7 @@ def blame(page: Element, facts: Facts) -> None:
     for it in facts.worst["groups"]:
         for key, whole, caption in MEANWHILE:
             parts_table(row, it, it[key], it[whole], caption)
+    if any(part["group"] is None for it in facts.blame["groups"] for part in it["while_ran"]):
+        say(section, "p", NO_TASK, class_="soft")
     text = "“At the same time” is no cause: a trace doesn’t say who kept the disk busy or used up the memory."
     say(section, "p", text, class_="soft")
