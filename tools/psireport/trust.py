@@ -39,8 +39,7 @@ def recording(page: Element, facts: Facts) -> None:
     notes = [line for line in lines if line and not line.startswith("|")]
     verdict = next(line for line in notes if VERDICT.match(line))
     say(section, "p", f"Against the machine’s own pressure files: {verdict} ", source(known.compared), ".")
-    # After the verdict stands why totals are beyond their limits.
-    causes = notes[notes.index(verdict) + 1 :]
+    causes = notes[notes.index(verdict) + 1 :]  # why totals are beyond their limits
     for line in causes:
         say(section, "p", line)
     rows = [cells_of(line) for line in lines if line.startswith("|")]
