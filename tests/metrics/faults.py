@@ -39,7 +39,7 @@ def check_wrong_words(program: str) -> None:
 def check_rules_that_cannot_be_read(program: str) -> None:
     fault = functools.partial(metrics_fault, story(program), f"--start={START}")
     must_be("no rules file", fault("--rules=/nowhere"), "openmetrics: no file: /nowhere\n")
-    refused = "psi_oomd refuses the rules file examples/refused.trace: rules: BadJson"
+    refused = "psi_oomd refuses the rules file examples/refused.trace: rules: BadJson: it is a trace, not a rules file"
     must_be("no rules", fault("--rules=examples/refused.trace"), f"openmetrics: {refused}\n")
     said = fault("--rules=examples/runaway.json", PSI_OOMD="/nowhere")
     advice = "build ./psi_oomd, or let the variable PSI_OOMD name the program"
@@ -53,6 +53,7 @@ def check_what_replay_does_not_print(program: str) -> None:
     stops = "the input stops before the last line of a replay, which begins with `end`"
     must_be("an input that stops", told, f"openmetrics: {stops}{ADVICE}\n")
     told = metrics_fault(b"".join(lines[:2] + lines[3:]), start)
-    must_be("a line less", told, f"openmetrics: line 3: replay prints no such line here{ADVICE}\n")
+    shown = repr(lines[3].decode().rstrip("\n"))
+    must_be("a line less", told, f"openmetrics: line 3: replay prints no such line here: {shown}{ADVICE}\n")
     told = metrics_fault(b"end 5 ticks=0 events=0 kills=0\n", start)
     must(told.startswith("openmetrics: no report, so there is no metric: ") and "--tick-ms" in told, told)
