@@ -125,14 +125,6 @@ def test_a_full_file_system(top: str) -> None:
     must_be("files", sorted(os.listdir(run.out)), ["cpu0.raw", "cpu1.raw", "formats", "meta", "pressure", "snapshot"])
 
 
-def test_a_marker_that_fails(top: str) -> None:
-    folder.make_machine(top)
-    os.unlink(f"{top}/tracing/trace_marker")
-    os.symlink("/dev/full", f"{top}/tracing/trace_marker")
-    run = Run(top, "--seconds", "0.3").ended(2).says("ended by failed")
-    must("No space left" in run.values("end")[0], "the reason is told")
-
-
 def test_nobody_reads(top: str) -> None:
     folder.make_machine(top)
     before = folder.listing(top)

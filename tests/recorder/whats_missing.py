@@ -46,8 +46,15 @@ def test_words(top: str) -> None:
         ("--ring", "--until", "memory full 100000 400000"), ("--ring", "--until", "memory full 2000001 2000000"),
     )  # fmt: skip
     for words in wrong:
-        run = Run(top, *words).ended(1).says("usage: tools/record")
+        run = Run(top, *words).ended(1).says("usage: tools/record", "--help")
+        must(run.said.startswith("record: ") and len(run.said.splitlines()) == 2, f"what is wrong comes first: {run.said}")
         must(not os.path.exists(run.out), f"{words}: nothing is recorded")
+
+
+def test_a_trigger_that_is_no_trigger(top: str) -> None:
+    folder.make_machine(top)
+    for trigger in ("memory full 10% 1s", "memory full 100000 400000"):
+        Run(top, "--ring", "--until", trigger).ended(1).says('"memory full 100000 1000000"')
 
 
 def test_an_event_that_must_be(top: str) -> None:

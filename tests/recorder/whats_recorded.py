@@ -16,7 +16,7 @@ def test_a_whole_machine(top: str) -> None:
     run = whole(top, "--seconds", "1.1", "--memory-s", "0.5", "--pressure-s", "0.5", pages=40).ended(0)
     must_be("no probe is missing", run.values("no-probe") + run.values("no-event"), [])
     events = [it for it in folder.EVENTS if it != "sched/sched_stat_iowait"]
-    found = [re.sub(r"^psirec\d+/", "", it) for it in run.values("event")]
+    found = [re.sub(r"^psirec\d+_\d+/", "", it) for it in run.values("event")]
     must_be("the events", found, [*events, "ms_enter", "ms_leave", "psw", "cga", "psh", "pav"])
     must_be("processors", run.values("cpus"), ["2"])
     must_be("the end", run.values("end"), ["seconds"])

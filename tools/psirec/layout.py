@@ -93,7 +93,8 @@ class Reason:
 
 # ---------------------------------------------------------------- probes
 
-# The instance of tracefs, and the group of the probes: PREFIX and the recorder's process number.
+# The instance of tracefs, and the group of the probes: PREFIX, the recorder's process number, "_", and when that process started,
+# in the clock ticks since boot of /proc/PID/stat.
 PREFIX = "psirec"
 
 

@@ -11,10 +11,11 @@ import sys
 import time
 from typing import NoReturn
 
-from psirec.layout import PREFIX, RESOURCES, Key, Probe, Reason
+from psirec.layout import RESOURCES, Key, Probe, Reason
 
+from .daily import wait_for_room
 from .folder import DiskFull, Folder
-from .instance import STATISTICS_SUFFIX, Instance, NotRecorded, remove_left_behind
+from .instance import STATISTICS_SUFFIX, Instance, NotRecorded, recorder_name, remove_left_behind
 from .machine import Machine
 from .plain_machine import plain_machine
 from .probing import (
@@ -44,6 +45,7 @@ PRIORITY = -10
 # Of <sys/mman.h>: MCL_CURRENT, MCL_FUTURE, MCL_ONFAULT.
 LOCK_CURRENT, LOCK_FUTURE, LOCK_ON_FAULT = 1, 2, 4
 TRIGGER = re.compile(rf"({'|'.join(RESOURCES)}) (some|full) ([1-9]\d*) ([1-9]\d*)")
+EXAMPLE = '"memory full 100000 1000000"'
 LEAST_WINDOW_US, MOST_WINDOW_US = 500_000, 10_000_000
 
 DESCRIPTION = """\
@@ -88,7 +90,7 @@ class Words(argparse.ArgumentParser):
 
     def error(self, message: str) -> NoReturn:
         """Says what is wrong."""
-        self.exit(Status.NOTHING, f"{self.format_usage()}record: {message}\n")
+        self.exit(Status.NOTHING, f"record: {message}\nusage: {self.prog} OUT [OPTION ..]; {self.prog} --help has the options\n")
 
 
 def tell(line: str) -> None:
@@ -121,11 +123,13 @@ def trigger(word: str) -> str:
     """A trigger as the kernel takes it (Documentation/accounting/psi.rst): its window is 0.5 to 10 s."""
     found = TRIGGER.fullmatch(" ".join(word.split()))
     if not found:
-        raise argparse.ArgumentTypeError(f"{word!r} isn't `io|memory|cpu some|full THRESHOLD WINDOW`, with times in us")
+        raise argparse.ArgumentTypeError(
+            f"{word!r} isn't `io|memory|cpu some|full THRESHOLD WINDOW`, with times in us: {EXAMPLE} is 100 ms in each second"
+        )
     threshold, window = int(found[3]), int(found[4])
     if not LEAST_WINDOW_US <= window <= MOST_WINDOW_US or threshold > window:
         raise argparse.ArgumentTypeError(
-            f"the window is {LEAST_WINDOW_US} to {MOST_WINDOW_US} us, and the threshold at most the window"
+            f"the window is {LEAST_WINDOW_US} to {MOST_WINDOW_US} us, and the threshold at most the window, as in {EXAMPLE}"
         )
     return found[0]
 
@@ -148,6 +152,7 @@ def parser() -> argparse.ArgumentParser:
     add("--ring", action="store_true", help="a flight recorder")
     add("--until", type=trigger, metavar="TRIGGER", help="with --ring: `io|memory|cpu some|full THRESHOLD WINDOW`, in us")
     add("--after-s", type=positive, metavar="N", help="with --until: seconds that are recorded after the signal; 10")
+    add("--daily-limit", type=whole, metavar="N", help="waits first, while there are N recordings of the last 24 hours beside OUT")
     add("--root", metavar="DIR", help="for tests: a folder of plain files in place of the machine")
     return words
 
@@ -207,7 +212,7 @@ def choose_sources(machine: Machine, wanted: Wanted, group: str, folder: Folder,
 
 def prepare(machine: Machine, wanted: Wanted, folder: Folder, undoing: Undoing) -> tuple[Instance, Sources]:
     """Changes the machine as far as a recording takes it; nothing is traced yet."""
-    name = f"{PREFIX}{os.getpid()}"
+    name = recorder_name()
     sources, needs_statistics = choose_sources(machine, wanted, name, folder, undoing)
     instance = Instance(machine, name + (STATISTICS_SUFFIX if needs_statistics else ""), undoing)
     if needs_statistics:
@@ -244,11 +249,12 @@ def record(machine: Machine, wanted: Wanted, folder: Folder, signals: Signals, w
             say_machine(folder, machine, wanted)
             instance, sources = prepare(machine, wanted, folder, undoing)
             recorder = Recorder(machine, wanted, instance, folder, signals)
+            if wanted.has_settings:
+                store_settings(machine, folder, tell)
+            recorder.begin()
         except (OSError, NotRecorded, DiskFull) as error:
             tell(f"nothing was recorded: {error}")
         else:
-            if wanted.has_settings:
-                store_settings(machine, folder.path, tell)
             if waiting_for:
                 recorder.waiting.watch(*waiting_for)
             tell(f"recording {machine.processors()} processors into {folder.path}; Ctrl-C ends it")
@@ -280,7 +286,7 @@ def closed(folder: Folder, ending: Ending | None, left: list[str]) -> Status:
         folder.close()
         summarize(folder, ending)
     else:
-        folder.close()
+        folder.close_files()
         folder.discard()
     if left:
         return Status.LEFT_BEHIND
@@ -341,6 +347,8 @@ def main(arguments: list[str] | None = None) -> int:
         return Status.NOTHING
     make_ready()
     signals = Signals()
+    if given.daily_limit and not wait_for_room(given.out, given.daily_limit, signals, tell):
+        signals.end_by_it()
     try:
         waiting_for = machine.open_trigger(*wanted.until.split(" ", 1)) if wanted.until else None
         folder = Folder(given.out, given.compress)

@@ -12,7 +12,7 @@ import re
 import select
 import shutil
 import signal
-from collections.abc import Iterator
+from collections.abc import Callable, Iterator
 
 from psirec.layout import PACKED
 
@@ -28,15 +28,15 @@ UNFINISHED = ".part"
 
 
 class Compressor:
-    """The process that compresses the parts of a folder."""
+    """The process that compresses the parts of an open folder."""
 
-    def __init__(self, path: str) -> None:
+    def __init__(self, folder: int) -> None:
         reader, self.writer = os.pipe2(os.O_CLOEXEC)
         self.number = os.fork()
         if not self.number:
             status = 1
             with contextlib.suppress(BaseException):
-                serve(path, reader)
+                serve(folder, reader)
                 status = 0
             os._exit(status)
         os.close(reader)
@@ -48,34 +48,44 @@ class Compressor:
         return usage.ru_utime + usage.ru_stime, status == 0
 
 
-def serve(path: str, line: int) -> None:
+def serve(folder: int, line: int) -> None:
     """Compresses what is whole until the line ends, and then the rest. Signals that end a recording are the recorder's matter. No
     file of the recorder's stays open here."""
     for number in ENDING:
         signal.signal(number, signal.SIG_IGN)
-    os.closerange(3, line)
-    os.closerange(line + 1, 4096)
+    first, second = sorted((folder, line))
+    os.closerange(3, first)
+    os.closerange(first + 1, second)
+    os.closerange(second + 1, 4096)
     with contextlib.suppress(OSError):
         os.setpriority(os.PRIO_PROCESS, 0, LEAST_PRIORITY)
         os.sched_setscheduler(0, os.SCHED_IDLE, os.sched_param(0))
     is_ended = False
     while not is_ended:
         is_ended = bool(select.select([line], [], [], PERIOD)[0])
-        for name in whole_parts(path, is_ended):
-            compress(f"{path}/{name}")
+        for name in whole_parts(folder, is_ended):
+            compress(folder, name)
 
 
-def whole_parts(path: str, is_ended: bool) -> Iterator[str]:
+def whole_parts(folder: int, is_ended: bool) -> Iterator[str]:
     """The parts of which no more is written: of each processor all but the last one, or all."""
-    parts = sorted((int(it[1]), int(it[2]), it[0]) for it in map(PART.fullmatch, os.listdir(path)) if it)
+    parts = sorted((int(it[1]), int(it[2]), it[0]) for it in map(PART.fullmatch, os.listdir(folder)) if it)
     for place, (processor, _, name) in enumerate(parts):
         if is_ended or (place + 1 < len(parts) and parts[place + 1][0] == processor):
             yield name
 
 
-def compress(name: str) -> None:
-    """Puts the compressed file in the place of this one, once it is whole."""
-    with open(name, "rb") as source, gzip.open(name + PACKED + UNFINISHED, "wb", LEVEL) as packed:
-        shutil.copyfileobj(source, packed, 1 << 20)
-    os.rename(name + PACKED + UNFINISHED, name + PACKED)
-    os.unlink(name)
+def opener_in(folder: int) -> Callable[[str, int], int]:
+    """Opens names in an open folder for `open`. It follows no link, and only its owner may read a new file."""
+    return lambda name, flags: os.open(name, flags | os.O_NOFOLLOW | os.O_CLOEXEC, 0o600, dir_fd=folder)
+
+
+def compress(folder: int, name: str) -> None:
+    """Replaces a file of an open folder by its compressed form, once that is complete."""
+    unfinished = name + PACKED + UNFINISHED
+    opener = opener_in(folder)
+    with open(name, "rb", opener=opener) as source, open(unfinished, "xb", opener=opener) as target:
+        with gzip.GzipFile("", "wb", LEVEL, target) as packed:
+            shutil.copyfileobj(source, packed, 1 << 20)
+    os.rename(unfinished, name + PACKED, src_dir_fd=folder, dst_dir_fd=folder)
+    os.unlink(name, dir_fd=folder)

@@ -1,4 +1,8 @@
-"""The folder that a recording becomes, by the names of `psirec.layout`. All writes are unbuffered: a killed recorder loses nothing."""
+"""The folder that a recording becomes, by the names of `psirec.layout`. All writes are unbuffered: a killed recorder loses nothing.
+
+A recording shows what runs on a machine, and addresses of its kernel: only its owner may read it. All files are reached through the
+descriptor of the folder. Whoever owns the folder above may rename ours and put something else in its place meanwhile.
+"""
 from __future__ import annotations
 
 import contextlib
@@ -17,6 +21,9 @@ FULL = (errno.ENOSPC, errno.EDQUOT, errno.EFBIG)
 PAGE_BYTES = 4096
 # So much of a processor is compressed together.
 PART_BYTES = 8 << 20
+FOLDER_MODE, FILE_MODE = 0o700, 0o600
+FOLDER_FLAGS = os.O_RDONLY | os.O_DIRECTORY | os.O_NOFOLLOW | os.O_CLOEXEC
+NEW_FILE_FLAGS = os.O_WRONLY | os.O_CREAT | os.O_EXCL | os.O_NOFOLLOW | os.O_APPEND | os.O_CLOEXEC
 
 
 class DiskFull(Exception):
@@ -35,6 +42,33 @@ def append(file: int, data: bytes) -> None:
             raise
 
 
+def made_folder(name: str, above: int | None = None) -> int:
+    """The descriptor of a new folder, below the open folder `above` if there is one."""
+    os.mkdir(name, FOLDER_MODE, dir_fd=above)
+    folder = os.open(name, FOLDER_FLAGS, dir_fd=above)
+    found = os.fstat(folder)
+    if found.st_uid != os.geteuid() or found.st_mode & 0o077 or os.listdir(folder):
+        os.close(folder)
+        raise OSError(errno.EEXIST, "somebody put another folder in its place", name)
+    return folder
+
+
+def remove_all(folder: int) -> None:
+    """Removes everything in an open folder. Links aren't followed."""
+    with os.scandir(folder) as entries:
+        found = [(it.name, it.is_dir(follow_symlinks=False)) for it in entries]
+    for name, is_folder in found:
+        if not is_folder:
+            os.unlink(name, dir_fd=folder)
+            continue
+        inner = os.open(name, FOLDER_FLAGS, dir_fd=folder)
+        try:
+            remove_all(inner)
+        finally:
+            os.close(inner)
+        os.rmdir(name, dir_fd=folder)
+
+
 class Folder:
     """A new folder, and its files as they grow."""
 
@@ -46,9 +80,11 @@ class Folder:
         # Of each processor how many parts were begun, and how much is in the last.
         self.parts: dict[int, int] = {}
         self.part_bytes: dict[int, int] = {}
-        os.mkdir(path)
-        self.compressor = Compressor(path) if is_compressed else None
+        self.descriptor = made_folder(path)
+        self.compressor: Compressor | None = None
         try:
+            if is_compressed:
+                self.compressor = Compressor(self.descriptor)
             self.reserve()
             self.meta, self.pressure = self.made(layout.META), self.made(layout.PRESSURE)
             self.say(layout.Key.RECORDING, layout.VERSION)
@@ -58,7 +94,7 @@ class Folder:
 
     def made(self, name: str) -> int:
         """A new file."""
-        return os.open(f"{self.path}/{name}", os.O_WRONLY | os.O_CREAT | os.O_EXCL | os.O_APPEND, 0o666)
+        return os.open(name, NEW_FILE_FLAGS, FILE_MODE, dir_fd=self.descriptor)
 
     def reserve(self) -> None:
         """Takes room for the last lines. Where a file system can't reserve, that is as good as it gets."""
@@ -74,7 +110,7 @@ class Folder:
     def release(self) -> None:
         """Gives that room to the last lines."""
         with contextlib.suppress(FileNotFoundError):
-            os.unlink(f"{self.path}/{RESERVE}")
+            os.unlink(RESERVE, dir_fd=self.descriptor)
 
     def say(self, key: str, value: str) -> None:
         """A line of `meta`; from the reserve, where the disk is full."""
@@ -142,19 +178,47 @@ class Folder:
         """A reading of pressure files."""
         append(self.pressure, text)
 
-    def discard(self) -> None:
-        """Removes it, where nothing was recorded."""
-        self.finish_compressing()
-        for name in os.listdir(self.path):
-            os.unlink(f"{self.path}/{name}")
-        os.rmdir(self.path)
+    def write_below(self, name: str, data: bytes) -> None:
+        """A file that is written once, with the folders of its name."""
+        *folders, last = name.split("/")
+        at = os.dup(self.descriptor)
+        try:
+            for folder in folders:
+                above = at
+                with contextlib.suppress(FileExistsError):
+                    os.mkdir(folder, FOLDER_MODE, dir_fd=above)
+                at = os.open(folder, FOLDER_FLAGS, dir_fd=above)
+                os.close(above)
+            file = os.open(last, NEW_FILE_FLAGS, FILE_MODE, dir_fd=at)
+        finally:
+            os.close(at)
+        try:
+            append(file, data)
+        finally:
+            os.close(file)
 
-    def close(self) -> None:
-        """Closes all."""
+    def discard(self) -> None:
+        """Removes it, if nothing was recorded. If another folder is at its path now, that stays."""
+        self.finish_compressing()
+        remove_all(self.descriptor)
+        mine = os.fstat(self.descriptor)
+        os.close(self.descriptor)
+        with contextlib.suppress(FileNotFoundError):
+            if os.path.samestat(mine, os.lstat(self.path)):
+                os.rmdir(self.path)
+
+    def close_files(self) -> None:
+        """Closes its files."""
         self.finish_compressing()
         self.release()
         for file in [self.meta, self.pressure, *self.raw.values()]:
             os.close(file)
+        self.raw.clear()
+
+    def close(self) -> None:
+        """Closes everything."""
+        self.close_files()
+        os.close(self.descriptor)
 
 
 def page_bytes(header: bytes) -> int:

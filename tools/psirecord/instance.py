@@ -20,8 +20,12 @@ from .undoing import Undoing
 READ_BYTES = 1 << 16
 # One that also switched the sysctl kernel.sched_schedstats on tells so by its name: whoever finds it later knows what to undo.
 STATISTICS_SUFFIX = "-schedstats"
-INSTANCE = re.compile(rf"{PREFIX}(\d+)({STATISTICS_SUFFIX})?")
-PROBE = re.compile(rf"[a-z]\d*:({PREFIX}(\d+)/\w+) ")
+# A recorder by its process number and that process's start time, which those of earlier versions don't have.
+RECORDER = rf"{PREFIX}(?P<number>\d+)(?:_(?P<start>\d+))?"
+INSTANCE = re.compile(rf"{RECORDER}(?P<statistics>{STATISTICS_SUFFIX})?")
+PROBE = re.compile(rf"[a-z]\d*:(?P<probe>{RECORDER}/\w+) ")
+# States of processes that nobody waited for yet, in /proc/PID/stat.
+ENDED = (b"Z", b"X")
 # An instance begins with the options of the top one, so those that matter are set.
 OPTIONS = {"overwrite": "1", "markers": "1"}
 
@@ -149,25 +153,40 @@ def oldest_moment(statistics: dict[str, str]) -> float:
     return float(statistics.get("oldest event ts", 0)) if int(statistics.get("overrun", 0)) else 0.0
 
 
+def start_time(proc: str, process: str) -> str:
+    """When a process started, in clock ticks since boot; empty if it ended, even if nobody waited for it yet. Its name may contain
+    blanks."""
+    words = read_file(f"{proc}/{process}/stat").rpartition(b")")[2].split()
+    return words[19].decode() if len(words) > 19 and words[0] not in ENDED else ""
+
+
+def recorder_name() -> str:
+    """The name of this recorder's instance, and of its probes' group. A process number is used again, with another start time."""
+    return f"{PREFIX}{os.getpid()}_{start_time('/proc', 'self')}"
+
+
 def remover(remove: Callable[[str], None], name: str) -> Callable[[], None]:
     """The step that removes what has this name."""
     return lambda: remove(name)
 
 
 def remove_left_behind(machine: Machine, tell: Tell) -> None:
-    """Removes what recorders left that were killed: instances and probes that are named after a process that is gone."""
+    """Removes what killed recorders left: instances and probes that are named after a process that is gone."""
 
-    def is_left(number: str) -> bool:
-        return int(number) == os.getpid() or not os.path.exists(f"{machine.proc}/{number}")
+    def is_left(found: re.Match[str]) -> bool:
+        number, start = found["number"], found["start"]
+        if start is None:
+            return int(number) == os.getpid() or not os.path.exists(f"{machine.proc}/{number}")
+        return start_time(machine.proc, number) != start
 
     undoing = Undoing()
-    for name in re.findall(PROBE, read_file(f"{machine.tracing}/kprobe_events").decode(errors="replace")):
-        if is_left(name[1]):
-            undoing.note(f"the probe {name[0]}", remover(machine.remove_probe, name[0]))
+    for found in PROBE.finditer(read_file(f"{machine.tracing}/kprobe_events").decode(errors="replace")):
+        if is_left(found):
+            undoing.note(f"the probe {found['probe']}", remover(machine.remove_probe, found["probe"]))
     for instance in sorted(os.listdir(f"{machine.tracing}/instances")):
-        found = INSTANCE.fullmatch(instance)
-        if found and is_left(found[1]):
-            if found[2]:
+        named = INSTANCE.fullmatch(instance)
+        if named and is_left(named):
+            if named["statistics"]:
                 undoing.note("kernel.sched_schedstats", lambda: write_file(f"{machine.proc}/{SCHEDULER_STATISTICS}", "0"))
             undoing.note(f"the instance {instance}", remover(machine.remove_instance, instance))
     for what, _ in undoing.steps:

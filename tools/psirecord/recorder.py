@@ -15,7 +15,7 @@ from psirec import layout
 from psirec.layout import Key, Reason
 
 from .folder import DiskFull, Folder
-from .instance import Instance, lost_events, oldest_moment
+from .instance import Instance, NotRecorded, lost_events, oldest_moment
 from .machine import Machine
 from .probing import Tell
 from .samples import MemorySampler, Reading, Snapshot, read_pressure, take_snapshot
@@ -76,9 +76,8 @@ class Recorder:
         self.draining = Job(self.drain, 0.0, DRAIN_SECONDS)
 
     def record(self, tell: Tell) -> Ending:
-        """Records until one of the ends that there are; what there is then is written in any case."""
+        """Records from `begin` until one of the ends that there are; what there is then is written in any case."""
         try:
-            self.begin()
             reason = self.run()
         except DiskFull:
             reason = Reason.DISK_FULL
@@ -90,13 +89,16 @@ class Recorder:
             return Ending(f"{Reason.FAILED} {error}", {}, time.monotonic() - self.start)
 
     def begin(self) -> None:
-        """Switches on. What the machine is then is read at once, for the comparison and for the tasks' groups."""
+        """Switches on. NotRecorded if no marker can be written: nothing can be said of a recording without them."""
         self.instance.write("tracing_on", "1")
         self.usage = resource.getrusage(resource.RUSAGE_SELF)
         self.start = time.monotonic()
         self.drained, self.draining.due = self.start, self.start + DRAIN_SECONDS
         self.end = self.start + self.wanted.seconds + LAST_READING_SECONDS
-        self.instance.note_mark(layout.START)
+        try:
+            self.instance.note_mark(layout.START)
+        except OSError as error:
+            raise NotRecorded(f"no marker can be written, {self.instance.folder}/trace_marker: {error.strerror}") from error
 
     def jobs(self) -> list[Job]:
         """What is due again and again."""
@@ -183,7 +185,7 @@ class Recorder:
     def finish(self, reason: str, tell: Tell) -> Ending:
         """Nothing is traced any more: the rest is written, and what was lost."""
         with contextlib.suppress(OSError):
-            if self.wanted.is_ring and self.snapshots[-1].moment < self.buffers_begin() * 1e9:
+            if self.wanted.is_ring and not self.has_snapshot_inside():
                 self.take_snapshot()
             self.instance.note_mark(layout.STOP)
         self.instance.write("tracing_on", "0")
@@ -203,6 +205,10 @@ class Recorder:
             tell(f"{self.memory.too_long} samples of groups whose paths are too long for a marker were left out")
         return Ending(reason, lost, seconds, is_whole)
 
+    def has_snapshot_inside(self) -> bool:
+        """Whether the buffers reach back to the last snapshot. There is none yet if a marker failed early."""
+        return bool(self.snapshots) and self.snapshots[-1].moment >= self.buffers_begin() * 1e9
+
     def buffers_begin(self) -> float:
         """From when on the buffers hold all that happened on all processors, in s."""
         return max([self.start, *(oldest_moment(self.instance.statistics(it)) for it in self.instance.buffers)])
@@ -211,8 +217,9 @@ class Recorder:
         """The snapshot by which a flight recorder's trace can begin, and the readings of pressure. False where the buffers
         were too small to keep the moment of the signal."""
         self.folder.say(Key.RING_START, f"{begin:.6f}")
-        inside = [it for it in self.snapshots if it.moment >= begin * 1e9]
-        self.folder.write_whole(layout.SNAPSHOT, (inside or [self.snapshots[-1]])[0].text())
+        inside = [it for it in self.snapshots if it.moment >= begin * 1e9] or [*self.snapshots][-1:]
+        for snapshot in inside[:1]:
+            self.folder.write_whole(layout.SNAPSHOT, snapshot.text())
         for reading in self.readings:
             self.folder.append_pressure(reading.text)
         tell(f"the buffers hold the last {time.monotonic() - begin:.1f} s")

@@ -20,7 +20,7 @@ from dataclasses import dataclass
 
 from psirec.systemd import CONFIGURATIONS, FOLDER, GROUPS, SYSTEM_UNITS, UNITS, USER_UNITS, VERSION
 
-from .folder import DiskFull, append
+from .folder import DiskFull, Folder
 from .machine import Machine, read_file
 from .samples import Group, groups, number_in
 
@@ -45,6 +45,14 @@ Tell = Callable[[str], None]
 
 
 @dataclass(frozen=True)
+class Answer:
+    """What `systemctl` printed, and why, if it printed nothing."""
+
+    printed: bytes
+    fault: str
+
+
+@dataclass(frozen=True)
 class Place:
     """Where the machine's files are, and what is run to ask systemd. The real machine has its files below nothing."""
 
@@ -55,14 +63,16 @@ class Place:
         """Whether systemd runs there (sd_booted(3))."""
         return os.path.isdir(f"{self.root}/{BOOTED}")
 
-    def asked(self, *words: str) -> bytes:
-        """What `systemctl` says; nothing where it can't be run or doesn't answer."""
+    def asked(self, *words: str) -> Answer:
+        """Runs `systemctl` with these words."""
         try:
-            done = subprocess.run([self.command, *words], stdin=subprocess.DEVNULL, stdout=subprocess.PIPE,
-                                  stderr=subprocess.DEVNULL, timeout=PATIENCE_SECONDS)  # fmt: skip
-        except (OSError, subprocess.SubprocessError):
-            return b""
-        return done.stdout
+            done = subprocess.run([self.command, *words], stdin=subprocess.DEVNULL, capture_output=True, timeout=PATIENCE_SECONDS)
+        except OSError as error:
+            return Answer(b"", error.strerror)
+        except subprocess.SubprocessError:
+            return Answer(b"", f"no answer in {PATIENCE_SECONDS} s")
+        first = done.stderr.decode(errors="replace").strip().partition("\n")[0]
+        return Answer(done.stdout, "" if done.stdout else first or f"status {done.returncode}")
 
 
 def place_of(machine: Machine) -> Place:
@@ -148,22 +158,14 @@ def is_other_name(root: str, name: str) -> bool:
     return name.startswith("lib/") and os.path.islink(f"{root}/lib")
 
 
-def write(path: str, data: bytes) -> None:
-    """A new file, with the folders above it."""
-    os.makedirs(os.path.dirname(path), exist_ok=True)
-    file = os.open(path, os.O_WRONLY | os.O_CREAT | os.O_EXCL, 0o666)
-    try:
-        append(file, data)
-    finally:
-        os.close(file)
-
-
-def contents(machine: Machine) -> Iterator[tuple[str, bytes]]:
+def contents(machine: Machine, tell: Tell) -> Iterator[tuple[str, bytes]]:
     """The files by their names, and what is in them."""
     place = place_of(machine)
-    yield VERSION, place.asked("--version").partition(b"\n")[0] + b"\n"
-    properties = "--property=" + ",".join(SHOWN)
-    yield UNITS, place.asked("show", "--no-pager", "--type=service,slice,scope", properties, "*")
+    yield VERSION, place.asked("--version").printed.partition(b"\n")[0] + b"\n"
+    shown = place.asked("show", "--no-pager", "--type=service,slice,scope", "--property=" + ",".join(SHOWN), "*")
+    if shown.fault:
+        tell(f"systemctl says nothing of units ({shown.fault}): what systemd-oomd watches is known by files alone")
+    yield UNITS, shown.printed
     lines = "".join(group_line(it) for it in groups(machine))
     yield GROUPS, lines.encode(errors="surrogateescape")
     for name in configurations(place.root):
@@ -174,15 +176,13 @@ def contents(machine: Machine) -> Iterator[tuple[str, bytes]]:
             yield name, settings_alone(read_file(f"{place.root}/{name}"))
 
 
-def store(machine: Machine, folder: str, tell: Tell) -> None:
+def store(machine: Machine, folder: Folder, tell: Tell) -> None:
     """Stores all of it into a recording's folder; nothing where systemd doesn't run. What fails is told, and the recording goes
     on: no trace depends on it."""
     if not place_of(machine).is_booted():
         return
     try:
-        for name, data in contents(machine):
-            write(f"{folder}/{FOLDER}/{name}", data)
-            if name == UNITS and not data:
-                tell("systemctl says nothing of units: what systemd-oomd watches is known by files alone")
+        for name, data in contents(machine, tell):
+            folder.write_below(f"{FOLDER}/{name}", data)
     except (OSError, DiskFull) as error:
         tell(f"the settings of systemd-oomd weren't stored whole: {error}")

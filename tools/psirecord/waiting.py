@@ -28,6 +28,12 @@ class Signals:
         """The first one counts."""
         self.came = self.came or signal.Signals(number)
 
+    def end_by_it(self) -> None:
+        """Ends this process by the signal that came, as if it had never been caught."""
+        if self.came:
+            signal.signal(self.came, signal.SIG_DFL)
+            signal.raise_signal(self.came)
+
     def ignore(self) -> None:
         """All is done: one more changes not even the status."""
         for number in ENDING:
