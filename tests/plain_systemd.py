@@ -113,7 +113,7 @@ def by_pressure(lines: list[Line], end: int, averages: dict[tuple[int, str], int
     """Each second."""
     known: dict[Key, list[int | None]] = {}
     lost, told, totals, risen = set[Key](), set[Key](), dict[Key, int](), dict[str, int]()
-    count, rests, had = 0, 0, False
+    count, rests, had = 0, 0, set[Key]()
     for now in range(SECOND, end + 1, SECOND):
         state = state_at(lines, now)
         reads = {(path, made): found for path, made in state.made.items() if (found := state.read(path))}
@@ -133,10 +133,11 @@ def by_pressure(lines: list[Line], end: int, averages: dict[tuple[int, str], int
             told -= {key} if since is None else set()
         above = {key: it for key, it in known.items() if it[0] is not None}
         targets = sorted(key for key, it in above.items() if now - (it[0] or 0) >= length)
-        had_before, had = had, bool(above)
+        here = {(it, state.made[it]) for it in state.leaves() if above and any(is_inside(it, key[0]) for key in watched)}
+        had_before, had = had, here
         if not targets or now < rests:
             continue
-        had = False
+        had = set()
         for key in targets:
             last = known[key][2]
             if last is None or now - last > 30 * SECOND:
@@ -144,18 +145,22 @@ def by_pressure(lines: list[Line], end: int, averages: dict[tuple[int, str], int
                     yield now, None, "memory pressure"
                 told.add(key)
                 continue
-            had, rests = True, now + 15 * SECOND
+            had, rests = here, now + 15 * SECOND
             told.discard(key)
-            yield now, most_scanned(state, key[0], risen if had_before else None), "memory pressure"
+            yield now, most_scanned(state, key[0], {it: risen[it] for it, made in here & had_before}), "memory pressure"
             break
 
 
-def most_scanned(state: State, above: str, risen: dict[str, int] | None) -> str | None:
-    """Whom it chooses below a group, by the scans that are new, or by all where those aren't told."""
-    inside = [it for it in state.leaves() if above == "/" or f"{it}/".startswith(f"{above}/")]
+def most_scanned(state: State, above: str, risen: dict[str, int]) -> str | None:
+    """Whom it chooses below a group, by the scans that are new; by all for a group that wasn't a leaf at the look before."""
+    inside = [it for it in state.leaves() if is_inside(it, above)]
     found = {it: state.read(it) or [0, 0, 0] for it in inside}
-    ranks = {it: all_[2] if risen is None else risen[it] for it, all_ in found.items() if all_[0] or all_[2]}
+    ranks = {it: risen.get(it, all_[2]) for it, all_ in found.items() if all_[0] or all_[2]}
     return first_of(state, sorted(ranks, key=lambda it: (state.wishes.get(it) == "avoid", -ranks[it], -found[it][0], it)))
+
+
+def is_inside(path: str, above: str) -> bool:
+    return above == "/" or f"{path}/".startswith(f"{above}/")
 
 
 def is_first(lines: list[Line], key: tuple[str, int]) -> bool:

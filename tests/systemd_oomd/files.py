@@ -43,6 +43,7 @@ def check_which_unit_a_group_is(room: Room) -> None:
         "a name cut at its dash": ("user-.slice.d/a.conf", "Slice", "system", app),
         "a user's unit": ("app.slice", "Slice", "user", app),
         "an instance cut at its dash": ("foo-@.service.d/a.conf", "Service", "system", deep),
+        "a template cut at its dash": ("foo-.service.d/a.conf", "Service", "system", deep),
     }
     for number, (what, (name, section, of, leaf)) in enumerate(cases.items()):
         put(room, {f"etc/systemd/{of}/{name}": kill.format(section)}, f"case{number}")
@@ -134,6 +135,14 @@ def check_a_trace_without_samples(room: Room) -> None:
     done = room.run(OOMD, "t.trace", "--settings", "settings")
     wanted = "systemd-oomd: the trace has no sample of the memory of /s.slice: what is watched there isn't known\n"
     must_be("what is said", (done.status, done.error), (0, wanted))
+
+
+def check_an_empty_preference(room: Room) -> None:
+    """systemd ignores it, and what was set before stays."""
+    note = f"settings/{UNITS}/b.service.d/y.conf line 2: ManagedOOMPreference is empty: systemd ignores that, and keeps what was set before"
+    avoid, empty = ({f"{UNITS}/b.service.d/{it}.conf": f"[Service]\nManagedOOMPreference={value}\n"} for it, value in (("x", "avoid"), ("y", "")))
+    must_be("b is avoided", decisions(room, stalled(), {**WATCHED, **avoid, **empty}, said=note), [(40, A)])
+    must_be("b asked for nothing before", decisions(room, stalled(), {**WATCHED, f"{UNITS}/b.service.d/x.conf": ""}, said=note), [(40, B)])
 
 
 def check_misspelt_settings(room: Room) -> None:

@@ -105,6 +105,17 @@ def check_who_is_a_candidate(room: Room) -> None:
     must_be("a watched leaf is its own candidate, and nobody else", decisions(room, service, {}), [(40, A)])
 
 
+def check_a_group_that_becomes_a_leaf(room: Room) -> None:
+    """B loses the last group below it between the looks at 5 and 6 s: all that it ever scanned counts at 6 s, and the rise from 7 s on.
+    Both stall from 0 s, so the average is above the limit at 2 s, and the kill would be 4 s later."""
+    files = {f"{UNITS}/s.slice": f"{WATCHED[f'{UNITS}/s.slice']}ManagedOOMMemoryPressureLimit=0.1%\nManagedOOMMemoryPressureDurationSec=4s\n"}
+    for gone, scans, victim in ((5.5, 9, B), (4.5, 9, A), (4.5, 20, B)):
+        trace = Trace(8, {A: Leaf(1000, 0, 10, ((0, 8),)), B: Leaf(1000, 0, scans, ((0, 8),))})
+        inner = f"{B}/sub"
+        trace.extra = [(0, f"group {inner}"), (0, f"fork 9 {inner} 0"), (gone, f"move 9 {B}"), (gone, f"rmgroup {inner}")]
+        must_be(f"gone at {gone} s, with {scans} pages a second", decisions(room, trace, files), [(6, victim)])
+
+
 def check_where_nothing_runs(room: Room) -> None:
     """A group without a task is chosen as others are; then nobody is killed, and it rests."""
     trace = stalled(69)

@@ -41,18 +41,25 @@ def preference(group: Group, settings: Settings, above: str) -> str:
     return settings.preference(group.path, group.preference)
 
 
-def gathered(world: World, settings: Settings, watched: Iterable[str], above: str, scanned: dict[str, int]) -> list[Candidate]:
-    """All candidates of the watched groups that are the one above or below it, by their paths. `scanned` has the pages by which
-    they are ranked."""
-    groups = {it.path: it for path in watched if path in world.groups for it in leaves(world.groups[path], settings)}
+def candidates_of(world: World, settings: Settings, watched: Iterable[str]) -> dict[str, Group]:
+    """The candidates of all watched groups that can be read, by their paths."""
+    found = (it for path in watched if path in world.groups for it in leaves(world.groups[path], settings))
+    return {it.path: it for it in found if memory_of(it)}
+
+
+def gathered(candidates: dict[str, Group], settings: Settings, above: str, risen: dict[Group, int]) -> list[Candidate]:
+    """Those that are the group above or below it, by their paths. `risen` has the pages by which they are ranked; if a group isn't
+    in it, all that it ever scanned counts."""
     found = []
-    for path, group in sorted(groups.items()):
+    for path, group in sorted(candidates.items()):
         sample = memory_of(group)
         if sample and is_below(path, above):
             wish = preference(group, settings, above)
             nothing = "neither memory nor scans" if not sample.memory and not sample.scanned else ""
             passed_over = "omit" if wish == "omit" else nothing
-            found.append(Candidate(path, scanned.get(path, 0), sample.memory, sample.swap, wish, passed_over))
+            is_new = group not in risen
+            scanned = risen.get(group, sample.scanned)
+            found.append(Candidate(path, scanned, sample.memory, sample.swap, wish, passed_over, is_new))
     return found
 
 

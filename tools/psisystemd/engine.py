@@ -9,7 +9,7 @@ from collections.abc import Iterable
 from dataclasses import dataclass, replace
 
 from psirules.wording import seconds
-from psisystemd.candidates import gathered, is_avoided, memory_of
+from psisystemd.candidates import candidates_of, gathered, is_avoided, memory_of
 from psisystemd.settings import Settings
 from psisystemd.told import MEMORY_PRESSURE, SWAP, Candidate, Course, Decision, size
 from psisystemd.values import SECOND, WHOLE, percent
@@ -45,7 +45,7 @@ class Scans:
         self.samples = 0
         self.moments = (0, 0)
         self.totals: dict[Group, int] = {}
-        self.risen: dict[str, int] = {}
+        self.risen: dict[Group, int] = {}
 
     def take(self, now: int, world: World) -> None:
         """Looks."""
@@ -60,7 +60,7 @@ class Scans:
                 self.totals[group] = sample.scanned
                 # What a group had scanned when the trace began isn't known to be new.
                 old = before.get(group, sample.scanned if group.made == 0 else 0)
-                self.risen[group.path] = sample.scanned - (old if old <= sample.scanned else 0)
+                self.risen[group] = sample.scanned - (old if old <= sample.scanned else 0)
 
     def span(self) -> str:
         return f" in {seconds(self.moments[1] - self.moments[0])} s"
@@ -77,7 +77,8 @@ class PressureRule:
         """Watched groups that had no sample of memory at some look."""
         self.courses: dict[str, Course] = {}
         self.scans = Scans()
-        self.has_candidates = False
+        self.candidates: dict[str, Group] = {}
+        """Those of the look before, if some group was above its limit then."""
         self.rests_until = 0
 
     def look(self, now: int, averages: dict[str, int]) -> list[Decision]:
@@ -86,19 +87,20 @@ class PressureRule:
         self.update(now, averages)
         above = [it for it in self.looks.values() if it.since is not None]
         targets = sorted((it for it in above if now - (it.since or 0) >= it.duration), key=lambda it: it.group.path)
-        had, self.has_candidates = self.has_candidates, bool(above)
+        found = candidates_of(self.world, self.settings, self.looks) if above else {}
+        known, self.candidates = set(self.candidates.values()), found
         if not targets or now < self.rests_until:
             return []
         decisions = []
-        self.has_candidates = False
+        self.candidates = {}
         for target in targets:
             if target.last_scan is None or now - target.last_scan > RECLAIM:
                 decisions += self.told_once(now, target, averages)
                 continue
-            self.has_candidates = True
+            self.candidates = found
             self.rests_until = now + PAUSE
             target.is_told = False
-            return [*decisions, self.decided(now, target, averages, had)]
+            return [*decisions, self.decided(now, target, averages, known)]
         return decisions
 
     def update(self, now: int, averages: dict[str, int]) -> None:
@@ -147,19 +149,14 @@ class PressureRule:
         why = f"{self.why(now, target, averages)}; but {reason}"
         return [Decision(now, None, MEMORY_PRESSURE, target.group.path, why)]
 
-    def decided(self, now: int, target: Look, averages: dict[str, int], had_candidates: bool) -> Decision:
-        """Whom it kills, or why nobody. Where candidates weren't looked at before, all that they ever scanned counts."""
+    def decided(self, now: int, target: Look, averages: dict[str, int], known: set[Group]) -> Decision:
+        """Whom it kills, or why nobody. All that a group ever scanned counts if it was no candidate at the look before."""
         path = target.group.path
-        scanned = self.scans.risen if had_candidates else self.ever_scanned()
-        found = gathered(self.world, self.settings, self.looks, path, scanned)
+        risen = {group: count for group, count in self.scans.risen.items() if group in known}
+        found = gathered(self.candidates, self.settings, path, risen)
         ranked = sorted(found, key=lambda it: (it.preference == "omit", is_avoided(it), -it.scanned, -it.memory, it.path))
-        span = self.scans.span() if had_candidates else " ever"
         why = self.why(now, target, averages)
-        return chosen(self.world, Decision(now, None, MEMORY_PRESSURE, path, why, ranked, span))
-
-    def ever_scanned(self) -> dict[str, int]:
-        samples = {path: memory_of(group) for path, group in self.world.groups.items()}
-        return {path: it.scanned for path, it in samples.items() if it}
+        return chosen(self.world, Decision(now, None, MEMORY_PRESSURE, path, why, ranked, self.scans.span()))
 
 
 class SwapRule:
@@ -195,7 +192,7 @@ class SwapRule:
         if not (available < host.memory * left // WHOLE and host.swap_free < host.swap * left // WHOLE):
             self.is_told = False
             return []
-        found = gathered(self.world, self.settings, watched, ROOT, {})
+        found = gathered(candidates_of(self.world, self.settings, watched), self.settings, ROOT, {})
         least = host.swap * LEAST_SWAP_PERCENT // 100
         little = f"not above {LEAST_SWAP_PERCENT} % of swap"
         judged = [replace(it, passed_over="omit" if it.preference == "omit" else little if it.swap <= least else "") for it in found]

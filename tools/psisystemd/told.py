@@ -22,7 +22,8 @@ def size(count: int) -> str:
 @dataclass(frozen=True)
 class Candidate:
     """A group that could be chosen: pages scanned in the time by which it is ranked, bytes of memory and swap, and what it asks for.
-    `passed_over` says why it wasn't chosen, if not for its rank alone."""
+    `passed_over` says why it wasn't chosen, if not for its rank alone. `is_new` says that it was no candidate at the look before, so
+    that all pages count."""
 
     path: str
     scanned: int
@@ -30,9 +31,11 @@ class Candidate:
     swap: int
     preference: str
     passed_over: str = ""
+    is_new: bool = False
 
     def told(self, by: str, span: str) -> str:
         """By what it was ranked."""
+        span = " ever" if self.is_new else span
         rank = f"scanned {self.scanned} pages{span}, memory {size(self.memory)}" if by == MEMORY_PRESSURE else f"swap {size(self.swap)}"
         return ", ".join(filter(None, [rank, self.passed_over or ("avoid" if self.preference == "avoid" else "")]))
 

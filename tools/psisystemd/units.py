@@ -65,6 +65,8 @@ class Unit:
             found = checked_duration(setting)
             return replace(self, duration=found, places=places) if version >= OWN_DURATION else self
         if setting.name == PREFERENCE:
+            if not setting.value:
+                return self
             return replace(self, preference=chosen(setting, dict(zip(PREFERENCES, PREFERENCES)), "none"), places=places)
         if setting.name == POLICY:
             policy = chosen(setting, {it: it == "kill" for it in POLICIES}, "stop")
@@ -91,20 +93,22 @@ def template_of(name: str) -> str | None:
 
 
 def widened(name: str) -> str | None:
-    """The name without its part after the last dash: a-b-.service of a-b-c.service, and a-.service of that."""
+    """The name without its part after the last dash: a-b-.service of a-b-c.service, and a-.service of that. A template's is no
+    template any more: a-.service of a-b@.service."""
+    name = name.replace("@.", ".", 1)
     stem = name.partition("@")[0] if "@" in name else name.rpartition(".")[0]
     front = stem.removesuffix("-").rpartition("-")[0]
     return f"{front}-{name[len(stem):]}" if front else None
 
 
 def drop_in_names(name: str) -> Iterator[str]:
-    """The names whose drop-in files are this unit's too, the nearest first."""
-    at: str | None = name
-    while at:
-        yield at
-        if template := template_of(at):
-            yield template
-        at = widened(at)
+    """The names whose drop-in files are this unit's too, the nearest first: of u-v@x.service those of u-v@.service, u-.service and
+    u-@x.service. A name may come twice."""
+    yield name
+    if template := template_of(name):
+        yield from drop_in_names(template)
+    if shorter := widened(name):
+        yield from drop_in_names(shorter)
 
 
 class UnitFiles:
@@ -142,6 +146,8 @@ class UnitFiles:
         """Whether it is one of these settings. One that has their beginning and that nobody knows is noted."""
         if setting.name == DURATION_OF_UNIT and self.version < OWN_DURATION:
             self.note(f"{setting.place}: {setting.name} means nothing before systemd {OWN_DURATION}")
+        elif setting.name == PREFERENCE and not setting.value:
+            self.note(f"{setting.place}: {setting.name} is empty: systemd ignores that, and keeps what was set before")
         elif setting.name.startswith("ManagedOOM") and setting.name not in NAMES:
             self.note(unknown(setting, list(NAMES), "units"))
         return setting.name in NAMES or setting.name == "Slice" or setting.name == POLICY and kind != "slice"
