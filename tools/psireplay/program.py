@@ -5,6 +5,7 @@ from __future__ import annotations
 import os
 import shutil
 import subprocess
+import sys
 import tempfile
 from typing import IO, Iterator
 
@@ -23,9 +24,18 @@ REFUSALS = (2, 3)
 ADVICE = "build ./psi_oomd, or let the variable PSI_OOMD name the program"
 
 
+# What the launcher keeps of `--try` ends so. The variable NOTED is set for the tools that a tool runs, once it is reported.
+UNPROVED = "-unproved"
+NOTED = "PSI_OOMD_IS_NOTED"
+
+
 def named_program() -> str:
-    """The program's name as it is given, or the launcher's."""
-    return os.environ.get(VARIABLE) or LAUNCHER
+    """The program's name as it is given, or the launcher's. Once per run it is reported if that program isn't proved."""
+    name = os.environ.get(VARIABLE) or LAUNCHER
+    if name.endswith(UNPROVED) and not os.environ.get(NOTED):
+        os.environ[NOTED] = "1"
+        print(f"{os.path.basename(name)}: this program is unproved; ./psi_oomd --build makes the proved one", file=sys.stderr)
+    return name
 
 
 def program_path() -> str:

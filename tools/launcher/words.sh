@@ -1,0 +1,199 @@
+# What is wrong with the words of a run, as far as commands, options and files go: their values are for the program to judge.
+# tools/launch reads this file. It starts no other program as long as nothing is wrong, but `head` for the first bytes of a trace.
+
+commands='stall check replay gen stress import rules whatif'
+newline='
+'
+
+# Sets `options` to the options of a command, each of which takes a value, and `needed` to those that it can't do without. `role` is
+# what its first plain word names, if it has one.
+set_options_of() {
+    options='' needed='' role='trace'
+    case $1 in
+    replay) options='--tick-ms --report-s --rules --drop-in --interval-s --workers --live --live-count' ;;
+    whatif) options='--rules --drop-in --tick-ms --report-s --interval-s --workers' needed='--rules' ;;
+    check) options='--tick-ms' ;;
+    gen) options='--seed --cpus --groups --events' needed=$options role='' ;;
+    stress) options='--seed --cpus --groups --events --workers' needed='--seed --cpus --groups --events' role='' ;;
+    import) options='--cpus' needed='--cpus' role='text' ;;
+    rules) options='--drop-in' role='rules file' ;;
+    esac
+}
+
+# Prints the word of a list that a person may have meant by the first word, or nothing.
+nearest() {
+    awk 'function least(a, b) { return a < b ? a : b }
+        function distance(a, b, i, j, cost, rows) {
+            for (j = 0; j <= length(b); j++) rows[0, j] = j
+            for (i = 1; i <= length(a); i++) {
+                rows[i, 0] = i
+                for (j = 1; j <= length(b); j++) {
+                    cost = substr(a, i, 1) != substr(b, j, 1)
+                    rows[i, j] = least(rows[i - 1, j - 1] + cost, least(rows[i - 1, j], rows[i, j - 1]) + 1)
+                    if (i > 1 && j > 1 && substr(a, i, 1) == substr(b, j - 1, 1) && substr(a, i - 1, 1) == substr(b, j, 1))
+                        rows[i, j] = least(rows[i, j], rows[i - 2, j - 2] + 1)
+                }
+            }
+            return rows[length(a), length(b)]
+        }
+        BEGIN {
+            most = 1 + int((length(ARGV[1]) > 30 ? 0 : length(ARGV[1])) / 3)
+            for (i = 2; i < ARGC; i++) if ((found = distance(substr(ARGV[1], 1, 30), ARGV[i])) <= most) { most = found - 1; best = ARGV[i] }
+            print best
+        }' "$@"
+}
+
+# Says the one thing that is wrong with words: the program looks at no file then.
+word_fault() {
+    hints='' hint_status=''
+    hint 1 "$*"
+}
+
+# Adds a line to what is said of the words. The first one sets the status that the program ends with.
+hint() {
+    hint_status=${hint_status:-$1}
+    shift
+    hints="${hints:+$hints$newline}$*"
+}
+
+# Says that a word is unknown, and which one may be meant.
+unknown() {
+    case $1 in
+    --help | --version) word_fault "$1 comes alone: ./$name $1"; return ;;
+    -h | -help | help) meant='--help' ;;
+    -V | version) meant='--version' ;;
+    *) meant=$(nearest "$@") ;;
+    esac
+    word_fault "unknown $kind $1${meant:+: did you mean $meant?}"
+}
+
+# Sets `content` to what a file is, by its first bytes, if it is no trace.
+look_into() {
+    content=''
+    [ -f "$1" ] || return 0
+    [ -s "$1" ] || { content='an empty file'; return 0; }
+    first=$(head -c 64 -- "$1" 2>/dev/null) 2>/dev/null
+    line=${first%%"$newline"*}
+    case $first in
+    'psitrace '[0-9]*)
+        case $line in *"$(printf '\r')") content="a trace whose lines end in CR LF: tr -d '\\r' < $1 > FILE makes one that psi_oomd takes" ;; esac
+        ;;
+    "$(printf '\037\213')"*) content="compressed by gzip: gunzip -c $1 > FILE" ;;
+    "$(printf '\3757zXZ')"*) content="compressed by xz: xz -dc $1 > FILE" ;;
+    "$(printf '\050\265\057\375')"*) content="compressed by zstd: zstd -dc $1 > FILE" ;;
+    "$(printf '\027\010Dtracing')"*) content="trace-cmd's binary file: trace-cmd report $1 > TEXT, and tools/psitrace reads the text" ;;
+    'report '[0-9]* | 'event '[0-9]* | 'kill '[0-9]* | 'live '[0-9]* | 'end '[0-9]*)
+        content='what replay prints, and no trace: tools/chart and tools/top read it'
+        ;;
+    '# tracer:'*) content="a text of ftrace: tools/psitrace --cpus N $1 > FILE makes a trace of it" ;;
+    '{'* | '['*) content='JSON: a rules file comes after --rules' ;;
+    esac
+}
+
+# Looks at a file that the program is going to read: $1 in the role $2.
+look_at_file() {
+    if [ "$1" = - ]; then
+        return 0
+    elif [ ! -e "$1" ]; then
+        hint 4 "no $2 $1: names count from the folder in which the command runs"
+    elif [ -d "$1" ] && [ -f "$1/meta" ]; then
+        hint 5 "the $2 $1 is a recording: tools/psitrace $1 > FILE makes a trace of it"
+    elif [ -d "$1" ]; then
+        hint 5 "the $2 $1 is a directory"
+    elif [ ! -r "$1" ]; then
+        hint 5 "the $2 $1 may not be read by this user"
+    elif [ "$2" = trace ]; then
+        look_into "$1"
+        [ -z "$content" ] || hint '' "$1 is $content"
+    fi
+}
+
+# Looks at an option by its name: fails if the command has no such option.
+look_at_option() {
+    case " $options " in *" $1 "*) return 0 ;; esac
+    kind="option"
+    # shellcheck disable=SC2086 -- options are words
+    unknown "$1" $options
+    return 1
+}
+
+# Looks at the value of an option, which for two of them is a file.
+look_at_value() {
+    case $1 in
+    --rules) look_at_file "$2" 'rules file' ;;
+    --drop-in) look_at_file "$2" 'drop-in file' ;;
+    esac
+}
+
+# Looks at the words after a command.
+look_at_rest() {
+    option='' found=' ' count=0 has_no_options=''
+    for word do
+        if [ -n "$option" ]; then
+            look_at_value "$option" "$word"
+            option=''
+            continue
+        fi
+        case $has_no_options$word in
+        --) has_no_options=yes ;;
+        --*=*)
+            look_at_option "${word%%=*}" || return 0
+            found="$found${word%%=*} "
+            look_at_value "${word%%=*}" "${word#*=}"
+            ;;
+        --*)
+            look_at_option "$word" || return 0
+            option=$word found="$found$word "
+            ;;
+        *)
+            count=$((count + 1))
+            if [ "$count" -eq 1 ] && [ -n "$role" ]; then look_at_file "$word" "$role"; fi
+            ;;
+        esac
+    done
+    look_at_counts
+}
+
+# Looks at what is missing, or too much.
+look_at_counts() {
+    [ -z "$option" ] || { word_fault "$option takes a value"; return; }
+    missing=''
+    for word in $needed; do
+        case $found in *" $word "*) ;; *) missing="$missing $word" ;; esac
+    done
+    if [ -z "$role" ] && [ "$count" -gt 0 ]; then
+        word_fault "$command takes no name of a file"
+    elif [ -n "$role" ] && [ "$count" -eq 0 ]; then
+        word_fault "$command takes the name of a $role, or - for standard input"
+    elif [ -n "$role" ] && [ "$count" -gt 1 ]; then
+        word_fault "$command takes the name of one $role, and there are $count words that aren't options"
+    elif [ -n "$missing" ]; then
+        word_fault "$command takes$missing too"
+    fi
+}
+
+# Sets `hints` to what is wrong with these words, a line each, and `hint_status` to the status that the program ends with then. It
+# stays empty if only what is in a trace is wrong: that is for the program to judge.
+look_at_words() {
+    hints='' hint_status=''
+    if [ "$name" = psi_observe ]; then
+        if [ $# -eq 3 ]; then look_at_file "$1" trace; else word_fault "psi_observe takes three words: TRACE OBSERVERS PATH"; fi
+        return
+    fi
+    [ $# -gt 0 ] || { word_fault "which command? ./psi_oomd --help has all of them"; return; }
+    command=$1
+    case $command in
+    '' | *[!a-z]*) is_known='' ;;
+    *) case " $commands " in *" $command "*) is_known=yes ;; *) is_known='' ;; esac ;;
+    esac
+    if [ -z "$is_known" ]; then
+        kind="command"
+        case $command in -*) kind="option" ;; esac
+        # shellcheck disable=SC2086 -- commands are words
+        unknown "$command" $commands --help --version --build --try
+        return
+    fi
+    set_options_of "$command"
+    shift
+    look_at_rest "$@"
+}
