@@ -31,12 +31,13 @@ STATUS = (
 ORIGIN = """\
 {commit}
 version {version}
-proved by {kit}
+{kit}
 the proof can be run again in a checkout of this commit: by ./psi_oomd --build, and by .ci/run with all tests
 """
 # Where nobody says otherwise Debian's systemd enables each service on the first boot of a machine.
 PRESET = f"disable {UNIT}\n"
-NOT_TOLD = "a kit that nobody named: these programs were handed to tools/package"
+UNPROVED = "unproved: these programs were handed to tools/package, and the gate didn't build them"
+PATIENCE_SECONDS = 10
 TAG = re.compile(r"v([0-9][0-9A-Za-z.+-]*)")
 
 
@@ -58,21 +59,53 @@ def version_of(commit: str, is_changed: bool) -> str:
 
 
 def kit_of(given: argparse.Namespace) -> str:
-    """What proved the programs: what is said by --kit; or the kit at hand, where they were built with it now."""
+    """What proved the programs: the kit of --kit, or the kit at hand; nothing with --unproved."""
+    if given.unproved:
+        return UNPROVED
     if given.kit:
-        return str(given.kit)
-    if given.program or given.observer:
-        return NOT_TOLD
+        return f"proved by {given.kit}"
     try:
-        return said_by(["rt", "version"]).strip()
+        return f"proved by {said_by(['rt', 'version']).strip()}"
     except OSError as fault:
         raise Fault(f"rt version: {fault.strerror}: let --kit say what proved the programs") from None
 
 
 def programs_named(given: argparse.Namespace) -> dict[str, bytes]:
-    """The bytes of both programs, built where they aren't given."""
+    """The bytes of both programs, built if they aren't given. One that is given has to be the one that the gate built."""
     paths = dict(zip(PROGRAMS, (given.program, given.observer)))
-    return {name: bytes_of(path or built_program(os.path.join(TOP, name))) for name, path in paths.items()}
+    found = {name: bytes_of(path or built_program(os.path.join(TOP, name))) for name, path in paths.items()}
+    for name, path in paths.items():
+        least_libc(name, found[name])
+        if path:
+            check_name(name, path)
+        if path and not given.unproved and found[name] != built_bytes(name):
+            raise Fault(
+                f"{path} isn't the {name} that was proved here, {built_path(name)}: ./{name} --build makes that; "
+                "with --unproved the package says that nobody proved its programs"
+            )
+    return found
+
+
+def built_path(name: str) -> str:
+    """Where the launcher and the gate leave a program that they built."""
+    return os.path.join("crates", f"{name}_main", "out", f"{name}_main")
+
+
+def built_bytes(name: str) -> bytes:
+    """The program that was built; nothing if there is none."""
+    path = os.path.join(TOP, built_path(name))
+    return bytes_of(path) if os.path.exists(path) else b""
+
+
+def check_name(name: str, path: str) -> None:
+    """Without words each program prints its own usage: another one isn't packed by its name."""
+    try:
+        done = subprocess.run([os.path.abspath(path)], stdin=subprocess.DEVNULL, capture_output=True, timeout=PATIENCE_SECONDS)
+    except (OSError, subprocess.SubprocessError) as fault:
+        raise Fault(f"{path} doesn't run as {name}: {fault}") from None
+    if not done.stderr.startswith(b"usage: %s " % name.encode()):
+        said = done.stderr.decode(errors="replace").partition("\n")[0]
+        raise Fault(f"{path} isn't {name}: without words it says {said!r}")
 
 
 # ---------------------------------------------------------------- what is made of what the tools say
@@ -157,6 +190,7 @@ def parser() -> Words:
     words.add_argument("--program", metavar="FILE", help="the built psi_oomd")
     words.add_argument("--observer", metavar="FILE", help="the built psi_observe")
     words.add_argument("--kit", metavar="LINE", help="what proved the programs that are given, as `rt version` has it")
+    words.add_argument("--unproved", action="store_true", help="packs programs that weren't proved here; the package says so")
     words.add_argument("--into", metavar="FOLDER", default=".", help="where the files are written; here if left out")
     return words
 
@@ -164,6 +198,8 @@ def parser() -> Words:
 def make() -> None:
     """Makes both files, and tells their sums."""
     given = parser().parse_args()
+    if given.unproved and given.kit:
+        raise Fault("--unproved and --kit exclude each other")
     programs = programs_named(given)
     facts = facts_of(programs)
     members = files_of(programs, facts, kit_of(given))

@@ -7,6 +7,7 @@ from psireplay.command import Fault
 
 MAGIC = b"\x7fELF\x02\x01"  # 64 bits, the least byte first
 X86_64 = 62
+HEADER_BYTES = 64
 NEEDED_VERSIONS = 0x6FFFFFFE  # SHT_GNU_verneed of <elf.h>
 LIBRARY = "libc.so.6"
 PREFIX = "GLIBC_"
@@ -14,8 +15,10 @@ PREFIX = "GLIBC_"
 
 def least_libc(name: str, data: bytes) -> str:
     """The least version of the C library that has all symbols which this program takes, as 2.34."""
-    if data[:6] != MAGIC or struct.unpack_from("<H", data, 18)[0] != X86_64:
-        raise Fault(f"{name} is no program for x86-64: {data[:4]!r} is at its start")
+    if not data:
+        raise Fault(f"{name} is no program: the file is empty")
+    if data[:6] != MAGIC or len(data) < HEADER_BYTES or struct.unpack_from("<H", data, 18)[0] != X86_64:
+        raise Fault(f"{name} is no program for x86-64: the file isn't ELF for it")
     found = [needed for library, needed in needed_versions(data) if library == LIBRARY]
     versions = [tuple(map(int, needed.removeprefix(PREFIX).split("."))) for needed in found if needed.startswith(PREFIX)]
     if not versions:

@@ -18,6 +18,12 @@ PYTHON = b"#!/usr/bin/env python3\n"
 INSTALLED_PYTHON = b"#!/usr/bin/python3 -B\n"
 COMMANDS = {tool.file: tool.command for tool in TOOLS}
 NAMED_TOOL = re.compile(rf"(?<![\w./-])tools/({'|'.join(map(re.escape, COMMANDS))})(?![\w/-]|\.\w)")
+# How a message begins, and how a tool names itself for its usage. What psitrace prints of a recording is read by others by its name.
+TOOL_NAME = "|".join(map(re.escape, COMMANDS))
+MESSAGE = re.compile(rf'(\bf")({TOOL_NAME.replace("psitrace|", "")})(?=: )')
+PROGRAM_NAME = re.compile(rf'(\b(?:Words|Parser|run_tool)\("|\bprog=")({TOOL_NAME})(?=")')
+# Parts of documents that are for those who have the sources.
+OF_SOURCES = re.compile(r"<!-- in a checkout -->\n.*?<!-- end -->\n+", re.DOTALL)
 LINK = re.compile(r"(!?)\[([^\]]*)\]\(([^):#]+)(#[^)]*)?\)")
 
 
@@ -56,6 +62,12 @@ def renamed(text: str) -> str:
     return re.sub(rf"man -l docs/({'|'.join(PROGRAMS)})\.1", r"man \1", text)
 
 
+def renamed_code(text: str) -> str:
+    """The text of a tool, whose messages and usage begin with its installed name."""
+    text = MESSAGE.sub(lambda found: f'{found[1]}{COMMANDS[found[2]]}', text)
+    return PROGRAM_NAME.sub(lambda found: f'{found[1]}{COMMANDS[found[2]]}', text)
+
+
 def with_whole_paths(text: str) -> str:
     """A text in which the documents have whole paths."""
     text = re.sub(rf"docs/({'|'.join(PROGRAMS)})\.1", r"\1(1)", text)
@@ -81,7 +93,7 @@ def tools_of(top: str) -> list[Member]:
     for path, mode in tracked(top, "tools"):
         if path.split("/")[1] not in OF_CHECKOUTS:
             text = bytes_of(top, path).decode()
-            data = with_whole_paths(renamed(text)).encode()
+            data = with_whole_paths(renamed_code(renamed(text))).encode()
             members.append(Member(f"{LIBRARY}/{path}", INSTALLED_PYTHON + data[len(PYTHON) :] if data.startswith(PYTHON) else data, mode))
     known = {member.path for member in members}
     for tool in TOOLS:
@@ -99,7 +111,7 @@ def documents_of(top: str) -> list[Member]:
     for path in sorted(paths):
         data = bytes_of(top, path)
         if path.endswith(".md"):
-            data = without_dead_links(renamed(data.decode()), path, paths).encode()
+            data = without_dead_links(renamed(OF_SOURCES.sub("", data.decode())), path, paths).encode()
         members.append(Member(f"{DOCUMENTS}/{path}", data))
     return members
 

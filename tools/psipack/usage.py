@@ -13,7 +13,8 @@ from psireplay.command import Fault
 ENVIRONMENT = {"COLUMNS": "100", "NO_COLOR": "1", "TERM": "dumb", "LC_ALL": "C.UTF-8", "PYTHONDONTWRITEBYTECODE": "1"}
 SECTION = re.compile(r"(positional arguments|options|optional arguments):")
 ITEM = re.compile(r" {2}(\S.*?)(?: {2,}(\S.*))?")
-COMMAND = re.compile(r" {4}([a-z][a-z-]*) {2,}(\S.*)")
+# A command; if its name is long, what it does begins in the next line.
+COMMAND = re.compile(r" {4}([a-z][a-z-]*)(?: {2,}(\S.*))?")
 # How an option is written: its name, and the name of its value or the values that it takes.
 OPTION = re.compile(r"(--?[a-z][a-z0-9-]*)(?:[ =](\{[^}]*\}|'[^']*'|[A-Z][A-Z0-9_:=.]*))?")
 
@@ -81,15 +82,18 @@ def usage_without_name(words: str) -> str:
 
 def read_items(text: str, items: list[Item], commands: list[Item]) -> None:
     """Adds the arguments or options of a section, and the commands that stand below an argument."""
+    rows = items
     for line in text.split("\n"):
         command, item = COMMAND.fullmatch(line), ITEM.fullmatch(line)
         if command:
-            commands.append(Item(command[1], command[2]))
+            rows = commands
+            rows.append(Item(command[1], command[2] or ""))
         elif item and not line.startswith("   "):
-            items.append(Item(item[1], item[2] or ""))
-        elif items:
-            last = items.pop()
-            items.append(Item(last.words, f"{last.about} {line.strip()}".strip()))
+            rows = items
+            rows.append(Item(item[1], item[2] or ""))
+        elif rows:
+            last = rows.pop()
+            rows.append(Item(last.words, f"{last.about} {line.strip()}".strip()))
 
 
 def options_in(items: list[Item]) -> dict[str, str]:
