@@ -113,3 +113,7 @@ few_held reading test room held view is =
     let lives = reading.lives in
     let groups = reading.seen.groups in
     omega (arith, held_count test groups room held is, fewer_pass test groups, at_most_slots lives groups view.within.each view.within.order, view.few)
+
+pub few_groups : (reading : ReadingView) → IsReadingView reading → length reading.seen.groups ≤ 1024
+few_groups reading view =
+    omega (arith, at_most_slots reading.lives reading.seen.groups view.within.each view.within.order, view.few)

@@ -133,6 +133,7 @@ impl Reading {
         ensures groups { groups_at self.now.seen.groups result.now ≡ self.now.seen.groups }
         ensures within { AreAmong self.now.seen.groups result.now }
         ensures few { length result.now ≤ most_groups }
+        ensures all { length self.now.seen.groups ≤ most_groups }
         ensures read { IsReading self.now.lives self.now.seen }
     {
         self.all.items()
@@ -146,6 +147,7 @@ impl Reading {
             ≡ filter (is_child self.now.lives slot.0) self.now.seen.groups }
         ensures within { AreAmong self.now.seen.groups result.now }
         ensures few { length result.now ≤ most_groups }
+        ensures all { length self.now.seen.groups ≤ most_groups }
         ensures read { IsReading self.now.lives self.now.seen }
     {
         self.below[slot.0 as usize].items()

@@ -16,7 +16,8 @@ use Rattle.kill_spec.proofs.ChoiceLaws.{IsBefore, greater_order, in_order, then_
 use Rattle.kill_spec.proofs.ChoiceLaws.{then_same, then_tells, then_told, walk_unbeaten}
 use Rattle.victim_rank.specs.declared.growth.Grown.{Grown}
 use Rattle.victim_rank.specs.Growth.{growth_over, has_grown_more_over, is_growing_over}
-use Rattle.victim_rank.specs.Grown.{IsGrown, leads_grown}
+use Rattle.victim_rank.specs.Grown.{IsGrown, IsGrownAt, leads_grown}
+use Rattle.detectors.specs.Below.{group_at}
 use Rattle.victim_rank.proofs.Scoped.{filter_filter, foremost_none, kept_by, leads_plainly}
 
 -- a group leads one before it: it has grown more, or as much and it uses more memory
@@ -151,9 +152,11 @@ walked_growth lives sizes ratio few p groups ascend best rest =
 -- ---- one group more
 
 -- the growths that are kept lead as those of their groups
-pub leads_as : (sizes : GroupReading → List ℕ) (next best : Grown) → IsGrown sizes next next.group →
-    IsGrown sizes best best.group → leads_grown next best ≡ leads_over sizes next.group best.group
-leads_as sizes next best is was = rw (is.sizes_is, is.sum_is, was.sizes_is, was.sum_is) refl
+pub leads_as : (sizes : GroupReading → List ℕ) (next best : Grown) (group before : GroupReading) →
+    IsGrown sizes next group → IsGrown sizes best before →
+    leads_grown next best ≡ leads_over sizes group before
+leads_as sizes next best group before is was =
+    rw (is.sizes_is, is.sum_is, is.current_is, was.sizes_is, was.sum_is, was.current_is) refl
 
 pub growing_as : (sizes : GroupReading → List ℕ) (ratio : ℕ) (next : Grown) (group : GroupReading) →
     IsGrown sizes next group →
@@ -162,8 +165,8 @@ pub growing_as : (sizes : GroupReading → List ℕ) (ratio : ℕ) (next : Grown
 growing_as sizes ratio next group is = rw (is.sizes_is, is.sum_is) refl
 
 -- the best so far by its group
-abbrev pub best_group : Option Grown → Option GroupReading
-best_group best = option_map (λ (grown : Grown). grown.group) best
+abbrev pub best_group : List GroupReading → Option Grown → Option GroupReading
+best_group groups best = option_map (λ (grown : Grown). group_at groups grown.place) best
 
 -- what is told of a group that leads the best so far, if there is one
 abbrev pub LeadsAny : Option Grown → Grown → Bool → Type 0
@@ -183,36 +186,41 @@ passes_first : (p : GroupReading → Bool) (group : GroupReading) (groups : List
 passes_first p group groups passes = rw passes refl
 
 -- the walk goes on with a group that leads the best so far, where it can be chosen
-pub next_taken : (sizes : GroupReading → List ℕ) (p : GroupReading → Bool) (best : Option Grown)
-    (next : Grown) (leads : Bool) (groups : List GroupReading) →
-    IfSome best (λ before. IsGrown sizes before before.group) → IsGrown sizes next next.group →
-    LeadsAny best next leads → leads ≡ true → p next.group ≡ true →
-    foremost (leads_over sizes) (Some next.group) (filter p groups)
-    ≡ foremost (leads_over sizes) (best_group best) (filter p (next.group ∷ groups))
-next_taken sizes p None next leads groups was is told holds passes =
-    ap (foremost (leads_over sizes) None) (sym (passes_first p next.group groups passes))
-next_taken sizes p (Some before) next leads groups was is told holds passes =
-    let over : leads_over sizes next.group before.group ≡ true =
-    sym (leads_as sizes next before is was) ∙ sym told ∙ holds in
-    ap (λ group. Some (foremost_of (leads_over sizes) group (filter p groups)))
-    (next_better (leads_over sizes) before.group next.group over)
-    ∙ ap (foremost (leads_over sizes) (Some before.group)) (sym (passes_first p next.group groups passes))
+pub next_taken : (sizes : GroupReading → List ℕ) (p : GroupReading → Bool)
+    (groups : List GroupReading) (best : Option Grown) (next : Grown) (group : GroupReading)
+    (leads : Bool) (rest : List GroupReading) →
+    IfSome best (IsGrownAt sizes groups) → IsGrown sizes next group →
+    LeadsAny best next leads → leads ≡ true → p group ≡ true →
+    foremost (leads_over sizes) (Some group) (filter p rest)
+    ≡ foremost (leads_over sizes) (best_group groups best) (filter p (group ∷ rest))
+next_taken sizes p groups None next group leads rest was is told holds passes =
+    ap (foremost (leads_over sizes) None) (sym (passes_first p group rest passes))
+next_taken sizes p groups (Some best) next group leads rest was is told holds passes =
+    let before = group_at groups best.place in
+    let over : leads_over sizes group before ≡ true =
+    sym (leads_as sizes next best group before is was.grown_is) ∙ sym told ∙ holds in
+    ap (λ first. Some (foremost_of (leads_over sizes) first (filter p rest)))
+    (next_better (leads_over sizes) before group over)
+    ∙ ap (foremost (leads_over sizes) (Some before)) (sym (passes_first p group rest passes))
 
 -- with the best so far where another doesn't lead it
-pub next_trails : (sizes : GroupReading → List ℕ) (p : GroupReading → Bool) (best : Option Grown)
-    (next : Grown) (leads : Bool) (groups : List GroupReading) →
-    IfSome best (λ before. IsGrown sizes before before.group) → IsGrown sizes next next.group →
+pub next_trails : (sizes : GroupReading → List ℕ) (p : GroupReading → Bool)
+    (groups : List GroupReading) (best : Option Grown) (next : Grown) (group : GroupReading)
+    (leads : Bool) (rest : List GroupReading) →
+    IfSome best (IsGrownAt sizes groups) → IsGrown sizes next group →
     LeadsAny best next leads → leads ≡ false →
-    foremost (leads_over sizes) (best_group best) (filter p groups)
-    ≡ foremost (leads_over sizes) (best_group best) (filter p (next.group ∷ groups))
-next_trails sizes p None next leads groups was is told fails = absurd (true≢false (sym told ∙ fails))
-next_trails sizes p (Some before) next leads groups was is told fails =
-    let under : leads_over sizes next.group before.group ≡ false =
-    sym (leads_as sizes next before is was) ∙ sym told ∙ fails in
-    by_test _ (p next.group)
-    (λ passes. ap (λ group. Some (foremost_of (leads_over sizes) group (filter p groups)))
-    (best_better (leads_over sizes) before.group next.group under)
-    ∙ ap (foremost (leads_over sizes) (Some before.group)) (sym (passes_first p next.group groups passes)))
+    foremost (leads_over sizes) (best_group groups best) (filter p rest)
+    ≡ foremost (leads_over sizes) (best_group groups best) (filter p (group ∷ rest))
+next_trails sizes p groups None next group leads rest was is told fails =
+    absurd (true≢false (sym told ∙ fails))
+next_trails sizes p groups (Some best) next group leads rest was is told fails =
+    let before = group_at groups best.place in
+    let under : leads_over sizes group before ≡ false =
+    sym (leads_as sizes next best group before is was.grown_is) ∙ sym told ∙ fails in
+    by_test _ (p group)
+    (λ passes. ap (λ first. Some (foremost_of (leads_over sizes) first (filter p rest)))
+    (best_better (leads_over sizes) before group under)
+    ∙ ap (foremost (leads_over sizes) (Some before)) (sym (passes_first p group rest passes)))
     (λ left. rw left refl)
 
 -- or can't be chosen

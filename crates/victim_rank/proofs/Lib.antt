@@ -4,3 +4,4 @@ pub mod Scoped
 pub mod Growing
 pub mod SizeChoice
 pub mod Chosen
+pub mod Cutoffs

@@ -1,14 +1,15 @@
 -- How the group that has grown most so far is told from the next.
-use Rattle.std.specs.Prelude.{◌≡◌, ℕ, ◌*◌, ◌≤◌, ◌^◌, List, length, sum, nat_lt, ◌==◌, ◌&&◌, ◌||◌}
+use Rattle.std.specs.Prelude.{◌≡◌, ℕ, ◌*◌, ◌<◌, ◌≤◌, ◌^◌, List, length, sum, nat_lt, ◌==◌, ◌&&◌, ◌||◌}
 use Rattle.std.specs.Prelude.{Bool}
 use Rattle.kill_spec.specs.declared.reading.GroupReading.{GroupReading}
 use Rattle.kill_spec.specs.Victims.{memory_in_use}
+use Rattle.detectors.specs.Below.{group_at}
 use Rattle.victim_rank.specs.declared.growth.Grown.{Grown}
 
 -- a group with its growth over sizes that each group had
 pub record IsGrown (sizes_had : GroupReading → List ℕ) (grown : Grown) (seen : GroupReading)
     : Type 0 where
-  pub itself : grown.group ≡ seen
+  pub current_is : grown.current ≡ memory_in_use seen
   pub sizes_is : grown.sizes ≡ memory_in_use seen * length (sizes_had seen)
   pub sum_is : grown.sum ≡ sum (sizes_had seen)
   pub sizes_fit : grown.sizes ≤ 2 ^ 62
@@ -20,4 +21,10 @@ abbrev pub leads_grown : Grown → Grown → Bool
 leads_grown next best =
     nat_lt (best.sizes * next.sum) (next.sizes * best.sum)
     || (next.sizes * best.sum == best.sizes * next.sum
-    && nat_lt (memory_in_use best.group) (memory_in_use next.group))
+    && nat_lt best.current next.current)
+
+-- the growth of the group at a place
+pub record IsGrownAt (sizes_had : GroupReading → List ℕ) (groups : List GroupReading)
+    (grown : Grown) : Type 0 where
+  pub within : grown.place < length groups
+  pub grown_is : IsGrown sizes_had grown (group_at groups grown.place)

@@ -5,3 +5,4 @@ pub mod Growth
 pub mod Walks
 pub mod Grown
 pub mod Choosing
+pub mod Cutoffs

@@ -1,11 +1,22 @@
 -- How the best group so far is told from the next.
-use Rattle.std.specs.Prelude.{nat_lt, ◌==◌, ◌&&◌, ◌||◌, Bool}
+use Rattle.std.specs.Prelude.{◌≡◌, ◌<◌, List, length, nat_lt, ◌==◌, ◌&&◌, ◌||◌, Bool}
+use Rattle.ruleset_json.specs.declared.types.Action.{Action}
+use Rattle.kill_spec.specs.declared.reading.GroupReading.{GroupReading}
 use Rattle.kill_spec.specs.Victims.{rank_of}
+use Rattle.detectors.specs.Below.{group_at}
+use Rattle.victim_rank.specs.Pasts.{Kept}
+use Rattle.victim_rank.specs.Scopes.{measure_of}
 use Rattle.victim_rank.specs.declared.foremost.Measured.{Measured}
 
 -- a group with its measure leads one before it: its preference is better, or the same and its
 -- measure is greater
 abbrev pub leads_measured : Measured → Measured → Bool
 leads_measured next best =
-    nat_lt (rank_of best.group) (rank_of next.group)
-    || (rank_of next.group == rank_of best.group && nat_lt best.measure next.measure)
+    nat_lt best.rank next.rank || (next.rank == best.rank && nat_lt best.measure next.measure)
+
+-- the rank and the measure are those of the group at the place
+pub record IsMeasured (act : Action) (kept : Kept) (groups : List GroupReading)
+    (measured : Measured) : Type 0 where
+  pub within : measured.place < length groups
+  pub rank_is : measured.rank ≡ rank_of (group_at groups measured.place)
+  pub measure_is : measured.measure ≡ measure_of act kept (group_at groups measured.place)

@@ -13,10 +13,11 @@ use crate::scope::Scope;
 use detectors::Reading;
 use kill_spec::{GroupReading, HostReading};
 
-/// A group and its measure.
+/// The place of a group in a reading, the rank of its preference, and its measure.
 #[derive(Clone, Copy)]
 pub(crate) struct Measured {
-    group: GroupReading,
+    place: u32,
+    rank: u8,
     measure: u64,
 }
 
@@ -24,9 +25,7 @@ pub(crate) struct Measured {
 fn leads(next: &Measured, best: &Measured) -> bool
     ensures { result ≡ leads_measured next.now best.now }
 {
-    let next_rank = rank(&next.group);
-    let best_rank = rank(&best.group);
-    next_rank > best_rank || (next_rank == best_rank && next.measure > best.measure)
+    next.rank > best.rank || (next.rank == best.rank && next.measure > best.measure)
 }
 
 // The better one of two, if there is one before.
@@ -82,14 +81,15 @@ pub(crate) fn foremost(scope: &Scope<'_>, reading: &Reading, past: &Past) -> Opt
             best = Some(better(
                 best,
                 Measured {
-                    group: *group,
+                    place: *place,
+                    rank: rank(group),
                     measure,
                 },
             ));
         }
     }
     match best {
-        Some(best) => Some(best.group),
+        Some(best) => Some(*reading.group(best.place)),
         None => None,
     }
 }

@@ -6,17 +6,19 @@ ghost use Rattle.victim_rank.specs.Growth.{has_grown_more_over, is_growing_over,
 ghost use Rattle.victim_rank.specs.Scopes.{IsUse, is_in_rank};
 ghost use Rattle.victim_rank.specs.Grown.{IsGrown, leads_grown};
 
+use crate::cutoff::is_among_largest;
 use crate::past::Past;
 use crate::scope::Scope;
-use crate::size::{is_among_largest, is_in_rank};
+use crate::size::is_in_rank;
 use detectors::Reading;
 use kill_spec::GroupReading;
 
-/// A group, its size times the number of sizes of its past, and their sum. The quotient is its size
-/// over the mean of its past.
+/// The place of a group in a reading, its size in bytes, the size times the number of sizes of its
+/// past, and their sum. The quotient is its size over the mean of its past.
 #[derive(Clone, Copy)]
 pub(crate) struct Grown {
-    group: GroupReading,
+    place: u32,
+    current: u64,
     sizes: u64,
     sum: u64,
 }
@@ -36,13 +38,15 @@ fn sum(sizes: &[u64]) -> u64
 }
 
 // A group against its past.
-fn growth_of(past: &Past, group: &GroupReading) -> Grown
+fn growth_of(past: &Past, place: u32, group: &GroupReading) -> Grown
     requires { group.now.current ≤ 2 ^ 60 }
-    ensures { IsGrown (sizes_from past.now) result group.now }
+    ensures place { result.place ≡ place }
+    ensures grown { IsGrown (sizes_from past.now) result group.now }
 {
     let sizes = past.sizes(group);
     Grown {
-        group: *group,
+        place,
+        current: group.current,
         sizes: group.current * sizes.len() as u64,
         sum: sum(sizes),
     }
@@ -65,8 +69,7 @@ fn leads(next: &Grown, best: &Grown) -> bool
 {
     let next_growth = u128::from(next.sizes) * u128::from(best.sum);
     let best_growth = u128::from(best.sizes) * u128::from(next.sum);
-    next_growth > best_growth
-        || (next_growth == best_growth && next.group.current > best.group.current)
+    next_growth > best_growth || (next_growth == best_growth && next.current > best.current)
 }
 
 // There is no group before, or the next one leads it.
@@ -80,9 +83,8 @@ fn leads_any(next: &Grown, best: Option<Grown>) -> bool
     }
 }
 
-/// The growing group that has grown most, among the so many largest of a scope and a rank. It walks
-/// the groups once, and once more for each growing one that leads the best found before it, also
-/// where it isn't among the largest.
+/// The growing group that has grown most, among the `few` largest of a scope and a rank. It walks
+/// the groups once, and up to 71 times more to find where the largest end, if one is growing.
 pub(crate) fn grown_most(
     scope: &Scope<'_>,
     best_rank: u8,
@@ -99,20 +101,22 @@ pub(crate) fn grown_most(
         (largest_few scope.now.lives few
         (filter (is_in_rank scope.now best_rank) reading.now.seen.groups))) }
 {
+    let places = scope.places(reading);
     let mut best: Option<Grown> = None;
-    'groups: for place in scope.places(reading) {
+    let mut cutoff: Option<u128> = None;
+    'groups: for place in places {
         let group = reading.group(*place);
-        let next = growth_of(past, group);
+        let next = growth_of(past, *place, group);
         if is_growing(ratio, &next)
             && leads_any(&next, best)
             && is_in_rank(scope, best_rank, group)
-            && is_among_largest(scope, best_rank, reading, few, group)
+            && is_among_largest(scope, best_rank, reading, places, few, &mut cutoff, *place)
         {
             best = Some(next);
         }
     }
     match best {
-        Some(best) => Some(best.group),
+        Some(best) => Some(*reading.group(best.place)),
         None => None,
     }
 }

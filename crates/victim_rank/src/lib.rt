@@ -6,6 +6,7 @@
 #![tactic(auto)]
 
 mod choice;
+mod cutoff;
 mod foremost;
 mod growth;
 mod measure;

@@ -122,6 +122,7 @@ impl<'a> Scope<'a> {
             ≡ filter (is_in_view self.now) reading.now.seen.groups }
         ensures within { AreAmong reading.now.seen.groups result.now }
         ensures few { length result.now ≤ most_groups }
+        ensures all { length reading.now.seen.groups ≤ most_groups }
         ensures read { IsReading reading.now.lives reading.now.seen }
     {
         // The slot above is that of a group; for any other all groups would do.

@@ -3,7 +3,7 @@ use Rattle.std.specs.Prelude.{None, Some}
 use Rattle.std.proofs.lemmas.List.{drop_all}
 use Rattle.kill_spec.proofs.Foremost.{foremost}
 use Rattle.kill_spec.proofs.ChoiceLaws.{leads_by}
-use Rattle.detectors.specs.Below.{groups_at}
+use Rattle.detectors.specs.Below.{group_at, groups_at}
 use Rattle.victim_rank.specs.Scopes.{is_eligible, is_in_view, measure_of}
 use Rattle.victim_rank.proofs.Scoped.{kept_by, walked}
 use Rattle.victim_rank.proofs.foremost.foremost.Goals as goal
@@ -19,10 +19,10 @@ returns-in-Some-best-clause-choice c =
       drop_all c.groups.place-index places.result.now c.groups-test.false,
       c.in-Some-best.is,
     ) at c.groups.invariant.rest in
-    walked scope.lives scope.act scope.above seen measure eligible
-    (rw c.requires.lives at places.ensures.read.order) (Some c.in-Some-best.best.group)
+    rw c.group.ensures.group (walked scope.lives scope.act scope.above seen measure eligible
+    (rw c.requires.lives at places.ensures.read.order) (Some (group_at seen.groups c.in-Some-best.best.place))
     (rest ∙ ap (foremost (leads_by measure) None)
-    (kept_by (is_in_view scope) eligible (groups_at seen.groups places.result.now) seen.groups places.ensures.groups))
+    (kept_by (is_in_view scope) eligible (groups_at seen.groups places.result.now) seen.groups places.ensures.groups)))
 
 pub returns-in-None-clause-choice : goal.returns-in-None-clause-choice
 returns-in-None-clause-choice c =

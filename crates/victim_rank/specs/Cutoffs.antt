@@ -1,0 +1,43 @@
+-- Where the largest of groups end, by keys in the order of sizes.
+use Rattle.std.specs.Prelude.{◌≡◌, ℕ, ◌+◌, ◌-◌, ◌*◌, ◌<◌, ◌≤◌, List, Bool, Contains, true, ◌&&◌}
+use Rattle.std.specs.Prelude.{filter, length, nat_le, nat_lt}
+use Rattle.psi_spec.specs.World.{most_groups}
+use Rattle.kill_spec.specs.declared.reading.GroupReading.{GroupReading}
+use Rattle.kill_spec.specs.LegalReadings.{IsReading}
+use Rattle.kill_spec.specs.Victims.{is_larger, memory_in_use}
+use Rattle.detectors.specs.Below.{AreAmong, group_at, groups_at}
+use Rattle.detectors.specs.Views.{ReadingView}
+use Rattle.victim_rank.specs.Scopes.{ScopeView, is_in_rank}
+
+-- the key of the group at a place: a larger group has a greater key, and of two of one size the one
+-- at the smaller place
+abbrev pub size_key : List GroupReading → ℕ → ℕ
+size_key groups place = memory_in_use (group_at groups place) * 1024 + (1023 - place)
+
+-- at a place is a group that passes a test and has at least this key
+abbrev pub reaches : (GroupReading → Bool) → List GroupReading → ℕ → ℕ → Bool
+reaches test groups key place =
+    nat_le key (size_key groups place) && test (group_at groups place)
+
+-- how many of these places have such a group
+abbrev pub count_reaching : (GroupReading → Bool) → List GroupReading → List ℕ → ℕ → ℕ
+count_reaching test groups places key = length (filter (reaches test groups key) places)
+
+-- Places of a reading's groups, among which are all groups of a scope and a rank.
+pub record IsRanking (scope : ScopeView) (best_rank : ℕ) (reading : ReadingView)
+    (places : List ℕ) : Type 0 where
+  pub lives : reading.lives ≡ scope.lives
+  pub read : IsReading reading.lives reading.seen
+  pub few : length reading.seen.groups ≤ most_groups
+  pub within : AreAmong reading.seen.groups places
+  pub groups : filter (is_in_rank scope best_rank) (groups_at reading.seen.groups places)
+      ≡ filter (is_in_rank scope best_rank) reading.seen.groups
+
+-- Exactly the `few` largest groups of a scope and a rank have at least this key.
+abbrev pub IsCutoff : ScopeView → ℕ → ReadingView → List ℕ → ℕ → ℕ → Type 0
+IsCutoff scope best_rank reading places few key = (place : ℕ) → Contains places place →
+    is_in_rank scope best_rank (group_at reading.seen.groups place) ≡ true →
+    nat_le key (size_key reading.seen.groups place)
+    ≡ nat_lt (length (filter
+    (λ other. is_larger scope.lives other (group_at reading.seen.groups place))
+    (filter (is_in_rank scope best_rank) reading.seen.groups))) few

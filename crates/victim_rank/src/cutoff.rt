@@ -1,0 +1,117 @@
+//! Where the largest groups of a scope and a rank end, in the order of sizes.
+ghost use Rattle.std.specs.Prelude.{◌≡◌, ◌<◌, ◌≤◌, ◌^◌, ◌*◌, ◌+◌, ◌-◌, Contains, IfSome, filter, length, nat_le, nat_lt, true};
+ghost use Rattle.detectors.specs.Below.{AreAmong, group_at, groups_at};
+ghost use Rattle.kill_spec.specs.LegalReadings.{IsGroupReading};
+ghost use Rattle.kill_spec.specs.Victims.{is_larger, memory_in_use};
+ghost use Rattle.victim_rank.specs.Cutoffs.{IsCutoff, IsRanking, count_reaching, size_key};
+ghost use Rattle.victim_rank.specs.Scopes.{is_in_rank};
+
+use crate::scope::Scope;
+use crate::size::is_in_rank;
+use detectors::Reading;
+use kill_spec::GroupReading;
+
+/// The key of the group at a place in the order of sizes: a larger group has a greater key, and so
+/// has the group whose path comes first if two have the same size.
+fn size_key(place: u32, group: &GroupReading) -> u128
+    requires place { place < 1024 }
+    ensures { result ≡ memory_in_use group.now * 1024 + (1023 - place) }
+{
+    u128::from(group.current) * 1024 + u128::from(1023 - place)
+}
+
+/// How many groups of a scope and a rank have at least this key.
+fn count_reaching(
+    scope: &Scope<'_>,
+    best_rank: u8,
+    reading: &Reading,
+    places: &[u32],
+    key: u128,
+) -> u128
+    requires { IsRanking scope.now best_rank reading.now places.now }
+    ensures { result ≡ count_reaching (is_in_rank scope.now best_rank)
+        reading.now.seen.groups places.now key }
+{
+    let mut count: u128 = 0;
+    'places: for place in places {
+        let group = reading.group(*place);
+        if size_key(*place, group) >= key && is_in_rank(scope, best_rank, group) {
+            count += 1;
+        }
+    }
+    count
+}
+
+/// A key that no group of a scope and a rank exceeds.
+fn greatest_key(scope: &Scope<'_>, best_rank: u8, reading: &Reading, places: &[u32]) -> u128
+    requires { IsRanking scope.now best_rank reading.now places.now }
+    ensures none { count_reaching (is_in_rank scope.now best_rank)
+        reading.now.seen.groups places.now (result + 1) ≡ 0 }
+    ensures fits { result < 2 ^ 71 }
+{
+    let mut greatest: u128 = 0;
+    'places: for place in places {
+        let group = reading.group(*place);
+        if is_in_rank(scope, best_rank, group) {
+            greatest = greatest.max(size_key(*place, group));
+        }
+    }
+    greatest
+}
+
+/// The key that exactly the `few` largest groups of a scope and a rank reach, found by binary
+/// search: each step halves the range of keys and walks the groups once. If there are not more than
+/// `few`, all groups reach the key.
+fn cutoff(scope: &Scope<'_>, best_rank: u8, reading: &Reading, places: &[u32], few: u128) -> u128
+    requires ranking { IsRanking scope.now best_rank reading.now places.now }
+    requires few { 0 < few }
+    ensures { IsCutoff scope.now best_rank reading.now places.now few result }
+{
+    let mut low: u128 = 0;
+    let mut high = greatest_key(scope, best_rank, reading, places) + 1;
+    'halves: while high - low > 1 {
+        let middle = low + (high - low) / 2;
+        let count = count_reaching(scope, best_rank, reading, places, middle);
+        if count == few {
+            return middle;
+        }
+        if count > few {
+            low = middle;
+        } else {
+            high = middle;
+        }
+    }
+    low
+}
+
+/// Whether fewer than `few` groups of a scope and a rank are larger than the one at a place, which
+/// is one of them. The cutoff is found once, when it is first needed.
+pub(crate) fn is_among_largest(
+    scope: &Scope<'_>,
+    best_rank: u8,
+    reading: &Reading,
+    places: &[u32],
+    few: u128,
+    known: &mut Option<u128>,
+    place: u32,
+) -> bool
+    requires ranking { IsRanking scope.now best_rank reading.now places.now }
+    requires few { 0 < few }
+    requires known { IfSome known.old
+        (IsCutoff scope.now best_rank reading.now places.now few) }
+    requires place { Contains places.now place }
+    requires rank { is_in_rank scope.now best_rank
+        (group_at reading.now.seen.groups place) ≡ true }
+    ensures known { IfSome known.new
+        (IsCutoff scope.now best_rank reading.now places.now few) }
+    ensures among { result ≡ nat_lt (length (filter (λ other.
+        is_larger scope.now.lives other (group_at reading.now.seen.groups place))
+        (filter (is_in_rank scope.now best_rank) reading.now.seen.groups))) few }
+{
+    let key = match *known {
+        Some(key) => key,
+        None => cutoff(scope, best_rank, reading, places, few),
+    };
+    *known = Some(key);
+    size_key(place, reading.group(place)) >= key
+}
