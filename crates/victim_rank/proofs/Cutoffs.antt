@@ -1,7 +1,7 @@
 -- A key that exactly the largest few groups reach.
-use Rattle.std.proofs.Common.{◌≡◌, ℕ, zero, suc, ◌+◌, ◌-◌, ◌*◌, ◌<◌, ◌≤◌, List, [], ◌∷◌, length, get_or}
-use Rattle.std.proofs.Common.{take, length-append, refl, sym, ap, ◌∙◌, arith, true, false, ◌⊎◌, ⊎_elim, inl, inr, subst}
-use Rattle.std.specs.Prelude.{All, Bool, Contains, ◌&&◌, ◌||◌, ◌==◌, filter, map, nat_le, nat_lt}
+use Rattle.std.proofs.Common.{◌≡◌, ℕ, zero, suc, ◌+◌, ◌-◌, ◌<◌, ◌≤◌, List, [], ◌∷◌, length, get_or}
+use Rattle.std.proofs.Common.{take, length-append, refl, sym, ap, ◌∙◌, arith, true, false, ◌⊎◌, ⊎_elim, subst}
+use Rattle.std.specs.Prelude.{Bool, Contains, filter, map, nat_le, nat_lt}
 use Rattle.std.proofs.lemmas.Bool.{true≢false}
 use Rattle.std.proofs.lemmas.List.{take_more}
 use Rattle.std.proofs.lemmas.List.Elements.{filter-append}
@@ -13,7 +13,7 @@ use Rattle.kill_spec.specs.LegalReadings.{Ascend}
 use Rattle.kill_spec.specs.Victims.{is_larger, memory_in_use}
 use Rattle.kill_spec.proofs.Foremost.{Each, Pairs, by_test}
 use Rattle.kill_spec.proofs.ChoiceLaws.{IsBefore, greater_order, in_order}
-use Rattle.detectors.specs.Below.{AreAmong, group_at, groups_at, no_group}
+use Rattle.detectors.specs.Below.{AreAmong, group_at, groups_at}
 use Rattle.detectors.specs.Views.{ReadingView}
 use Rattle.victim_rank.proofs.Scoped.{leads_plainly}
 use Rattle.victim_rank.specs.Scopes.{ScopeView, is_in_rank}

@@ -1,5 +1,5 @@
 -- Where the largest of groups end, by keys in the order of sizes.
-use Rattle.std.specs.Prelude.{◌≡◌, ℕ, ◌+◌, ◌-◌, ◌*◌, ◌<◌, ◌≤◌, List, Bool, Contains, true, ◌&&◌}
+use Rattle.std.specs.Prelude.{◌≡◌, ℕ, ◌+◌, ◌-◌, ◌*◌, ◌≤◌, List, Bool, Contains, true, ◌&&◌}
 use Rattle.std.specs.Prelude.{filter, length, nat_le, nat_lt}
 use Rattle.psi_spec.specs.World.{most_groups}
 use Rattle.kill_spec.specs.declared.reading.GroupReading.{GroupReading}

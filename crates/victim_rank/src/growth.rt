@@ -84,7 +84,7 @@ fn leads_any(next: &Grown, best: Option<Grown>) -> bool
 }
 
 /// The growing group that has grown most, among the `few` largest of a scope and a rank. It walks
-/// the groups once, and up to 71 times more to find where the largest end, if one is growing.
+/// the groups once, and up to 72 times more to find where the largest end, if one is growing.
 pub(crate) fn grown_most(
     scope: &Scope<'_>,
     best_rank: u8,
