@@ -4,7 +4,7 @@ pub mod Upward
 pub mod IrqWalk
 pub mod Finishing
 pub mod PlanReads
-pub mod Quick
+pub mod TaskActSides
 pub mod Taking
 pub mod SideMoments
 pub mod SideMembers

@@ -11,19 +11,20 @@ ghost use Rattle.plan_laws.specs.Plan.{IsPlan};
 ghost use Rattle.slot_clocks.specs.Clocks.{parent_numbers};
 ghost use Rattle.proc_plan.specs.Plans.{HasTaken, HasTrace, PlannerTakes, StandForTaken, limits_by, plan_over, plans_over};
 ghost use Rattle.proc_plan.specs.Room.{changes_in};
-ghost use Rattle.task_table.specs.Acts.{event_by, exits};
+ghost use Rattle.trace_player.specs.TaskActs.{as_event, exits};
 
 use crate::changes::Changes;
 use crate::plan::Plan;
 use crate::plans::Plans;
-use crate::room::{add_changes, add_side, add_touched, add_trigger, make_room, make_task_room};
+use crate::room::{add_changes, add_side, add_touched, add_trigger, make_room, reserve_task};
 use crate::side::Side;
 use crate::sides::told_by;
 use group_tree::Tree;
 use psi_base::{Cause, Event, Fault, NoMemory, Ns, Slot, TriggerSpec};
 use std::alloc::Global;
 use std::marker::Model;
-use task_table::{Table, TaskAct};
+use task_table::Table;
+use trace_player::TaskAct;
 
 /// What takes a trace apart: the world so far, and all that plans keep. Contracts see both.
 #[derive(Drop)]
@@ -117,45 +118,37 @@ impl Planner {
         self.table.is_ended()
     }
 
-    /// Takes one event more: it is judged, then room is made for what it adds, and then it is done.
-    /// `Refused` with the first cause against it, where it isn't legal, and `NoMemory` only where
-    /// it is. Nothing changes then.
+    /// The fast path of [`Planner::take`]: its twin for a task act at a time (ns) by which no task
+    /// exits. Such an act adds changes alone, neither triggers nor sides.
     #[inline(always)]
-    pub fn take(&mut self, event: &Event) -> Result<(), Fault<Cause>>
-        requires { Fits event.now }
-        ensures takes { PlannerTakes self.old self.new event.now result }
-        ensures same { OnErr result (self.new ≡ self.old) }
-    {
-        match TaskAct::of(&event.act) {
-            Some(act) => self.take_task(event.at, act),
-            None => self.take_other(event),
-        }
-    }
-
-    // The same of a quick act at a moment (ns), by which no task leaves its group: it tells of
-    // changes alone.
-    #[inline(always)]
-    fn take_task(&mut self, at: Ns, act: TaskAct) -> Result<(), Fault<Cause>>
-        requires fits { Fits (event_by at act) }
+    pub fn take_task(&mut self, at: Ns, act: TaskAct) -> Result<(), Fault<Cause>>
+        requires fits { Fits (as_event at act) }
         requires stays { exits act ≡ false }
-        ensures takes { PlannerTakes self.old self.new (event_by at act) result }
+        ensures takes { PlannerTakes self.old self.new (as_event at act) result }
         ensures same { OnErr result (self.new ≡ self.old) }
     {
         let finding = self.table.judge_task(at, act)?;
-        make_task_room(&mut self.changes, act, finding.before)?;
+        reserve_task(&mut self.changes, act, finding.before)?;
         let touch = self.table.perform_task(at, act, finding);
         add_touched(&mut self.changes, &touch);
         Ok(())
     }
 
-    // The same of any event. It stands aside, so that the quick way is small enough to be inlined
-    // whole.
+    /// Takes one event more: it is judged, then room is made for what it adds, and then it is done.
+    /// `Refused` with the first cause against it, where it isn't legal, and `NoMemory` only where
+    /// it is. Nothing changes then.
+    // Apart from its callers, so that the fast path is small enough to be inlined whole.
     #[inline(never)]
-    fn take_other(&mut self, event: &Event) -> Result<(), Fault<Cause>>
+    pub fn take(&mut self, event: &Event) -> Result<(), Fault<Cause>>
         requires { Fits event.now }
         ensures takes { PlannerTakes self.old self.new event.now result }
         ensures same { OnErr result (self.new ≡ self.old) }
     {
+        if let Some(act) = TaskAct::of(&event.act) {
+            if !act.exits() {
+                return self.take_task(event.at, act);
+            }
+        }
         let finding = self.table.judge(event)?;
         let told = told_by(&self.table, event, finding.before);
         make_room(

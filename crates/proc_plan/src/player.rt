@@ -4,7 +4,7 @@
 use crate::planner::Planner;
 use psi_base::{Cause, Event, Fault, NoMemory, Ns};
 use std::alloc::Global;
-use trace_player::Player;
+use trace_player::{Player, TaskAct};
 
 impl Player for Planner {
     ghost use Rattle.proc_plan.specs.Plans.{HasTaken};
@@ -18,6 +18,11 @@ impl Player for Planner {
     #[inline(always)]
     fn take(&mut self, event: &Event) -> Result<(), Fault<Cause>> {
         Planner::take(self, event)
+    }
+
+    #[inline(always)]
+    fn take_task(&mut self, at: Ns, act: TaskAct) -> Result<(), Fault<Cause>> {
+        Planner::take_task(self, at, act)
     }
 
     fn is_ended(&self) -> bool {

@@ -9,7 +9,7 @@ ghost use Rattle.psi_counts.specs.Touch.{AllTouched, HasSlotsBelow, IsBeside, Is
 ghost use Rattle.proc_plan.specs.Plans.{AreSmall};
 ghost use Rattle.proc_plan.specs.Room.{AddsTold, HasRoom, HasRoomFor, HasRoomWithin, changes_in, cpu_number, lists_of};
 ghost use Rattle.proc_plan.specs.Sides.{IsSmall};
-ghost use Rattle.task_table.specs.Acts.{act_by};
+ghost use Rattle.trace_player.specs.TaskActs.{as_act};
 
 use crate::changes::Changes;
 use crate::side::Side;
@@ -17,19 +17,19 @@ use crate::sides::Told;
 use psi_base::{Act, Cpu, NoMemory, Ns, Slot, TriggerSpec};
 use psi_counts::{Change, Touch};
 use psi_spec::Task;
-use task_table::{Table, TaskAct};
+use task_table::Table;
+use trace_player::TaskAct;
 
 // The number of the processor that an act names, if it names one.
 #[inline(always)]
 fn named_cpu(act: &Act) -> Option<u32>
     ensures { result ≡ (names act.now).cpu }
 {
+    if let Some(act) = TaskAct::of(act) {
+        return act.cpu();
+    }
     match act {
-        Act::Fork { cpu, .. }
-        | Act::Wake { cpu, .. }
-        | Act::Switch { cpu, .. }
-        | Act::Migrate { cpu, .. }
-        | Act::Irq { cpu, .. } => Some(cpu.0),
+        Act::Fork { cpu, .. } | Act::Irq { cpu, .. } => Some(cpu.0),
         _ => None,
     }
 }
@@ -84,6 +84,48 @@ fn is_pressure(act: &Act) -> bool
     matches!(act, Act::Pressure { .. })
 }
 
+// The number of a task's processor, if there is a task.
+#[inline(always)]
+fn task_cpu(task: Option<Task>) -> Option<u32>
+    ensures { result ≡ cpu_number task }
+{
+    match task {
+        Some(task) => Some(task.cpu.0),
+        None => None,
+    }
+}
+
+// Makes room for a change of the processor that an act names, and of that of the task that it
+// changes.
+#[inline(always)]
+fn reserve_two(
+    changes: &mut [Changes],
+    named: Option<u32>,
+    task: Option<Task>,
+) -> Result<(), NoMemory>
+    ensures same { lists_of changes.new ≡ lists_of changes.old }
+    ensures each { length changes.new ≡ length changes.old }
+    ensures named { OnOk result (IfSome named (HasRoomWithin changes.new)) }
+    ensures task { OnOk result (IfSome (cpu_number task) (HasRoomWithin changes.new)) }
+{
+    reserve_at(changes, named)?;
+    reserve_at(changes, task_cpu(task))
+}
+
+/// Makes room for what a task act changes, which changes this task.
+#[inline(always)]
+pub(crate) fn reserve_task(
+    changes: &mut [Changes],
+    act: TaskAct,
+    task: Option<Task>,
+) -> Result<(), NoMemory>
+    ensures changes { lists_of changes.new ≡ lists_of changes.old }
+    ensures each { length changes.new ≡ length changes.old }
+    ensures room { OnOk result (HasRoomFor (as_act act) task changes.new) }
+{
+    reserve_two(changes, act.cpu(), task)
+}
+
 // Makes room for what an act changes on each processor that it touches: the one that it names, and
 // the one of the task that it changes; or all of them, where it switches the account of a group.
 #[inline(always)]
@@ -95,8 +137,7 @@ fn reserve_changes(changes: &mut [Changes], act: &Act, task: Option<Task>) -> Re
     if is_pressure(act) {
         return reserve_all(changes);
     }
-    reserve_at(changes, named_cpu(act))?;
-    reserve_at(changes, task_cpu(task))
+    reserve_two(changes, named_cpu(act), task)
 }
 
 /// Makes room for all that an event may add: what its act changes, which changes this task, and
@@ -124,45 +165,6 @@ pub(crate) fn make_room(
     reserve_changes(changes, act, task)?;
     triggers.reserve(usize::from(told.trigger.is_some()))?;
     sides.reserve(usize::from(told.first.is_some()) + usize::from(told.second.is_some()))?;
-    Ok(())
-}
-
-// The number of the processor that a quick act names, if it names one.
-#[inline(always)]
-fn quick_cpu(act: TaskAct) -> Option<u32>
-    ensures { result ≡ (names (act_by act)).cpu }
-{
-    match act {
-        TaskAct::Wake { cpu, .. } | TaskAct::Switch { cpu, .. } | TaskAct::Migrate { cpu, .. } =>
-            Some(cpu.0),
-        TaskAct::Stall { .. } | TaskAct::Unstall { .. } => None,
-    }
-}
-
-// The number of a task's processor, if there is a task.
-#[inline(always)]
-fn task_cpu(task: Option<Task>) -> Option<u32>
-    ensures { result ≡ cpu_number task }
-{
-    match task {
-        Some(task) => Some(task.cpu.0),
-        None => None,
-    }
-}
-
-/// Makes room for what a quick act changes, which changes this task.
-#[inline(always)]
-pub(crate) fn make_task_room(
-    changes: &mut [Changes],
-    act: TaskAct,
-    task: Option<Task>,
-) -> Result<(), NoMemory>
-    ensures changes { lists_of changes.new ≡ lists_of changes.old }
-    ensures each { length changes.new ≡ length changes.old }
-    ensures room { OnOk result (HasRoomFor (act_by act) task changes.new) }
-{
-    reserve_at(changes, quick_cpu(act))?;
-    reserve_at(changes, task_cpu(task))?;
     Ok(())
 }
 

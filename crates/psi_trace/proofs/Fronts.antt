@@ -105,12 +105,10 @@ zero_front bytes rest number end zero is = is ∙ ap (λ n. decimal n ++ end ∷
 
 -- ---- a verb
 
--- the time, and a verb that was found behind it
-pub verb_front : (bytes rest front fields verb : List ℕ) (at : ℕ) → bytes ≡ decimal at ++ 32 ∷ rest → front ≡ verb → bytes_eq (take (length front) rest) front ≡ true → fields ≡ drop (length front) rest → bytes ≡ decimal at ++ 32 ∷ (verb ++ fields)
-verb_front bytes rest front fields verb at is same starts behind =
-    let whole : rest ≡ verb ++ fields =
-    sym (take-append-drop (length front) rest) ∙ ap (λ xs. xs ++ drop (length front) rest) ((bytes_eq-Decides (take (length front) rest) front).0 starts) ∙ ap (λ xs. front ++ xs) (sym behind) ∙ ap (λ xs. xs ++ fields) same in
-    is ∙ ap (λ xs. decimal at ++ 32 ∷ xs) whole
+-- a verb that the bytes begin with, and its fields
+pub verb_front : (bytes front fields verb : List ℕ) → front ≡ verb → bytes_eq (take (length front) bytes) front ≡ true → fields ≡ drop (length front) bytes → bytes ≡ verb ++ fields
+verb_front bytes front fields verb same starts behind =
+    sym (take-append-drop (length front) bytes) ∙ ap (λ xs. xs ++ drop (length front) bytes) ((bytes_eq-Decides (take (length front) bytes) front).0 starts) ∙ ap (λ xs. front ++ xs) (sym behind) ∙ ap (λ xs. xs ++ fields) same
 
 -- ---- fields
 

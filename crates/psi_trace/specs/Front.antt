@@ -1,10 +1,12 @@
 -- The line of an event at the front of bytes.
-use Rattle.std.specs.Prelude.{◌≡◌, ℕ, ◌+◌, ◌-◌, ◌*◌, ◌≤◌, ◌<◌, List, ◌∷◌, ◌++◌, take, drop, length, slice_index_or, true}
+use Rattle.std.specs.Prelude.{◌≡◌, ℕ, ◌+◌, ◌-◌, ◌*◌, ◌^◌, ◌≤◌, ◌<◌, List, ◌∷◌, ◌++◌, decimal, take, drop, length, slice_index_or, true, false}
 use Rattle.std.specs.Str.{all_ascii_digits}
 use Rattle.psi_base.specs.Number.{value_after}
 use Rattle.psi_base.specs.declared.event.Event.{Event}
 use Rattle.psi_trace.specs.declared.front.PlayedLine.{PlayedLine}
 use Rattle.trace_player.specs.Playing.{PlayerTakes, Plays}
+use Rattle.trace_player.specs.TaskActs.{as_event, exits}
+use Rattle.trace_player.specs.declared.task_act.TaskAct.{TaskAct}
 use Rattle.psi_spec.specs.Grammar.{Fits, IsKnown, first_verbs, spelling}
 
 -- so many bytes at the front are digits, and write this number
@@ -37,6 +39,12 @@ pub record BeginsWithEvent (bytes : List ℕ) (event : Event) (rest : List ℕ) 
   pub fits : Fits event
   pub known : IsKnown first_verbs event
   pub whole : bytes ≡ spelling event ++ 10 ∷ rest
+
+-- After any time (ns) and a space, the bytes are the line of this task act with its newline, and
+-- then the rest. No task exits by the act.
+pub record BeginsWithTaskAct (bytes : List ℕ) (act : TaskAct) (rest : List ℕ) : Type 0 where
+  pub stays : exits act ≡ false
+  pub begins : (at : ℕ) → at < 2 ^ 64 → BeginsWithEvent (decimal at ++ 32 ∷ bytes) (as_event at act) rest
 
 -- the bytes begin with the line of this event, which has so many bytes before its newline
 pub record HasInFront (bytes : List ℕ) (event : Event) (count : ℕ) : Type 0 where

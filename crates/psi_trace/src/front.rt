@@ -4,12 +4,13 @@
 //! Each is read in one pass from the left, and its newline ends it. Where the bytes don't begin
 //! with such a line the answer is none, and nothing is said of them: `read_event` reads any line,
 //! and says what is wrong with it.
-ghost use Rattle.std.specs.Prelude.{◌≡◌, ◌+◌, ◌<◌, ◌≤◌, ◌^◌, ◌∷◌, ◌++◌, ◌↔◌, IfNone, IfSome, IsTrue, codes, decimal, length};
+ghost use Rattle.std.specs.Prelude.{◌≡◌, ◌+◌, ◌<◌, ◌≤◌, ◌^◌, ◌∷◌, ◌++◌, ◌↔◌, IfNone, IfSome, IsTrue, codes, decimal, false, length};
 ghost use Rattle.psi_spec.specs.Fields.{how_word, next_word, IsPid};
-ghost use Rattle.psi_trace.specs.Front.{AreDigits, AreFour, BeginsWithEvent, IsDigit, TakesFront};
+ghost use Rattle.psi_spec.specs.Refusal.{is_exit};
+ghost use Rattle.psi_trace.specs.Front.{AreDigits, AreFour, BeginsWithTaskAct, IsDigit, TakesFront};
 
-use psi_base::{Act, Cause, Cpu, Event, Fault, How, Ns, Pid};
-use trace_player::Player;
+use psi_base::{Cause, Cpu, Fault, How, Ns, Pid};
+use trace_player::{Player, TaskAct};
 
 /// So many digits fit 64 bits, whichever they are.
 const MOST_DIGITS: usize = 19;
@@ -200,7 +201,8 @@ fn next_before(bytes: &[u8], end: u8) -> Option<(Option<Pid>, &[u8])>
 // behind the newline.
 #[inline(always)]
 fn how_before_newline(bytes: &[u8]) -> Option<(How, &[u8])>
-    ensures { IfSome result (λ found. bytes.now ≡ how_word found.0 ++ 10 ∷ found.1.now) }
+    ensures word { IfSome result (λ found. bytes.now ≡ how_word found.0 ++ 10 ∷ found.1.now) }
+    ensures stays { IfSome result (λ found. is_exit found.0 ≡ false) }
 {
     if let Some(rest) = bytes.strip_prefix(b"sleep\n".as_slice()) {
         return Some((How::Sleep, rest));
@@ -217,91 +219,85 @@ fn how_before_newline(bytes: &[u8]) -> Option<(How, &[u8])>
     None
 }
 
-// The event at a time (ns) of each verb, if the bytes begin with its fields and a newline, and the
-// bytes behind that.
+// The task act of each verb, if the bytes begin with its fields and a newline, and the bytes after
+// that.
 
 #[inline(always)]
-fn switch_in(at: Ns, fields: &[u8]) -> Option<(Event, &[u8])>
-    ensures { IfSome result (λ found. BeginsWithEvent
-        (decimal at ++ (codes " switch " ++ fields.now)) found.0 found.1.now) }
+fn switch_in(fields: &[u8]) -> Option<(TaskAct, &[u8])>
+    ensures { IfSome result (λ found. BeginsWithTaskAct
+        (codes "switch " ++ fields.now) found.0 found.1.now) }
 {
     let (cpu, rest) = cpu_before(fields, b' ')?;
     let (next, rest) = next_before(rest, b' ')?;
     let (how, rest) = how_before_newline(rest)?;
-    let act = Act::Switch { cpu, next, how };
-    Some((Event { at, act }, rest))
+    Some((TaskAct::Switch { cpu, next, how }, rest))
 }
 
 #[inline(always)]
-fn wake_in(at: Ns, fields: &[u8]) -> Option<(Event, &[u8])>
-    ensures { IfSome result (λ found. BeginsWithEvent
-        (decimal at ++ (codes " wake " ++ fields.now)) found.0 found.1.now) }
+fn wake_in(fields: &[u8]) -> Option<(TaskAct, &[u8])>
+    ensures { IfSome result (λ found. BeginsWithTaskAct
+        (codes "wake " ++ fields.now) found.0 found.1.now) }
 {
     let (pid, rest) = pid_before(fields, b' ')?;
     let (cpu, rest) = cpu_before(rest, b'\n')?;
-    let act = Act::Wake { pid, cpu };
-    Some((Event { at, act }, rest))
+    Some((TaskAct::Wake { pid, cpu }, rest))
 }
 
 #[inline(always)]
-fn stall_in(at: Ns, fields: &[u8]) -> Option<(Event, &[u8])>
-    ensures { IfSome result (λ found. BeginsWithEvent
-        (decimal at ++ (codes " stall " ++ fields.now)) found.0 found.1.now) }
+fn stall_in(fields: &[u8]) -> Option<(TaskAct, &[u8])>
+    ensures { IfSome result (λ found. BeginsWithTaskAct
+        (codes "stall " ++ fields.now) found.0 found.1.now) }
 {
     let (pid, rest) = pid_before(fields, b'\n')?;
-    let act = Act::Stall { pid };
-    Some((Event { at, act }, rest))
+    Some((TaskAct::Stall { pid }, rest))
 }
 
 #[inline(always)]
-fn unstall_in(at: Ns, fields: &[u8]) -> Option<(Event, &[u8])>
-    ensures { IfSome result (λ found. BeginsWithEvent
-        (decimal at ++ (codes " unstall " ++ fields.now)) found.0 found.1.now) }
+fn unstall_in(fields: &[u8]) -> Option<(TaskAct, &[u8])>
+    ensures { IfSome result (λ found. BeginsWithTaskAct
+        (codes "unstall " ++ fields.now) found.0 found.1.now) }
 {
     let (pid, rest) = pid_before(fields, b'\n')?;
-    let act = Act::Unstall { pid };
-    Some((Event { at, act }, rest))
+    Some((TaskAct::Unstall { pid }, rest))
 }
 
 #[inline(always)]
-fn migrate_in(at: Ns, fields: &[u8]) -> Option<(Event, &[u8])>
-    ensures { IfSome result (λ found. BeginsWithEvent
-        (decimal at ++ (codes " migrate " ++ fields.now)) found.0 found.1.now) }
+fn migrate_in(fields: &[u8]) -> Option<(TaskAct, &[u8])>
+    ensures { IfSome result (λ found. BeginsWithTaskAct
+        (codes "migrate " ++ fields.now) found.0 found.1.now) }
 {
     let (pid, rest) = pid_before(fields, b' ')?;
     let (cpu, rest) = cpu_before(rest, b'\n')?;
-    let act = Act::Migrate { pid, cpu };
-    Some((Event { at, act }, rest))
+    Some((TaskAct::Migrate { pid, cpu }, rest))
 }
 
-// Plays the event that the bytes begin with the line of, if one was found there, with the bytes
-// behind its newline.
+// The task act whose verb and fields the bytes begin with, and the bytes after its newline.
 #[inline(always)]
-fn play_found<P: Player>(
-    bytes: &[u8],
-    found: Option<(Event, &[u8])>,
-    player: &mut P,
-) -> Option<PlayedLine>
-    requires { IfSome found (λ found. BeginsWithEvent bytes.now found.0 found.1.now) }
-    ensures front { IfSome result
-        (TakesFront (P.Played player.old) (P.Played player.new) bytes.now) }
-    ensures same { IfNone result (player.new ≡ player.old) }
+fn task_act_in(bytes: &[u8]) -> Option<(TaskAct, &[u8])>
+    ensures { IfSome result (λ found. BeginsWithTaskAct bytes.now found.0 found.1.now) }
 {
-    let Some((event, rest)) = found else {
-        return None;
-    };
-    let count = bytes.len() - rest.len() - 1;
-    let answer = player.take(&event);
-    Some(PlayedLine { count, answer })
+    if let Some(fields) = bytes.strip_prefix(b"switch ".as_slice()) {
+        return switch_in(fields);
+    }
+    if let Some(fields) = bytes.strip_prefix(b"wake ".as_slice()) {
+        return wake_in(fields);
+    }
+    if let Some(fields) = bytes.strip_prefix(b"stall ".as_slice()) {
+        return stall_in(fields);
+    }
+    if let Some(fields) = bytes.strip_prefix(b"unstall ".as_slice()) {
+        return unstall_in(fields);
+    }
+    if let Some(fields) = bytes.strip_prefix(b"migrate ".as_slice()) {
+        return migrate_in(fields);
+    }
+    None
 }
 
-/// Plays the event of the line that the bytes begin with, where that is a `switch` without an
-/// `exit`, a `wake`, `stall`, `unstall` or `migrate`: the one that
-/// [`read_event`](crate::read_event) reads. None may also be where the bytes begin with such a
-/// line; then nothing is played.
-///
-/// Each verb has a call of its own, in which it is known what the event is. Whether it is stored
-/// all the same is the compiler's choice.
+/// Plays the event of the line that the bytes begin with, if that is a `switch` without an `exit`,
+/// a `wake`, `stall`, `unstall` or `migrate`: the one that [`read_event`](crate::read_event) reads.
+/// None may also be where the bytes begin with such a line; then nothing is played.
+// The player is called in one place, whichever the verb is, so that its code is inlined there.
 #[inline(always)]
 pub fn take_front<P: Player>(bytes: &[u8], player: &mut P) -> Option<PlayedLine>
     ensures front { IfSome result
@@ -309,20 +305,8 @@ pub fn take_front<P: Player>(bytes: &[u8], player: &mut P) -> Option<PlayedLine>
     ensures same { IfNone result (player.new ≡ player.old) }
 {
     let (at, rest) = time_before(bytes)?;
-    if let Some(fields) = rest.strip_prefix(b"switch ".as_slice()) {
-        return play_found(bytes, switch_in(at, fields), player);
-    }
-    if let Some(fields) = rest.strip_prefix(b"wake ".as_slice()) {
-        return play_found(bytes, wake_in(at, fields), player);
-    }
-    if let Some(fields) = rest.strip_prefix(b"stall ".as_slice()) {
-        return play_found(bytes, stall_in(at, fields), player);
-    }
-    if let Some(fields) = rest.strip_prefix(b"unstall ".as_slice()) {
-        return play_found(bytes, unstall_in(at, fields), player);
-    }
-    if let Some(fields) = rest.strip_prefix(b"migrate ".as_slice()) {
-        return play_found(bytes, migrate_in(at, fields), player);
-    }
-    None
+    let (act, rest) = task_act_in(rest)?;
+    let count = bytes.len() - rest.len() - 1;
+    let answer = player.take_task(at, act);
+    Some(PlayedLine { count, answer })
 }

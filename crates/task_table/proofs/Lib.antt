@@ -1,7 +1,7 @@
 pub mod CauseLaws
 pub mod Index
 pub mod MemberLaws
-pub mod QuickLaws
+pub mod TaskActLaws
 pub mod Replacing
 pub mod Tabled
 pub mod Touching

@@ -1,17 +1,15 @@
 //! Why an act is refused, asked in the order of causes.
-ghost use Rattle.std.specs.Prelude.{◌≡◌, ℕ, List, if◌then◌else◌, nat_le, length, slice_index_or, None, Some};
+ghost use Rattle.std.specs.Prelude.{◌≡◌, ℕ, List, if◌then◌else◌, nat_le, length, slice_index_or, None, Some, false};
 ghost use Rattle.psi_base.specs.declared.event.Cause.TheVariants as cause;
 ghost use Rattle.psi_spec.specs.Refusal.{has_member, is_window};
 ghost use Rattle.psi_spec.specs.World.{Tasks, most_tasks, slot_of};
-ghost use Rattle.psi_spec.specs.declared.machine.GroupLife.{GroupLife};
-ghost use Rattle.task_table.specs.Acts.{act_by};
 ghost use Rattle.task_table.specs.Causes.{act_cause, account_cause, empty_cause, fork_cause, how_cause, irq_cause, migrate_cause, move_cause, next_cause, path_cause, stall_cause, switch_cause, trigger_cause, unstall_cause, wake_cause};
 ghost use Rattle.task_table.specs.Named.{named_task};
 ghost use Rattle.task_table.specs.Stands.{AreMembers, IsIndex};
+ghost use Rattle.trace_player.specs.TaskActs.{is_task_act};
 
 use crate::members::Members;
 use crate::running::{Running, running_at};
-use crate::task_act::TaskAct;
 use crate::task_map::TaskMap;
 use group_tree::Tree;
 use psi_base::{Act, Cause, Cpu, Event, How, Ns, Path, Pid};
@@ -103,7 +101,7 @@ fn fork_refused(
 
 /// Why a wake isn't legal.
 #[inline(always)]
-fn wake_refused(task: Option<Task>, cpus: usize, cpu: u32) -> Option<Cause>
+pub(crate) fn wake_refused(task: Option<Task>, cpus: usize, cpu: u32) -> Option<Cause>
     ensures { result ≡ wake_cause cpus task cpu }
 {
     let Some(task) = task else {
@@ -164,7 +162,7 @@ fn how_refused(how: How, running: Running) -> Option<Cause>
 
 /// Why a switch isn't legal.
 #[inline(always)]
-fn switch_refused(
+pub(crate) fn switch_refused(
     running: &[Running],
     cpu: u32,
     next: Option<Pid>,
@@ -182,7 +180,7 @@ fn switch_refused(
 
 /// Why a stall can't begin.
 #[inline(always)]
-fn stall_refused(task: Option<Task>) -> Option<Cause>
+pub(crate) fn stall_refused(task: Option<Task>) -> Option<Cause>
     ensures { result ≡ stall_cause task }
 {
     let Some(task) = task else {
@@ -199,7 +197,7 @@ fn stall_refused(task: Option<Task>) -> Option<Cause>
 
 /// Why a stall can't end.
 #[inline(always)]
-fn unstall_refused(task: Option<Task>) -> Option<Cause>
+pub(crate) fn unstall_refused(task: Option<Task>) -> Option<Cause>
     ensures { result ≡ unstall_cause task }
 {
     let Some(task) = task else {
@@ -216,7 +214,7 @@ fn unstall_refused(task: Option<Task>) -> Option<Cause>
 
 /// Why a task can't migrate.
 #[inline(always)]
-fn migrate_refused(task: Option<Task>, cpus: usize, cpu: u32) -> Option<Cause>
+pub(crate) fn migrate_refused(task: Option<Task>, cpus: usize, cpu: u32) -> Option<Cause>
     ensures { result ≡ migrate_cause cpus task cpu }
 {
     let Some(task) = task else {
@@ -300,32 +298,8 @@ fn irq_refused(irqs: &[Ns], cpus: usize, at: Ns, cpu: Cpu, ns: u64) -> Option<Ca
     None
 }
 
-/// Why a quick act isn't legal. `named` is the task with the number that it names.
-#[inline(always)]
-pub(crate) fn task_act_refused(
-    running: &[Running],
-    act: TaskAct,
-    named: Option<Task>,
-) -> Option<Cause>
-    ensures { (groups : List GroupLife) (tasks : Tasks) (irqs : List ℕ)
-        (triggers pressures at : ℕ) →
-        IsIndex running.now tasks →
-        named ≡ named_task tasks (act_by act) →
-        result ≡ act_cause (length running.now) groups tasks irqs triggers pressures at
-        (act_by act) }
-{
-    let cpus = running.len();
-    match act {
-        TaskAct::Wake { cpu, .. } => wake_refused(named, cpus, cpu.0),
-        TaskAct::Switch { cpu, next, how } => switch_refused(running, cpu.0, next, named, how),
-        TaskAct::Stall { .. } => stall_refused(named),
-        TaskAct::Unstall { .. } => unstall_refused(named),
-        TaskAct::Migrate { cpu, .. } => migrate_refused(named, cpus, cpu.0),
-    }
-}
-
-/// Why the act of an event isn't legal. `irqs` has the moments of the last `irq` lines, and `named`
-/// is the task with the number that the act names.
+/// Why the act of an event isn't legal, which isn't of tasks alone. `irqs` has the times of the last
+/// `irq` lines, and `named` is the task with the number that the act names.
 #[inline(always)]
 pub(crate) fn act_refused(
     tree: &Tree,
@@ -341,6 +315,7 @@ pub(crate) fn act_refused(
     requires index { IsIndex running.now tasks.now }
     requires members { AreMembers members.now tasks.now }
     requires named { named ≡ named_task tasks.now event.now.act }
+    requires other { is_task_act event.now.act ≡ false }
     ensures { result ≡ act_cause (length running.now) tree.now tasks.now irqs.now triggers
         pressures event.now.at event.now.act }
 {
@@ -350,11 +325,6 @@ pub(crate) fn act_refused(
         Act::Remove { path } => remove_refused(tree, members, path),
         Act::Prefer { path, .. } | Act::Mem { path, .. } => lacks_path(tree, path),
         Act::Fork { path, cpu, .. } => fork_refused(tree, tasks.len(), cpus, named, path, cpu.0),
-        Act::Wake { cpu, .. } => wake_refused(named, cpus, cpu.0),
-        Act::Switch { cpu, next, how } => switch_refused(running, cpu.0, *next, named, *how),
-        Act::Stall { .. } => stall_refused(named),
-        Act::Unstall { .. } => unstall_refused(named),
-        Act::Migrate { cpu, .. } => migrate_refused(named, cpus, cpu.0),
         Act::Move { path, .. } => move_refused(tree, named, path),
         Act::Trigger {
             path,
@@ -364,6 +334,6 @@ pub(crate) fn act_refused(
         } => trigger_refused(tree, triggers, path, *threshold_us, *window_us),
         Act::Irq { cpu, ns } => irq_refused(irqs, cpus, event.at, *cpu, *ns),
         Act::Pressure { path, .. } => account_refused(tree, pressures, path),
-        Act::Host { .. } | Act::End => None,
+        _ => None,
     }
 }

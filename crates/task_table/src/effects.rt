@@ -3,17 +3,14 @@ ghost use Rattle.std.specs.Prelude.{◌≡◌, ℕ, ◌+◌, ◌<◌, ◌≤◌,
 ghost use Rattle.std.specs.FinMap as tasks_by;
 ghost use Rattle.psi_spec.specs.World.{change, ends, groups_after, irqs_after, is_pressure, is_running, is_trigger, most_tasks, new_group, new_task, put, readied, slot_of, task_of, tasks_after};
 ghost use Rattle.psi_counts.specs.Touch.{changed};
-ghost use Rattle.psi_spec.specs.declared.machine.GroupLife.{GroupLife};
 ghost use Rattle.group_tree.specs.Tree.{add_cause};
-ghost use Rattle.task_table.specs.Acts.{act_by};
 ghost use Rattle.task_table.specs.Causes.{act_cause, groups_cause, makes_group, takes_memory};
 ghost use Rattle.task_table.specs.Named.{IsChanged, MayReplaceIf, named_task};
 ghost use Rattle.task_table.specs.Stands.{AreMembers, IsIndex};
+ghost use Rattle.trace_player.specs.TaskActs.{is_task_act};
 
-use crate::context_switch::switch;
 use crate::members::Members;
 use crate::running::{Running, set_running};
-use crate::task_act::TaskAct;
 use crate::task_map::TaskMap;
 use crate::task_update::TaskUpdate;
 use group_tree::Tree;
@@ -102,7 +99,7 @@ pub(crate) fn slot_named(tree: &Tree, path: &Path) -> Slot
 }
 
 /// A task on the run queue of a processor, if there is one. Its stall stays.
-fn readied(task: Option<Task>, cpu: Cpu) -> Option<Task>
+pub(crate) fn readied(task: Option<Task>, cpu: Cpu) -> Option<Task>
     ensures { result ≡ changed (readied cpu.0) task }
 {
     match task {
@@ -116,7 +113,7 @@ fn readied(task: Option<Task>, cpu: Cpu) -> Option<Task>
 }
 
 /// A task in a memory stall or out of it, if there is one.
-fn with_stall(task: Option<Task>, stalled: bool) -> Option<Task>
+pub(crate) fn with_stall(task: Option<Task>, stalled: bool) -> Option<Task>
     ensures { result ≡ changed (λ t. record t { stalled = stalled }) task }
 {
     match task {
@@ -135,42 +132,22 @@ fn moved(task: Option<Task>, slot: Slot) -> Option<Task>
     }
 }
 
-/// The task with the number that an act names.
+/// The task with the number that an act names which isn't of tasks alone.
 #[inline(always)]
 pub(crate) fn named_task(tasks: &TaskMap, act: &Act) -> Option<Task>
+    requires { is_task_act act.now ≡ false }
     ensures { result ≡ named_task tasks.now act.now }
 {
     match act {
-        Act::Fork { pid, .. }
-        | Act::Wake { pid, .. }
-        | Act::Switch {
-            next: Some(pid),
-            ..
-        }
-        | Act::Stall { pid }
-        | Act::Unstall { pid }
-        | Act::Migrate { pid, .. }
-        | Act::Move { pid, .. } => tasks.get(pid.0),
+        Act::Fork { pid, .. } | Act::Move { pid, .. } => tasks.get(pid.0),
         _ => None,
-    }
-}
-
-/// The task with the number that a quick act names.
-#[tactic(auto, using(crate::proofs::QuickLaws::named_quick))]
-#[inline(always)]
-pub(crate) fn named_by(tasks: &TaskMap, act: TaskAct) -> Option<Task>
-    ensures { result ≡ named_task tasks.now (act_by act) }
-{
-    match act.pid() {
-        Some(pid) => tasks.get(pid.0),
-        None => None,
     }
 }
 
 /// A task takes the place of another with the same number, if there are both.
 // Inline, so that the two tasks needn't go through memory.
 #[inline(always)]
-fn replace(
+pub(crate) fn replace(
     tasks: &mut TaskMap,
     running: &mut [Running],
     members: &mut Members,
@@ -256,8 +233,8 @@ fn add_group(tree: &mut Tree, members: &mut Members, path: &Path, at: Ns) -> Res
     }
 }
 
-/// What a legal act does to tasks, done. `named` is the task with the number that the act names.
-/// Only a fork takes memory; where there is none, nothing changes.
+/// What a legal act does to tasks that isn't of tasks alone, done. `named` is the task with the
+/// number that the act names. Only a fork allocates; if it is out of memory, nothing changes.
 #[inline(always)]
 pub(crate) fn change_tasks(
     tasks: &mut TaskMap,
@@ -272,6 +249,7 @@ pub(crate) fn change_tasks(
     requires cover { length tree.now ≤ length members.old }
     requires few { tasks_by.len tasks.old ≤ most_tasks }
     requires named { named ≡ named_task tasks.old act.now }
+    requires other { is_task_act act.now ≡ false }
     requires legal { (irqs : List ℕ) × (triggers : ℕ) × (pressures : ℕ) × (at : ℕ)
         × (act_cause (length running.old) tree.now tasks.old irqs triggers pressures at act.now
         ≡ None) }
@@ -287,77 +265,15 @@ pub(crate) fn change_tasks(
         Act::Fork { pid, path, cpu } => {
             add_task(tasks, members, pid.0, forked(tree, path, *cpu))
         }
-        Act::Switch { cpu, next, how } => {
-            Ok(switch(tasks, running, members, cpu.0, *next, named, *how))
-        }
-        Act::Wake { pid, cpu } | Act::Migrate { pid, cpu } => {
-            let new = readied(named, *cpu);
-            Ok(replace(tasks, running, members, pid.0, named, new))
-        }
-        Act::Stall { pid } => {
-            let new = with_stall(named, true);
-            Ok(replace(tasks, running, members, pid.0, named, new))
-        }
-        Act::Unstall { pid } => {
-            let new = with_stall(named, false);
-            Ok(replace(tasks, running, members, pid.0, named, new))
-        }
         Act::Move { pid, path } => {
             let new = moved(named, slot_named(tree, path));
             Ok(replace(tasks, running, members, pid.0, named, new))
         }
-        Act::Group { .. }
-        | Act::Remove { .. }
-        | Act::Prefer { .. }
-        | Act::Mem { .. }
-        | Act::Host { .. }
-        | Act::Trigger { .. }
-        | Act::Irq { .. }
-        | Act::Pressure { .. }
-        | Act::End => Ok(TaskUpdate {
+        _ => Ok(TaskUpdate {
             old: None,
             new: None,
         }),
     }
-}
-
-/// What a legal quick act does to tasks, done. `named` is the task with the number that it names.
-#[inline(always)]
-pub(crate) fn change_task(
-    tasks: &mut TaskMap,
-    running: &mut [Running],
-    members: &mut Members,
-    act: TaskAct,
-    named: Option<Task>,
-) -> TaskUpdate
-    requires index { IsIndex running.old tasks.old }
-    requires members { AreMembers members.old tasks.old }
-    requires few { tasks_by.len tasks.old ≤ most_tasks }
-    requires named { named ≡ named_task tasks.old (act_by act) }
-    requires legal { (groups : List GroupLife) × (irqs : List ℕ) × (triggers : ℕ)
-        × (pressures : ℕ) × (at : ℕ)
-        × (act_cause (length running.old) groups tasks.old irqs triggers pressures at (act_by act)
-        ≡ None) }
-    ensures tasks { (groups : List GroupLife) →
-        tasks.new ≡ tasks_after groups tasks.old (act_by act) }
-    ensures changed { (groups : List GroupLife) →
-        IsChanged groups tasks.old (act_by act) result }
-    ensures index { IsIndex running.new tasks.new }
-    ensures members { AreMembers members.new tasks.new }
-    ensures cover { length members.new ≡ length members.old }
-    ensures length { length running.new ≡ length running.old }
-{
-    // A task that stays is replaced in one place, whichever the act is, so that this stands in the
-    // code once.
-    let (pid, new) = match act {
-        TaskAct::Switch { cpu, next, how } => {
-            return switch(tasks, running, members, cpu.0, next, named, how);
-        }
-        TaskAct::Wake { pid, cpu } | TaskAct::Migrate { pid, cpu } => (pid, readied(named, cpu)),
-        TaskAct::Stall { pid } => (pid, with_stall(named, true)),
-        TaskAct::Unstall { pid } => (pid, with_stall(named, false)),
-    };
-    replace(tasks, running, members, pid.0, named, new)
 }
 
 /// What a legal act at a moment (ns) does to groups, done. Only a new group takes memory; where

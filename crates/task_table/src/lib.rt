@@ -24,11 +24,9 @@ mod members;
 mod player;
 mod running;
 mod table;
-mod task_act;
 mod task_map;
 mod task_update;
 mod touch;
 
 pub use finding::Finding;
 pub use table::Table;
-pub use task_act::TaskAct;

@@ -3,7 +3,7 @@
 use crate::table::Table;
 use psi_base::{Cause, Event, Fault, NoMemory, Ns};
 use std::alloc::Global;
-use trace_player::Player;
+use trace_player::{Player, TaskAct};
 
 impl Player for Table {
     ghost use Rattle.trace_player.specs.Playing.{IsPlayed};
@@ -17,6 +17,11 @@ impl Player for Table {
     #[inline(always)]
     fn take(&mut self, event: &Event) -> Result<(), Fault<Cause>> {
         self.play(event)
+    }
+
+    #[inline(always)]
+    fn take_task(&mut self, at: Ns, act: TaskAct) -> Result<(), Fault<Cause>> {
+        self.play_task(at, act)
     }
 
     fn is_ended(&self) -> bool {

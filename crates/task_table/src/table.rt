@@ -1,33 +1,35 @@
 //! The table of tasks.
-ghost use Rattle.std.specs.Prelude.{◌≡◌, ◌<◌, ◌≤◌, IfNone, IfOk, None, length, nat_le};
+ghost use Rattle.std.specs.Prelude.{◌≡◌, ◌<◌, ◌≤◌, IfNone, IfOk, None, false, length, nat_le};
 ghost use Rattle.std.specs.FinMap as tasks_by;
 ghost use Rattle.psi_spec.specs.World.{first_world, most_events, most_tasks, running_on, task_of, task_part};
 ghost use Rattle.psi_counts.specs.Touch.{AllTouched, HasSlotsBelow, IsOfOne, IsTouch, shown};
 ghost use Rattle.psi_spec.specs.Changes.{before};
 ghost use Rattle.psi_spec.specs.Refusal.{cause_of};
 ghost use Rattle.task_table.specs.Named.{IsChanged, named_task};
-ghost use Rattle.task_table.specs.Acts.{act_by, event_by};
 ghost use Rattle.task_table.specs.Causes.{line_cause};
-ghost use Rattle.task_table.specs.Stands.{HasPlayed, IsFinding, Judges, PlaysEvent, PlaysLegal};
+ghost use Rattle.task_table.specs.Stands.{IsFinding, Judges, PlaysEvent, PlaysLegal};
+ghost use Rattle.trace_player.specs.TaskActs.{is_task_act};
 
-use crate::causes::{act_refused, is_full, task_act_refused};
+mod task_act;
+
+use crate::causes::{act_refused, is_full};
 use crate::effects::{
-    MOST_CPUS, change_groups, change_task, change_tasks, has_ended, named_by, named_task, note_irq,
-    pressures_with, triggers_with,
+    MOST_CPUS, change_groups, change_tasks, has_ended, named_task, note_irq, pressures_with,
+    triggers_with,
 };
 use crate::finding::Finding;
 use crate::members::Members;
 use crate::running::{Running, running_at};
-use crate::task_act::TaskAct;
 use crate::task_map::TaskMap;
 use crate::task_update::TaskUpdate;
-use crate::touch::{account_of, account_touch, current_on, touch_by, touch_of};
+use crate::touch::{account_of, account_touch, current_on, touch_of};
 use group_tree::Tree;
 use psi_base::{Act, Cause, Cpu, Event, Fault, NoMemory, Ns, Pid, Slot};
 use psi_counts::Touch;
 use psi_spec::Task;
 use std::alloc::Global;
 use std::marker::Model;
+use trace_player::TaskAct;
 
 /// The most lines that a trace may have after its header.
 const MOST_EVENTS: u32 = 4_000_000;
@@ -202,10 +204,11 @@ impl Table {
         None
     }
 
-    /// The first cause against an event whose act names this task.
+    /// The first cause against an event whose act names this task, and isn't of tasks alone.
     #[inline(always)]
     fn refused(&self, event: &Event, named: Option<Task>) -> Option<Cause>
-        requires { named ≡ named_task self.now.world.tasks event.now.act }
+        requires other { is_task_act event.now.act ≡ false }
+        requires named { named ≡ named_task self.now.world.tasks event.now.act }
         ensures cause { result ≡ cause_of self.now.limits self.now.world event.now }
         ensures room { IfNone result (self.now.world.lines < most_events) }
         ensures forward { IfNone result (self.now.world.last ≤ event.now.at) }
@@ -227,43 +230,16 @@ impl Table {
         )
     }
 
-    /// The first cause against a quick act that names this task, at this moment (ns).
+    /// The task whose counts an act changes that isn't of tasks alone, as it is before the act.
+    /// `named` is the one with the number that the act names.
     #[inline(always)]
-    fn task_refused(&self, at: Ns, act: TaskAct, named: Option<Task>) -> Option<Cause>
-        requires { named ≡ named_task self.now.world.tasks (act_by act) }
-        ensures cause { result ≡ cause_of self.now.limits self.now.world (event_by at act) }
-        ensures room { IfNone result (self.now.world.lines < most_events) }
-        ensures forward { IfNone result (self.now.world.last ≤ at) }
-        ensures early { IfNone result (at ≤ self.now.limits.latest) }
-    {
-        if let Some(cause) = self.line_refused(at) {
-            return Some(cause);
-        }
-        task_act_refused(&self.running, act, named)
-    }
-
-    /// The one task whose counts an act changes, as it is before the act. `named` is the one with
-    /// the number that the act names.
-    #[inline(always)]
-    fn task_before(&self, act: &Act, named: Option<Task>) -> Option<Task>
-        requires { named ≡ named_task self.now.world.tasks act.now }
+    fn before(&self, act: &Act, named: Option<Task>) -> Option<Task>
+        requires other { is_task_act act.now ≡ false }
+        requires named { named ≡ named_task self.now.world.tasks act.now }
         ensures { result ≡ before self.now.world.tasks act.now }
     {
         match act {
-            Act::Switch { cpu, .. } => self.running(*cpu),
             Act::Fork { .. } => None,
-            _ => named,
-        }
-    }
-
-    /// The same of a quick act.
-    #[inline(always)]
-    fn quick_before(&self, act: TaskAct, named: Option<Task>) -> Option<Task>
-        requires { named ≡ named_task self.now.world.tasks (act_by act) }
-        ensures { result ≡ before self.now.world.tasks (act_by act) }
-    {
-        match act {
-            TaskAct::Switch { cpu, .. } => self.running(cpu),
             _ => named,
         }
     }
@@ -274,28 +250,16 @@ impl Table {
     pub fn judge(&self, event: &Event) -> Result<Finding, Cause>
         ensures { Judges self.now event.now result }
     {
+        if let Some(act) = TaskAct::of(&event.act) {
+            return self.judge_task(event.at, act);
+        }
         let named = named_task(&self.tasks, &event.act);
         if let Some(cause) = self.refused(event, named) {
             return Err(cause);
         }
         Ok(Finding {
             named,
-            before: self.task_before(&event.act, named),
-        })
-    }
-
-    /// Judges a quick act at a moment (ns), as [`Table::judge`] the event for which it stands.
-    #[inline(always)]
-    pub fn judge_task(&self, at: Ns, act: TaskAct) -> Result<Finding, Cause>
-        ensures { Judges self.now (event_by at act) result }
-    {
-        let named = named_by(&self.tasks, act);
-        if let Some(cause) = self.task_refused(at, act, named) {
-            return Err(cause);
-        }
-        Ok(Finding {
-            named,
-            before: self.quick_before(act, named),
+            before: self.before(&event.act, named),
         })
     }
 
@@ -313,32 +277,14 @@ impl Table {
     /// The world after the event. Where it is refused, or there is no memory for a new task or
     /// group, nothing changes: `Refused` with the first cause, and `NoMemory` for a legal fork or a
     /// legal new group alone.
-    #[inline(always)]
+    // Apart from its callers, so that the fast path is small enough to be inlined whole.
+    #[inline(never)]
     pub fn play(&mut self, event: &Event) -> Result<(), Fault<Cause>>
         ensures { PlaysEvent self.old event.now self.new result }
     {
-        match TaskAct::of(&event.act) {
-            Some(act) => self.play_task(event.at, act),
-            None => self.play_other(event),
+        if let Some(act) = TaskAct::of(&event.act) {
+            return self.play_task(event.at, act);
         }
-    }
-
-    /// The same of a quick act at a moment (ns).
-    #[inline(always)]
-    fn play_task(&mut self, at: Ns, act: TaskAct) -> Result<(), Fault<Cause>>
-        ensures { PlaysEvent self.old (event_by at act) self.new result }
-    {
-        let finding = self.judge_task(at, act)?;
-        self.advance_task(at, act, finding);
-        Ok(())
-    }
-
-    /// The same of any event. It stands aside, so that the quick way is small enough to be inlined
-    /// whole.
-    #[inline(never)]
-    fn play_other(&mut self, event: &Event) -> Result<(), Fault<Cause>>
-        ensures { PlaysEvent self.old event.now self.new result }
-    {
         let finding = self.judge(event)?;
         self.advance(event, finding)?;
         Ok(())
@@ -379,6 +325,9 @@ impl Table {
         ensures moment { IfOk result
             (λ touch. AllTouched (λ cpu change. change.at ≡ event.now.at) touch) }
     {
+        if let Some(act) = TaskAct::of(&event.act) {
+            return Ok(self.perform_task(event.at, act, finding));
+        }
         let account = account_of(&self.tree, &event.act);
         let changed = self.advance(event, finding)?;
         if let Some(account) = account {
@@ -387,48 +336,12 @@ impl Table {
         Ok(touch_of(event.at, &event.act, changed, &self.running))
     }
 
-    /// Does what a legal quick act at a moment (ns) does, as [`Table::perform`] for its event. It
-    /// takes no memory.
-    #[inline(always)]
-    pub fn perform_task(&mut self, at: Ns, act: TaskAct, finding: Finding) -> Touch
-        requires { IsFinding self.old (event_by at act) finding }
-        ensures plays { HasPlayed self.old (event_by at act) self.new }
-        ensures touch { IsTouch self.old.limits.cpus self.old.world (event_by at act) result }
-        ensures cpus { AllTouched (λ cpu change. cpu < self.old.limits.cpus) result }
-        ensures slots { AllTouched
-            (λ cpu change. HasSlotsBelow (length self.old.world.groups) change) result }
-        ensures ones { AllTouched (λ cpu change. IsOfOne change) result }
-        ensures moment { AllTouched (λ cpu change. change.at ≡ at) result }
-        ensures account { result.account ≡ None }
-    {
-        let changed = self.advance_task(at, act, finding);
-        touch_by(at, act, changed, &self.running)
-    }
-
-    /// The world after a legal quick act at a moment (ns), and the task that it changes.
-    #[inline(always)]
-    fn advance_task(&mut self, at: Ns, act: TaskAct, finding: Finding) -> TaskUpdate
-        requires { IsFinding self.old (event_by at act) finding }
-        ensures plays { HasPlayed self.old (event_by at act) self.new }
-        ensures changed { IsChanged self.old.world.groups self.old.world.tasks (act_by act) result }
-    {
-        let changed = change_task(
-            &mut self.tasks,
-            &mut self.running,
-            &mut self.members,
-            act,
-            finding.named,
-        );
-        self.lines += 1;
-        self.last = at;
-        changed
-    }
-
-    /// The world after a legal event, and the task that the event changes. Where there is no
-    /// memory, nothing changes.
+    /// The world after a legal event whose act isn't of tasks alone, and the task that the event
+    /// changes. If it is out of memory, nothing changes.
     #[inline(always)]
     fn advance(&mut self, event: &Event, finding: Finding) -> Result<TaskUpdate, NoMemory>
-        requires { IsFinding self.old event.now finding }
+        requires other { is_task_act event.now.act ≡ false }
+        requires finding { IsFinding self.old event.now finding }
         ensures plays { PlaysLegal self.old event.now self.new result }
         ensures changed { IfOk result (λ c.
             IsChanged self.old.world.groups self.old.world.tasks event.now.act c) }

@@ -1,17 +1,17 @@
 //! What an act changes on the processors that it touches, read off the task that it changes and off
 //! the running ones: no walk over the tasks.
-ghost use Rattle.std.specs.Prelude.{◌≡◌, ℕ, if◌then◌else◌, Some, None, [], ◌∷◌, slice_index_or};
+ghost use Rattle.std.specs.Prelude.{◌≡◌, ℕ, if◌then◌else◌, Some, None, [], ◌∷◌, false, slice_index_or};
 ghost use Rattle.psi_counts.specs.Counts.{counts_among};
 ghost use Rattle.psi_counts.specs.Touch.{account_of, part, shown, told_of, IsBeside};
 ghost use Rattle.psi_spec.specs.Names.{names};
 ghost use Rattle.psi_spec.specs.Changes.{touched};
 ghost use Rattle.psi_spec.specs.Stall.{irq_told};
-ghost use Rattle.task_table.specs.Acts.{act_by, cpu_in, cpus_by, unless_on};
+ghost use Rattle.task_table.specs.Acts.{cpu_in, unless_on};
 ghost use Rattle.task_table.specs.Named.{change_for, touched_change};
+ghost use Rattle.trace_player.specs.TaskActs.{is_task_act};
 
 use crate::effects::slot_named;
 use crate::running::{Running, running_at};
-use crate::task_act::TaskAct;
 use crate::task_update::TaskUpdate;
 use group_tree::Tree;
 use psi_base::{Act, Cpu, Ns, Slot};
@@ -98,12 +98,12 @@ pub(crate) fn account_touch(account: (Slot, bool)) -> Touch
     }
 }
 
-/// The changes at a moment (ns) of the processors that an act touches, by the task that it changes
-/// and by the tasks that run after it. Where a task comes from another processor, that one is the
-/// second. The act switches no account.
+/// The changes at a time (ns) of the processors that an act touches, by the task that it changes and
+/// by the tasks that run after it. The act switches no account, and isn't of tasks alone.
 #[inline(always)]
 pub(crate) fn touch_of(at: Ns, act: &Act, changed: TaskUpdate, running: &[Running]) -> Touch
-    requires { (names act.now).switched ≡ None }
+    requires other { is_task_act act.now ≡ false }
+    requires plain { (names act.now).switched ≡ None }
     ensures told { (cpu : ℕ) →
         told_of result cpu
         ≡ (if touched act.now changed.old cpu
@@ -113,7 +113,7 @@ pub(crate) fn touch_of(at: Ns, act: &Act, changed: TaskUpdate, running: &[Runnin
     ensures account { result.account ≡ None }
 {
     match act {
-        Act::Fork { cpu, .. } | Act::Switch { cpu, .. } => Touch {
+        Act::Fork { cpu, .. } => Touch {
             first: Some((*cpu, change_of(at, changed, running, *cpu))),
             ..NOWHERE
         },
@@ -127,18 +127,7 @@ pub(crate) fn touch_of(at: Ns, act: &Act, changed: TaskUpdate, running: &[Runnin
                 ..NOWHERE
             }
         }
-        Act::Wake { cpu, .. } | Act::Migrate { cpu, .. } => {
-            let first = Some((*cpu, change_of(at, changed, running, *cpu)));
-            match changed.old {
-                Some(task) if task.cpu.0 != cpu.0 => Touch {
-                    first,
-                    second: Some((task.cpu, change_of(at, changed, running, task.cpu))),
-                    ..NOWHERE
-                },
-                _ => Touch { first, ..NOWHERE },
-            }
-        }
-        Act::Stall { .. } | Act::Unstall { .. } | Act::Move { .. } => match changed.old {
+        Act::Move { .. } => match changed.old {
             Some(task) => Touch {
                 first: Some((task.cpu, change_of(at, changed, running, task.cpu))),
                 ..NOWHERE
@@ -151,7 +140,7 @@ pub(crate) fn touch_of(at: Ns, act: &Act, changed: TaskUpdate, running: &[Runnin
 
 /// The processor of a task, if there is one and it isn't that other one.
 #[inline(always)]
-fn cpu_unless(other: Cpu, task: Option<Task>) -> Option<Cpu>
+pub(crate) fn cpu_unless(other: Cpu, task: Option<Task>) -> Option<Cpu>
     ensures { result ≡ unless_on other task }
 {
     match task {
@@ -163,7 +152,7 @@ fn cpu_unless(other: Cpu, task: Option<Task>) -> Option<Cpu>
 
 /// The processor of a task, if there is one.
 #[inline(always)]
-fn cpu_of(task: Option<Task>) -> Option<Cpu>
+pub(crate) fn cpu_of(task: Option<Task>) -> Option<Cpu>
     ensures { result ≡ cpu_in task }
 {
     match task {
@@ -172,23 +161,9 @@ fn cpu_of(task: Option<Task>) -> Option<Cpu>
     }
 }
 
-/// The processors that a quick act touches, by the task that it changes as it is before.
-#[inline(always)]
-fn cpus_by(act: TaskAct, old: Option<Task>) -> (Option<Cpu>, Option<Cpu>)
-    ensures { result ≡ cpus_by act old }
-{
-    match act {
-        TaskAct::Switch { cpu, .. } => (Some(cpu), None),
-        TaskAct::Wake { cpu, .. } | TaskAct::Migrate { cpu, .. } => {
-            (Some(cpu), cpu_unless(cpu, old))
-        }
-        TaskAct::Stall { .. } | TaskAct::Unstall { .. } => (cpu_of(old), None),
-    }
-}
-
 /// The change of a processor, if there is one, with its number.
 #[inline(always)]
-fn touched_change(
+pub(crate) fn touched_change(
     at: Ns,
     changed: TaskUpdate,
     running: &[Running],
@@ -199,24 +174,5 @@ fn touched_change(
     match cpu {
         Some(cpu) => Some((cpu, change_of(at, changed, running, cpu))),
         None => None,
-    }
-}
-
-/// What [`touch_of`] gives of the act for which a quick one stands.
-#[inline(always)]
-pub(crate) fn touch_by(at: Ns, act: TaskAct, changed: TaskUpdate, running: &[Running]) -> Touch
-    ensures told { (cpu : ℕ) →
-        told_of result cpu
-        ≡ (if touched (act_by act) changed.old cpu
-        then Some (change_for at changed (slice_index_or running.now cpu None)
-        (irq_told cpu (act_by act)) cpu) else None) }
-    ensures beside { IsBeside result.first result.second }
-    ensures account { result.account ≡ None }
-{
-    let (first, second) = cpus_by(act, changed.old);
-    Touch {
-        first: touched_change(at, changed, running, first),
-        second: touched_change(at, changed, running, second),
-        account: None,
     }
 }

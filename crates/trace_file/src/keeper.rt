@@ -2,7 +2,7 @@
 use psi_base::{Cause, Event, Fault, NoMemory, Ns};
 use std::alloc::Global;
 use task_table::Table;
-use trace_player::Player;
+use trace_player::{Player, TaskAct};
 use whatif_trace::copy_event;
 
 /// What plays a trace on the table of tasks, and keeps its events.
@@ -38,6 +38,15 @@ impl Player for Keeper {
             Err(fault) => return Err(fault),
         }
         self.events.push(copy_event(self.alloc, event)?)?;
+        Ok(())
+    }
+
+    fn take_task(&mut self, at: Ns, act: TaskAct) -> Result<(), Fault<Cause>> {
+        match self.table.play_task(at, act) {
+            Ok(()) => {}
+            Err(fault) => return Err(fault),
+        }
+        self.events.push(act.to_event(at))?;
         Ok(())
     }
 

@@ -3,6 +3,8 @@
 
 mod laws;
 mod player;
+mod task_act;
 
 pub use laws::law_answers;
 pub use player::Player;
+pub use task_act::TaskAct;

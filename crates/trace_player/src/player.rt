@@ -1,12 +1,14 @@
 //! What a trace is played on.
-ghost use Rattle.std.specs.Prelude.{◌≡◌, ◌≤◌, List, [], IfOk};
+ghost use Rattle.std.specs.Prelude.{◌≡◌, ◌≤◌, List, [], IfOk, false};
 ghost use Rattle.psi_base.specs.declared.event.Event.{Event};
 ghost use Rattle.psi_spec.specs.Grammar.{Fits};
 ghost use Rattle.psi_spec.specs.World.{Limits, after};
 ghost use Rattle.psi_spec.specs.Trace.{IsCpuCount};
 ghost use Rattle.psi_spec.specs.Within.{last_moment};
 ghost use Rattle.trace_player.specs.Playing.{PlayerTakes};
+ghost use Rattle.trace_player.specs.TaskActs.{as_event, exits};
 
+use crate::task_act::TaskAct;
 use psi_base::{Cause, Event, Fault, NoMemory, Ns};
 use std::alloc::Global;
 
@@ -28,6 +30,14 @@ pub trait Player: Sized {
     fn take(&mut self, event: &Event) -> Result<(), Fault<Cause>>
         requires { Fits event.now }
         ensures { PlayerTakes (Self.Played self.old) (Self.Played self.new) event.now result };
+
+    /// Plays the event for which a task act stands at a time (ns), as [`Player::take`]: the fast
+    /// path, which stores no event. No task exits by the act.
+    fn take_task(&mut self, at: Ns, act: TaskAct) -> Result<(), Fault<Cause>>
+        requires fits { Fits (as_event at act) }
+        requires stays { exits act ≡ false }
+        ensures { PlayerTakes (Self.Played self.old) (Self.Played self.new) (as_event at act)
+            result };
 
     /// The trace has ended.
     fn is_ended(&self) -> bool

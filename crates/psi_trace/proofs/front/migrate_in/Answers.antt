@@ -1,4 +1,4 @@
-use Rattle.std.proofs.Common.{arith}
+use Rattle.std.proofs.Common.{refl}
 use Rattle.psi_trace.proofs.Fronts.{migrate_front}
 use Rattle.psi_trace.proofs.front.migrate_in.Goals as goal
 
@@ -6,4 +6,7 @@ pub returns : goal.returns
 returns c =
     let pid = c.in_ok-pid.ensures in
     let cpu = c.in_ok-cpu.ensures in
-    migrate_front c.args.at c.in_ok-pid.pid c.in_ok-cpu.cpu c.args.fields.now c.in_ok-pid.rest.now c.in_ok-cpu.rest.now (omega (arith, c.ranges.at.fits)) pid.0 cpu.0 pid.1 cpu.1
+    record {
+      stays = refl;
+      begins = λ at fits. migrate_front at c.in_ok-pid.pid c.in_ok-cpu.cpu c.args.fields.now c.in_ok-pid.rest.now c.in_ok-cpu.rest.now fits pid.0 cpu.0 pid.1 cpu.1;
+    }

@@ -1,4 +1,3 @@
-use Rattle.std.proofs.Common.{arith}
 use Rattle.psi_trace.proofs.Fronts.{switch_front}
 use Rattle.psi_trace.proofs.front.switch_in.Goals as goal
 
@@ -6,4 +5,7 @@ pub returns : goal.returns
 returns c =
     let cpu = c.in_ok-cpu.ensures in
     let next = c.in_ok-next.ensures in
-    switch_front c.args.at c.in_ok-cpu.cpu c.in_ok-next.next c.in_ok-how.how c.args.fields.now c.in_ok-cpu.rest.now c.in_ok-next.rest.now c.in_ok-how.rest.now (omega (arith, c.ranges.at.fits)) cpu.0 next.0 cpu.1 next.1 c.in_ok-how.ensures
+    record {
+      stays = c.in_ok-how.ensures.stays;
+      begins = λ at fits. switch_front at c.in_ok-cpu.cpu c.in_ok-next.next c.in_ok-how.how c.args.fields.now c.in_ok-cpu.rest.now c.in_ok-next.rest.now c.in_ok-how.rest.now fits cpu.0 next.0 cpu.1 next.1 c.in_ok-how.ensures.word;
+    }

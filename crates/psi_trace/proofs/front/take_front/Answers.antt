@@ -1,32 +1,19 @@
-use Rattle.psi_trace.proofs.Fronts.{verb_front}
+use Rattle.std.proofs.Common.{◌<◌, ◌^◌, rules}
+use Rattle.trace_player.specs.TaskActs.{as_event}
+use Rattle.psi_trace.specs.Front.{BeginsWithEvent}
+use Rattle.psi_trace.proofs.Fronts.{counted_front}
 use Rattle.psi_trace.proofs.front.take_front.Goals as goal
 
-pub play_found-requires : goal.play_found-requires
-play_found-requires g c =
-    let found = c.in-Some in
-    let cut = found.ensures.cases in
-    rw (verb_front c.args.bytes.now c.in_ok-at.rest.now c.as_slice.result.now found.fields.now _ c.in_ok-at.at c.in_ok-at.ensures c.as_slice.ensures cut.0 cut.1) c.switch_in.ensures
+pub take_task-answer-requires-clause-fits : goal.take_task-answer-requires-clause-fits
+take_task-answer-requires-clause-fits g c = let fits : c.in_ok-at.at < 2 ^ 64 = search rules in (c.in_ok-act.ensures.begins c.in_ok-at.at fits).fits
 
-pub play_found-requires-in-Some-strip_prefix : goal.play_found-requires-in-Some-strip_prefix
-play_found-requires-in-Some-strip_prefix g c =
-    let found = c.in-Some-strip_prefix in
-    let cut = found.ensures.cases in
-    rw (verb_front c.args.bytes.now c.in_ok-at.rest.now c.as_slice-2.result.now found.fields.now _ c.in_ok-at.at c.in_ok-at.ensures c.as_slice-2.ensures cut.0 cut.1) c.wake_in.ensures
-
-pub play_found-requires-in-Some-strip_prefix-2 : goal.play_found-requires-in-Some-strip_prefix-2
-play_found-requires-in-Some-strip_prefix-2 g c =
-    let found = c.in-Some-strip_prefix-2 in
-    let cut = found.ensures.cases in
-    rw (verb_front c.args.bytes.now c.in_ok-at.rest.now c.as_slice-3.result.now found.fields.now _ c.in_ok-at.at c.in_ok-at.ensures c.as_slice-3.ensures cut.0 cut.1) c.stall_in.ensures
-
-pub play_found-requires-in-Some-strip_prefix-3 : goal.play_found-requires-in-Some-strip_prefix-3
-play_found-requires-in-Some-strip_prefix-3 g c =
-    let found = c.in-Some-strip_prefix-3 in
-    let cut = found.ensures.cases in
-    rw (verb_front c.args.bytes.now c.in_ok-at.rest.now c.as_slice-4.result.now found.fields.now _ c.in_ok-at.at c.in_ok-at.ensures c.as_slice-4.ensures cut.0 cut.1) c.unstall_in.ensures
-
-pub play_found-requires-in-Some-strip_prefix-4 : goal.play_found-requires-in-Some-strip_prefix-4
-play_found-requires-in-Some-strip_prefix-4 g c =
-    let found = c.in-Some-strip_prefix-4 in
-    let cut = found.ensures.cases in
-    rw (verb_front c.args.bytes.now c.in_ok-at.rest.now c.as_slice-5.result.now found.fields.now _ c.in_ok-at.at c.in_ok-at.ensures c.as_slice-5.ensures cut.0 cut.1) c.migrate_in.ensures
+pub returns-clause-front : goal.returns-clause-front
+returns-clause-front g c =
+    let fits : c.in_ok-at.at < 2 ^ 64 = search rules in
+    let event = as_event c.in_ok-at.at c.in_ok-act.act in
+    let begins : BeginsWithEvent c.args.bytes.now event c.in_ok-act.rest.now = rw c.in_ok-at.ensures (c.in_ok-act.ensures.begins c.in_ok-at.at fits) in
+    record {
+      event = event;
+      front = counted_front c.args.bytes.now event c.in_ok-act.rest.now begins;
+      takes = c.take_task-answer.ensures;
+    }

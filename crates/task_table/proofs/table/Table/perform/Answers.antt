@@ -5,36 +5,17 @@ use Rattle.task_table.specs.Stands.{IsIndex, TableView}
 use Rattle.task_table.proofs.Touching.{IsTold, account_told_alone, told_played, unswitched}
 use Rattle.task_table.proofs.table.Table.perform.Goals as goal
 
--- all that is promised of the touch by a switched account
-on_with : (c : goal.After-account_touch) → IsTold c.args.self.now.limits c.args.self.now.world c.args.event.now c.account_touch.result
-on_with c =
-    let is = sym (ap (λ (table : TableView). account_of table.world.groups c.args.event.now.act) c.self.view_is) ∙ sym c.account_of-account.ensures ∙ c.in-Some.is in
-    account_told_alone c.args.self.now.limits c.args.self.now.world c.args.event.now c.account_touch.result c.in-Some.account is c.account_touch.ensures.account c.account_touch.ensures.first c.account_touch.ensures.second
-
-pub returns-in-Some-clause-touch : goal.returns-in-Some-clause-touch
-returns-in-Some-clause-touch c = (on_with c).is
-
-pub returns-in-Some-clause-cpus : goal.returns-in-Some-clause-cpus
-returns-in-Some-clause-cpus c = (on_with c).cpus
-
-pub returns-in-Some-clause-slots : goal.returns-in-Some-clause-slots
-returns-in-Some-clause-slots c = (on_with c).slots
-
-pub returns-in-Some-clause-ones : goal.returns-in-Some-clause-ones
-returns-in-Some-clause-ones c = (on_with c).ones
-
-pub returns-in-Some-clause-moment : goal.returns-in-Some-clause-moment
-returns-in-Some-clause-moment c = (on_with c).moment
-
-pub touch_of-requires : goal.touch_of-requires
-touch_of-requires c = unswitched c.self.inside.tree (names c.args.event.now.act).switched (sym c.account_of-account.ensures ∙ c.in_default.is)
+pub returns-in-Some-account-clause-touch : goal.returns-in-Some-account-clause-touch
+returns-in-Some-account-clause-touch c =
+    let is = sym (ap (λ (table : TableView). account_of table.world.groups c.args.event.now.act) c.self.view_is) ∙ sym c.account_of-account.ensures ∙ c.in-Some-account.is in
+    (account_told_alone c.args.self.now.limits c.args.self.now.world c.args.event.now c.account_touch.result c.in-Some-account.account is c.account_touch.ensures.account c.account_touch.ensures.first c.account_touch.ensures.second).is
 
 -- all that is promised of the touch by a task or by interrupts
 told : (c : goal.After-touch_of) → IsTold c.args.self.now.limits c.args.self.now.world c.args.event.now c.touch_of.result
 told c =
     let running = c.self-2.inside.running.items in
     let index = subst (λ (table : TableView). IsIndex running table.world.tasks) c.self-2.view_is c.self-2.invariant.index in
-    let plain = sym (ap (λ (table : TableView). account_of table.world.groups c.args.event.now.act) c.self.view_is) ∙ sym c.account_of-account.ensures ∙ c.in_default.is in
+    let plain = sym (ap (λ (table : TableView). account_of table.world.groups c.args.event.now.act) c.self.view_is) ∙ sym c.account_of-account.ensures ∙ c.in_default-account.is in
     told_played c.args.self.now _ c.args.event.now c.in_ok-changed.changed running c.touch_of.result c.in_ok-changed.ensures.plays c.in_ok-changed.ensures.changed
     index plain c.touch_of.ensures.account (rw c.deref.ensures.value at c.touch_of.ensures.told) c.touch_of.ensures.beside
 

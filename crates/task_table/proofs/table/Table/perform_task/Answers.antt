@@ -1,18 +1,18 @@
 use Rattle.std.proofs.Common.{subst}
-use Rattle.task_table.specs.Acts.{event_by}
+use Rattle.trace_player.specs.TaskActs.{as_event}
 use Rattle.task_table.specs.Stands.{IsIndex, TableView}
-use Rattle.task_table.proofs.QuickLaws.{leaves_rest}
+use Rattle.task_table.proofs.TaskActLaws.{leaves_rest}
 use Rattle.task_table.proofs.Touching.{IsTold, told_played}
 use Rattle.task_table.proofs.table.Table.perform_task.Goals as goal
 
 -- all that is promised of the touch
-told : (c : goal.After-touch_by) → IsTold c.args.self.now.limits c.args.self.now.world (event_by c.args.at c.args.act) c.touch_by.result
+told : (c : goal.After-touch_of) → IsTold c.args.self.now.limits c.args.self.now.world (as_event c.args.at c.args.act) c.touch_of.result
 told c =
     let running = c.self.inside.running.items in
     let index = subst (λ (table : TableView). IsIndex running table.world.tasks) c.self.view_is c.self.invariant.index in
     let plain = (leaves_rest c.args.at c.args.self.now.world.groups c.args.self.now.world.irqs c.args.act).plain in
-    told_played c.args.self.now _ (event_by c.args.at c.args.act) c.advance_task-changed.result running c.touch_by.result c.advance_task-changed.ensures.plays c.advance_task-changed.ensures.changed
-    index plain c.touch_by.ensures.account (rw c.deref.ensures.value at c.touch_by.ensures.told) c.touch_by.ensures.beside
+    told_played c.args.self.now _ (as_event c.args.at c.args.act) c.advance_task-changed.result running c.touch_of.result c.advance_task-changed.ensures.plays c.advance_task-changed.ensures.changed
+    index plain c.touch_of.ensures.account (rw c.deref.ensures.value at c.touch_of.ensures.told) c.touch_of.ensures.beside
 
 pub returns-clause-touch : goal.returns-clause-touch
 returns-clause-touch c = (told c).is

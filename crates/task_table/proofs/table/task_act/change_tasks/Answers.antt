@@ -3,8 +3,8 @@ use Rattle.std.specs.Prelude.{IfSome}
 use Rattle.psi_spec.specs.World.{is_running, task_of}
 use Rattle.task_table.proofs.CauseLaws as causes
 use Rattle.task_table.proofs.Replacing as replacing
-use Rattle.task_table.proofs.effects.change_task.Goals as goal
-use Rattle.task_table.proofs.effects.change_task.Goals.{in-Stall, in-Unstall, in-Wake2}
+use Rattle.task_table.proofs.table.task_act.change_tasks.Goals as goal
+use Rattle.task_table.proofs.table.task_act.change_tasks.Goals.{in-Stall, in-Unstall, in-Wake2}
 
 pub replace-requires-clause-new : goal.replace-requires-clause-new
 replace-requires-clause-new c =

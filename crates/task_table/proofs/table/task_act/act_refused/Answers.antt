@@ -1,5 +1,5 @@
 use Rattle.task_table.proofs.Index.{running_told}
-use Rattle.task_table.proofs.causes.task_act_refused.Goals as goal
+use Rattle.task_table.proofs.table.task_act.act_refused.Goals as goal
 
 pub returns-in-Switch : goal.returns-in-Switch
 returns-in-Switch c = λ groups tasks irqs triggers pressures at index named.

@@ -1,4 +1,4 @@
--- What holds of the act for which a quick one stands.
+-- What holds of the act for which a task act stands.
 use Rattle.std.proofs.Common.{◌≡◌, ℕ, ◌+◌, ◌≤◌, List, refl, ap, ◌∙◌, sym, Bool, true, false, Option, None, Some, ◌==◌, arith, subst}
 use Rattle.std.specs.Prelude.{if◌then◌else◌, ◌||◌, slice_index_or}
 use Rattle.std.proofs.lemmas.Bool.{false≢true}
@@ -14,23 +14,24 @@ use Rattle.psi_spec.specs.World.{Tasks, World, after_event, ends, groups_after, 
 use Rattle.psi_spec.specs.Changes.{is_at, touched}
 use Rattle.psi_spec.specs.Stall.{irq_told}
 use Rattle.psi_counts.specs.Touch.{IsBeside, account_of, told_first}
-use Rattle.task_table.specs.declared.task_act.TaskAct.{TaskAct}
-use Rattle.task_table.specs.declared.task_act.TaskAct.TheVariants as quick
+use Rattle.trace_player.specs.declared.task_act.TaskAct.{TaskAct}
+use Rattle.trace_player.specs.declared.task_act.TaskAct.TheVariants as task_act
+use Rattle.trace_player.specs.TaskActs.{as_act, as_event, pid_of}
 use Rattle.task_table.specs.declared.task_update.TaskUpdate.{TaskUpdate}
 use Rattle.psi_counts.specs.Legal.{IsLegalWorld}
 use Rattle.psi_counts.proofs.LegalLaws.{legal_kept}
 use Rattle.psi_spec.specs.Refusal.{cause_of}
 use Rattle.task_table.specs.Stands.{HasPlayed, table_of}
-use Rattle.task_table.specs.Acts.{act_by, cpu_in, cpus_by, event_by, pid_by, unless_on}
+use Rattle.task_table.specs.Acts.{cpu_in, cpus_touched, unless_on}
 use Rattle.task_table.specs.Named.{change_for, named_task, next_task, touched_change}
 
 -- the task that it names is the one with its number
-pub named_quick : (tasks : Tasks) (a : TaskAct) → named_task tasks (act_by a) ≡ next_task tasks (pid_by a)
-named_quick tasks (quick.Wake pid cpu) = refl
-named_quick tasks (quick.Switch cpu next how) = refl
-named_quick tasks (quick.Stall pid) = refl
-named_quick tasks (quick.Unstall pid) = refl
-named_quick tasks (quick.Migrate pid cpu) = refl
+pub named_by_pid : (tasks : Tasks) (a : TaskAct) → named_task tasks (as_act a) ≡ next_task tasks (pid_of a)
+named_by_pid tasks (task_act.Wake pid cpu) = refl
+named_by_pid tasks (task_act.Switch cpu next how) = refl
+named_by_pid tasks (task_act.Stall pid) = refl
+named_by_pid tasks (task_act.Unstall pid) = refl
+named_by_pid tasks (task_act.Migrate pid cpu) = refl
 
 -- an act leaves all but tasks as it was
 pub record LeavesRest (at : ℕ) (groups : List GroupLife) (irqs : List ℕ) (a : Act) : Type 0 where
@@ -41,12 +42,12 @@ pub record LeavesRest (at : ℕ) (groups : List GroupLife) (irqs : List ℕ) (a 
   pub goes_on : ends a ≡ false
   pub plain : account_of groups a ≡ None
 
-pub leaves_rest : (at : ℕ) (groups : List GroupLife) (irqs : List ℕ) (a : TaskAct) → LeavesRest at groups irqs (act_by a)
-leaves_rest at groups irqs (quick.Wake pid cpu) = record { groups_same = refl; irqs_same = refl; triggers = refl; pressures = refl; goes_on = refl; plain = refl }
-leaves_rest at groups irqs (quick.Switch cpu next how) = record { groups_same = refl; irqs_same = refl; triggers = refl; pressures = refl; goes_on = refl; plain = refl }
-leaves_rest at groups irqs (quick.Stall pid) = record { groups_same = refl; irqs_same = refl; triggers = refl; pressures = refl; goes_on = refl; plain = refl }
-leaves_rest at groups irqs (quick.Unstall pid) = record { groups_same = refl; irqs_same = refl; triggers = refl; pressures = refl; goes_on = refl; plain = refl }
-leaves_rest at groups irqs (quick.Migrate pid cpu) = record { groups_same = refl; irqs_same = refl; triggers = refl; pressures = refl; goes_on = refl; plain = refl }
+pub leaves_rest : (at : ℕ) (groups : List GroupLife) (irqs : List ℕ) (a : TaskAct) → LeavesRest at groups irqs (as_act a)
+leaves_rest at groups irqs (task_act.Wake pid cpu) = record { groups_same = refl; irqs_same = refl; triggers = refl; pressures = refl; goes_on = refl; plain = refl }
+leaves_rest at groups irqs (task_act.Switch cpu next how) = record { groups_same = refl; irqs_same = refl; triggers = refl; pressures = refl; goes_on = refl; plain = refl }
+leaves_rest at groups irqs (task_act.Stall pid) = record { groups_same = refl; irqs_same = refl; triggers = refl; pressures = refl; goes_on = refl; plain = refl }
+leaves_rest at groups irqs (task_act.Unstall pid) = record { groups_same = refl; irqs_same = refl; triggers = refl; pressures = refl; goes_on = refl; plain = refl }
+leaves_rest at groups irqs (task_act.Migrate pid cpu) = record { groups_same = refl; irqs_same = refl; triggers = refl; pressures = refl; goes_on = refl; plain = refl }
 
 -- ---- what it makes of a table
 
@@ -58,21 +59,21 @@ same_end true ends goes_on = refl
 same_end false ends goes_on = goes_on
 
 -- the world after it has other tasks, one line more, and its moment
-world_after : (w : World) (at : ℕ) (a : TaskAct) → after_event w (event_by at a) ≡ record w { tasks = tasks_after w.groups w.tasks (act_by a); lines = w.lines + 1; last = at }
+world_after : (w : World) (at : ℕ) (a : TaskAct) → after_event w (as_event at a) ≡ record w { tasks = tasks_after w.groups w.tasks (as_act a); lines = w.lines + 1; last = at }
 world_after w at a =
     let rest = leaves_rest at w.groups w.irqs a in
-    cc (rest.groups_same, rest.irqs_same, same_count w.triggers (is_trigger (act_by a)) rest.triggers, same_count w.pressures (is_pressure (act_by a)) rest.pressures, same_end w.ended (ends (act_by a)) rest.goes_on)
+    cc (rest.groups_same, rest.irqs_same, same_count w.triggers (is_trigger (as_act a)) rest.triggers, same_count w.pressures (is_pressure (as_act a)) rest.pressures, same_end w.ended (ends (as_act a)) rest.goes_on)
 
 -- so a table that has them has played it
-pub quick_played : (cpus cpus_next latest : ℕ) (tasks tasks_next : Tasks) (groups : List GroupLife) (irqs : List ℕ) (triggers pressures lines last : ℕ) (ended : Bool) (at : ℕ) (a : TaskAct)
-    → cpus_next ≡ cpus → tasks_next ≡ tasks_after groups tasks (act_by a) → last ≤ at
-    → cause_of (table_of cpus latest tasks groups irqs triggers pressures lines last ended).limits (table_of cpus latest tasks groups irqs triggers pressures lines last ended).world (event_by at a) ≡ None
+pub task_played : (cpus cpus_next latest : ℕ) (tasks tasks_next : Tasks) (groups : List GroupLife) (irqs : List ℕ) (triggers pressures lines last : ℕ) (ended : Bool) (at : ℕ) (a : TaskAct)
+    → cpus_next ≡ cpus → tasks_next ≡ tasks_after groups tasks (as_act a) → last ≤ at
+    → cause_of (table_of cpus latest tasks groups irqs triggers pressures lines last ended).limits (table_of cpus latest tasks groups irqs triggers pressures lines last ended).world (as_event at a) ≡ None
     → IsLegalWorld (table_of cpus latest tasks groups irqs triggers pressures lines last ended).limits (table_of cpus latest tasks groups irqs triggers pressures lines last ended).world
-    → HasPlayed (table_of cpus latest tasks groups irqs triggers pressures lines last ended) (event_by at a) (table_of cpus_next latest tasks_next groups irqs triggers pressures (lines + 1) at ended)
-quick_played cpus cpus_next latest tasks tasks_next groups irqs triggers pressures lines last ended at a same tasks_are forward legal old =
+    → HasPlayed (table_of cpus latest tasks groups irqs triggers pressures lines last ended) (as_event at a) (table_of cpus_next latest tasks_next groups irqs triggers pressures (lines + 1) at ended)
+task_played cpus cpus_next latest tasks tasks_next groups irqs triggers pressures lines last ended at a same tasks_are forward legal old =
     let table = table_of cpus latest tasks groups irqs triggers pressures lines last ended in
     let world = world_after table.world at a in
-    let kept = subst (λ v. IsLegalWorld table.limits v) world (legal_kept table.limits table.world (event_by at a) legal old) in
+    let kept = subst (λ v. IsLegalWorld table.limits v) world (legal_kept table.limits table.world (as_event at a) legal old) in
     rw (same, tasks_are) (record {
       limits = refl;
       legal = legal;
@@ -127,17 +128,17 @@ one_in at changed running (Some task) cpu =
     let change : ℕ → Change = λ n. change_for at changed (slice_index_or running n None) 0 n in
     one_told (task.cpu.0 == cpu) (change task.cpu.0) (change cpu) (λ is. ap change (same_number task.cpu.0 cpu is))
 
--- what is told of the processors of a quick act is what it changes there
-pub quick_told : (at : ℕ) (a : TaskAct) (changed : TaskUpdate) (running : List (Option (ℕ × Task))) (cpu : ℕ) →
-    told_first cpu (touched_change at changed running (cpus_by a changed.old).0) (told_first cpu (touched_change at changed running (cpus_by a changed.old).1) None)
-    ≡ (if touched (act_by a) changed.old cpu then Some (change_for at changed (slice_index_or running cpu None) (irq_told cpu (act_by a)) cpu) else None)
-quick_told at (quick.Wake pid named) changed running cpu = two_told at changed running named changed.old cpu
-quick_told at (quick.Migrate pid named) changed running cpu = two_told at changed running named changed.old cpu
-quick_told at (quick.Switch named next how) changed running cpu =
+-- what is told of the processors of a task act is what it changes there
+pub task_told : (at : ℕ) (a : TaskAct) (changed : TaskUpdate) (running : List (Option (ℕ × Task))) (cpu : ℕ) →
+    told_first cpu (touched_change at changed running (cpus_touched a changed.old).0) (told_first cpu (touched_change at changed running (cpus_touched a changed.old).1) None)
+    ≡ (if touched (as_act a) changed.old cpu then Some (change_for at changed (slice_index_or running cpu None) (irq_told cpu (as_act a)) cpu) else None)
+task_told at (task_act.Wake pid named) changed running cpu = two_told at changed running named changed.old cpu
+task_told at (task_act.Migrate pid named) changed running cpu = two_told at changed running named changed.old cpu
+task_told at (task_act.Switch named next how) changed running cpu =
     let change : ℕ → Change = λ n. change_for at changed (slice_index_or running n None) 0 n in
     one_told (named.0 == cpu) (change named.0) (change cpu) (λ is. ap change (same_number named.0 cpu is))
-quick_told at (quick.Stall pid) changed running cpu = one_in at changed running changed.old cpu
-quick_told at (quick.Unstall pid) changed running cpu = one_in at changed running changed.old cpu
+task_told at (task_act.Stall pid) changed running cpu = one_in at changed running changed.old cpu
+task_told at (task_act.Unstall pid) changed running cpu = one_in at changed running changed.old cpu
 
 -- the second of two processors is another than the first
 two_beside : (at : ℕ) (changed : TaskUpdate) (running : List (Option (ℕ × Task))) (named there : Cpu) (left : Bool) → (there.0 == named.0) ≡ left → IsBeside (touched_change at changed running (Some named)) (touched_change at changed running (if left then None else Some there))
@@ -148,15 +149,15 @@ beside_old : (at : ℕ) (changed : TaskUpdate) (running : List (Option (ℕ × T
 beside_old at changed running named None = tt
 beside_old at changed running named (Some task) = two_beside at changed running named task.cpu (task.cpu.0 == named.0) refl
 
-pub quick_beside : (at : ℕ) (a : TaskAct) (changed : TaskUpdate) (running : List (Option (ℕ × Task))) → IsBeside (touched_change at changed running (cpus_by a changed.old).0) (touched_change at changed running (cpus_by a changed.old).1)
-quick_beside at (quick.Wake pid named) changed running = beside_old at changed running named changed.old
-quick_beside at (quick.Migrate pid named) changed running = beside_old at changed running named changed.old
-quick_beside at (quick.Switch named next how) changed running = tt
-quick_beside at (quick.Stall pid) changed running = alone (touched_change at changed running (cpu_in changed.old))
+pub task_beside : (at : ℕ) (a : TaskAct) (changed : TaskUpdate) (running : List (Option (ℕ × Task))) → IsBeside (touched_change at changed running (cpus_touched a changed.old).0) (touched_change at changed running (cpus_touched a changed.old).1)
+task_beside at (task_act.Wake pid named) changed running = beside_old at changed running named changed.old
+task_beside at (task_act.Migrate pid named) changed running = beside_old at changed running named changed.old
+task_beside at (task_act.Switch named next how) changed running = tt
+task_beside at (task_act.Stall pid) changed running = alone (touched_change at changed running (cpu_in changed.old))
   where
     alone : (first : Option (Cpu × Change)) → IsBeside first None
     alone first = tt
-quick_beside at (quick.Unstall pid) changed running = alone (touched_change at changed running (cpu_in changed.old))
+task_beside at (task_act.Unstall pid) changed running = alone (touched_change at changed running (cpu_in changed.old))
   where
     alone : (first : Option (Cpu × Change)) → IsBeside first None
     alone first = tt

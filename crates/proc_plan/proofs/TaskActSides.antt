@@ -1,4 +1,4 @@
--- A quick act tells of changes alone: no trigger, and no side where no task exits by it.
+-- A task act tells of changes alone: no trigger, and no side where no task exits by it.
 use Rattle.std.proofs.Common.{◌≡◌, ℕ, List, [], refl, ap, true, false, Option, None, Some}
 use Rattle.psi_base.specs.declared.event.How.{How}
 use Rattle.psi_base.specs.declared.event.How.TheVariants.{Preempt, Sleep, IoWait, Exit, Idle}
@@ -9,17 +9,17 @@ use Rattle.psi_spec.specs.World.{World, readied, running_on, task_of, task_part}
 use Rattle.psi_spec.specs.Refusal.{is_exit}
 use Rattle.psi_spec.proofs.TaskLaws.{itself}
 use Rattle.psi_counts.specs.Touch.{changed, left_if}
-use Rattle.task_table.specs.declared.task_act.TaskAct.{TaskAct}
-use Rattle.task_table.specs.declared.task_act.TaskAct.TheVariants as quick
-use Rattle.task_table.specs.Acts.{act_by, event_by, exits}
+use Rattle.trace_player.specs.declared.task_act.TaskAct.{TaskAct}
+use Rattle.trace_player.specs.declared.task_act.TaskAct.TheVariants as task_act
+use Rattle.trace_player.specs.TaskActs.{as_act, as_event, exits}
 use Rattle.proc_plan.specs.Sides.{group_of, passage, sides_by}
 
-pub no_trigger : (at : ℕ) (groups : List GroupLife) (a : TaskAct) → [] ≡ trigger_by at groups (act_by a)
-no_trigger at groups (quick.Wake pid cpu) = refl
-no_trigger at groups (quick.Switch cpu next how) = refl
-no_trigger at groups (quick.Stall pid) = refl
-no_trigger at groups (quick.Unstall pid) = refl
-no_trigger at groups (quick.Migrate pid cpu) = refl
+pub no_trigger : (at : ℕ) (groups : List GroupLife) (a : TaskAct) → [] ≡ trigger_by at groups (as_act a)
+no_trigger at groups (task_act.Wake pid cpu) = refl
+no_trigger at groups (task_act.Switch cpu next how) = refl
+no_trigger at groups (task_act.Stall pid) = refl
+no_trigger at groups (task_act.Unstall pid) = refl
+no_trigger at groups (task_act.Migrate pid cpu) = refl
 
 -- a task that stays in its group neither leaves nor comes
 stays : (at : ℕ) (old new : Option Task) → group_of new ≡ group_of old → [] ≡ passage at (group_of old) (group_of new)
@@ -42,9 +42,9 @@ left_stays at IoWait stay (Some t) = stays at (Some t) (Some t) refl
 left_stays at Idle stay (Some t) = stays at (Some t) (Some t) refl
 left_stays at Exit stay (Some t) = absurd (cc stay)
 
-pub no_sides : (w : World) (at : ℕ) (a : TaskAct) → exits a ≡ false → [] ≡ sides_by w (event_by at a)
-no_sides w at (quick.Wake pid cpu) stay = changed_stays at (readied cpu.0) (λ t. refl) (task_of w.tasks pid.0)
-no_sides w at (quick.Migrate pid cpu) stay = changed_stays at (readied cpu.0) (λ t. refl) (task_of w.tasks pid.0)
-no_sides w at (quick.Stall pid) stay = changed_stays at (λ t. record t { stalled = true }) (λ t. refl) (task_of w.tasks pid.0)
-no_sides w at (quick.Unstall pid) stay = changed_stays at (λ t. record t { stalled = false }) (λ t. refl) (task_of w.tasks pid.0)
-no_sides w at (quick.Switch cpu next how) stay = left_stays at how stay (task_part (running_on w.tasks cpu.0))
+pub no_sides : (w : World) (at : ℕ) (a : TaskAct) → exits a ≡ false → [] ≡ sides_by w (as_event at a)
+no_sides w at (task_act.Wake pid cpu) stay = changed_stays at (readied cpu.0) (λ t. refl) (task_of w.tasks pid.0)
+no_sides w at (task_act.Migrate pid cpu) stay = changed_stays at (readied cpu.0) (λ t. refl) (task_of w.tasks pid.0)
+no_sides w at (task_act.Stall pid) stay = changed_stays at (λ t. record t { stalled = true }) (λ t. refl) (task_of w.tasks pid.0)
+no_sides w at (task_act.Unstall pid) stay = changed_stays at (λ t. record t { stalled = false }) (λ t. refl) (task_of w.tasks pid.0)
+no_sides w at (task_act.Switch cpu next how) stay = left_stays at how stay (task_part (running_on w.tasks cpu.0))

@@ -1,8 +1,0 @@
-use Rattle.task_table.proofs.QuickLaws.{quick_beside, quick_told}
-use Rattle.task_table.proofs.touch.touch_by.Goals as goal
-
-pub returns-clause-told : goal.returns-clause-told
-returns-clause-told c = λ cpu. rw (c.touched_change.ensures, c.touched_change-2.ensures, c.cpus_by-first.ensures) (quick_told c.args.at c.args.act c.args.changed c.args.running.now cpu)
-
-pub returns-clause-beside : goal.returns-clause-beside
-returns-clause-beside c = rw (c.touched_change.ensures, c.touched_change-2.ensures, c.cpus_by-first.ensures) (quick_beside c.args.at c.args.act c.args.changed c.args.running.now)

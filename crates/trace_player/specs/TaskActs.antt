@@ -1,0 +1,43 @@
+-- Acts of tasks alone, and the events for which they stand.
+use Rattle.std.specs.Prelude.{ℕ, Bool, true, false, Option, None, Some}
+use Rattle.psi_base.specs.declared.event.Pid.{Pid}
+use Rattle.psi_base.specs.declared.event.Act.{Act}
+use Rattle.psi_base.specs.declared.event.Act.TheVariants as act
+use Rattle.psi_base.specs.declared.event.Event.{Event}
+use Rattle.psi_spec.specs.Refusal.{is_exit}
+use Rattle.trace_player.specs.declared.task_act.TaskAct.{TaskAct}
+use Rattle.trace_player.specs.declared.task_act.TaskAct.TheVariants as task_act
+
+-- the act for which a task act stands
+abbrev pub as_act : TaskAct → Act
+as_act (task_act.Wake pid cpu) = act.Wake pid cpu
+as_act (task_act.Switch cpu next how) = act.Switch cpu next how
+as_act (task_act.Stall pid) = act.Stall pid
+as_act (task_act.Unstall pid) = act.Unstall pid
+as_act (task_act.Migrate pid cpu) = act.Migrate pid cpu
+
+-- the event for which it stands at a time (ns)
+abbrev pub as_event : ℕ → TaskAct → Event
+as_event at what = record { at = at; act = as_act what }
+
+-- the act is one of tasks alone
+abbrev pub is_task_act : Act → Bool
+is_task_act (act.Wake pid cpu) = true
+is_task_act (act.Switch cpu next how) = true
+is_task_act (act.Stall pid) = true
+is_task_act (act.Unstall pid) = true
+is_task_act (act.Migrate pid cpu) = true
+is_task_act _ = false
+
+-- a task exits by it
+abbrev pub exits : TaskAct → Bool
+exits (task_act.Switch cpu next how) = is_exit how
+exits _ = false
+
+-- the number of the task that it names
+abbrev pub pid_of : TaskAct → Option Pid
+pid_of (task_act.Wake pid cpu) = Some pid
+pid_of (task_act.Switch cpu next how) = next
+pid_of (task_act.Stall pid) = Some pid
+pid_of (task_act.Unstall pid) = Some pid
+pid_of (task_act.Migrate pid cpu) = Some pid

@@ -1,0 +1,117 @@
+//! The fast path of a trace: acts of tasks alone, by value.
+//!
+//! Most lines of a trace are such acts. Each is a few numbers, so it is read, judged and performed
+//! in registers, and no `Event` of it is stored. Every crate on the path has functions of a
+//! [`TaskAct`], whose names end with `_task`. Their contracts are those of the event for which the
+//! act stands.
+ghost use Rattle.std.specs.Prelude.{◌≡◌, IfNone, IfSome, false};
+ghost use Rattle.psi_spec.specs.Names.{names};
+ghost use Rattle.trace_player.specs.TaskActs.{as_act, as_event, exits, is_task_act, pid_of};
+
+use psi_base::{Act, Cpu, Event, How, Ns, Pid};
+
+/// An act that names no group and makes no task.
+#[derive(Clone, Copy)]
+pub enum TaskAct {
+    /// A blocked task becomes ready.
+    Wake {
+        pid: Pid,
+        cpu: Cpu,
+    },
+    /// The running task leaves its processor, and the next one runs there, or none.
+    Switch {
+        cpu: Cpu,
+        next: Option<Pid>,
+        how: How,
+    },
+    /// The running task enters a memory stall.
+    Stall {
+        pid: Pid,
+    },
+    /// The running task leaves its memory stall.
+    Unstall {
+        pid: Pid,
+    },
+    /// A ready task goes to a processor.
+    Migrate {
+        pid: Pid,
+        cpu: Cpu,
+    },
+}
+
+impl TaskAct {
+    /// The act by value, or `None` for an act that isn't of tasks alone.
+    #[inline(always)]
+    pub fn of(act: &Act) -> Option<TaskAct>
+        ensures same { IfSome result (λ found. as_act found ≡ act.now) }
+        ensures other { IfNone result (is_task_act act.now ≡ false) }
+    {
+        match act {
+            Act::Wake { pid, cpu } => Some(TaskAct::Wake {
+                pid: *pid,
+                cpu: *cpu,
+            }),
+            Act::Switch { cpu, next, how } => Some(TaskAct::Switch {
+                cpu: *cpu,
+                next: *next,
+                how: *how,
+            }),
+            Act::Stall { pid } => Some(TaskAct::Stall { pid: *pid }),
+            Act::Unstall { pid } => Some(TaskAct::Unstall { pid: *pid }),
+            Act::Migrate { pid, cpu } => Some(TaskAct::Migrate {
+                pid: *pid,
+                cpu: *cpu,
+            }),
+            _ => None,
+        }
+    }
+
+    /// The event for which the act stands at a time (ns).
+    pub fn to_event(self, at: Ns) -> Event
+        ensures { result ≡ as_event at self }
+    {
+        let act = match self {
+            TaskAct::Wake { pid, cpu } => Act::Wake { pid, cpu },
+            TaskAct::Switch { cpu, next, how } => Act::Switch { cpu, next, how },
+            TaskAct::Stall { pid } => Act::Stall { pid },
+            TaskAct::Unstall { pid } => Act::Unstall { pid },
+            TaskAct::Migrate { pid, cpu } => Act::Migrate { pid, cpu },
+        };
+        Event { at, act }
+    }
+
+    /// A task exits by the act.
+    #[inline(always)]
+    pub fn exits(self) -> bool
+        ensures { result ≡ exits self }
+    {
+        matches!(self, TaskAct::Switch { how: How::Exit, .. })
+    }
+
+    /// The number of the task that it names. A switch names the next task.
+    #[inline(always)]
+    pub fn pid(self) -> Option<Pid>
+        ensures { result ≡ pid_of self }
+    {
+        match self {
+            TaskAct::Switch { next, .. } => next,
+            TaskAct::Wake { pid, .. }
+            | TaskAct::Stall { pid }
+            | TaskAct::Unstall { pid }
+            | TaskAct::Migrate { pid, .. } => Some(pid),
+        }
+    }
+
+    /// The number of the processor that it names.
+    #[inline(always)]
+    pub fn cpu(self) -> Option<u32>
+        ensures { result ≡ (names (as_act self)).cpu }
+    {
+        match self {
+            TaskAct::Wake { cpu, .. }
+            | TaskAct::Switch { cpu, .. }
+            | TaskAct::Migrate { cpu, .. } => Some(cpu.0),
+            TaskAct::Stall { .. } | TaskAct::Unstall { .. } => None,
+        }
+    }
+}
