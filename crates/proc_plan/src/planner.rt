@@ -150,7 +150,7 @@ impl Planner {
             }
         }
         let finding = self.table.judge(event)?;
-        let told = told_by(&self.table, event, finding.before);
+        let told = told_by(event, finding.before, finding.slot());
         make_room(
             &mut self.changes,
             &mut self.triggers,

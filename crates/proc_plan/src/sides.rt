@@ -1,17 +1,18 @@
 //! The triggers and the sides that one event tells.
 
-ghost use Rattle.std.specs.Prelude.{◌≡◌, ◌++◌, IfSome};
+ghost use Rattle.std.specs.Prelude.{◌≡◌, ◌++◌, IfSome, List};
 ghost use Rattle.psi_spec.specs.Grammar.{ActFits};
 ghost use Rattle.psi_spec.specs.Changes.{before};
-ghost use Rattle.psi_spec.specs.Told.{slot_named, trigger_by};
+ghost use Rattle.psi_spec.specs.Told.{trigger_by};
 ghost use Rattle.psi_spec.specs.Within.{listed};
+ghost use Rattle.psi_spec.specs.World.{World};
+ghost use Rattle.psi_spec.specs.declared.machine.GroupLife.{GroupLife};
+ghost use Rattle.task_table.specs.Named.{named_slot};
 ghost use Rattle.proc_plan.specs.Sides.{IsSmall, group_of, passage, sample_by, sides_by};
 
 use crate::side::{Side, SideAct};
-use group_tree::Tree;
-use psi_base::{Act, Event, How, Ns, Path, Slot, TriggerSpec};
+use psi_base::{Act, Event, How, Ns, Slot, TriggerSpec};
 use psi_spec::Task;
-use task_table::Table;
 
 /// What an event tells beside its changes.
 #[derive(Clone, Copy)]
@@ -23,28 +24,22 @@ pub(crate) struct Told {
     pub(crate) second: Option<Side>,
 }
 
-// The slot of the live group with this path, or the root's where there is none.
-fn slot_named(groups: &Tree, path: &Path) -> Slot
-    ensures { result ≡ slot_named groups.now path.now }
-{
-    groups.find(path).unwrap_or(Slot(0))
-}
-
-// The trigger that an act at a moment (ns) sets, if it sets one.
+// The trigger that an act at a time (ns) sets. `slot` is that of the group that the act names.
 #[inline(always)]
-fn trigger_by(groups: &Tree, at: Ns, act: &Act) -> Option<TriggerSpec>
-    ensures { listed result ≡ trigger_by at groups.now act.now }
+fn trigger_by(at: Ns, act: &Act, slot: Slot) -> Option<TriggerSpec>
+    ensures { (groups : List GroupLife) → slot ≡ named_slot groups act.now →
+        listed result ≡ trigger_by at groups act.now }
 {
     match act {
         Act::Trigger {
-            path,
             res,
             level,
             threshold_us,
             window_us,
+            ..
         } => Some(TriggerSpec {
             at,
-            slot: slot_named(groups, path),
+            slot,
             res: *res,
             level: *level,
             threshold_us: *threshold_us,
@@ -54,28 +49,29 @@ fn trigger_by(groups: &Tree, at: Ns, act: &Act) -> Option<TriggerSpec>
     }
 }
 
-// The sample of a group's memory or of the host's, or the preference, that an act tells, if it
-// tells one.
+// The sample of a group's memory or of the host's, or the preference, that an act reports. `slot` is
+// that of the group that the act names.
 #[inline(always)]
-fn sample_by(groups: &Tree, at: Ns, act: &Act) -> Option<Side>
+fn sample_by(at: Ns, act: &Act, slot: Slot) -> Option<Side>
     requires { ActFits act.now }
-    ensures side { listed result ≡ sample_by at groups.now act.now }
+    ensures side { (groups : List GroupLife) → slot ≡ named_slot groups act.now →
+        listed result ≡ sample_by at groups act.now }
     ensures small { IfSome result (λ side. IsSmall side.what) }
 {
     let what = match act {
         Act::Mem {
-            path,
             current,
             swap,
             scan,
+            ..
         } => SideAct::Mem {
-            slot: slot_named(groups, path),
+            slot,
             current: *current,
             swap: *swap,
             scan: *scan,
         },
-        Act::Prefer { path, preference } => SideAct::Prefer {
-            slot: slot_named(groups, path),
+        Act::Prefer { preference, .. } => SideAct::Prefer {
+            slot,
             preference: *preference,
         },
         Act::Host {
@@ -119,44 +115,45 @@ fn passage(at: Ns, old: Option<Slot>, new: Option<Slot>) -> (Option<Side>, Optio
     }
 }
 
-// The sides that an event tells in their order, at most two. The task is the one that its act
-// changes, as it is before.
+// The sides of an event in their order, at most two. The task is the one that its act changes, as it
+// is before, and `slot` is that of the group that it names.
 #[inline(always)]
-fn sides_by(table: &Table, event: &Event, task: Option<Task>) -> (Option<Side>, Option<Side>)
-    requires fits { ActFits event.now.act }
-    requires task { task ≡ before table.now.world.tasks event.now.act }
-    ensures sides { listed result.0 ++ listed result.1 ≡ sides_by table.now.world event.now }
+fn sides_by(event: &Event, task: Option<Task>, slot: Slot) -> (Option<Side>, Option<Side>)
+    requires { ActFits event.now.act }
+    ensures sides { (w : World) → task ≡ before w.tasks event.now.act →
+        slot ≡ named_slot w.groups event.now.act →
+        listed result.0 ++ listed result.1 ≡ sides_by w event.now }
     ensures first { IfSome result.0 (λ side. IsSmall side.what) }
     ensures second { IfSome result.1 (λ side. IsSmall side.what) }
 {
-    let groups = table.groups();
     let old = group_of(task);
     match &event.act {
-        Act::Fork { path, .. } => passage(event.at, None, Some(slot_named(groups, path))),
+        Act::Fork { .. } => passage(event.at, None, Some(slot)),
         Act::Switch { how: How::Exit, .. } => passage(event.at, old, None),
-        Act::Move { path, .. } => match old {
-            Some(old) => passage(event.at, Some(old), Some(slot_named(groups, path))),
+        Act::Move { .. } => match old {
+            Some(old) => passage(event.at, Some(old), Some(slot)),
             None => (None, None),
         },
         // At other acts a task stays in its group.
-        act => (sample_by(groups, event.at, act), None),
+        act => (sample_by(event.at, act, slot), None),
     }
 }
 
-/// What an event tells. The task is the one that its act changes, as it is before.
+/// The trigger and the sides of an event. The task is the one that its act changes, as it is before,
+/// and `slot` is that of the group that it names.
 #[inline(always)]
-pub(crate) fn told_by(table: &Table, event: &Event, task: Option<Task>) -> Told
-    requires fits { ActFits event.now.act }
-    requires task { task ≡ before table.now.world.tasks event.now.act }
-    ensures trigger { listed result.trigger
-        ≡ trigger_by event.now.at table.now.world.groups event.now.act }
-    ensures sides { listed result.first ++ listed result.second
-        ≡ sides_by table.now.world event.now }
+pub(crate) fn told_by(event: &Event, task: Option<Task>, slot: Slot) -> Told
+    requires { ActFits event.now.act }
+    ensures trigger { (groups : List GroupLife) → slot ≡ named_slot groups event.now.act →
+        listed result.trigger ≡ trigger_by event.now.at groups event.now.act }
+    ensures sides { (w : World) → task ≡ before w.tasks event.now.act →
+        slot ≡ named_slot w.groups event.now.act →
+        listed result.first ++ listed result.second ≡ sides_by w event.now }
     ensures first { IfSome result.first (λ side. IsSmall side.what) }
     ensures second { IfSome result.second (λ side. IsSmall side.what) }
 {
-    let trigger = trigger_by(table.groups(), event.at, &event.act);
-    let (first, second) = sides_by(table, event, task);
+    let trigger = trigger_by(event.at, &event.act, slot);
+    let (first, second) = sides_by(event, task, slot);
     Told {
         trigger,
         first,

@@ -1,7 +1,7 @@
 -- The causes by verb are the causes in their order, and what their absence says.
 use Rattle.std.proofs.Common.{◌≡◌, ℕ, ◌<◌, ◌≤◌, List, refl, ap, ◌∙◌, sym, Bool, true, false, arith, Option, None, Some, is_some}
 use Rattle.std.proofs.lemmas.Bool.Decides.{nat_tests}
-use Rattle.std.specs.Prelude.{IfSome, nat_lt, nat_le, not, ◌&&◌, ◌||◌, if◌then◌else◌}
+use Rattle.std.specs.Prelude.{IfSome, unwrap_or, nat_lt, nat_le, not, ◌&&◌, ◌||◌, if◌then◌else◌}
 use Rattle.psi_base.specs.declared.event.Pid.{Pid}
 use Rattle.psi_base.specs.declared.event.How.{How}
 use Rattle.psi_base.specs.declared.event.Act.{Act}
@@ -12,12 +12,13 @@ use Rattle.psi_base.specs.declared.event.Cause.TheVariants as cause
 use Rattle.psi_base.specs.Missing.{is_some_and}
 use Rattle.psi_spec.specs.declared.machine.GroupLife.{GroupLife}
 use Rattle.psi_spec.specs.declared.machine.Task.{Task}
-use Rattle.psi_spec.specs.World.{World, Limits, Tasks, task_of, running_on, task_part, slot_of, is_active, is_ready, is_ready_on, is_root}
+use Rattle.psi_spec.specs.World.{World, Limits, Tasks, task_of, running_on, task_part, slot_of, is_active, is_ready, is_ready_on, is_root, as_slot}
 use Rattle.psi_spec.specs.Refusal.{cause_of, has_child, has_member, is_wrong, is_exit, isnt_ready, lacks_group, lacks_task}
 use Rattle.psi_spec.proofs.RefusalLaws.{not_false}
 use Rattle.group_tree.specs.Tree.{pressure_cause, remove_cause}
 use Rattle.task_table.specs.Causes.{act_cause, event_cause, fork_cause, groups_cause, how_cause, line_cause, migrate_cause, move_cause, or_cause, switch_cause, wake_cause, next_cause}
-use Rattle.task_table.specs.Named.{next_task}
+use Rattle.task_table.specs.Named.{group_with, next_task, slot_or_root, slot_with}
+use Rattle.psi_base.specs.declared.event.Slot.{Slot}
 
 -- a busy group, in two parts
 busy_parts : (a b c d : Bool) → (if a then Some cause.UnknownGroup else if b || c || d then Some cause.GroupBusy else None) ≡ or_cause (if a then Some cause.UnknownGroup else if b || c then Some cause.GroupBusy else None) (if d then Some cause.GroupBusy else None)
@@ -140,14 +141,14 @@ may_switch cpus cpu next task how running h =
     }
 
 -- a legal fork's group is there
-pub fork_group : (cpus : ℕ) (groups : List GroupLife) (live : ℕ) (task : Option Task) (path : List ℕ) (cpu : ℕ) → fork_cause cpus groups live task path cpu ≡ None → not (is_some (slot_of groups path)) ≡ false
-fork_group cpus groups live task path cpu h =
-    let one = past (nat_le 65536 live) cause.TooManyTasks (if not (is_some (slot_of groups path)) then Some cause.UnknownGroup else if is_some task then Some cause.TaskExists else if nat_le cpus cpu then Some cause.BadCpu else None) h in
-    (past (not (is_some (slot_of groups path))) cause.UnknownGroup (if is_some task then Some cause.TaskExists else if nat_le cpus cpu then Some cause.BadCpu else None) one.1).0
+pub fork_group : (cpus : ℕ) (lacks : Bool) (live : ℕ) (task : Option Task) (cpu : ℕ) → fork_cause cpus lacks live task cpu ≡ None → lacks ≡ false
+fork_group cpus lacks live task cpu h =
+    let one = past (nat_le 65536 live) cause.TooManyTasks (if lacks then Some cause.UnknownGroup else if is_some task then Some cause.TaskExists else if nat_le cpus cpu then Some cause.BadCpu else None) h in
+    (past lacks cause.UnknownGroup (if is_some task then Some cause.TaskExists else if nat_le cpus cpu then Some cause.BadCpu else None) one.1).0
 
 -- so is a legal move's
-pub move_group : (groups : List GroupLife) (task : Option Task) (path : List ℕ) → move_cause groups task path ≡ None → not (is_some (slot_of groups path)) ≡ false
-move_group groups task path h = (past (lacks_group groups (Some path)) cause.UnknownGroup (if not (is_some task) then Some cause.UnknownTask else None) h).0
+pub move_group : (lacks : Bool) (task : Option Task) → move_cause lacks task ≡ None → lacks ≡ false
+move_group lacks task h = (past lacks cause.UnknownGroup (if not (is_some task) then Some cause.UnknownTask else None) h).0
 
 -- a legal wake is of a task that sleeps
 pub wake_off : (cpus : ℕ) (task : Option Task) (cpu : ℕ) → wake_cause cpus task cpu ≡ None → is_some_and task (λ task. is_active task.mode) ≡ false
@@ -158,3 +159,15 @@ wake_off cpus task cpu h =
 pub migrate_off : (cpus : ℕ) (task : Option Task) (cpu : ℕ) → migrate_cause cpus task cpu ≡ None → is_some_and task (λ task. not (is_ready task.mode)) ≡ false
 migrate_off cpus task cpu h =
     (third (not (is_some task)) (nat_le cpus cpu) (is_some_and task (λ task. not (is_ready task.mode))) cause.UnknownTask cause.BadCpu cause.NotReady None h).0
+
+-- ---- the group that an act names
+
+-- the slot of a path's live group, or the root's
+pub slot_is : (o : Option ℕ) → slot_or_root (as_slot o) ≡ (let s : Slot = record { 0 = unwrap_or o 0 } in s)
+slot_is None = refl
+slot_is (Some n) = refl
+
+-- so is the slot of the group that is found
+pub slot_found : (groups : List GroupLife) (path : Option (List ℕ)) → slot_or_root (group_with groups path) ≡ slot_with groups path
+slot_found groups None = refl
+slot_found groups (Some path) = slot_is (slot_of groups path)

@@ -29,15 +29,15 @@ abbrev pub empty_cause : List GroupLife → Tasks → List ℕ → Option Cause
 empty_cause groups tasks path =
     or_cause (remove_cause groups path) (if has_member tasks (slot_of groups path) then Some cause.GroupBusy else None)
 
--- no live group has the path
-abbrev pub path_cause : List GroupLife → List ℕ → Option Cause
-path_cause groups path = if lacks_group groups (Some path) then Some cause.UnknownGroup else None
+-- an act names a group, and none is live with its path
+abbrev pub path_cause : Bool → Option Cause
+path_cause lacks_group = if lacks_group then Some cause.UnknownGroup else None
 
 -- a fork is refused: too many tasks, no such group, a task that lives, a processor that isn't there
-abbrev pub fork_cause : ℕ → List GroupLife → ℕ → Option Task → List ℕ → ℕ → Option Cause
-fork_cause cpus groups live task path cpu =
+abbrev pub fork_cause : ℕ → Bool → ℕ → Option Task → ℕ → Option Cause
+fork_cause cpus lacks_group live task cpu =
     if nat_le most_tasks live then Some cause.TooManyTasks else
-    if not (is_some (slot_of groups path)) then Some cause.UnknownGroup else
+    if lacks_group then Some cause.UnknownGroup else
     if is_some task then Some cause.TaskExists else
     if nat_le cpus cpu then Some cause.BadCpu else None
 
@@ -89,16 +89,16 @@ migrate_cause cpus task cpu =
     if is_some_and task (λ task. not (is_ready task.mode)) then Some cause.NotReady else None
 
 -- a move is refused: no such group, no such task
-abbrev pub move_cause : List GroupLife → Option Task → List ℕ → Option Cause
-move_cause groups task path =
-    if lacks_group groups (Some path) then Some cause.UnknownGroup else
+abbrev pub move_cause : Bool → Option Task → Option Cause
+move_cause lacks_group task =
+    if lacks_group then Some cause.UnknownGroup else
     if not (is_some task) then Some cause.UnknownTask else None
 
 -- a trigger is refused: too many triggers, no such group, a window or a threshold out of range
-abbrev pub trigger_cause : List GroupLife → ℕ → List ℕ → ℕ → ℕ → Option Cause
-trigger_cause groups triggers path threshold window =
+abbrev pub trigger_cause : Bool → ℕ → ℕ → ℕ → Option Cause
+trigger_cause lacks_group triggers threshold window =
     if nat_le 256 triggers then Some cause.TooManyTriggers else
-    if lacks_group groups (Some path) then Some cause.UnknownGroup else
+    if lacks_group then Some cause.UnknownGroup else
     if not (is_window threshold window) then Some cause.BadWindow else None
 
 -- an `irq` line is refused: a processor that isn't there, too much time
@@ -115,20 +115,20 @@ account_cause groups pressures path = if nat_le most_pressures pressures then So
 abbrev pub act_cause : ℕ → List GroupLife → Tasks → List ℕ → ℕ → ℕ → ℕ → Act → Option Cause
 act_cause cpus groups tasks irqs triggers pressures at (act.Group path) = add_cause groups path
 act_cause cpus groups tasks irqs triggers pressures at (act.Remove path) = empty_cause groups tasks path
-act_cause cpus groups tasks irqs triggers pressures at (act.Prefer path preference) = path_cause groups path
+act_cause cpus groups tasks irqs triggers pressures at (act.Prefer path preference) = path_cause (lacks_group groups (Some path))
 act_cause cpus groups tasks irqs triggers pressures at (act.Fork pid path cpu) =
-    fork_cause cpus groups (tasks_by.len tasks) (task_of tasks pid.0) path cpu.0
+    fork_cause cpus (lacks_group groups (Some path)) (tasks_by.len tasks) (task_of tasks pid.0) cpu.0
 act_cause cpus groups tasks irqs triggers pressures at (act.Wake pid cpu) = wake_cause cpus (task_of tasks pid.0) cpu.0
 act_cause cpus groups tasks irqs triggers pressures at (act.Switch cpu next how) =
     switch_cause cpus cpu.0 next (next_task tasks next) how (running_on tasks cpu.0)
 act_cause cpus groups tasks irqs triggers pressures at (act.Stall pid) = stall_cause (task_of tasks pid.0)
 act_cause cpus groups tasks irqs triggers pressures at (act.Unstall pid) = unstall_cause (task_of tasks pid.0)
 act_cause cpus groups tasks irqs triggers pressures at (act.Migrate pid cpu) = migrate_cause cpus (task_of tasks pid.0) cpu.0
-act_cause cpus groups tasks irqs triggers pressures at (act.Move pid path) = move_cause groups (task_of tasks pid.0) path
-act_cause cpus groups tasks irqs triggers pressures at (act.Mem path current swap scan) = path_cause groups path
+act_cause cpus groups tasks irqs triggers pressures at (act.Move pid path) = move_cause (lacks_group groups (Some path)) (task_of tasks pid.0)
+act_cause cpus groups tasks irqs triggers pressures at (act.Mem path current swap scan) = path_cause (lacks_group groups (Some path))
 act_cause cpus groups tasks irqs triggers pressures at (act.Host mem_total swap_total swap_free) = None
 act_cause cpus groups tasks irqs triggers pressures at (act.Trigger path res level threshold_us window_us) =
-    trigger_cause groups triggers path threshold_us window_us
+    trigger_cause (lacks_group groups (Some path)) triggers threshold_us window_us
 act_cause cpus groups tasks irqs triggers pressures at (act.Irq cpu ns) = irq_cause cpus irqs at cpu ns
 act_cause cpus groups tasks irqs triggers pressures at (act.Pressure path on) = account_cause groups pressures path
 act_cause cpus groups tasks irqs triggers pressures at act.End = None

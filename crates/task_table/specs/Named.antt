@@ -1,5 +1,5 @@
 -- The task whose number an act names, and the task that an act changes.
-use Rattle.std.specs.Prelude.{◌≡◌, ℕ, ◌<◌, List, Option, None, Some, IfSome, slice_index_or}
+use Rattle.std.specs.Prelude.{◌≡◌, ℕ, ◌<◌, List, Option, None, Some, IfSome, slice_index_or, unwrap_or}
 use Rattle.psi_base.specs.declared.event.Cpu.{Cpu}
 use Rattle.psi_base.specs.declared.event.Pid.{Pid}
 use Rattle.psi_base.specs.declared.event.Act.{Act}
@@ -7,7 +7,10 @@ use Rattle.psi_base.specs.declared.event.Act.TheVariants as act
 use Rattle.psi_counts.specs.declared.changes.Change.{Change}
 use Rattle.psi_spec.specs.declared.machine.GroupLife.{GroupLife}
 use Rattle.psi_spec.specs.declared.machine.Task.{Task}
-use Rattle.psi_spec.specs.World.{Tasks, is_running_on, task_of}
+use Rattle.psi_base.specs.declared.event.Slot.{Slot}
+use Rattle.psi_spec.specs.Names.{names}
+use Rattle.psi_spec.specs.Told.{slot_named}
+use Rattle.psi_spec.specs.World.{Tasks, as_slot, is_running_on, slot_of, task_of}
 use Rattle.psi_counts.specs.Touch.{part, shown, task_after}
 use Rattle.psi_spec.specs.Changes.{before}
 use Rattle.task_table.specs.declared.task_update.TaskUpdate.{TaskUpdate}
@@ -28,6 +31,28 @@ named_task tasks (act.Unstall pid) = task_of tasks pid.0
 named_task tasks (act.Migrate pid cpu) = task_of tasks pid.0
 named_task tasks (act.Move pid path) = task_of tasks pid.0
 named_task tasks _ = None
+
+-- the live group with a path, if there is a path
+abbrev pub group_with : List GroupLife → Option (List ℕ) → Option Slot
+group_with groups None = None
+group_with groups (Some path) = as_slot (slot_of groups path)
+
+-- the slot of the live group with a path, or the root's if there is no path
+abbrev pub slot_with : List GroupLife → Option (List ℕ) → Slot
+slot_with groups None = record { 0 = 0 }
+slot_with groups (Some path) = slot_named groups path
+
+-- the live group with the path that an act names, which isn't that of a new one
+abbrev pub named_group : List GroupLife → Act → Option Slot
+named_group groups a = group_with groups (names a).live_path
+
+-- the slot of a group, or the root's if there is none
+abbrev pub slot_or_root : Option Slot → Slot
+slot_or_root group = unwrap_or group (record { 0 = 0 })
+
+-- the slot of the live group with the path that an act names, or the root's if it names none
+abbrev pub named_slot : List GroupLife → Act → Slot
+named_slot groups a = slot_with groups (names a).live_path
 
 -- the task whose counts an act changes is this before it, and this after it
 pub record IsChanged (groups : List GroupLife) (tasks : Tasks) (a : Act) (changed : TaskUpdate) : Type 0 where

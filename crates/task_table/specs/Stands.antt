@@ -16,7 +16,7 @@ use Rattle.psi_spec.specs.Changes.{before}
 use Rattle.psi_counts.specs.Counts.{how_many}
 use Rattle.psi_counts.specs.Legal.{IsLegalWorld}
 use Rattle.task_table.specs.Causes.{IsFault, takes_memory}
-use Rattle.task_table.specs.Named.{named_task}
+use Rattle.task_table.specs.Named.{named_group, named_task}
 use Rattle.task_table.specs.declared.finding.Finding.{Finding}
 
 -- the value of a table
@@ -83,8 +83,8 @@ abbrev pub PlaysEvent : {T : Type 0} → TableView → Event → TableView → R
 PlaysEvent old event new (Ok x) = HasPlayed old event new
 PlaysEvent old event new (Err why) = HasRefused old event new why
 
--- An event is legal in a table, and these are its tasks: the one with the number that its act
--- names, and the one that it changes.
+-- An event is legal in a table, and these are its tasks and its group: the task with the number that
+-- its act names, the one that it changes, and the live group with the path that it names.
 pub record IsFinding (table : TableView) (event : Event) (finding : Finding) : Type 0 where
   pub legal : cause_of table.limits table.world event ≡ None
   pub room : table.world.lines < most_events
@@ -92,6 +92,7 @@ pub record IsFinding (table : TableView) (event : Event) (finding : Finding) : T
   pub early : event.at ≤ table.limits.latest
   pub named_is : finding.named ≡ named_task table.world.tasks event.act
   pub before_is : finding.before ≡ before table.world.tasks event.act
+  pub group_is : finding.group ≡ named_group table.world.groups event.act
 
 -- what judging an event gives: its tasks, or the first cause against it
 abbrev pub Judges : TableView → Event → Result Finding Cause → Type 0

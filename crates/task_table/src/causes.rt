@@ -1,10 +1,10 @@
 //! Why an act is refused, asked in the order of causes.
-ghost use Rattle.std.specs.Prelude.{◌≡◌, ℕ, List, if◌then◌else◌, nat_le, length, slice_index_or, None, Some, false};
+ghost use Rattle.std.specs.Prelude.{◌≡◌, ℕ, List, if◌then◌else◌, nat_le, length, slice_index_or, None, Option, Some, false};
 ghost use Rattle.psi_base.specs.declared.event.Cause.TheVariants as cause;
 ghost use Rattle.psi_spec.specs.Refusal.{has_member, is_window};
-ghost use Rattle.psi_spec.specs.World.{Tasks, most_tasks, slot_of};
+ghost use Rattle.psi_spec.specs.World.{Tasks, as_slot, most_tasks, slot_of};
 ghost use Rattle.task_table.specs.Causes.{act_cause, account_cause, empty_cause, fork_cause, how_cause, irq_cause, migrate_cause, move_cause, next_cause, path_cause, stall_cause, switch_cause, trigger_cause, unstall_cause, wake_cause};
-ghost use Rattle.task_table.specs.Named.{named_task};
+ghost use Rattle.task_table.specs.Named.{named_group, named_task};
 ghost use Rattle.task_table.specs.Stands.{AreMembers, IsIndex};
 ghost use Rattle.trace_player.specs.TaskActs.{is_task_act};
 
@@ -12,7 +12,7 @@ use crate::members::Members;
 use crate::running::{Running, running_at};
 use crate::task_map::TaskMap;
 use group_tree::Tree;
-use psi_base::{Act, Cause, Cpu, Event, How, Ns, Path, Pid};
+use psi_base::{Act, Cause, Cpu, Event, How, Ns, Path, Pid, Slot};
 use psi_spec::{Mode, Task};
 
 /// The most tasks that may live at once.
@@ -39,37 +39,55 @@ pub(crate) fn is_full(live: usize) -> bool
     live >= MOST_TASKS
 }
 
-/// No live group has this path.
-fn lacks_path(tree: &Tree, path: &Path) -> Option<Cause>
-    ensures { result ≡ path_cause tree.now path.now }
+/// The live group with the path that an act names, which isn't that of a new one.
+pub(crate) fn named_group(tree: &Tree, act: &Act) -> Option<Slot>
+    ensures { result ≡ named_group tree.now act.now }
 {
-    if tree.find(path).is_none() {
+    match act {
+        Act::Remove { path }
+        | Act::Prefer { path, .. }
+        | Act::Fork { path, .. }
+        | Act::Move { path, .. }
+        | Act::Mem { path, .. }
+        | Act::Trigger { path, .. }
+        | Act::Pressure { path, .. } => tree.find(path),
+        _ => None,
+    }
+}
+
+/// An act names a group, and none is live with its path.
+fn path_refused(lacks_group: bool) -> Option<Cause>
+    ensures { result ≡ path_cause lacks_group }
+{
+    if lacks_group {
         Some(Cause::UnknownGroup)
     } else {
         None
     }
 }
 
-/// A live task is in the group with this path.
-fn has_tasks(tree: &Tree, members: &Members, path: &Path) -> bool
-    ensures { (tasks : Tasks) → AreMembers members.now tasks →
-        result ≡ has_member tasks (slot_of tree.now path.now) }
+/// A live task is in the group.
+fn has_tasks(members: &Members, group: Option<Slot>) -> bool
+    ensures { (tasks : Tasks) (slot : Option ℕ) → AreMembers members.now tasks →
+        group ≡ as_slot slot →
+        result ≡ has_member tasks slot }
 {
-    match tree.find(path) {
+    match group {
         Some(slot) => members.has(slot),
         None => false,
     }
 }
 
 /// Why a group can't be removed.
-fn remove_refused(tree: &Tree, members: &Members, path: &Path) -> Option<Cause>
+fn remove_refused(tree: &Tree, members: &Members, path: &Path, group: Option<Slot>) -> Option<Cause>
+    requires { group ≡ as_slot (slot_of tree.now path.now) }
     ensures { (tasks : Tasks) → AreMembers members.now tasks →
         result ≡ empty_cause tree.now tasks path.now }
 {
     if let Some(cause) = tree.remove_cause(path) {
         return Some(cause);
     }
-    if has_tasks(tree, members, path) {
+    if has_tasks(members, group) {
         return Some(Cause::GroupBusy);
     }
     None
@@ -77,18 +95,17 @@ fn remove_refused(tree: &Tree, members: &Members, path: &Path) -> Option<Cause>
 
 /// Why a fork isn't legal.
 fn fork_refused(
-    tree: &Tree,
-    live: usize,
     cpus: usize,
+    lacks_group: bool,
+    live: usize,
     task: Option<Task>,
-    path: &Path,
     cpu: u32,
 ) -> Option<Cause>
-    ensures { result ≡ fork_cause cpus tree.now live task path.now cpu }
+    ensures { result ≡ fork_cause cpus lacks_group live task cpu }
 {
     if is_full(live) {
         Some(Cause::TooManyTasks)
-    } else if tree.find(path).is_none() {
+    } else if lacks_group {
         Some(Cause::UnknownGroup)
     } else if task.is_some() {
         Some(Cause::TaskExists)
@@ -230,10 +247,10 @@ pub(crate) fn migrate_refused(task: Option<Task>, cpus: usize, cpu: u32) -> Opti
 }
 
 /// Why a task can't move.
-fn move_refused(tree: &Tree, task: Option<Task>, path: &Path) -> Option<Cause>
-    ensures { result ≡ move_cause tree.now task path.now }
+fn move_refused(lacks_group: bool, task: Option<Task>) -> Option<Cause>
+    ensures { result ≡ move_cause lacks_group task }
 {
-    if tree.find(path).is_none() {
+    if lacks_group {
         Some(Cause::UnknownGroup)
     } else if task.is_none() {
         Some(Cause::UnknownTask)
@@ -254,17 +271,16 @@ fn is_window(threshold_us: u64, window_us: u64) -> bool
 
 /// Why a trigger can't be made.
 fn trigger_refused(
-    tree: &Tree,
+    lacks_group: bool,
     triggers: u32,
-    path: &Path,
     threshold_us: u64,
     window_us: u64,
 ) -> Option<Cause>
-    ensures { result ≡ trigger_cause tree.now triggers path.now threshold_us window_us }
+    ensures { result ≡ trigger_cause lacks_group triggers threshold_us window_us }
 {
     if triggers >= MOST_TRIGGERS {
         Some(Cause::TooManyTriggers)
-    } else if tree.find(path).is_none() {
+    } else if lacks_group {
         Some(Cause::UnknownGroup)
     } else if !is_window(threshold_us, window_us) {
         Some(Cause::BadWindow)
@@ -299,7 +315,8 @@ fn irq_refused(irqs: &[Ns], cpus: usize, at: Ns, cpu: Cpu, ns: u64) -> Option<Ca
 }
 
 /// Why the act of an event isn't legal, which isn't of tasks alone. `irqs` has the times of the last
-/// `irq` lines, and `named` is the task with the number that the act names.
+/// `irq` lines, `named` is the task with the number that the act names, and `group` the live group
+/// with the path that it names.
 #[inline(always)]
 pub(crate) fn act_refused(
     tree: &Tree,
@@ -311,27 +328,29 @@ pub(crate) fn act_refused(
     pressures: u32,
     event: &Event,
     named: Option<Task>,
+    group: Option<Slot>,
 ) -> Option<Cause>
     requires index { IsIndex running.now tasks.now }
     requires members { AreMembers members.now tasks.now }
     requires named { named ≡ named_task tasks.now event.now.act }
+    requires group { group ≡ named_group tree.now event.now.act }
     requires other { is_task_act event.now.act ≡ false }
     ensures { result ≡ act_cause (length running.now) tree.now tasks.now irqs.now triggers
         pressures event.now.at event.now.act }
 {
     let cpus = running.len();
+    let lacks_group = group.is_none();
     match &event.act {
         Act::Group { path } => tree.add_cause(path),
-        Act::Remove { path } => remove_refused(tree, members, path),
-        Act::Prefer { path, .. } | Act::Mem { path, .. } => lacks_path(tree, path),
-        Act::Fork { path, cpu, .. } => fork_refused(tree, tasks.len(), cpus, named, path, cpu.0),
-        Act::Move { path, .. } => move_refused(tree, named, path),
+        Act::Remove { path } => remove_refused(tree, members, path, group),
+        Act::Prefer { .. } | Act::Mem { .. } => path_refused(lacks_group),
+        Act::Fork { cpu, .. } => fork_refused(cpus, lacks_group, tasks.len(), named, cpu.0),
+        Act::Move { .. } => move_refused(lacks_group, named),
         Act::Trigger {
-            path,
             threshold_us,
             window_us,
             ..
-        } => trigger_refused(tree, triggers, path, *threshold_us, *window_us),
+        } => trigger_refused(lacks_group, triggers, *threshold_us, *window_us),
         Act::Irq { cpu, ns } => irq_refused(irqs, cpus, event.at, *cpu, *ns),
         Act::Pressure { path, .. } => account_refused(tree, pressures, path),
         _ => None,

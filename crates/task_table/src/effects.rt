@@ -3,9 +3,11 @@ ghost use Rattle.std.specs.Prelude.{◌≡◌, ℕ, ◌+◌, ◌<◌, ◌≤◌,
 ghost use Rattle.std.specs.FinMap as tasks_by;
 ghost use Rattle.psi_spec.specs.World.{change, ends, groups_after, irqs_after, is_pressure, is_running, is_trigger, most_tasks, new_group, new_task, put, readied, slot_of, task_of, tasks_after};
 ghost use Rattle.psi_counts.specs.Touch.{changed};
+ghost use Rattle.psi_spec.specs.Told.{slot_named};
+ghost use Rattle.psi_spec.specs.declared.machine.GroupLife.{GroupLife};
 ghost use Rattle.group_tree.specs.Tree.{add_cause};
 ghost use Rattle.task_table.specs.Causes.{act_cause, groups_cause, makes_group, takes_memory};
-ghost use Rattle.task_table.specs.Named.{IsChanged, MayReplaceIf, named_task};
+ghost use Rattle.task_table.specs.Named.{IsChanged, MayReplaceIf, named_group, named_task, slot_or_root};
 ghost use Rattle.task_table.specs.Stands.{AreMembers, IsIndex};
 ghost use Rattle.trace_player.specs.TaskActs.{is_task_act};
 
@@ -80,22 +82,16 @@ fn set_irq(irqs: &mut [Ns], cpu: Cpu, at: Ns)
 }
 
 /// A task that forked.
-fn forked(tree: &Tree, path: &Path, cpu: Cpu) -> Task
-    ensures { result ≡ new_task tree.now path.now cpu.0 }
+fn forked(slot: Slot, cpu: Cpu) -> Task
+    ensures { (groups : List GroupLife) (path : List ℕ) → slot ≡ slot_named groups path →
+        result ≡ new_task groups path cpu.0 }
 {
     Task {
-        slot: slot_named(tree, path),
+        slot,
         cpu,
         mode: Mode::Ready,
         stalled: false,
     }
-}
-
-/// The slot of the live group with this path, or the root's where there is none.
-pub(crate) fn slot_named(tree: &Tree, path: &Path) -> Slot
-    ensures { result.0 ≡ unwrap_or (slot_of tree.now path.now) 0 }
-{
-    tree.find(path).unwrap_or(Slot(0))
 }
 
 /// A task on the run queue of a processor, if there is one. Its stall stays.
@@ -234,7 +230,7 @@ fn add_group(tree: &mut Tree, members: &mut Members, path: &Path, at: Ns) -> Res
 }
 
 /// What a legal act does to tasks that isn't of tasks alone, done. `named` is the task with the
-/// number that the act names. Only a fork allocates; if it is out of memory, nothing changes.
+/// number that the act names, `slot` that of the group that it names. Only a fork allocates; if it is out of memory, nothing changes.
 #[inline(always)]
 pub(crate) fn change_tasks(
     tasks: &mut TaskMap,
@@ -243,12 +239,14 @@ pub(crate) fn change_tasks(
     tree: &Tree,
     act: &Act,
     named: Option<Task>,
+    slot: Slot,
 ) -> Result<TaskUpdate, NoMemory>
     requires index { IsIndex running.old tasks.old }
     requires members { AreMembers members.old tasks.old }
     requires cover { length tree.now ≤ length members.old }
     requires few { tasks_by.len tasks.old ≤ most_tasks }
     requires named { named ≡ named_task tasks.old act.now }
+    requires slot { slot ≡ slot_or_root (named_group tree.now act.now) }
     requires other { is_task_act act.now ≡ false }
     requires legal { (irqs : List ℕ) × (triggers : ℕ) × (pressures : ℕ) × (at : ℕ)
         × (act_cause (length running.old) tree.now tasks.old irqs triggers pressures at act.now
@@ -262,11 +260,9 @@ pub(crate) fn change_tasks(
     ensures length { length running.new ≡ length running.old }
 {
     match act {
-        Act::Fork { pid, path, cpu } => {
-            add_task(tasks, members, pid.0, forked(tree, path, *cpu))
-        }
-        Act::Move { pid, path } => {
-            let new = moved(named, slot_named(tree, path));
+        Act::Fork { pid, cpu, .. } => add_task(tasks, members, pid.0, forked(slot, *cpu)),
+        Act::Move { pid, .. } => {
+            let new = moved(named, slot);
             Ok(replace(tasks, running, members, pid.0, named, new))
         }
         _ => Ok(TaskUpdate {

@@ -5,14 +5,14 @@ ghost use Rattle.psi_spec.specs.World.{first_world, most_events, most_tasks, run
 ghost use Rattle.psi_counts.specs.Touch.{AllTouched, HasSlotsBelow, IsOfOne, IsTouch, shown};
 ghost use Rattle.psi_spec.specs.Changes.{before};
 ghost use Rattle.psi_spec.specs.Refusal.{cause_of};
-ghost use Rattle.task_table.specs.Named.{IsChanged, named_task};
+ghost use Rattle.task_table.specs.Named.{IsChanged, named_group, named_task};
 ghost use Rattle.task_table.specs.Causes.{line_cause};
 ghost use Rattle.task_table.specs.Stands.{IsFinding, Judges, PlaysEvent, PlaysLegal};
 ghost use Rattle.trace_player.specs.TaskActs.{is_task_act};
 
 mod task_act;
 
-use crate::causes::{act_refused, is_full};
+use crate::causes::{act_refused, is_full, named_group};
 use crate::effects::{
     MOST_CPUS, change_groups, change_tasks, has_ended, named_task, note_irq, pressures_with,
     triggers_with,
@@ -204,11 +204,13 @@ impl Table {
         None
     }
 
-    /// The first cause against an event whose act names this task, and isn't of tasks alone.
+    /// The first cause against an event whose act names this task and this group, and isn't of tasks
+    /// alone.
     #[inline(always)]
-    fn refused(&self, event: &Event, named: Option<Task>) -> Option<Cause>
+    fn refused(&self, event: &Event, named: Option<Task>, group: Option<Slot>) -> Option<Cause>
         requires other { is_task_act event.now.act ≡ false }
         requires named { named ≡ named_task self.now.world.tasks event.now.act }
+        requires group { group ≡ named_group self.now.world.groups event.now.act }
         ensures cause { result ≡ cause_of self.now.limits self.now.world event.now }
         ensures room { IfNone result (self.now.world.lines < most_events) }
         ensures forward { IfNone result (self.now.world.last ≤ event.now.at) }
@@ -227,6 +229,7 @@ impl Table {
             self.pressures,
             event,
             named,
+            group,
         )
     }
 
@@ -254,12 +257,14 @@ impl Table {
             return self.judge_task(event.at, act);
         }
         let named = named_task(&self.tasks, &event.act);
-        if let Some(cause) = self.refused(event, named) {
+        let group = named_group(&self.tree, &event.act);
+        if let Some(cause) = self.refused(event, named, group) {
             return Err(cause);
         }
         Ok(Finding {
             named,
             before: self.before(&event.act, named),
+            group,
         })
     }
 
@@ -328,7 +333,7 @@ impl Table {
         if let Some(act) = TaskAct::of(&event.act) {
             return Ok(self.perform_task(event.at, act, finding));
         }
-        let account = account_of(&self.tree, &event.act);
+        let account = account_of(&event.act, finding.slot());
         let changed = self.advance(event, finding)?;
         if let Some(account) = account {
             return Ok(account_touch(account));
@@ -354,6 +359,7 @@ impl Table {
             &self.tree,
             act,
             finding.named,
+            finding.slot(),
         )?;
         change_groups(&mut self.tree, &mut self.members, event.at, act)?;
         note_irq(&mut self.irqs, event.at, act);

@@ -1,19 +1,18 @@
 //! What an act changes on the processors that it touches, read off the task that it changes and off
 //! the running ones: no walk over the tasks.
-ghost use Rattle.std.specs.Prelude.{◌≡◌, ℕ, if◌then◌else◌, Some, None, [], ◌∷◌, false, slice_index_or};
+ghost use Rattle.std.specs.Prelude.{◌≡◌, ℕ, if◌then◌else◌, Some, None, List, [], ◌∷◌, false, slice_index_or};
 ghost use Rattle.psi_counts.specs.Counts.{counts_among};
 ghost use Rattle.psi_counts.specs.Touch.{account_of, part, shown, told_of, IsBeside};
+ghost use Rattle.psi_spec.specs.declared.machine.GroupLife.{GroupLife};
 ghost use Rattle.psi_spec.specs.Names.{names};
 ghost use Rattle.psi_spec.specs.Changes.{touched};
 ghost use Rattle.psi_spec.specs.Stall.{irq_told};
 ghost use Rattle.task_table.specs.Acts.{cpu_in, unless_on};
-ghost use Rattle.task_table.specs.Named.{change_for, touched_change};
+ghost use Rattle.task_table.specs.Named.{change_for, named_group, slot_or_root, touched_change};
 ghost use Rattle.trace_player.specs.TaskActs.{is_task_act};
 
-use crate::effects::slot_named;
 use crate::running::{Running, running_at};
 use crate::task_update::TaskUpdate;
-use group_tree::Tree;
 use psi_base::{Act, Cpu, Ns, Slot};
 use psi_counts::{Change, Counts, Touch};
 use psi_spec::{Mode, Task};
@@ -75,13 +74,15 @@ fn change_of(at: Ns, changed: TaskUpdate, running: &[Running], cpu: Cpu) -> Chan
     }
 }
 
-/// The slot of the live group whose account an act switches, and whether on, if it switches one.
+/// The group whose account an act switches, and whether on. `slot` is that of the group that the act
+/// names.
 #[inline(always)]
-pub(crate) fn account_of(tree: &Tree, act: &Act) -> Option<(Slot, bool)>
-    ensures { result ≡ account_of tree.now act.now }
+pub(crate) fn account_of(act: &Act, slot: Slot) -> Option<(Slot, bool)>
+    ensures { (groups : List GroupLife) → slot ≡ slot_or_root (named_group groups act.now) →
+        result ≡ account_of groups act.now }
 {
     match act {
-        Act::Pressure { path, on } => Some((slot_named(tree, path), *on)),
+        Act::Pressure { on, .. } => Some((slot, *on)),
         _ => None,
     }
 }

@@ -10,7 +10,7 @@ use Rattle.std.proofs.lemmas.Bool.Decides.{nat_tests}
 use Rattle.std.proofs.lemmas.List.{length-append}
 use Rattle.psi_base.specs.declared.event.Cause.{Cause}
 use Rattle.psi_base.specs.declared.event.Cause.TheVariants as cause
-use Rattle.psi_spec.specs.Refusal.{AreLegal, applies, cause_of, cause_order}
+use Rattle.psi_spec.specs.Refusal.{AreLegal, applies, cause_of, cause_order, lacks_group}
 use Rattle.psi_spec.proofs.Following.{after_from-append, open_of_legal}
 use Rattle.psi_spec.proofs.RefusalLaws.{passed}
 use Rattle.psi_counts.specs.Legal.{IsLegalWorld}
@@ -36,7 +36,7 @@ pub act_goes : (limits : Limits) (dead : List ℕ) (w v : World) (at : ℕ) (wha
     → Goes limits (dead_after dead w what) w v at what (act_without dead w what)
 act_goes limits dead w v at (act.Group path) is once live room none = same_act limits dead dead w v at (act.Group path) is room (ap (λ gs. add_cause gs path) is.groups ∙ none) is.tasks
 act_goes limits dead w v at (act.Remove path) is once live room none = same_act limits dead dead w v at (act.Remove path) is room (rw is.groups (removed_still dead w.tasks v.tasks w.groups path is.tasks none)) is.tasks
-act_goes limits dead w v at (act.Prefer path preference) is once live room none = same_act limits dead dead w v at (act.Prefer path preference) is room (ap (λ gs. path_cause gs path) is.groups ∙ none) is.tasks
+act_goes limits dead w v at (act.Prefer path preference) is once live room none = same_act limits dead dead w v at (act.Prefer path preference) is room (ap (λ gs. path_cause (lacks_group gs (Some path))) is.groups ∙ none) is.tasks
 act_goes limits dead w v at (act.Fork pid path cpu) is once live room none =
     let may = may_fork limits.cpus w.groups (tasks_by.len w.tasks) (task_of w.tasks pid.0) path cpu.0 none in
     let alive = new_alive dead w.tasks pid.0 live may.new in
@@ -69,7 +69,7 @@ act_goes limits dead w v at (act.Move pid path) is once live room none =
     (λ alive. moved_still w.groups v.groups (task_of w.tasks pid.0) (task_of v.tasks pid.0) path is.groups (found_kept dead w.tasks v.tasks is.tasks pid.0 alive) none)
     (λ alive. rw is.groups (change_alive dead w.tasks v.tasks pid.0 _ is.tasks alive))
     (λ gone. change_dead dead w.tasks v.tasks pid.0 _ is.tasks gone)
-act_goes limits dead w v at (act.Mem path current swap scan) is once live room none = same_act limits dead dead w v at (act.Mem path current swap scan) is room (ap (λ gs. path_cause gs path) is.groups ∙ none) is.tasks
+act_goes limits dead w v at (act.Mem path current swap scan) is once live room none = same_act limits dead dead w v at (act.Mem path current swap scan) is room (ap (λ gs. path_cause (lacks_group gs (Some path))) is.groups ∙ none) is.tasks
 act_goes limits dead w v at (act.Host mem_total swap_total swap_free) is once live room none = same_act limits dead dead w v at (act.Host mem_total swap_total swap_free) is room none is.tasks
 act_goes limits dead w v at (act.Trigger path res level threshold_us window_us) is once live room none = same_act limits dead dead w v at (act.Trigger path res level threshold_us window_us) is room (rw (is.groups, is.triggers) none) is.tasks
 act_goes limits dead w v at (act.Irq cpu ns) is once live room none = same_act limits dead dead w v at (act.Irq cpu ns) is room (rw is.irqs none) is.tasks

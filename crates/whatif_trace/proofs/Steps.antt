@@ -10,7 +10,7 @@ use Rattle.psi_base.specs.declared.event.Event.{Event}
 use Rattle.psi_base.specs.declared.event.Pid.{Pid}
 use Rattle.psi_spec.specs.declared.machine.GroupLife.{GroupLife}
 use Rattle.psi_spec.specs.declared.machine.Task.{Task}
-use Rattle.psi_spec.specs.Refusal.{AreLegal, has_member}
+use Rattle.psi_spec.specs.Refusal.{AreLegal, has_member, lacks_group}
 use Rattle.psi_spec.specs.World.{Limits, Tasks, World, after_event, after_from, ends, groups_after, irqs_after, is_trigger, is_pressure, slot_of, tasks_after, events_at}
 use Rattle.group_tree.specs.Tree.{remove_cause}
 use Rattle.task_table.specs.Causes.{act_cause, empty_cause, fork_cause, move_cause, or_cause}
@@ -135,7 +135,7 @@ pub record MayFork (cpus : ℕ) (groups : List GroupLife) (live : ℕ) (task : O
   pub new : task ≡ None
   pub there : nat_le cpus cpu ≡ false
 
-pub may_fork : (cpus : ℕ) (groups : List GroupLife) (live : ℕ) (task : Option Task) (path : List ℕ) (cpu : ℕ) → fork_cause cpus groups live task path cpu ≡ None → MayFork cpus groups live task path cpu
+pub may_fork : (cpus : ℕ) (groups : List GroupLife) (live : ℕ) (task : Option Task) (path : List ℕ) (cpu : ℕ) → fork_cause cpus (lacks_group groups (Some path)) live task cpu ≡ None → MayFork cpus groups live task path cpu
 may_fork cpus groups live task path cpu none =
     let one = past (nat_le 65536 live) cause.TooManyTasks (if not (is_some (slot_of groups path)) then Some cause.UnknownGroup else if is_some task then Some cause.TaskExists else if nat_le cpus cpu then Some cause.BadCpu else None) none in
     let two = past (not (is_some (slot_of groups path))) cause.UnknownGroup (if is_some task then Some cause.TaskExists else if nat_le cpus cpu then Some cause.BadCpu else None) one.1 in
@@ -145,7 +145,7 @@ may_fork cpus groups live task path cpu none =
 fewer_still : (live fewer : ℕ) → fewer ≤ live → nat_le 65536 live ≡ false → nat_le 65536 fewer ≡ false
 fewer_still live fewer less few = grind (arith, nat_tests)
 
-pub forked_still : (cpus : ℕ) (groups : List GroupLife) (live fewer : ℕ) (task : Option Task) (path : List ℕ) (cpu : ℕ) → fewer ≤ live → fork_cause cpus groups live task path cpu ≡ None → fork_cause cpus groups fewer None path cpu ≡ None
+pub forked_still : (cpus : ℕ) (groups : List GroupLife) (live fewer : ℕ) (task : Option Task) (path : List ℕ) (cpu : ℕ) → fewer ≤ live → fork_cause cpus (lacks_group groups (Some path)) live task cpu ≡ None → fork_cause cpus (lacks_group groups (Some path)) fewer None cpu ≡ None
 forked_still cpus groups live fewer task path cpu less none =
     let may = may_fork cpus groups live task path cpu none in
     rw (fewer_still live fewer less may.few, may.group, may.there) refl
@@ -167,5 +167,5 @@ of_pid limits dead w v at pid what is room of none both one =
 pub of_tasks : (at : ℕ) (what : Act) → ((groups : List GroupLife) → groups_after at groups what ≡ groups) → ((irqs : List ℕ) → irqs_after at irqs what ≡ irqs) → is_trigger what ≡ false → is_pressure what ≡ false → ends what ≡ false → IsOfTasks at what
 of_tasks at what groups irqs plain on goes_on = record { groups = groups; irqs = irqs; plain = plain; on = on; goes_on = goes_on }
 
-pub moved_still : (groups same : List GroupLife) (task found : Option Task) (path : List ℕ) → same ≡ groups → found ≡ task → move_cause groups task path ≡ None → move_cause same found path ≡ None
+pub moved_still : (groups same : List GroupLife) (task found : Option Task) (path : List ℕ) → same ≡ groups → found ≡ task → move_cause (lacks_group groups (Some path)) task ≡ None → move_cause (lacks_group same (Some path)) found ≡ None
 moved_still groups same task found path is are none = rw (is, are) none

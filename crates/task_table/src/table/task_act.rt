@@ -180,6 +180,7 @@ impl Table {
         Ok(Finding {
             named,
             before: self.before_task(act, named),
+            group: None,
         })
     }
 

@@ -6,7 +6,10 @@ use Rattle.psi_spec.specs.Within.{listed}
 use Rattle.psi_counts.specs.Legal.{with_change}
 use Rattle.psi_counts.specs.Touch.{change_told, shown}
 use Rattle.psi_counts.specs.declared.changes.Change.{Change}
+use Rattle.psi_spec.specs.Names.{names}
 use Rattle.psi_spec.specs.World.{Limits, running_on}
+use Rattle.task_table.specs.Named.{slot_or_root}
+use Rattle.task_table.proofs.CauseLaws.{slot_found}
 use Rattle.proc_plan.specs.Plans.{HasTaken, changes_at, planner_view}
 use Rattle.proc_plan.specs.Room.{ChangesView, changes_in, lists_of, no_room}
 use Rattle.proc_plan.proofs.Taking.{HasStepped, account_slots_fit, room_for, room_for_all, slots_fit, taken_more, written}
@@ -45,6 +48,7 @@ returns-clause-takes c = λ limits events taken.
     let old = planner_view c.self.inside.table (lists_of c.self.inside.changes.items) c.self.inside.triggers.items c.self.inside.sides.items in
     let new = planner_view c.perform.new.self (lists_of c.add_changes.new.changes) c.add_trigger.new.triggers.items c.add_side-2.new.sides.items in
     let told = c.told_by-told.result in
+    let slot = c.slot.ensures ∙ ap slot_or_root c.in_ok-finding.ensures.group_is ∙ slot_found c.self.inside.table.world.groups (names c.args.event.now.act).live_path in
     let there : c.deref_mut-2.result.now ≡ c.make_room.new.changes = c.deref_mut-2.ensures.value ∙ written c.self.inside.changes.len c.make_room.new.changes c.self.inside.changes.items (c.in_ok-make_room.ensures.each ∙ c.deref_mut.ensures.len) in
     let kept : lists_of c.make_room.new.changes ≡ lists_of c.self.inside.changes.items = c.in_ok-make_room.ensures.changes ∙ ap lists_of c.deref_mut.ensures.value in
     let each : length c.make_room.new.changes ≡ c.self.inside.table.limits.cpus = c.in_ok-make_room.ensures.each ∙ ap length c.deref_mut.ensures.value ∙ sym (length-map c.self.inside.changes.items (λ (changes : ChangesView). changes.list)) ∙ c.self.invariant.each in
@@ -58,9 +62,9 @@ returns-clause-takes c = λ limits events taken.
       played = c.in_ok-touch.ensures.plays;
       told = c.in_ok-touch.ensures.touch;
       changes = changes;
-      trigger_is = c.told_by-told.ensures.trigger;
+      trigger_is = c.told_by-told.ensures.trigger c.self.inside.table.world.groups slot;
       triggers = c.add_trigger.ensures ∙ ap (λ triggers. triggers ++ listed told.trigger) c.in_ok-make_room.ensures.triggers;
-      sides_are = c.told_by-told.ensures.sides;
+      sides_are = c.told_by-told.ensures.sides c.self.inside.table.world c.in_ok-finding.ensures.before_is slot;
       sides = c.add_side-2.ensures.sides ∙ ap (λ sides. sides ++ listed told.second) (c.add_side.ensures.sides ∙ ap (λ sides. sides ++ listed told.first) c.in_ok-make_room.ensures.sides);
     } in
     rw (written c.self.inside.changes.len c.add_changes.new.changes (take c.self.inside.changes.len (c.make_room.new.changes ++ drop (length c.make_room.new.changes) c.self.inside.changes.items)) (c.add_changes.ensures.each ∙ c.deref_mut-2.ensures.len))

@@ -1,21 +1,28 @@
 use Rattle.std.proofs.Common.{◌∙◌, ap, subst, sym}
 use Rattle.psi_spec.specs.Names.{names}
-use Rattle.psi_counts.specs.Touch.{account_of}
+use Rattle.task_table.specs.Named.{slot_or_root}
 use Rattle.task_table.specs.Stands.{IsIndex, TableView}
 use Rattle.task_table.proofs.Touching.{IsTold, account_told_alone, told_played, unswitched}
 use Rattle.task_table.proofs.table.Table.perform.Goals as goal
 
 pub returns-in-Some-account-clause-touch : goal.returns-in-Some-account-clause-touch
 returns-in-Some-account-clause-touch c =
-    let is = sym (ap (λ (table : TableView). account_of table.world.groups c.args.event.now.act) c.self.view_is) ∙ sym c.account_of-account.ensures ∙ c.in-Some-account.is in
+    let slot = c.slot.ensures ∙ ap slot_or_root c.requires.group_is in
+    let is = sym (c.account_of-account.ensures c.args.self.now.world.groups slot) ∙ c.in-Some-account.is in
     (account_told_alone c.args.self.now.limits c.args.self.now.world c.args.event.now c.account_touch.result c.in-Some-account.account is c.account_touch.ensures.account c.account_touch.ensures.first c.account_touch.ensures.second).is
+
+pub touch_of-requires-clause-plain : goal.touch_of-requires-clause-plain
+touch_of-requires-clause-plain c =
+    let slot = c.slot.ensures ∙ ap slot_or_root c.requires.group_is in
+    unswitched c.args.self.now.world.groups (names c.args.event.now.act).switched (sym (c.account_of-account.ensures c.args.self.now.world.groups slot) ∙ c.in_default-account.is)
 
 -- all that is promised of the touch by a task or by interrupts
 told : (c : goal.After-touch_of) → IsTold c.args.self.now.limits c.args.self.now.world c.args.event.now c.touch_of.result
 told c =
-    let running = c.self-2.inside.running.items in
-    let index = subst (λ (table : TableView). IsIndex running table.world.tasks) c.self-2.view_is c.self-2.invariant.index in
-    let plain = sym (ap (λ (table : TableView). account_of table.world.groups c.args.event.now.act) c.self.view_is) ∙ sym c.account_of-account.ensures ∙ c.in_default-account.is in
+    let running = c.self.inside.running.items in
+    let index = subst (λ (table : TableView). IsIndex running table.world.tasks) c.self.view_is c.self.invariant.index in
+    let slot = c.slot.ensures ∙ ap slot_or_root c.requires.group_is in
+    let plain = sym (c.account_of-account.ensures c.args.self.now.world.groups slot) ∙ c.in_default-account.is in
     told_played c.args.self.now _ c.args.event.now c.in_ok-changed.changed running c.touch_of.result c.in_ok-changed.ensures.plays c.in_ok-changed.ensures.changed
     index plain c.touch_of.ensures.account (rw c.deref.ensures.value at c.touch_of.ensures.told) c.touch_of.ensures.beside
 
