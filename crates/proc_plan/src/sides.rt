@@ -49,8 +49,8 @@ fn trigger_by(at: Ns, act: &Act, slot: Slot) -> Option<TriggerSpec>
     }
 }
 
-// The sample of a group's memory or of the host's, or the preference, that an act reports. `slot` is
-// that of the group that the act names.
+// The sample of a group's memory or of the host's, or the preference, that an act reports. `slot`
+// is that of the group that the act names.
 #[inline(always)]
 fn sample_by(at: Ns, act: &Act, slot: Slot) -> Option<Side>
     requires { ActFits act.now }
@@ -115,8 +115,8 @@ fn passage(at: Ns, old: Option<Slot>, new: Option<Slot>) -> (Option<Side>, Optio
     }
 }
 
-// The sides of an event in their order, at most two. The task is the one that its act changes, as it
-// is before, and `slot` is that of the group that it names.
+// The sides of an event in their order, at most two. The task is the one that its act changes, as
+// it is before, and `slot` is that of the group that it names.
 #[inline(always)]
 fn sides_by(event: &Event, task: Option<Task>, slot: Slot) -> (Option<Side>, Option<Side>)
     requires { ActFits event.now.act }
@@ -139,8 +139,8 @@ fn sides_by(event: &Event, task: Option<Task>, slot: Slot) -> (Option<Side>, Opt
     }
 }
 
-/// The trigger and the sides of an event. The task is the one that its act changes, as it is before,
-/// and `slot` is that of the group that it names.
+/// The trigger and the sides of an event. The task is the one that its act changes, as it is
+/// before, and `slot` is that of the group that it names.
 #[inline(always)]
 pub(crate) fn told_by(event: &Event, task: Option<Task>, slot: Slot) -> Told
     requires { ActFits event.now.act }

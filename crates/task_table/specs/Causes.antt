@@ -124,7 +124,8 @@ act_cause cpus groups tasks irqs triggers pressures at (act.Switch cpu next how)
 act_cause cpus groups tasks irqs triggers pressures at (act.Stall pid) = stall_cause (task_of tasks pid.0)
 act_cause cpus groups tasks irqs triggers pressures at (act.Unstall pid) = unstall_cause (task_of tasks pid.0)
 act_cause cpus groups tasks irqs triggers pressures at (act.Migrate pid cpu) = migrate_cause cpus (task_of tasks pid.0) cpu.0
-act_cause cpus groups tasks irqs triggers pressures at (act.Move pid path) = move_cause (lacks_group groups (Some path)) (task_of tasks pid.0)
+act_cause cpus groups tasks irqs triggers pressures at (act.Move pid path) =
+    move_cause (lacks_group groups (Some path)) (task_of tasks pid.0)
 act_cause cpus groups tasks irqs triggers pressures at (act.Mem path current swap scan) = path_cause (lacks_group groups (Some path))
 act_cause cpus groups tasks irqs triggers pressures at (act.Host mem_total swap_total swap_free) = None
 act_cause cpus groups tasks irqs triggers pressures at (act.Trigger path res level threshold_us window_us) =

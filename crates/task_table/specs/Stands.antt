@@ -83,8 +83,8 @@ abbrev pub PlaysEvent : {T : Type 0} → TableView → Event → TableView → R
 PlaysEvent old event new (Ok x) = HasPlayed old event new
 PlaysEvent old event new (Err why) = HasRefused old event new why
 
--- An event is legal in a table, and these are its tasks and its group: the task with the number that
--- its act names, the one that it changes, and the live group with the path that it names.
+-- An event is legal in a table, and these are its tasks and its group: the task with the number
+-- that its act names, the one that it changes, and the live group with the path that it names.
 pub record IsFinding (table : TableView) (event : Event) (finding : Finding) : Type 0 where
   pub legal : cause_of table.limits table.world event ≡ None
   pub room : table.world.lines < most_events

@@ -314,9 +314,9 @@ fn irq_refused(irqs: &[Ns], cpus: usize, at: Ns, cpu: Cpu, ns: u64) -> Option<Ca
     None
 }
 
-/// Why the act of an event isn't legal, which isn't of tasks alone. `irqs` has the times of the last
-/// `irq` lines, `named` is the task with the number that the act names, and `group` the live group
-/// with the path that it names.
+/// Why the act of an event isn't legal, which isn't of tasks alone. `irqs` has the times of the
+/// last `irq` lines, `named` is the task with the number that the act names, and `group` the live
+/// group with the path that it names.
 #[inline(always)]
 pub(crate) fn act_refused(
     tree: &Tree,

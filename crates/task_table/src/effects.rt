@@ -230,7 +230,8 @@ fn add_group(tree: &mut Tree, members: &mut Members, path: &Path, at: Ns) -> Res
 }
 
 /// What a legal act does to tasks that isn't of tasks alone, done. `named` is the task with the
-/// number that the act names, `slot` that of the group that it names. Only a fork allocates; if it is out of memory, nothing changes.
+/// number that the act names, and `slot` that of the group that it names. Only a fork allocates; if
+/// it is out of memory, nothing changes.
 #[inline(always)]
 pub(crate) fn change_tasks(
     tasks: &mut TaskMap,

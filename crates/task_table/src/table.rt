@@ -204,8 +204,8 @@ impl Table {
         None
     }
 
-    /// The first cause against an event whose act names this task and this group, and isn't of tasks
-    /// alone.
+    /// The first cause against an event whose act names this task and this group. The act isn't of
+    /// tasks alone.
     #[inline(always)]
     fn refused(&self, event: &Event, named: Option<Task>, group: Option<Slot>) -> Option<Cause>
         requires other { is_task_act event.now.act ≡ false }

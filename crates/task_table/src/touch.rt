@@ -74,8 +74,8 @@ fn change_of(at: Ns, changed: TaskUpdate, running: &[Running], cpu: Cpu) -> Chan
     }
 }
 
-/// The group whose account an act switches, and whether on. `slot` is that of the group that the act
-/// names.
+/// The group whose account an act switches, and whether on. `slot` is that of the group that the
+/// act names.
 #[inline(always)]
 pub(crate) fn account_of(act: &Act, slot: Slot) -> Option<(Slot, bool)>
     ensures { (groups : List GroupLife) → slot ≡ slot_or_root (named_group groups act.now) →
@@ -99,8 +99,8 @@ pub(crate) fn account_touch(account: (Slot, bool)) -> Touch
     }
 }
 
-/// The changes at a time (ns) of the processors that an act touches, by the task that it changes and
-/// by the tasks that run after it. The act switches no account, and isn't of tasks alone.
+/// The changes at a time (ns) of the processors that an act touches, by the task that it changes
+/// and by the tasks that run after it. The act switches no account, and isn't of tasks alone.
 #[inline(always)]
 pub(crate) fn touch_of(at: Ns, act: &Act, changed: TaskUpdate, running: &[Running]) -> Touch
     requires other { is_task_act act.now ≡ false }
