@@ -1,5 +1,5 @@
 -- What reading the front of a file answers, and what it does to the counts of a shelf.
-use Rattle.std.specs.Prelude.{Result, Ok, Err, IsErrOf, ⊤}
+use Rattle.std.specs.Prelude.{Option, None, Some, Result, Ok, Err, IsErrOf, ⊤}
 use Rattle.outside.specs.Outside.{HasCauses, ShelfCounts}
 use Rattle.outside.specs.declared.shelf.ShelfFault.{ShelfFault}
 use Rattle.outside.specs.declared.shelf.ShelfFault.TheVariants as shelf
@@ -20,3 +20,10 @@ CausesFileFault before now result =
 abbrev pub TellsNothing : {A : Type 0} → Result A FileFault → Type 0
 TellsNothing (Ok x) = ⊥
 TellsNothing (Err found) = ⊤
+
+-- the fault of a shelf that an answer tells of, if it does
+abbrev pub shelf_fault : {A : Type 0} → Result A FileFault → Option ShelfFault
+shelf_fault (Ok x) = None
+shelf_fault (Err fault.NoFile) = Some shelf.NoFile
+shelf_fault (Err fault.ReadFault) = Some shelf.Failed
+shelf_fault (Err (fault.NoMemory _)) = None

@@ -1,7 +1,8 @@
 //! The front of a file, however the shelf's reads cut it.
 ghost use Rattle.std.specs.Prelude.{◌≡◌, ◌+◌, ◌<◌, ◌≤◌, ℕ, List, length, take, IfOk, IsErrOf, Some, None};
 ghost use Rattle.outside.specs.Outside.{Lacks, counts_of, told};
-ghost use Rattle.file_reader.specs.Front.{CausesFileFault, TellsNothing};
+ghost use Rattle.outside.specs.Reads.{ReadsFile};
+ghost use Rattle.file_reader.specs.Front.{CausesFileFault, TellsNothing, shelf_fault};
 
 use outside::{Shelf, ShelfFault, read_behind};
 use psi_base::NoMemory;
@@ -64,6 +65,8 @@ fn fill<S: Shelf>(shelf: &mut S, name: &str, bytes: &mut [u8]) -> Result<usize, 
     ensures given { S.given shelf.new ≤ S.given shelf.old + length bytes.new }
     ensures within { (whole : List ℕ) → told (S.holds shelf.old) name.now ≡ Some whole →
         S.given shelf.new ≤ S.given shelf.old + length whole }
+    ensures order { ReadsFile name.now 0 (S.reads shelf.old) (S.reads shelf.new)
+        (shelf_fault result) }
     ensures missed { IsErrOf result FileFault.NoFile →
         told (S.holds shelf.old) name.now ≡ None }
     ensures lacking { Lacks (S.holds shelf.old) name.now → TellsNothing result }
@@ -98,6 +101,8 @@ pub fn read_front<S: Shelf>(
     ensures given { S.given shelf.new ≤ S.given shelf.old + most }
     ensures within { (whole : List ℕ) → told (S.holds shelf.old) name.now ≡ Some whole →
         S.given shelf.new ≤ S.given shelf.old + length whole }
+    ensures order { ReadsFile name.now 0 (S.reads shelf.old) (S.reads shelf.new)
+        (shelf_fault result) }
     ensures missed { IsErrOf result FileFault.NoFile →
         told (S.holds shelf.old) name.now ≡ None }
     ensures lacking { Lacks (S.holds shelf.old) name.now → TellsNothing result }

@@ -4,7 +4,7 @@ ghost use Rattle.std.specs.Io.KnownBytes.{Keeps, ReadConsumes};
 ghost use Rattle.host_files.specs.Host.{GoesOn, LeavesFromPlace, ReadsFront, StandsAt};
 
 use crate::name::Name;
-use outside::{Shelf, ShelfFault, Sink, Tally, WriteFailed};
+use outside::{Call, ReadLog, Shelf, ShelfFault, Sink, Tally, WriteFailed};
 use std::fs;
 use std::io::{AsBytes, Cursor, ErrorKind, Read, Seek, SeekFrom, Write};
 use std::rt::Files;
@@ -147,6 +147,7 @@ pub struct HostShelf<'a, R: Files, I> {
     faults: u64,
     absent: u64,
     given: Tally,
+    reads: ReadLog,
 }
 
 impl<'a, R: Files, I: Read> HostShelf<'a, R, I> {
@@ -160,6 +161,7 @@ impl<'a, R: Files, I: Read> HostShelf<'a, R, I> {
             faults: 0,
             absent: 0,
             given: Tally::new(),
+            reads: ReadLog::new(),
         }
     }
 
@@ -176,6 +178,7 @@ impl<'a, R: Files, I: Read> HostShelf<'a, R, I> {
         ensures faults { self.new.faults ≡ self.old.faults }
         ensures absent { self.new.absent ≡ self.old.absent }
         ensures given { self.new.given ≡ self.old.given }
+        ensures log { self.new.reads ≡ self.old.reads }
     {
         if name == "-" {
             read_input(&mut self.input, &mut self.place, at, into)
@@ -194,8 +197,18 @@ impl<'a, R: Files, I: Read> Shelf for HostShelf<'a, R, I> {
 
     ghost given = { λ s. s.given.count };
 
+    ghost reads = { λ s. s.reads.calls };
+
     fn read_at(&mut self, name: &str, at: u64, into: &mut [u8]) -> Result<usize, ShelfFault> {
-        match self.read_named(name, at, into) {
+        let size = into.len();
+        let outcome = self.read_named(name, at, into);
+        self.reads = self.reads.and(&Call {
+            name,
+            at,
+            size,
+            outcome,
+        });
+        match outcome {
             Ok(count) => {
                 self.given = self.given.and(count);
                 Ok(count)

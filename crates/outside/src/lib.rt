@@ -2,7 +2,8 @@
 //!
 //! [`Shelf`] (files by name), [`Sink`] (places to write to) and [`Gate`] (points at which a test
 //! may hold a thread); [`BufferedSink`], which collects bytes for another sink; [`read_behind`];
-//! [`put_all`], [`put_each`] and [`put_number`]; and [`Tally`], a count that only proofs read.
+//! [`put_all`], [`put_each`] and [`put_number`]; and [`Tally`]
+//! and [`ReadLog`], a count and a log that only proofs read.
 #![tactic(auto)]
 
 mod buffer;
@@ -19,4 +20,4 @@ pub use put::{put_all, put_each, put_number};
 pub use read::read_behind;
 pub use shelf::{Shelf, ShelfFault};
 pub use sink::{Sink, WriteFailed};
-pub use tally::Tally;
+pub use tally::{Call, ReadLog, Tally};

@@ -1,6 +1,8 @@
 //! Reads of a shelf into a buffer that holds bytes.
 ghost use Rattle.std.specs.Prelude.{◌≡◌, ◌⊎◌, ◌+◌, ◌<◌, ◌≤◌, ℕ, List, Some, None, length, drop, take, IfOk, IsErrOf};
 ghost use Rattle.outside.specs.Outside.{HasCauses, Lacks, ReadsBytes, counts_of, given_by, told};
+ghost use Rattle.outside.specs.Reads.{ReadsFrom, after_read};
+ghost use Rattle.outside.specs.Reads.Progress.{Next};
 
 use crate::shelf::{Shelf, ShelfFault};
 
@@ -24,6 +26,8 @@ pub fn read_behind<S: Shelf>(
         (counts_of (S.faults shelf.new) (S.absent shelf.new))
         (IsErrOf result ShelfFault.Failed) (IsErrOf result ShelfFault.NoFile) }
     ensures given { S.given shelf.new ≡ S.given shelf.old + given_by result }
+    ensures order { ReadsFrom name.now (Next at) (S.reads shelf.old) (S.reads shelf.new)
+        (after_read at result) }
     ensures missed { IsErrOf result ShelfFault.NoFile →
         told (S.holds shelf.old) name.now ≡ None }
     ensures lacking { Lacks (S.holds shelf.old) name.now → IsErrOf result ShelfFault.NoFile

@@ -1,6 +1,7 @@
 //! Files by name.
-ghost use Rattle.std.specs.Prelude.{◌≡◌, ◌⊎◌, ◌+◌, ℕ, List, Option, Some, None, length, IfOk, IsErrOf, ◌≤◌};
+ghost use Rattle.std.specs.Prelude.{◌≡◌, ◌⊎◌, ◌+◌, ◌++◌, ◌∷◌, [], ℕ, List, Option, Some, None, length, IfOk, IsErrOf, ◌≤◌};
 ghost use Rattle.outside.specs.Outside.{Files, HasCauses, Lacks, ReadsBytes, counts_of, given_by, told};
+ghost use Rattle.outside.specs.Reads.{ReadCall, read_call};
 
 /// Why a shelf gave no bytes.
 #[derive(Clone, Copy, Debug, PartialEq, Eq)]
@@ -13,7 +14,7 @@ pub enum ShelfFault {
 
 /// Files that are read by their names. What they hold never changes. Each of the two counts
 /// `faults` and `absent` has 64 bits, starts at 0, never falls, and stops at its last value. The
-/// count `given` stands in proofs alone, and has no greatest value.
+/// count `given` and the log `reads` stand in proofs alone, and have no greatest value.
 pub trait Shelf {
     /// The names with their bytes, where the shelf tells them: of two pairs with one name the first
     /// counts.
@@ -27,6 +28,9 @@ pub trait Shelf {
 
     /// How many bytes its reads have given in all.
     ghost given: { Self → ℕ };
+
+    /// All its reads, in order.
+    ghost reads: { Self → List ReadCall };
 
     /// Reads the name's bytes from the place `at` (in bytes, from 0) on into the front of `into`,
     /// and says how many. No byte for a buffer that isn't empty is the end of the input.
@@ -42,6 +46,8 @@ pub trait Shelf {
             (counts_of (faults self.new) (absent self.new))
             (IsErrOf result ShelfFault.Failed) (IsErrOf result ShelfFault.NoFile) }
         ensures given { given self.new ≡ given self.old + given_by result }
+        ensures log { reads self.new
+            ≡ reads self.old ++ read_call name.now at (length into.old) result ∷ [] }
         ensures missed { IsErrOf result ShelfFault.NoFile →
             told (holds self.old) name.now ≡ None }
         ensures lacking { Lacks (holds self.old) name.now → IsErrOf result ShelfFault.NoFile

@@ -1,7 +1,10 @@
-//! A count that only proofs read. It takes no memory, and its calls do nothing at run time.
-ghost use Rattle.std.specs.Prelude.{◌≡◌, ◌+◌, ℕ};
+//! A count and a log that only proofs read. They take no memory, and their calls do nothing at run
+//! time.
+ghost use Rattle.std.specs.Prelude.{◌≡◌, ◌+◌, ◌++◌, ◌∷◌, [], ℕ, List};
 ghost use Rattle.std.specs.Borrow.{ftrue};
+ghost use Rattle.outside.specs.Reads.{ReadCall, read_call};
 
+use crate::shelf::ShelfFault;
 use std::marker::Model;
 
 /// How much was counted in all. A clause reads it as `count`, which has no greatest value.
@@ -28,5 +31,46 @@ impl Tally {
         ensures { result.count ≡ self.now.count + more }
     {
         Tally {}
+    }
+}
+
+/// A read, as a log takes it.
+#[derive(Drop)]
+pub struct Call<'a> {
+    /// The name that was read.
+    pub name: &'a str,
+    /// Where it began, in bytes.
+    pub at: u64,
+    /// How many bytes it asked for.
+    pub size: usize,
+    /// How many bytes it returned, or why it failed.
+    pub outcome: Result<usize, ShelfFault>,
+}
+
+/// The reads of a shelf, in order. A clause reads them as `calls`.
+#[derive(Drop)]
+pub struct ReadLog {
+    pub ghost calls: { List ReadCall },
+}
+
+impl Model for ReadLog {
+    ghost also_owns = { λ _. ftrue };
+}
+
+impl ReadLog {
+    /// No read yet.
+    pub fn new() -> ReadLog
+        ensures { result.calls ≡ [] }
+    {
+        ReadLog {}
+    }
+
+    /// One more read.
+    #[inline(always)]
+    pub fn and(&self, call: &Call<'_>) -> ReadLog
+        ensures { result.calls ≡ self.now.calls ++ read_call call.now.name.now
+            call.now.at call.now.size call.now.outcome ∷ [] }
+    {
+        ReadLog {}
     }
 }

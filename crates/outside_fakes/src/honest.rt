@@ -1,13 +1,14 @@
 //! A shelf and a sink in memory that are honest: they fail only for want of room. Their clauses say
 //! each answer exactly.
-ghost use Rattle.std.specs.Prelude.{◌≡◌, ◌+◌, ◌-◌, ◌<◌, ◌≤◌, Some, length, min, IfOk, IsErr, vec_capacity, vec_len, IsErrOf, ◌↔◌, []};
+ghost use Rattle.std.specs.Prelude.{◌≡◌, ◌+◌, ◌-◌, ◌<◌, ◌≤◌, Some, length, min, IfOk, IsErr, vec_capacity, vec_len, IsErrOf, ◌↔◌, [], ◌++◌, ◌∷◌};
 ghost use Rattle.std.specs.Io.KnownBytes.{WriteAppends};
 ghost use Rattle.outside_fakes.specs.Memory.{GivesOf};
 ghost use Rattle.outside.specs.Outside.{given_by};
 ghost use Rattle.outside.specs.Calls.{CountsWhere};
+ghost use Rattle.outside.specs.Reads.{read_call};
 
 use crate::memory::{finds_no_room, give, take_part};
-use outside::{Shelf, ShelfFault, Sink, Tally, WriteFailed};
+use outside::{Call, ReadLog, Shelf, ShelfFault, Sink, Tally, WriteFailed};
 use psi_base::{NoMemory, Text};
 use std::alloc::Global;
 
@@ -22,6 +23,8 @@ pub struct HonestShelf {
     pub absent: u64,
     /// How many bytes its calls gave.
     pub given: Tally,
+    /// Its calls.
+    pub reads: ReadLog,
     ghost gives: { 0 < most },
 }
 
@@ -30,13 +33,14 @@ impl HonestShelf {
     pub fn new(files: Vec<(Text, Text)>, most: usize) -> HonestShelf
         requires { 0 < most }
         ensures { (result.files ≡ files) × (result.most ≡ most) × (result.absent ≡ 0)
-            × (result.given.count ≡ 0) }
+            × (result.given.count ≡ 0) × (result.reads.calls ≡ []) }
     {
         HonestShelf {
             files,
             most,
             absent: 0,
             given: Tally::new(),
+            reads: ReadLog::new(),
         }
     }
 }
@@ -50,18 +54,23 @@ impl Shelf for HonestShelf {
 
     ghost given = { λ s. s.given.count };
 
+    ghost reads = { λ s. s.reads.calls };
+
     /// A name that isn't held is `NoFile`, and of one that is held come as many bytes as there are
     /// from `at` on, at most `most` and the length of `into`.
     fn read_at(&mut self, name: &str, at: u64, into: &mut [u8]) -> Result<usize, ShelfFault>
         ensures kept { (self.new.files ≡ self.old.files) × (self.new.most ≡ self.old.most) }
         ensures given { self.new.given.count ≡ self.old.given.count + given_by result }
+        ensures log { self.new.reads.calls ≡ self.old.reads.calls
+            ++ read_call name.now at (length into.old) result ∷ [] }
         ensures gives { GivesOf self.old.files.items name.now at
             self.old.most into.old into.new result }
         ensures failed { IsErrOf result ShelfFault.Failed → ⊥ }
         ensures absent { CountsWhere
             (IsErrOf result ShelfFault.NoFile) self.old.absent self.new.absent }
     {
-        give(
+        let size = into.len();
+        let outcome = give(
             &self.files,
             self.most,
             name,
@@ -69,7 +78,14 @@ impl Shelf for HonestShelf {
             into,
             &mut self.absent,
             &mut self.given,
-        )
+        );
+        self.reads = self.reads.and(&Call {
+            name,
+            at,
+            size,
+            outcome,
+        });
+        outcome
     }
 }
 

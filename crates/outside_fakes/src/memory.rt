@@ -1,11 +1,12 @@
 //! A shelf and a sink in memory, some of whose calls fail. Their clauses say each answer exactly.
-ghost use Rattle.std.specs.Prelude.{◌≡◌, ◌⊎◌, ◌+◌, ◌-◌, ◌<◌, ◌≤◌, Some, None, length, take, drop, min, IfOk, IsErr, IsTrue, MatchOption, vec_capacity, vec_len, Contains, IsErrOf, ◌↔◌, [], ◌++◌};
+ghost use Rattle.std.specs.Prelude.{◌≡◌, ◌⊎◌, ◌+◌, ◌-◌, ◌<◌, ◌≤◌, Some, None, length, take, drop, min, IfOk, IsErr, IsTrue, MatchOption, vec_capacity, vec_len, Contains, IsErrOf, ◌↔◌, [], ◌++◌, ◌∷◌};
 ghost use Rattle.std.specs.Io.KnownBytes.{WriteAppends};
 ghost use Rattle.outside_fakes.specs.Memory.{GivesOf};
 ghost use Rattle.outside.specs.Outside.{bytes_of, given_by};
 ghost use Rattle.outside.specs.Calls.{CountsWhere, one_more};
+ghost use Rattle.outside.specs.Reads.{read_call};
 
-use outside::{Shelf, ShelfFault, Sink, Tally, WriteFailed};
+use outside::{Call, ReadLog, Shelf, ShelfFault, Sink, Tally, WriteFailed};
 use psi_base::{NoMemory, Text};
 use std::alloc::Global;
 
@@ -114,6 +115,8 @@ pub struct MemShelf {
     pub absent: u64,
     /// How many bytes its calls gave.
     pub given: Tally,
+    /// Its calls.
+    pub reads: ReadLog,
     ghost gives: { 0 < most },
 }
 
@@ -123,7 +126,7 @@ impl MemShelf {
         requires { 0 < most }
         ensures { (result.files ≡ files) × (result.most ≡ most) × (result.fails ≡ fails)
             × (result.calls ≡ 0) × (result.faults ≡ 0) × (result.absent ≡ 0)
-            × (result.given.count ≡ 0) }
+            × (result.given.count ≡ 0) × (result.reads.calls ≡ []) }
     {
         MemShelf {
             files,
@@ -133,6 +136,7 @@ impl MemShelf {
             faults: 0,
             absent: 0,
             given: Tally::new(),
+            reads: ReadLog::new(),
         }
     }
 }
@@ -146,6 +150,8 @@ impl Shelf for MemShelf {
 
     ghost given = { λ s. s.given.count };
 
+    ghost reads = { λ s. s.reads.calls };
+
     /// A call whose number is in `fails` fails. Else a name that isn't held is `NoFile`, and of one
     /// that is held come as many bytes as there are from `at` on, at most `most` and the length of
     /// `into`.
@@ -153,6 +159,8 @@ impl Shelf for MemShelf {
         ensures kept { (self.new.files ≡ self.old.files) × (self.new.most ≡ self.old.most)
             × (self.new.fails ≡ self.old.fails) }
         ensures given { self.new.given.count ≡ self.old.given.count + given_by result }
+        ensures log { self.new.reads.calls ≡ self.old.reads.calls
+            ++ read_call name.now at (length into.old) result ∷ [] }
         ensures calls { self.new.calls ≡ one_more self.old.calls }
         ensures failed { IsErrOf result ShelfFault.Failed
             ↔ Contains self.old.fails.items self.old.calls }
@@ -163,13 +171,21 @@ impl Shelf for MemShelf {
         ensures absent { CountsWhere
             (IsErrOf result ShelfFault.NoFile) self.old.absent self.new.absent }
     {
-        let call = self.calls;
-        self.calls = call.saturating_add(1);
-        if self.fails.contains(&call) {
+        let size = into.len();
+        let number = self.calls;
+        self.calls = number.saturating_add(1);
+        if self.fails.contains(&number) {
             self.faults = self.faults.saturating_add(1);
-            return Err(ShelfFault::Failed);
+            let outcome = Err(ShelfFault::Failed);
+            self.reads = self.reads.and(&Call {
+                name,
+                at,
+                size,
+                outcome,
+            });
+            return outcome;
         }
-        give(
+        let outcome = give(
             &self.files,
             self.most,
             name,
@@ -177,7 +193,14 @@ impl Shelf for MemShelf {
             into,
             &mut self.absent,
             &mut self.given,
-        )
+        );
+        self.reads = self.reads.and(&Call {
+            name,
+            at,
+            size,
+            outcome,
+        });
+        outcome
     }
 }
 

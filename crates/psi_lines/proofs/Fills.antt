@@ -1,5 +1,8 @@
 -- How reads keep what is left.
 use Rattle.std.proofs.Common.{◌≡◌, ℕ, ◌+◌, ◌-◌, ◌<◌, ◌≤◌, List, [], ◌∷◌, ◌++◌, length, take, drop, refl, sym, ap, ◌∙◌, append_assoc, length-drop, arith}
+use Rattle.std.proofs.lemmas.Grind.{common_steps}
+use Rattle.std.specs.Prelude.{slice_index}
+use Rattle.psi_lines.specs.Lines.{BeginsWithLine, HasNoNewline}
 use Rattle.std.proofs.lemmas.List.{take-append-drop, drop-drop, drop-take, take-take}
 use Rattle.std.proofs.Math.ListN.{drop_of_length-le}
 use Rattle.std.proofs.Math.Seq.{take-add}
@@ -37,3 +40,15 @@ skips buffer start end count inside =
 pub some_left : (held rest : List ℕ) → 0 < length held → held ++ rest ≡ [] → ⊥
 some_left [] rest some none = absurd (omega arith)
 some_left (byte ∷ held) rest some none = cc
+
+-- a line that was found at the front of what is held is the first of what is left
+pub line_begins : (held rest whole line after : List ℕ) (count : ℕ) → count < length held → count ≤ 512 → slice_index held count ≡ 10 → HasNoNewline held count → held ++ rest ≡ whole
+    → line ≡ take count held → after ≡ drop (count + 1) held → BeginsWithLine whole line (after ++ rest)
+line_begins held rest whole line after count inside short newline none same is goes =
+    let long : length line ≡ count = rw is (grind (arith, common_steps, inside)) in
+    let split : held ≡ take count held ++ 10 ∷ drop (count + 1) held = grind (arith, common_steps, newline, inside) in
+    record {
+      whole = sym same ∙ ap (λ xs. xs ++ rest) split ∙ append_assoc (take count held) (10 ∷ drop (count + 1) held) rest ∙ ap (λ xs. xs ++ 10 ∷ (drop (count + 1) held ++ rest)) (sym is) ∙ ap (λ xs. line ++ 10 ∷ (xs ++ rest)) (sym goes);
+      short = omega (arith, long, short);
+      one = λ k less. rw is (let below : k < count = omega (arith, less, long) in let other = none k below in grind (arith, common_steps, other, below));
+    }

@@ -1,7 +1,9 @@
 -- What reading the next line gives.
-use Rattle.std.specs.Prelude.{◌≡◌, ℕ, ◌+◌, ◌-◌, ◌*◌, List, [], ◌++◌, drop, take, length, ◌<◌, ◌≤◌, ◌⊎◌, slice_index, Option, None, Some, Result, Ok, Err, IsErrOf, ⊤}
+use Rattle.std.specs.Prelude.{◌≡◌, ℕ, ◌+◌, ◌-◌, ◌*◌, List, [], ◌++◌, drop, take, length, ◌<◌, ◌≤◌, ◌⊎◌, slice_index, Option, None, Some, Result, Ok, Err, IsErrOf, Bool, true, false, ⊤}
 use Rattle.outside.specs.Outside.{ShelfCounts, HasCauses}
 use Rattle.psi_lines.specs.Lines.{Reader, HasNoNewline, left, BeginsWithLine, IsTooLong, IsCut}
+use Rattle.outside.specs.Reads.{Progress, after_read}
+use Rattle.outside.specs.Reads.Progress.{Next, Over}
 use Rattle.outside.specs.declared.shelf.ShelfFault.{ShelfFault}
 use Rattle.outside.specs.declared.shelf.ShelfFault.TheVariants as shelf
 use Rattle.psi_lines.specs.declared.lines.Line.{Line}
@@ -34,6 +36,31 @@ pub record FillsBytes (bytes : List ℕ) (at : ℕ) (old new : List ℕ) (n : �
 abbrev pub read_fault : ShelfFault → LineFault
 read_fault shelf.NoFile = NoFile
 read_fault shelf.Failed = ReadFault
+
+-- how far a file was read up to a place, where it has this fault
+abbrev pub progress_by_fault : ℕ → LineFault → Progress
+progress_by_fault at (TooLong number) = Next at
+progress_by_fault at (Cut number) = Over None
+progress_by_fault at NoFile = Over (Some shelf.NoFile)
+progress_by_fault at ReadFault = Over (Some shelf.Failed)
+progress_by_fault at (NoMemory _) = Next at
+
+-- how far it was read by one read from a place on
+abbrev pub progress_by_read : ℕ → Result ℕ LineFault → Progress
+progress_by_read at (Ok n) = after_read at (Ok n)
+progress_by_read at (Err fault) = progress_by_fault at fault
+
+-- how far it was read up to a place, by the answer for a line
+abbrev pub progress_by_line : {T : Type 0} → ℕ → Result (Option T) LineFault → Progress
+progress_by_line at (Ok (Some line)) = Next at
+progress_by_line at (Ok None) = Over None
+progress_by_line at (Err fault) = progress_by_fault at fault
+
+-- how far it was read up to a place, by the answer whether it ends there
+abbrev pub progress_by_end : ℕ → Result Bool LineFault → Progress
+progress_by_end at (Ok true) = Over None
+progress_by_end at (Ok false) = Next at
+progress_by_end at (Err fault) = progress_by_fault at fault
 
 -- A shelf counted this fault of reading and nothing else: a failed read, or a name that it hasn't.
 abbrev pub CausesFault : {T : Type 0} → ShelfCounts → ShelfCounts → Result T LineFault → Type 0

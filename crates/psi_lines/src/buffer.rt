@@ -1,7 +1,9 @@
 //! The bytes that were read and not handed out.
 ghost use Rattle.std.specs.Prelude.{◌≡◌, ◌+◌, ◌-◌, ◌<◌, ◌≤◌, ◌⊎◌, [], ℕ, List, length, drop, take, IfOk, OnErr, IsErrOf, Some, None};
 ghost use Rattle.outside.specs.Outside.{told, Lacks, counts_of, given_by};
-ghost use Rattle.psi_lines.specs.Next.{CausesFault, FillsBytes, IsReadFault};
+ghost use Rattle.outside.specs.Reads.{ReadsFrom};
+ghost use Rattle.outside.specs.Reads.Progress.{Next};
+ghost use Rattle.psi_lines.specs.Next.{CausesFault, FillsBytes, IsReadFault, progress_by_read};
 
 use crate::lines::LineFault;
 use outside::{Shelf, read_behind};
@@ -104,6 +106,8 @@ impl Buffer {
         ensures cause { CausesFault (counts_of (S.faults shelf.old) (S.absent shelf.old))
             (counts_of (S.faults shelf.new) (S.absent shelf.new)) result }
         ensures given { S.given shelf.new ≡ S.given shelf.old + given_by result }
+        ensures order { ReadsFrom name.now (Next at) (S.reads shelf.old) (S.reads shelf.new)
+            (progress_by_read at result) }
         ensures missed { IsErrOf result LineFault.NoFile
             → told (S.holds shelf.old) name.now ≡ None }
         ensures lacking { Lacks (S.holds shelf.old) name.now → IsErrOf result LineFault.NoFile

@@ -2,8 +2,10 @@
 ghost use Rattle.std.specs.Prelude.{◌≡◌, ◌≢◌, ◌+◌, ◌-◌, ◌*◌, ◌<◌, ◌≤◌, ◌^◌, ◌↔◌, [], ◌++◌, ℕ, List, length, drop, IfOk, OnErr, IsErrOf, IsTrue, MatchOption, slice_index, Ok, Some, None, false};
 ghost use Rattle.psi_base.specs.Memory.{no_memory};
 ghost use Rattle.outside.specs.Outside.{told, Lacks, counts_of};
+ghost use Rattle.outside.specs.Reads.{ReadsFrom};
+ghost use Rattle.outside.specs.Reads.Progress.{Next};
 ghost use Rattle.psi_lines.specs.Lines.{HasNoNewline, Reader, left};
-ghost use Rattle.psi_lines.specs.Next.{CausesFault, EndsAt, FindsLine, IsMissing, IsNumbered, IsReadFault, IsShortLine, NextOf, ReadsOn, TellsLine, furthest, number_after};
+ghost use Rattle.psi_lines.specs.Next.{CausesFault, EndsAt, FindsLine, IsMissing, IsNumbered, IsReadFault, IsShortLine, NextOf, ReadsOn, TellsLine, furthest, number_after, progress_by_end, progress_by_line};
 
 use crate::buffer::{Buffer, LINE, ROOM};
 use memchr::memchr;
@@ -125,6 +127,8 @@ fn find_line<S: Shelf>(
         told (S.holds shelf.old) name.now ≡ None }
     ensures missing { held.old ≡ [] → Lacks (S.holds shelf.old) name.now → (held.new ≡ [])
         × (at.new ≡ at.old) × IsMissing result }
+    ensures order { ReadsFrom name.now (Next at.old) (S.reads shelf.old) (S.reads shelf.new)
+        (progress_by_line at.new result) }
 {
     'reads: loop {
         let line = held.held();
@@ -189,6 +193,8 @@ impl Lines {
             → told (S.holds shelf.old) self.old.name ≡ None }
         ensures missing { self.old.held ≡ [] → Lacks (S.holds shelf.old) self.old.name
             → (self.new.held ≡ []) × (self.new.at ≡ self.old.at) × IsMissing result }
+        ensures order { ReadsFrom self.old.name (Next self.old.at) (S.reads shelf.old)
+            (S.reads shelf.new) (progress_by_line self.new.at result) }
     {
         let number = self.number();
         find_line(
@@ -232,6 +238,8 @@ impl Lines {
             → told (S.holds shelf.old) self.old.name ≡ None }
         ensures missing { self.old.held ≡ [] → Lacks (S.holds shelf.old) self.old.name
             → (self.new.held ≡ []) × (self.new.at ≡ self.old.at) × IsMissing result }
+        ensures order { ReadsFrom self.old.name (Next self.old.at) (S.reads shelf.old)
+            (S.reads shelf.new) (progress_by_line self.new.at result) }
     {
         let number = self.number();
         let Some(count) = self.find(shelf)? else {
@@ -260,6 +268,9 @@ impl Lines {
         ensures missing { self.old.held ≡ [] → Lacks (S.holds shelf.old) self.old.name
             → IsMissing result }
         ensures memory { IsErrOf result (LineFault.NoMemory no_memory) → ⊥ }
+        ensures order { ReadsFrom self.old.name (Next self.old.at) (S.reads shelf.old)
+            (S.reads shelf.new)
+            (progress_by_line (self.old.at + S.given shelf.new - S.given shelf.old) result) }
     {
         let Some(count) = self.find(shelf)? else {
             return Ok(None);
@@ -326,6 +337,8 @@ impl Lines {
             → told (S.holds shelf.old) self.old.name ≡ None }
         ensures missing { self.old.held ≡ [] → Lacks (S.holds shelf.old) self.old.name
             → (self.new.held ≡ []) × (self.new.at ≡ self.old.at) × IsMissing result }
+        ensures order { ReadsFrom self.old.name (Next self.old.at) (S.reads shelf.old)
+            (S.reads shelf.new) (progress_by_end self.new.at result) }
     {
         if !self.held.held().is_empty() {
             return Ok(false);

@@ -1,4 +1,5 @@
 use Rattle.std.proofs.Common.{arith, ◌∙◌, ⊎_elim}
+use Rattle.outside.proofs.ReadOrder.{read_on}
 use Rattle.file_reader.proofs.Fronts.{front_grows, front_ends, held_within}
 use Rattle.file_reader.proofs.front.fill.Goals as goal
 
@@ -20,5 +21,6 @@ reads-preserved g c =
       absent = cause.absent_same (λ missed. cc missed) ∙ i.absent;
       given = omega (arith, c.in-Ok.ensures.given, i.given);
       within = λ whole tells. held_within whole _ _ c.reads.held c.in-Ok.count (i.within whole tells) (c.in-Ok.ensures.bytes whole (rw i.kept tells));
+      order = read_on _ _ _ _ _ _ _ i.order c.in-Ok.ensures.order (grind arith);
       missing = λ lacks. ⊎_elim (λ missed. cc) (λ failed. cc) (c.in-Ok.ensures.lacking (rw i.kept lacks));
     }

@@ -1,6 +1,8 @@
 use Rattle.std.proofs.Common.{◌≡◌, ℕ, ◌+◌, ◌-◌, ◌≤◌, [], length, List, ◌++◌, drop}
 use Rattle.std.specs.Prelude.{Some}
 use Rattle.outside.specs.Outside.{told, Lacks}
+use Rattle.outside.specs.Reads.{ReadsFrom}
+use Rattle.outside.specs.Reads.Progress.{Next}
 use Rattle.psi_lines.specs.Next.{ReadsOn, TellsLine}
 use Rattle.psi_lines.proofs.lines.find_line.Given as goal
 
@@ -13,6 +15,7 @@ invariant-reads g l = record {
   faults : g.S.Shelf.faults l.shelf ≡ g.S.Shelf.faults l.fn.shelf;
   absent : g.S.Shelf.absent l.shelf ≡ g.S.Shelf.absent l.fn.shelf;
   given : g.S.Shelf.given l.shelf + l.fn.at ≡ g.S.Shelf.given l.fn.shelf + l.at;
+  order : ReadsFrom l.fn.name (Next l.fn.at) (g.S.Shelf.reads l.fn.shelf) (g.S.Shelf.reads l.shelf) (Next l.at);
   held : TellsLine l.fn.held → (l.shelf ≡ l.fn.shelf) × (l.held ≡ l.fn.held);
   missing : l.fn.held ≡ [] → Lacks (g.S.Shelf.holds l.fn.shelf) l.fn.name → l.held ≡ [];
 }

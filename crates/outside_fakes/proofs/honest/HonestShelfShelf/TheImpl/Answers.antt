@@ -14,6 +14,7 @@ read_at-tells = λ c.
       bytes = laws.gives_bytes _ _ _ _ _ _ _ gives;
       cause = laws.shelf_causes c.result 0 0 c.args.self.now.absent c.new.self.now.absent (record { later = omega arith; counted = λ is. absurd (c.ensures.failed is); same = λ none. refl }) c.ensures.absent;
       given = c.ensures.given;
+      log = c.ensures.log;
       missed = laws.gives_missed _ _ _ _ _ _ _ gives;
       lacking = laws.gives_lacking _ _ _ _ _ _ _ gives;
     }

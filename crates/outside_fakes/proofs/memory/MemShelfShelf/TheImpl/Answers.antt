@@ -13,6 +13,7 @@ read_at-tells = λ c.
       bytes = laws.gives_bytes _ _ _ _ _ _ _ gives;
       cause = laws.shelf_causes c.result c.args.self.now.faults c.new.self.now.faults c.args.self.now.absent c.new.self.now.absent c.ensures.faults c.ensures.absent;
       given = c.ensures.given;
+      log = c.ensures.log;
       missed = laws.gives_missed _ _ _ _ _ _ _ gives;
       lacking = laws.gives_lacking _ _ _ _ _ _ _ gives;
     }

@@ -1,0 +1,86 @@
+-- How reads of files in order are put together.
+use Rattle.std.proofs.Common.{◌≡◌, ◌⊎◌, inl, inr, ℕ, zero, suc, ◌+◌, ◌<◌, List, [], ◌∷◌, ◌++◌, refl, sym, ap, ◌∙◌, subst, append_assoc, arith, Option, None, Some, Result, Ok, Err}
+use Rattle.std.proofs.lemmas.List.{append-nil}
+use Rattle.outside.specs.declared.shelf.ShelfFault.{ShelfFault}
+use Rattle.outside.specs.Reads.{AreReads, Progress, ReadCall, ReadFailure, ReadsFile, ReadsFiles, ReadsFrom, after_read, failure_at, fault_in, read_call}
+use Rattle.outside.specs.Reads.Progress.{Next, Over}
+
+-- ---- one file
+
+-- no read
+pub no_reads : (name : List ℕ) (from : Progress) (log : List ReadCall) → ReadsFrom name from log log from
+no_reads name from log = record { calls = []; grown = sym (append-nil log); in_order = refl }
+
+-- one read
+pub one_read : (name : List ℕ) (at size : ℕ) (outcome : Result ℕ ShelfFault) (before now : List ReadCall) → 0 < size
+    → now ≡ before ++ read_call name at size outcome ∷ [] → ReadsFrom name (Next at) before now (after_read at outcome)
+one_read name at size outcome before now some grown =
+    record { calls = read_call name at size outcome ∷ []; grown = grown; in_order = (refl, refl, some, refl) }
+
+-- calls after calls
+calls_then : (name : List ℕ) (from middle to : Progress) (xs ys : List ReadCall) → AreReads name from xs middle → AreReads name middle ys to → AreReads name from (xs ++ ys) to
+calls_then name from middle to [] ys first then = subst (λ p. AreReads name p ys to) first then
+calls_then name (Next at) middle to (call ∷ xs) ys first then =
+    (first.0, first.1, first.2, calls_then name (after_read at call.outcome) middle to xs ys first.3 then)
+calls_then name (Over fault) middle to (call ∷ xs) ys first then = absurd first
+
+-- reads after reads
+pub reads_then : (name : List ℕ) (from middle to : Progress) (before between now : List ReadCall) → ReadsFrom name from before between middle → ReadsFrom name middle between now to
+    → ReadsFrom name from before now to
+reads_then name from middle to before between now first then = record {
+  calls = first.calls ++ then.calls;
+  grown = then.grown ∙ ap (λ log. log ++ then.calls) first.grown ∙ append_assoc before first.calls then.calls;
+  in_order = calls_then name from middle to first.calls then.calls first.in_order then.in_order;
+}
+
+-- a read that returned bytes goes on behind them
+pub goes_on : (at n : ℕ) → 0 < n → after_read at (Ok n) ≡ Next (at + n)
+goes_on at zero some = absurd (omega (arith, some))
+goes_on at (suc n) some = refl
+
+-- one more read, which returned bytes
+pub read_on : (name : List ℕ) (from : Progress) (at n : ℕ) (before between now : List ReadCall) → ReadsFrom name from before between (Next at) → ReadsFrom name (Next at) between now (after_read at (Ok n)) → 0 < n
+    → ReadsFrom name from before now (Next (at + n))
+read_on name from at n before between now first then some =
+    reads_then name from (Next at) (Next (at + n)) before between now first (subst (ReadsFrom name (Next at) between now) (goes_on at n some) then)
+
+-- reads of a file, with the fault that ended them
+pub file_read : (name : List ℕ) (at : ℕ) (before now : List ReadCall) (progress : Progress) → ReadsFrom name (Next at) before now progress → ReadsFile name at before now (fault_in progress)
+file_read name at before now progress reads = record { progress = progress; reads = reads; ended = refl }
+
+-- the rest of a file's reads, after its first reads
+pub file_then : (name : List ℕ) (at place : ℕ) (before between now : List ReadCall) (fault : Option ShelfFault) → ReadsFrom name (Next at) before between (Next place) → ReadsFile name place between now fault
+    → ReadsFile name at before now fault
+file_then name at place before between now fault first then =
+    record { progress = then.progress; reads = reads_then name (Next at) (Next place) then.progress before between now first then.reads; ended = then.ended }
+
+-- nothing is read of a file
+pub file_unread : (name : List ℕ) (at : ℕ) (log : List ReadCall) → ReadsFile name at log log None
+file_unread name at log = file_read name at log log (Next at) (no_reads name (Next at) log)
+
+-- ---- several files
+
+-- nothing is read of any
+pub none_read : (names : List (List ℕ)) (log : List ReadCall) → ReadsFiles names log log None
+none_read [] log = (refl, refl)
+none_read (name ∷ names) log = inl (log, file_unread name 0 log, none_read names log)
+
+-- one file was read without a fault
+pub one_file : (name : List ℕ) (before now : List ReadCall) → ReadsFile name 0 before now None → ReadsFiles (name ∷ []) before now None
+one_file name before now reads = inl (now, reads, (refl, refl))
+
+-- or with one
+pub one_fault : (name : List ℕ) (before now : List ReadCall) (fault : ShelfFault) → ReadsFile name 0 before now (Some fault) → ReadsFiles (name ∷ []) before now (Some (failure_at name fault))
+one_fault name before now fault reads = inr (fault, reads, refl)
+
+-- files after files that had no fault
+pub files_then : (xs ys : List (List ℕ)) (before between now : List ReadCall) (failure : Option ReadFailure) → ReadsFiles xs before between None → ReadsFiles ys between now failure → ReadsFiles (xs ++ ys) before now failure
+files_then [] ys before between now failure first then = subst (λ log. ReadsFiles ys log now failure) first.0 then
+files_then (name ∷ xs) ys before between now failure (inl (middle, reads, rest)) then = inl (middle, reads, files_then xs ys middle between now failure rest then)
+files_then (name ∷ xs) ys before between now failure (inr (fault, reads, is)) then = absurd (let no : ⊥ = cc is in no)
+
+-- of further files nothing is read
+pub files_stop : (xs ys : List (List ℕ)) (before now : List ReadCall) (failure : Option ReadFailure) → ReadsFiles xs before now failure → ReadsFiles (xs ++ ys) before now failure
+files_stop [] ys before now failure first = subst (λ f. ReadsFiles ys before now f) (sym first.1) (subst (λ log. ReadsFiles ys before log None) (sym first.0) (none_read ys before))
+files_stop (name ∷ xs) ys before now failure (inl (middle, reads, rest)) = inl (middle, reads, files_stop xs ys middle now failure rest)
+files_stop (name ∷ xs) ys before now failure (inr (fault, reads, is)) = inr (fault, reads, is)

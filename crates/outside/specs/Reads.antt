@@ -1,0 +1,73 @@
+-- The log of a shelf's reads, and what it means that files are read in order.
+use Rattle.std.specs.Prelude.{◌≡◌, ◌⊎◌, ℕ, zero, suc, ◌+◌, ◌<◌, List, [], ◌∷◌, ◌++◌, Option, None, Some, Result, Ok, Err}
+use Rattle.outside.specs.declared.shelf.ShelfFault.{ShelfFault}
+
+-- one read: the name, the place where it begins (in bytes), how many bytes it asks for, and how many
+-- it returned, or why it failed
+pub record ReadCall : Type 0 where
+  pub name : List ℕ
+  pub at : ℕ
+  pub size : ℕ
+  pub outcome : Result ℕ ShelfFault
+
+-- a read, from its parts
+abbrev pub read_call : List ℕ → ℕ → ℕ → Result ℕ ShelfFault → ReadCall
+read_call name at size outcome = record { name = name; at = at; size = size; outcome = outcome }
+
+-- ---- one file
+
+-- How far a file was read: the next read begins at this place; or there is no next read, because the
+-- last one returned no byte or had this fault.
+pub data Progress : Type 0 where
+  Next : ℕ → Progress
+  Over : Option ShelfFault → Progress
+
+-- the progress after a read that began at a place
+abbrev pub after_read : ℕ → Result ℕ ShelfFault → Progress
+after_read at (Ok zero) = Over None
+after_read at (Ok (suc n)) = Next (at + suc n)
+after_read at (Err fault) = Over (Some fault)
+
+-- the fault that ended the reads of a file, if one did
+abbrev pub fault_in : Progress → Option ShelfFault
+fault_in (Next at) = None
+fault_in (Over fault) = fault
+
+-- Calls read a file in order, from one progress to another: each asks for at least one byte, and
+-- begins where the one before it ended. None follows one that returned no byte or failed.
+abbrev pub AreReads : List ℕ → Progress → List ReadCall → Progress → Type 0
+AreReads name from [] to = to ≡ from
+AreReads name (Next at) (call ∷ calls) to =
+    (call.name ≡ name) × (call.at ≡ at) × (0 < call.size) × AreReads name (after_read at call.outcome) calls to
+AreReads name (Over fault) (call ∷ calls) to = ⊥
+
+-- a log grew by such calls
+pub record ReadsFrom (name : List ℕ) (from : Progress) (before now : List ReadCall) (to : Progress) : Type 0 where
+  pub calls : List ReadCall
+  pub grown : now ≡ before ++ calls
+  pub in_order : AreReads name from calls to
+
+-- a log grew by the reads of a file from a place on, which ended with this fault, if with any
+pub record ReadsFile (name : List ℕ) (at : ℕ) (before now : List ReadCall) (fault : Option ShelfFault) : Type 0 where
+  pub progress : Progress
+  pub reads : ReadsFrom name (Next at) before now progress
+  pub ended : fault_in progress ≡ fault
+
+-- ---- several files
+
+-- the fault of a read, and the name that was read
+pub record ReadFailure : Type 0 where
+  pub name : List ℕ
+  pub fault : ShelfFault
+
+-- a read of this name had this fault
+abbrev pub failure_at : List ℕ → ShelfFault → ReadFailure
+failure_at name fault = record { name = name; fault = fault }
+
+-- A log grew by reads of these files, one after the other, each from its first byte on. Where one
+-- has a fault, nothing more is read.
+abbrev pub ReadsFiles : List (List ℕ) → List ReadCall → List ReadCall → Option ReadFailure → Type 0
+ReadsFiles [] before now failure = (now ≡ before) × (failure ≡ None)
+ReadsFiles (name ∷ names) before now failure =
+    ((middle : List ReadCall) × ReadsFile name 0 before middle None × ReadsFiles names middle now failure)
+    ⊎ ((fault : ShelfFault) × ReadsFile name 0 before now (Some fault) × (failure ≡ Some (failure_at name fault)))

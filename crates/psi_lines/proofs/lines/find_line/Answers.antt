@@ -1,0 +1,34 @@
+use Rattle.std.proofs.Common.{rules, arith, refl, ap, subst, ◌∙◌, ◌≡◌, ◌<◌}
+use Rattle.std.proofs.lemmas.Grind.{common_steps}
+use Rattle.std.specs.Prelude.{Err, Ok, Option, Result, ℕ}
+use Rattle.outside.specs.Reads.{ReadsFrom}
+use Rattle.outside.specs.Reads.Progress.{Next}
+use Rattle.outside.proofs.ReadOrder.{read_on, reads_then}
+use Rattle.psi_lines.specs.Next.{ReadsOn, progress_by_line, progress_by_read}
+use Rattle.psi_lines.proofs.Progress.{ends_at, fault_at, reads_on}
+use Rattle.psi_lines.proofs.lines.find_line.Goals as goal
+
+pub returns-in_err-count-clause-order : goal.returns-in_err-count-clause-order
+returns-in_err-count-clause-order g c =
+    fault_at _ _ _ _ _ _ c.in_err-count.field-0.0 c.from_residual.result c.reads.invariant.order c.in_err-count.ensures.order c.from_residual.ensures.0 c.from_residual.ensures.1
+
+pub returns-then-is_empty-clause-order : goal.returns-then-is_empty-clause-order
+returns-then-is_empty-clause-order g c = ends_at _ _ _ _ _ _ c.in_ok-count.count c.reads.invariant.order c.in_ok-count.ensures.order (grind arith)
+
+pub returns-else-is_empty-clause-order : goal.returns-else-is_empty-clause-order
+returns-else-is_empty-clause-order g c = ends_at _ _ _ _ _ _ c.in_ok-count.count c.reads.invariant.order c.in_ok-count.ensures.order (grind arith)
+
+pub reads-preserved : goal.reads-preserved
+reads-preserved g c =
+    let i = c.reads.invariant in record {
+      kept = search rules;
+      on = reads_on _ _ _ _ _ _ c.in_ok-count.count i.on c.in_ok-count.ensures.front c.in_ok-count.ensures.count refl;
+      short = search rules;
+      left = search rules;
+      faults = search rules;
+      absent = search rules;
+      given = search rules;
+      order = read_on _ _ _ _ _ _ _ i.order c.in_ok-count.ensures.order (grind arith);
+      held = search rules;
+      missing = search rules;
+    }
