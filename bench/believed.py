@@ -1,8 +1,9 @@
 """Which definitions the contracts of the top calls rest on: a closure over names.
 
 It begins with the clauses of `run` and `observe` and those of the traits `Shelf` and `Sink`, and follows each name that they cite to
-its definition, and from there on, down to the kit's own. A definition stands in a file of `specs/`, a type in one of `src/`; of a type
-that has a `Model` contracts see that alone.
+its definition, and from there on, also in the kit's libraries, but not in its standard library. A definition stands in a file of
+`specs/`, a type in one of `src/`; of a type that has a `Model` contracts see that alone. The kit's own types aren't listed. Where no
+kit is installed, its definitions aren't followed.
 
 Names are found by their spelling, without the prover. One that a definition binds itself, as a parameter, may be taken for that of
 another: so too much may be found, and nothing is passed over.
@@ -14,12 +15,13 @@ import dataclasses
 import functools
 import pathlib
 import re
+import shutil
 from collections.abc import Iterator
 
 TOP = pathlib.Path(__file__).resolve().parent.parent
 CRATES = TOP / "crates"
 
-# Stands for the folder of the kit's libraries, which aren't followed: what is cited of them is.
+# Stands for the folder of the kit's libraries: `kit/json/specs/Lex.antt` is a file of definitions of `json`.
 KIT = pathlib.Path("kit")
 
 # What the reader of a contract begins with: a file, and the words with which its function or trait begins there.
@@ -35,6 +37,8 @@ PLAIN = ("std", "core", "mathlib")
 
 NAME = re.compile(r"[^\W\d][\w'◌-]*")
 DECLARED = re.compile(r"(?:unfoldable |abbrev |pub |record |data )*(?P<name>[\w'-]*◌[^\s:]*|[^\W\d][\w'-]*)(?= [^=]*?:| *$)")
+# What a line says that begins a block of definitions by one another, which stand two places in.
+BLOCKS = ("mutual", "abbrev mutual", "unfoldable mutual")
 IMPORT = re.compile(r"^ *(?:pub |ghost )*use ([\w.]+?)(?:\.\{([^}]*)\}| as (\w+));? *$", re.MULTILINE)
 ACCESS = re.compile(r"(?<=[\w)}\]'])\.[\w']+(?:\.[\w']+)*")
 
@@ -79,8 +83,12 @@ def bodies_of(text: str) -> dict[str, str]:
     """What each definition of a file of definitions says: all lines from the one that declares it to the next such line."""
     bodies: dict[str, list[str]] = {}
     lines: list[str] = []
+    is_mutual = False
     for line in text.splitlines():
-        if line.startswith(("use ", "pub use ", "pub mod ", "infix")):
+        begins_block = line in BLOCKS
+        is_mutual = begins_block or (is_mutual and not line[:1].strip())
+        line = line.removeprefix("  ") if is_mutual else line
+        if begins_block or line.startswith(("use ", "pub use ", "pub mod ", "infix")):
             continue
         found = DECLARED.match(line) if line[:1].strip() else None
         if found and (found["name"] not in bodies or line.startswith(("abbrev", "unfoldable", "pub"))):
@@ -127,6 +135,23 @@ def file_of_type(crate: pathlib.Path, name: str) -> pathlib.Path | None:
     return next((path for path in files if name in module_at(path).bodies), None)
 
 
+@functools.cache
+def kit_libraries() -> pathlib.Path | None:
+    """The folder of the installed kit's libraries; none where no kit is installed."""
+    command = shutil.which("rt")
+    folder = pathlib.Path(command).resolve().parents[1] / "rlibs" if command else None
+    return folder if folder and folder.is_dir() else None
+
+
+def source_of(path: pathlib.Path) -> pathlib.Path | None:
+    """Where a file lies: one of the kit's in its library, if the kit is installed."""
+    if not path.is_relative_to(KIT):
+        return path
+    _, crate, _, name = path.parts
+    libraries = kit_libraries()
+    return libraries / f"{crate}.rlib" / "lang" / "antt" / "specs" / name if libraries else None
+
+
 def folder_of(crate: str) -> pathlib.Path | None:
     """The folder of a library: of this repository, or of the kit; none for what isn't listed."""
     if crate in PLAIN:
@@ -145,7 +170,7 @@ def item_at(module: str, name: str, own: pathlib.Path) -> Item | None:
     if crate is None or parts[1:2] != ["specs"]:
         return None
     if crate.is_relative_to(KIT):
-        return Item(crate / "specs" / f"{parts[2]}.antt", name)
+        return None if parts[2] == "declared" else Item(crate / "specs" / f"{parts[2]}.antt", name)
     if parts[2:3] == ["declared"]:
         kind = [part for part in parts[3:] if part != "TheVariants"]
         path = (crate / "src").joinpath(*kind[:-1]).with_suffix(".rt")
@@ -180,15 +205,17 @@ def cited_in(body: str, module: Module) -> Iterator[tuple[str, str]]:
 
 
 def cited_by(item: Item) -> Iterator[Item]:
-    """The definitions and types that an item cites; of the kit's nothing is asked."""
-    if item.path.is_relative_to(KIT):
+    """The definitions and types that an item cites."""
+    source = source_of(item.path)
+    if source is None:
         return
-    module = module_at(item.path)
+    module = module_at(source)
     body = module.bodies.get(item.name, "")
     inner, _ = imports_of(body) if item.path.suffix == ".rt" else ({}, {})
     seen = Module(item.path, module.bodies, module.imports | inner, module.aliases)
+    top = KIT if item.path.is_relative_to(KIT) else CRATES
     for there, name in cited_in(body, seen):
-        crate = CRATES / item.path.relative_to(CRATES).parts[0]
+        crate = top / item.path.relative_to(top).parts[0]
         found = item_at(there, name, crate) if there else Item(item.path, name)
         if found is not None and found != item:
             yield found
@@ -228,4 +255,4 @@ def unreached(path: pathlib.Path) -> list[str]:
 
 def has_model(item: Item) -> bool:
     """Whether contracts see a type by its `Model` alone."""
-    return "Model for" in module_at(item.path).bodies.get(item.name, "")
+    return item.path.suffix == ".rt" and "Model for" in module_at(item.path).bodies.get(item.name, "")

@@ -90,7 +90,7 @@ def list_faults() -> Iterator[str]:
             yield f"lacks {path.relative_to(TOP) if path.is_absolute() else path}, which has {', '.join(names)}"
     rested = {item.path for item in believed.believed()}
     for path in (*definitions, *types):
-        if path not in rested:
+        if path not in rested and believed.source_of(path):
             yield f"has {path.relative_to(TOP) if path.is_absolute() else path}, on which nothing rests"
 
 
