@@ -21,9 +21,13 @@ abbrev pub TellsNothing : {A : Type 0} → Result A FileFault → Type 0
 TellsNothing (Ok x) = ⊥
 TellsNothing (Err found) = ⊤
 
--- the fault of a shelf that an answer tells of, if it does
-abbrev pub shelf_fault : {A : Type 0} → Result A FileFault → Option ShelfFault
-shelf_fault (Ok x) = None
-shelf_fault (Err fault.NoFile) = Some shelf.NoFile
-shelf_fault (Err fault.ReadFault) = Some shelf.Failed
-shelf_fault (Err (fault.NoMemory _)) = None
+-- the fault of a shelf that a fault of a file is, if it is one
+abbrev pub shelf_fault : FileFault → Option ShelfFault
+shelf_fault fault.NoFile = Some shelf.NoFile
+shelf_fault fault.ReadFault = Some shelf.Failed
+shelf_fault (fault.NoMemory _) = None
+
+-- the fault of a shelf that an answer has, if it has one
+abbrev pub shelf_fault_in : {A : Type 0} → Result A FileFault → Option ShelfFault
+shelf_fault_in (Ok x) = None
+shelf_fault_in (Err found) = shelf_fault found

@@ -2,7 +2,7 @@
 ghost use Rattle.std.specs.Prelude.{◌≡◌, ◌+◌, ◌<◌, ◌≤◌, ℕ, List, length, take, IfOk, IsErrOf, Some, None};
 ghost use Rattle.outside.specs.Outside.{Lacks, counts_of, told};
 ghost use Rattle.outside.specs.Reads.{ReadsFile};
-ghost use Rattle.file_reader.specs.Front.{CausesFileFault, TellsNothing, shelf_fault};
+ghost use Rattle.file_reader.specs.Front.{CausesFileFault, TellsNothing, shelf_fault_in};
 
 use outside::{Shelf, ShelfFault, read_behind};
 use psi_base::NoMemory;
@@ -66,7 +66,7 @@ fn fill<S: Shelf>(shelf: &mut S, name: &str, bytes: &mut [u8]) -> Result<usize, 
     ensures within { (whole : List ℕ) → told (S.holds shelf.old) name.now ≡ Some whole →
         S.given shelf.new ≤ S.given shelf.old + length whole }
     ensures order { ReadsFile name.now 0 (S.reads shelf.old) (S.reads shelf.new)
-        (shelf_fault result) }
+        (shelf_fault_in result) }
     ensures missed { IsErrOf result FileFault.NoFile →
         told (S.holds shelf.old) name.now ≡ None }
     ensures lacking { Lacks (S.holds shelf.old) name.now → TellsNothing result }
@@ -102,7 +102,7 @@ pub fn read_front<S: Shelf>(
     ensures within { (whole : List ℕ) → told (S.holds shelf.old) name.now ≡ Some whole →
         S.given shelf.new ≤ S.given shelf.old + length whole }
     ensures order { ReadsFile name.now 0 (S.reads shelf.old) (S.reads shelf.new)
-        (shelf_fault result) }
+        (shelf_fault_in result) }
     ensures missed { IsErrOf result FileFault.NoFile →
         told (S.holds shelf.old) name.now ≡ None }
     ensures lacking { Lacks (S.holds shelf.old) name.now → TellsNothing result }

@@ -2,7 +2,7 @@
 use Rattle.std.proofs.Common.{◌≡◌, ◌⊎◌, inl, inr, ℕ, zero, suc, ◌+◌, ◌<◌, List, [], ◌∷◌, ◌++◌, refl, sym, ap, ◌∙◌, subst, append_assoc, arith, Option, None, Some, Result, Ok, Err}
 use Rattle.std.proofs.lemmas.List.{append-nil}
 use Rattle.outside.specs.declared.shelf.ShelfFault.{ShelfFault}
-use Rattle.outside.specs.Reads.{AreReads, Progress, ReadCall, ReadFailure, ReadsFile, ReadsFiles, ReadsFrom, after_read, failure_at, fault_in, read_call}
+use Rattle.outside.specs.Reads.{AreReads, Progress, ReadCall, ReadFailure, ReadsFile, ReadsEach, ReadsFrom, after_read, failure_in, fault_in, read_call}
 use Rattle.outside.specs.Reads.Progress.{Next, Over}
 
 -- ---- one file
@@ -54,6 +54,17 @@ pub file_then : (name : List ℕ) (at place : ℕ) (before between now : List Re
 file_then name at place before between now fault first then =
     record { progress = then.progress; reads = reads_then name (Next at) (Next place) then.progress before between now first then.reads; ended = then.ended }
 
+-- a file's reads end with one that returned no byte
+pub file_ends : (name : List ℕ) (at place : ℕ) (before between now : List ReadCall) (n : ℕ) → ReadsFrom name (Next at) before between (Next place) → ReadsFrom name (Next place) between now (after_read place (Ok n)) → n ≡ 0
+    → ReadsFile name at before now None
+file_ends name at place before between now zero first then none = file_read name at before now (Over None) (reads_then name (Next at) (Next place) (Over None) before between now first then)
+file_ends name at place before between now (suc n) first then none = absurd (omega (arith, none))
+
+-- or with one that had a fault
+pub file_fails : (name : List ℕ) (at place : ℕ) (before between now : List ReadCall) (fault : ShelfFault) → ReadsFrom name (Next at) before between (Next place)
+    → ReadsFrom name (Next place) between now (after_read place (Err fault)) → ReadsFile name at before now (Some fault)
+file_fails name at place before between now fault first then = file_read name at before now (Over (Some fault)) (reads_then name (Next at) (Next place) (Over (Some fault)) before between now first then)
+
 -- nothing is read of a file
 pub file_unread : (name : List ℕ) (at : ℕ) (log : List ReadCall) → ReadsFile name at log log None
 file_unread name at log = file_read name at log log (Next at) (no_reads name (Next at) log)
@@ -61,26 +72,23 @@ file_unread name at log = file_read name at log log (Next at) (no_reads name (Ne
 -- ---- several files
 
 -- nothing is read of any
-pub none_read : (names : List (List ℕ)) (log : List ReadCall) → ReadsFiles names log log None
+pub none_read : (names : List (List ℕ)) (log : List ReadCall) → ReadsEach names log log None
 none_read [] log = (refl, refl)
 none_read (name ∷ names) log = inl (log, file_unread name 0 log, none_read names log)
 
--- one file was read without a fault
-pub one_file : (name : List ℕ) (before now : List ReadCall) → ReadsFile name 0 before now None → ReadsFiles (name ∷ []) before now None
-one_file name before now reads = inl (now, reads, (refl, refl))
-
--- or with one
-pub one_fault : (name : List ℕ) (before now : List ReadCall) (fault : ShelfFault) → ReadsFile name 0 before now (Some fault) → ReadsFiles (name ∷ []) before now (Some (failure_at name fault))
-one_fault name before now fault reads = inr (fault, reads, refl)
+-- one file was read, and nothing of further ones
+pub file_stops : (name : List ℕ) (names : List (List ℕ)) (before now : List ReadCall) (fault : Option ShelfFault) → ReadsFile name 0 before now fault → ReadsEach (name ∷ names) before now (failure_in name fault)
+file_stops name names before now None reads = inl (now, reads, none_read names now)
+file_stops name names before now (Some fault) reads = inr (fault, reads, refl)
 
 -- files after files that had no fault
-pub files_then : (xs ys : List (List ℕ)) (before between now : List ReadCall) (failure : Option ReadFailure) → ReadsFiles xs before between None → ReadsFiles ys between now failure → ReadsFiles (xs ++ ys) before now failure
-files_then [] ys before between now failure first then = subst (λ log. ReadsFiles ys log now failure) first.0 then
+pub files_then : (xs ys : List (List ℕ)) (before between now : List ReadCall) (failure : Option ReadFailure) → ReadsEach xs before between None → ReadsEach ys between now failure → ReadsEach (xs ++ ys) before now failure
+files_then [] ys before between now failure first then = subst (λ log. ReadsEach ys log now failure) first.0 then
 files_then (name ∷ xs) ys before between now failure (inl (middle, reads, rest)) then = inl (middle, reads, files_then xs ys middle between now failure rest then)
 files_then (name ∷ xs) ys before between now failure (inr (fault, reads, is)) then = absurd (let no : ⊥ = cc is in no)
 
 -- of further files nothing is read
-pub files_stop : (xs ys : List (List ℕ)) (before now : List ReadCall) (failure : Option ReadFailure) → ReadsFiles xs before now failure → ReadsFiles (xs ++ ys) before now failure
-files_stop [] ys before now failure first = subst (λ f. ReadsFiles ys before now f) (sym first.1) (subst (λ log. ReadsFiles ys before log None) (sym first.0) (none_read ys before))
+pub files_stop : (xs ys : List (List ℕ)) (before now : List ReadCall) (failure : Option ReadFailure) → ReadsEach xs before now failure → ReadsEach (xs ++ ys) before now failure
+files_stop [] ys before now failure first = subst (λ f. ReadsEach ys before now f) (sym first.1) (subst (λ log. ReadsEach ys before log None) (sym first.0) (none_read ys before))
 files_stop (name ∷ xs) ys before now failure (inl (middle, reads, rest)) = inl (middle, reads, files_stop xs ys middle now failure rest)
 files_stop (name ∷ xs) ys before now failure (inr (fault, reads, is)) = inr (fault, reads, is)

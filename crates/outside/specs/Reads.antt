@@ -64,10 +64,15 @@ pub record ReadFailure : Type 0 where
 abbrev pub failure_at : List ℕ → ShelfFault → ReadFailure
 failure_at name fault = record { name = name; fault = fault }
 
+-- the failure of the reads of a name, if they ended with a fault
+abbrev pub failure_in : List ℕ → Option ShelfFault → Option ReadFailure
+failure_in name None = None
+failure_in name (Some fault) = Some (failure_at name fault)
+
 -- A log grew by reads of these files, one after the other, each from its first byte on. Where one
 -- has a fault, nothing more is read.
-abbrev pub ReadsFiles : List (List ℕ) → List ReadCall → List ReadCall → Option ReadFailure → Type 0
-ReadsFiles [] before now failure = (now ≡ before) × (failure ≡ None)
-ReadsFiles (name ∷ names) before now failure =
-    ((middle : List ReadCall) × ReadsFile name 0 before middle None × ReadsFiles names middle now failure)
+abbrev pub ReadsEach : List (List ℕ) → List ReadCall → List ReadCall → Option ReadFailure → Type 0
+ReadsEach [] before now failure = (now ≡ before) × (failure ≡ None)
+ReadsEach (name ∷ names) before now failure =
+    ((middle : List ReadCall) × ReadsFile name 0 before middle None × ReadsEach names middle now failure)
     ⊎ ((fault : ShelfFault) × ReadsFile name 0 before now (Some fault) × (failure ≡ Some (failure_at name fault)))

@@ -1,3 +1,4 @@
 pub mod Planned
 pub mod RunLaws
 pub mod RunStops
+pub mod RunOrder

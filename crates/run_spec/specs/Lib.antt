@@ -12,3 +12,4 @@ pub mod Status
 pub mod Run
 pub mod Stops
 pub mod Laws
+pub mod ReadOrder
