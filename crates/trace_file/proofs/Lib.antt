@@ -3,3 +3,4 @@ pub mod LineLaws
 pub mod PlayLaws
 pub mod RefusalTexts
 pub mod StopLaws
+pub mod OrderLaws

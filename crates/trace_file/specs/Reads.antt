@@ -1,6 +1,10 @@
 -- What reading a trace gives, where its bytes are told.
 use Rattle.std.specs.Prelude.{◌≡◌, ◌≢◌, ℕ, ◌+◌, ◌<◌, ◌≤◌, ◌-◌, List, [], ◌∷◌, ◌++◌, length, take, Option, None, Some, Result, Ok, Err, IsErrOf, OnOk, ⊤, true, false}
 use Rattle.outside.specs.Outside.{HasCauses, ShelfCounts}
+use Rattle.outside.specs.Reads.{ReadCall, ReadsFile, ReadsFrom}
+use Rattle.outside.specs.Reads.Progress.{Next}
+use Rattle.outside.specs.declared.shelf.ShelfFault.{ShelfFault}
+use Rattle.outside.specs.declared.shelf.ShelfFault.TheVariants as shelf
 use Rattle.psi_base.specs.Path.{parts_at}
 use Rattle.psi_base.specs.declared.event.Event.{Event}
 use Rattle.psi_base.specs.declared.event.Refusal.{Refusal}
@@ -183,6 +187,23 @@ TraceRefused fault tick known = (bytes : List ℕ) → known ≡ Some bytes → 
 -- A shelf counted this fault of a trace and nothing else: a failed read, or a name that it hasn't.
 abbrev pub CausesTraceFault : {A : Type 0} → ShelfCounts → ShelfCounts → Result A TraceFault → Type 0
 CausesTraceFault before now result = HasCauses before now (IsErrOf result ReadFault) (IsErrOf result NoFile)
+
+-- the fault of a shelf that a fault of a trace is, if it is one
+abbrev pub shelf_fault : TraceFault → Option ShelfFault
+shelf_fault (Refused refusal) = None
+shelf_fault NoFile = Some shelf.NoFile
+shelf_fault ReadFault = Some shelf.Failed
+shelf_fault (NoMemory _) = None
+
+-- the fault of a shelf that an answer has, if it has one
+abbrev pub shelf_fault_in : {A : Type 0} → Result A TraceFault → Option ShelfFault
+shelf_fault_in (Ok x) = None
+shelf_fault_in (Err found) = shelf_fault found
+
+-- A log grew by the reads for a line, from one place to another, or up to a fault.
+abbrev pub LineInOrder : {A : Type 0} → List ℕ → ℕ → ℕ → List ReadCall → List ReadCall → Result A TraceFault → Type 0
+LineInOrder name at place before now (Ok x) = ReadsFrom name (Next at) before now (Next place)
+LineInOrder name at place before now (Err found) = ReadsFile name at before now (shelf_fault found)
 
 -- What reading the next line does to the reader and to the shelf, whatever stands on the line: the
 -- numbers are how many bytes the shelf had given before, and has given now.

@@ -1,8 +1,9 @@
 //! A trace read into plans.
 ghost use Rattle.std.specs.Prelude.{◌≡◌, ◌+◌, ◌≤◌, None, IsErrOf, MatchResult};
 ghost use Rattle.outside.specs.Outside.{Lacks, counts_of, told};
+ghost use Rattle.outside.specs.Reads.{ReadsFile};
 ghost use Rattle.run_spec.specs.MostRead.{most_of_trace};
-ghost use Rattle.trace_file.specs.Reads.{CausesTraceFault, PlansRead, StopsAtRefusal, TellsNothing, TraceRefused};
+ghost use Rattle.trace_file.specs.Reads.{CausesTraceFault, PlansRead, StopsAtRefusal, TellsNothing, TraceRefused, shelf_fault_in};
 
 use crate::trace::{TraceFault, play_trace};
 use outside::Shelf;
@@ -31,6 +32,8 @@ pub fn read_plans<S: Shelf>(
     ensures given { S.given shelf.new ≤ S.given shelf.old + most_of_trace }
     ensures stops { StopsAtRefusal tick (told (S.holds shelf.old) name.now)
         (S.given shelf.old) (S.given shelf.new) result }
+    ensures order { ReadsFile name.now 0
+        (S.reads shelf.old) (S.reads shelf.new) (shelf_fault_in result) }
 {
     let (version, planner) = match play_trace::<S, Planner>(alloc, name, shelf, tick) {
         Ok(played) => played,

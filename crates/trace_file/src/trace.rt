@@ -1,6 +1,7 @@
 //! Traces from a shelf.
 ghost use Rattle.std.specs.Prelude.{◌≡◌, ◌+◌, ◌*◌, ◌<◌, ◌≤◌, ◌^◌, ℕ, List, [], IfOk, IsErrOf, Some, None, Ok, MatchResult, false, length};
 ghost use Rattle.outside.specs.Outside.{told, Lacks, counts_of};
+ghost use Rattle.outside.specs.Reads.{ReadsFile};
 ghost use Rattle.psi_base.specs.declared.event.Cause.TheVariants as cause;
 ghost use Rattle.psi_lines.specs.Lines.{left};
 ghost use Rattle.psi_lines.specs.Next.{furthest};
@@ -9,7 +10,7 @@ ghost use Rattle.psi_spec.specs.Header.{IsVersion};
 ghost use Rattle.psi_spec.specs.Trace.{limits_of, refused};
 ghost use Rattle.psi_spec.specs.World.{first_world};
 ghost use Rattle.run_spec.specs.MostRead.{most_of_trace};
-ghost use Rattle.trace_file.specs.Reads.{CausesTraceFault, HeadGives, IsHead, IsTraceFault, KeepsLines, Legally, NextGives, ReadsLine, RestGives, StopsAtRefusal, StopsReading, TailGives, TakesLine, TakesRead, TellsNothing, TracePlayed, TraceRefused, rest_from, trace_fault, verbs_in};
+ghost use Rattle.trace_file.specs.Reads.{CausesTraceFault, HeadGives, IsHead, IsTraceFault, KeepsLines, Legally, LineInOrder, NextGives, ReadsLine, RestGives, StopsAtRefusal, StopsReading, TailGives, TakesLine, TakesRead, TellsNothing, TracePlayed, TraceRefused, rest_from, shelf_fault_in, trace_fault, verbs_in};
 
 use outside::Shelf;
 use psi_base::{Cause, Event, Fault, NoMemory, Ns, Refusal};
@@ -126,6 +127,8 @@ fn next_event<S: Shelf, P: Player>(
         (S.given shelf.old) (S.given shelf.new) result }
     ensures stays { KeepsLines (told (S.holds shelf.old) lines.old.name)
         lines.old lines.new result }
+    ensures order { LineInOrder lines.old.name lines.old.at lines.new.at
+        (S.reads shelf.old) (S.reads shelf.new) result }
 {
     let line = lines.number();
     match lines.next_bytes(shelf) {
@@ -163,6 +166,8 @@ fn play_next<S: Shelf, P: Player>(
         (S.given shelf.old) (S.given shelf.new) result }
     ensures stays { KeepsLines (told (S.holds shelf.old) lines.old.name)
         lines.old lines.new result }
+    ensures order { LineInOrder lines.old.name lines.old.at lines.new.at
+        (S.reads shelf.old) (S.reads shelf.new) result }
 {
     let Some(played) = take_front(lines.held(), player) else {
         return next_event(alloc, version, lines, shelf, player);
@@ -190,6 +195,8 @@ fn close<S: Shelf>(lines: &mut Lines, shelf: &mut S) -> Result<(), TraceFault>
     ensures place { lines.new.at ≤ furthest lines.old.number }
     ensures stays { KeepsLines (told (S.holds shelf.old) lines.old.name)
         lines.old lines.new result }
+    ensures order { ReadsFile lines.old.name lines.old.at
+        (S.reads shelf.old) (S.reads shelf.new) (shelf_fault_in result) }
 {
     match lines.is_at_end(shelf) {
         Ok(true) => Ok(()),
@@ -223,6 +230,8 @@ fn play_events<S: Shelf, P: Player>(
     ensures stops { StopsReading (told (S.holds shelf.old) lines.old.name) lines.old lines.new
         (S.given shelf.old) (S.given shelf.new) (λ bytes. rest_from (verbs_in head.version)
         (limits_of tick head.cpus) first_world 2 (left lines.old bytes)) result }
+    ensures order { ReadsFile lines.old.name lines.old.at
+        (S.reads shelf.old) (S.reads shelf.new) (shelf_fault_in result) }
 {
     'lines: loop {
         match play_next(alloc, head.version, lines, shelf, player) {
@@ -251,6 +260,8 @@ fn read_head<S: Shelf>(lines: &mut Lines, shelf: &mut S, tick: Ns) -> Result<Hea
         (S.given shelf.old) (S.given shelf.new) result }
     ensures stays { KeepsLines (told (S.holds shelf.old) lines.old.name)
         lines.old lines.new result }
+    ensures order { LineInOrder lines.old.name lines.old.at lines.new.at
+        (S.reads shelf.old) (S.reads shelf.new) result }
 {
     match lines.next_bytes(shelf) {
         Ok(Some(bytes)) => match read_header(bytes) {
@@ -284,6 +295,8 @@ pub fn play_trace<S: Shelf, P: Player + Drop>(
     ensures given { S.given shelf.new ≤ S.given shelf.old + most_of_trace }
     ensures stops { StopsAtRefusal tick (told (S.holds shelf.old) name.now)
         (S.given shelf.old) (S.given shelf.new) result }
+    ensures order { ReadsFile name.now 0
+        (S.reads shelf.old) (S.reads shelf.new) (shelf_fault_in result) }
 {
     let mut lines = Lines::new(alloc, name)?;
     let head = match read_head(&mut lines, shelf, tick) {

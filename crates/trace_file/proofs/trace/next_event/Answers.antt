@@ -1,4 +1,4 @@
-use Rattle.std.proofs.Common.{refl}
+use Rattle.std.proofs.Common.{arith, refl}
 use Rattle.outside.specs.Outside.{told}
 use Rattle.psi_base.specs.declared.event.Cause.TheVariants as cause
 use Rattle.psi_base.specs.declared.event.Fault.TheVariants as fault
@@ -6,6 +6,7 @@ use Rattle.psi_lines.specs.Lines.{left}
 use Rattle.trace_file.specs.Reads.{Legally, verbs_in}
 use Rattle.trace_file.proofs.LineLaws as laws
 use Rattle.trace_file.proofs.StopLaws as stop
+use Rattle.trace_file.proofs.OrderLaws as order
 use Rattle.trace_file.proofs.trace.next_event.Goals as goal
 
 pub returns-in-Ok-clause-content : goal.returns-in-Ok-clause-content
@@ -45,3 +46,19 @@ returns-in-Ok-None-clause-stays g c =
 pub returns-in-Err-clause-stays : goal.returns-in-Err-clause-stays
 returns-in-Err-clause-stays g c =
     stop.unread_keeps (g.S.Shelf.holds c.args.shelf.now) (g.S.Shelf.given c.args.shelf.now) (g.S.Shelf.given c.next_bytes.new.shelf) c.args.lines.now c.next_bytes.follows.lender-at-none c.next_bytes.result c.in-Err.fault cause.NoEnd _ c.next_bytes.follows.holds-at-none c.in-Err.is c.next_bytes.ensures.numbered c.trace_fault.ensures
+
+pub returns-in-Ok-clause-order : goal.returns-in-Ok-clause-order
+returns-in-Ok-clause-order g c =
+    order.place_is _ _ _ _ _ _ (rw (c.in-Ok-Some.is, c.in-Ok-Some.field-0-is) at c.next_bytes.ensures.order) (omega (arith, c.next_bytes.follows.holds-at-none.counted))
+
+pub returns-in-Err-take_line-clause-order : goal.returns-in-Err-take_line-clause-order
+returns-in-Err-take_line-clause-order g c =
+    order.faulted_order _ _ _ _ _ _ c.in-Err-take_line.fault _ (rw (c.in-Ok-Some.is, c.in-Ok-Some.field-0-is) at c.next_bytes.ensures.order) c.fault_at.ensures
+
+pub returns-in-Ok-None-clause-order : goal.returns-in-Ok-None-clause-order
+returns-in-Ok-None-clause-order g c =
+    order.refused_order _ _ _ _ _ _ _ (rw (c.in-Ok-None.is, c.in-Ok-None.field-0-is) at c.next_bytes.ensures.order) refl c.refused.ensures
+
+pub returns-in-Err-clause-order : goal.returns-in-Err-clause-order
+returns-in-Err-clause-order g c =
+    order.unread_order _ _ _ _ _ cause.NoEnd c.in-Err.fault _ (rw c.in-Err.is at c.next_bytes.ensures.order) c.trace_fault.ensures

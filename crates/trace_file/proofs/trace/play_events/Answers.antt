@@ -5,6 +5,7 @@ use Rattle.trace_file.specs.Reads.{Legally, verbs_in}
 use Rattle.psi_spec.specs.Trace.{limits_of}
 use Rattle.trace_file.proofs.LineLaws as laws
 use Rattle.trace_file.proofs.StopLaws as stop
+use Rattle.outside.proofs.ReadOrder.{file_then, reads_then}
 use Rattle.trace_file.proofs.trace.play_events.Goals as goal
 
 pub lines-preserved : goal.lines-preserved
@@ -18,6 +19,7 @@ lines-preserved g c =
       faults = c.in-Ok.ensures.reads.cause.faults_same (λ is. cc is) ∙ i.faults;
       absent = c.in-Ok.ensures.reads.cause.absent_same (λ is. cc is) ∙ i.absent;
       given = omega (arith, c.in-Ok.ensures.reads.counted, i.given);
+      order = reads_then _ _ _ _ _ _ _ i.order (rw i.name at c.in-Ok.ensures.order);
       name = cc;
       few = one.few;
       lines = λ bytes tells. let keeps = rw (i.kept, i.name) at c.in-Ok.ensures.stays in keeps.lines bytes tells ∙ i.lines bytes tells;
@@ -62,3 +64,14 @@ returns-then-is_ended-clause-stops g c =
     let keeps = stop.known_keeps _ _ _ _ c.play_next.new.lines c.close.new.lines _ (c.play_next.ensures.kept ∙ i.kept) (c.in-Ok.ensures.reads.name ∙ i.name) c.close.ensures.stays in
     stop.stops_here (verbs_in c.args.head.version) (limits_of c.args.tick c.args.head.cpus) one.events known c.args.lines.now c.play_next.new.lines c.close.new.lines (g.S.Shelf.given c.args.shelf.now) (g.S.Shelf.given c.play_next.new.shelf) (g.S.Shelf.given c.close.new.shelf) _ (omega (arith, i.given, c.in-Ok.ensures.reads.counted)) c.close.ensures.given c.close.ensures.place
     (λ bytes tells. before.lines bytes tells ∙ i.lines bytes tells) one.read keeps
+
+pub returns-in-Err-clause-order : goal.returns-in-Err-clause-order
+returns-in-Err-clause-order g c =
+    let i = c.lines.invariant in
+    file_then _ _ _ _ _ _ _ i.order (rw i.name at c.in-Err.ensures.order)
+
+pub returns-then-is_ended-clause-order : goal.returns-then-is_ended-clause-order
+returns-then-is_ended-clause-order g c =
+    let i = c.lines.invariant in
+    let first = reads_then _ _ _ _ _ _ _ i.order (rw i.name at c.in-Ok.ensures.order) in
+    file_then _ _ _ _ _ _ _ first (rw (c.in-Ok.ensures.reads.name ∙ i.name) at c.close.ensures.order)

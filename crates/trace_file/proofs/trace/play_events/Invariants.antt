@@ -1,5 +1,7 @@
 use Rattle.std.proofs.Common.{◌≡◌, ◌+◌, ◌-◌, ◌≤◌, ℕ, List}
 use Rattle.outside.specs.Outside.{told}
+use Rattle.outside.specs.Reads.{ReadsFrom}
+use Rattle.outside.specs.Reads.Progress.{Next}
 use Rattle.std.specs.Prelude.{Some}
 use Rattle.psi_lines.specs.Lines.{left, line_count}
 use Rattle.trace_file.specs.Reads.{Legally, verbs_in}
@@ -13,6 +15,7 @@ invariant-lines g l = record {
   faults : g.S.Shelf.faults l.shelf ≡ g.S.Shelf.faults l.fn.shelf;
   absent : g.S.Shelf.absent l.shelf ≡ g.S.Shelf.absent l.fn.shelf;
   given : g.S.Shelf.given l.shelf + l.fn.lines.at ≡ g.S.Shelf.given l.fn.shelf + l.lines.at;
+  order : ReadsFrom l.fn.lines.name (Next l.fn.lines.at) (g.S.Shelf.reads l.fn.shelf) (g.S.Shelf.reads l.shelf) (Next l.lines.at);
   name : l.lines.name ≡ l.fn.lines.name;
   few : l.lines.number ≤ 4000002;
   lines : (bytes : List ℕ) → told (g.S.Shelf.holds l.fn.shelf) l.fn.lines.name ≡ Some bytes → l.lines.number + line_count (left l.lines bytes) ≡ l.fn.lines.number + line_count (left l.fn.lines bytes);

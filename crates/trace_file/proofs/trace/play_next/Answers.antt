@@ -9,6 +9,8 @@ use Rattle.trace_player.specs.Playing.{PlayerTakes}
 use Rattle.trace_file.specs.Reads.{Legally, verbs_in}
 use Rattle.trace_file.proofs.LineLaws as laws
 use Rattle.trace_file.proofs.StopLaws as stop
+use Rattle.trace_file.proofs.OrderLaws as order
+use Rattle.outside.proofs.ReadOrder.{no_reads}
 use Rattle.trace_file.proofs.trace.play_next.Goals as goal
 
 pub returns-in-Ok-clause-content : goal.returns-in-Ok-clause-content
@@ -51,3 +53,9 @@ returns-in-Err-clause-stays g c =
     stop.passed_faulted (told (g.S.Shelf.holds c.args.shelf.now) c.args.lines.now.name) c.args.lines.now c.pass.new.self (spelling found.event) c.in-Err.fault _
     (λ bytes tells. laws.front_begins c.args.lines.now c.pass.new.self found.event c.in-Some.played.count bytes front (ap (λ (l : Reader). l.held) c.pass.ensures.rest) (ap (λ (l : Reader). l.at) c.pass.ensures.rest)) (ap (λ (l : Reader). l.number) c.pass.ensures.rest)
     (rw c.number-line.ensures at c.fault_at.ensures)
+
+pub returns-in-Ok-clause-order : goal.returns-in-Ok-clause-order
+returns-in-Ok-clause-order g c = order.stays_there _ _ _ _ (ap (λ (l : Reader). l.at) c.pass.ensures.rest)
+
+pub returns-in-Err-clause-order : goal.returns-in-Err-clause-order
+returns-in-Err-clause-order g c = order.faulted_order _ _ _ _ _ _ c.in-Err.fault _ (no_reads _ _ _) c.fault_at.ensures

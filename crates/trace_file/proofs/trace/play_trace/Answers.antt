@@ -7,6 +7,8 @@ use Rattle.psi_spec.specs.World.{first_world}
 use Rattle.trace_file.specs.Reads.{rest_from, verbs_in}
 use Rattle.trace_file.proofs.LineLaws as laws
 use Rattle.trace_file.proofs.StopLaws as stop
+use Rattle.outside.proofs.ReadOrder.{file_then}
+use Rattle.trace_file.proofs.OrderLaws.{nothing_read}
 use Rattle.trace_file.proofs.trace.play_trace.Goals as goal
 
 pub returns-in-Ok-play_events-clause-content : goal.returns-in-Ok-play_events-clause-content
@@ -26,3 +28,19 @@ returns-clause-stops g c =
     let head = c.in-Ok.head in
     let stops = rw c.in-Ok.ensures.kept at c.in-Err-play_events.ensures.stops in
     stop.rest_stops ℕ c.args.tick (told (g.S.Shelf.holds c.args.shelf.now)) c.args.name.now c.in_ok-lines.lines c.read_head.new.lines c.play_events.new.lines (g.S.Shelf.given c.args.shelf.now) (g.S.Shelf.given c.read_head.new.shelf) (g.S.Shelf.given c.play_events.new.shelf) (header_with head.version head.cpus) head (λ bytes. rest_from (verbs_in head.version) (limits_of c.args.tick head.cpus) first_world 2 (left c.read_head.new.lines bytes)) _ c.in_ok-lines.ensures c.in-Ok.ensures.reads.name c.in-Ok.ensures.reads.counted c.in-Ok.ensures.stays c.in-Ok.ensures.content stops
+
+pub returns-in-Err-clause-order : goal.returns-in-Err-clause-order
+returns-in-Err-clause-order g c = rw c.in_ok-lines.ensures at c.in-Err.ensures.order
+
+pub returns-in-Ok-play_events-clause-order : goal.returns-in-Ok-play_events-clause-order
+returns-in-Ok-play_events-clause-order g c =
+    let fresh = c.in_ok-lines.ensures in
+    file_then _ _ _ _ _ _ _ (rw fresh at c.in-Ok.ensures.order) (rw (c.in-Ok.ensures.reads.name, fresh) at c.in-Ok-play_events.ensures.order)
+
+pub returns-clause-order : goal.returns-clause-order
+returns-clause-order g c =
+    let fresh = c.in_ok-lines.ensures in
+    file_then _ _ _ _ _ _ _ (rw fresh at c.in-Ok.ensures.order) (rw (c.in-Ok.ensures.reads.name, fresh) at c.in-Err-play_events.ensures.order)
+
+pub returns-in_err-lines-clause-order : goal.returns-in_err-lines-clause-order
+returns-in_err-lines-clause-order g c = nothing_read _ _ _ c.from_residual.result c.from_residual.ensures.0 c.from_residual.ensures.1
