@@ -1,6 +1,6 @@
 -- In which order the front of a file is read.
 use Rattle.std.proofs.Common.{◌≡◌, ℕ, List, sym, subst}
-use Rattle.std.specs.Prelude.{Err, IsErr, None, Ok, Result}
+use Rattle.std.specs.Prelude.{Err, IsErr, Ok, Result}
 use Rattle.std.specs.Result.{IsErrAnd}
 use Rattle.psi_base.specs.declared.text.NoMemory.{NoMemory}
 use Rattle.outside.specs.Reads.{ReadCall, ReadsFile, ReadsFrom, after_read}

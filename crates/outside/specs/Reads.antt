@@ -2,8 +2,8 @@
 use Rattle.std.specs.Prelude.{◌≡◌, ◌⊎◌, ℕ, zero, suc, ◌+◌, ◌<◌, List, [], ◌∷◌, ◌++◌, Option, None, Some, Result, Ok, Err}
 use Rattle.outside.specs.declared.shelf.ShelfFault.{ShelfFault}
 
--- one read: the name, the place where it begins (in bytes), how many bytes it asks for, and how many
--- it returned, or why it failed
+-- one read: the name, the place where it begins (in bytes), how many bytes it asks for, and how
+-- many it returned, or why it failed
 pub record ReadCall : Type 0 where
   pub name : List ℕ
   pub at : ℕ
@@ -16,8 +16,8 @@ read_call name at size outcome = record { name = name; at = at; size = size; out
 
 -- ---- one file
 
--- How far a file was read: the next read begins at this place; or there is no next read, because the
--- last one returned no byte or had this fault.
+-- How far a file was read: the next read begins at this place; or there is no next read, because
+-- the last one returned no byte or had this fault.
 pub data Progress : Type 0 where
   Next : ℕ → Progress
   Over : Option ShelfFault → Progress

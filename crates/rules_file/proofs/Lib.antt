@@ -1,3 +1,4 @@
 pub mod RulesLaws
 pub mod RulesRuns
 pub mod RulesStops
+pub mod RulesOrder

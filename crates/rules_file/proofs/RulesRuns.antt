@@ -111,7 +111,7 @@ base_ends name drop_in files before now (status.NoMemory none) fails = λ comman
 base_ends name drop_in files before now _ fails = absurd fails
 
 -- the rules of the rules file stand before a drop-in file is read
-passed_base : (command : Command) (name : List ℕ) (files : Option Files) (before now : ShelfCounts) (base : Rules) → rules_name command ≡ Some name → BaseGiven name files before now base → IsPassed command files DropInFile
+pub passed_base : (command : Command) (name : List ℕ) (files : Option Files) (before now : ShelfCounts) (base : Rules) → rules_name command ≡ Some name → BaseGiven name files before now base → IsPassed command files DropInFile
 passed_base command name files before now base named given = (
   base,
   is_named command RulesFile name named,

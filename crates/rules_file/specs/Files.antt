@@ -1,6 +1,9 @@
 -- What reading a rules file, and the drop-in file over it, gives, where their bytes are told.
-use Rattle.std.specs.Prelude.{◌≡◌, ℕ, List, Option, Ok, Err, None, Some, take}
+use Rattle.std.specs.Prelude.{◌≡◌, ℕ, List, Option, Result, Ok, Err, None, Some, take}
 use Rattle.outside.specs.Outside.{Files, Lacks, Rose, ShelfCounts, told}
+use Rattle.outside.specs.Reads.{ReadCall}
+use Rattle.outside.specs.declared.shelf.ShelfFault.{ShelfFault}
+use Rattle.outside.specs.declared.shelf.ShelfFault.TheVariants as shelf
 use Rattle.ruleset_json.specs.declared.types.Rules.{Rules}
 use Rattle.ruleset_json.specs.RuleRanges.{FitsRules}
 use Rattle.ruleset_json.specs.Rules.{rules_of}
@@ -13,6 +16,7 @@ use Rattle.run_spec.specs.declared.status.Which.TheVariants.{DropInFile, RulesFi
 use Rattle.run_spec.specs.Outputs.{drop_in_name, rules_name}
 use Rattle.run_spec.specs.Run.{RunCounts, Runs}
 use Rattle.run_spec.specs.MostRead.{most_of_rules}
+use Rattle.run_spec.specs.ReadOrder.{ReadsInOrder}
 use Rattle.run_spec.specs.Stops.{StopsAtRefusal}
 
 -- ---- one file
@@ -81,3 +85,20 @@ EndsRun named drop_in files before now result =
 abbrev pub StopsRun : Option (List ℕ) → Option (List ℕ) → Option Files → ℕ → ℕ → Status → Type 0
 StopsRun named drop_in files given given_now result =
     (command : Command) → rules_name command ≡ named → drop_in_name command ≡ drop_in → StopsAtRefusal command files given given_now result
+
+-- the fault of a shelf that a status tells of, if it does
+abbrev pub status_fault : Status → Option ShelfFault
+status_fault (status.NoFile which) = Some shelf.NoFile
+status_fault status.ReadFault = Some shelf.Failed
+status_fault _ = None
+
+-- the fault of a shelf that an answer has, if it has one
+abbrev pub status_fault_in : {A : Type 0} → Result A Status → Option ShelfFault
+status_fault_in (Ok x) = None
+status_fault_in (Err found) = status_fault found
+
+-- a run of any command that names these files of rules read them in order, if these are the logs
+-- before it and at its end, and ends with this status
+abbrev pub OrdersRun : Option (List ℕ) → Option (List ℕ) → Option Files → List ReadCall → List ReadCall → Status → Type 0
+OrdersRun named drop_in files before now result =
+    (command : Command) → rules_name command ≡ named → drop_in_name command ≡ drop_in → ReadsInOrder command files before now result

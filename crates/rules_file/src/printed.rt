@@ -4,6 +4,7 @@ ghost use Rattle.outside.specs.Outside.{StaysOver};
 ghost use Rattle.dropin_rules.specs.RulesText.{rules_text};
 ghost use Rattle.run_spec.specs.MostRead.{most_read};
 ghost use Rattle.run_spec.specs.Run.{Runs, run_counts};
+ghost use Rattle.run_spec.specs.ReadOrder.{ReadsInOrder};
 ghost use Rattle.run_spec.specs.Stops.{StopsAtRefusal};
 ghost use Rattle.run_outcomes.specs.Writes.{WritesText};
 
@@ -68,6 +69,8 @@ pub fn run_rules<S: Shelf, K: Sink>(
     ensures stops { StopsAtRefusal (Command.Rules name.now drop_in.now) (S.holds shelf.old)
         (S.given shelf.old) (S.given shelf.new) result }
     ensures below { StaysOver (K.below out.old) (K.below out.new) }
+    ensures order { ReadsInOrder (Command.Rules name.now drop_in.now) (S.holds shelf.old)
+        (S.reads shelf.old) (S.reads shelf.new) result }
 {
     match read_joined(alloc, name, drop_in, shelf) {
         Ok(rules) => print_rules(alloc, &rules, out),

@@ -2,11 +2,13 @@
 ghost use Rattle.std.specs.Prelude.{◌≡◌, ◌+◌, ◌≤◌, None, Some, IfSome, IsUtf8, MatchResult, ⊤};
 ghost use Rattle.psi_base.specs.Gives.{Gives};
 ghost use Rattle.outside.specs.Outside.{counts_of};
+ghost use Rattle.outside.specs.Reads.{ReadsFile, ReadsEach};
 ghost use Rattle.dropin_rules.specs.Joined.{dropped_in};
 ghost use Rattle.ruleset_json.specs.RuleRanges.{FitsRules};
 ghost use Rattle.run_spec.specs.MostRead.{most_if_named, most_of_rules};
+ghost use Rattle.run_spec.specs.ReadOrder.{names_of_rules};
 ghost use Rattle.run_spec.specs.Stops.{read_of_rules};
-ghost use Rattle.rules_file.specs.Files.{BaseFails, BaseGiven, EndsRun, IsFront, OverFails, OverGiven, Stays, StopsRun, Unread};
+ghost use Rattle.rules_file.specs.Files.{BaseFails, BaseGiven, EndsRun, IsFront, OrdersRun, OverFails, OverGiven, Stays, StopsRun, Unread, status_fault_in};
 ghost use Rattle.run_outcomes.specs.Rules.{RulesGiven};
 ghost use Rattle.replay_rules.specs.Judged.{given_rules};
 
@@ -50,6 +52,8 @@ fn read_bytes<S: Shelf>(
     ensures given { S.given shelf.new ≤ S.given shelf.old + most_of_rules }
     ensures within { S.given shelf.new
         ≤ S.given shelf.old + read_of_rules (S.holds shelf.old) (Some name.now) }
+    ensures order { ReadsFile name.now 0 (S.reads shelf.old) (S.reads shelf.new)
+        (status_fault_in result) }
 {
     match read_front(alloc, shelf, name, MOST) {
         Ok(bytes) => Ok(bytes),
@@ -70,6 +74,8 @@ fn read_base<S: Shelf>(alloc: Global, name: &str, shelf: &mut S) -> Result<Rules
     ensures given { S.given shelf.new ≤ S.given shelf.old + most_of_rules }
     ensures within { S.given shelf.new
         ≤ S.given shelf.old + read_of_rules (S.holds shelf.old) (Some name.now) }
+    ensures order { ReadsFile name.now 0 (S.reads shelf.old) (S.reads shelf.new)
+        (status_fault_in result) }
 {
     let bytes = match read_bytes(alloc, name, Which::RulesFile, shelf) {
         Ok(bytes) => bytes,
@@ -110,6 +116,8 @@ fn read_over<S: Shelf>(
     ensures given { S.given shelf.new ≤ S.given shelf.old + most_of_rules }
     ensures within { S.given shelf.new
         ≤ S.given shelf.old + read_of_rules (S.holds shelf.old) (Some name.now) }
+    ensures order { ReadsFile name.now 0 (S.reads shelf.old) (S.reads shelf.new)
+        (status_fault_in result) }
 {
     let bytes = match read_bytes(alloc, name, Which::DropInFile, shelf) {
         Ok(bytes) => bytes,
@@ -146,6 +154,11 @@ pub fn read_joined<S: Shelf>(
     ensures stops { MatchResult result (λ rules. ⊤)
         (λ status. StopsRun (Some name.now) drop_in.now (S.holds shelf.old)
         (S.given shelf.old) (S.given shelf.new) status) }
+    ensures order { MatchResult result
+        (λ rules. ReadsEach (names_of_rules (Some name.now) drop_in.now)
+        (S.reads shelf.old) (S.reads shelf.new) None)
+        (λ status. OrdersRun (Some name.now) drop_in.now (S.holds shelf.old)
+        (S.reads shelf.old) (S.reads shelf.new) status) }
 {
     let base = match read_base(alloc, name, shelf) {
         Ok(base) => base,
@@ -184,6 +197,11 @@ pub fn read_rules<S: Shelf>(
     ensures stops { MatchResult result (λ rules. ⊤)
         (λ status. StopsRun options.now.rules options.now.drop_in (S.holds shelf.old)
         (S.given shelf.old) (S.given shelf.new) status) }
+    ensures order { MatchResult result
+        (λ rules. ReadsEach (names_of_rules options.now.rules options.now.drop_in)
+        (S.reads shelf.old) (S.reads shelf.new) None)
+        (λ status. OrdersRun options.now.rules options.now.drop_in (S.holds shelf.old)
+        (S.reads shelf.old) (S.reads shelf.new) status) }
 {
     match &options.rules {
         Some(name) => match read_joined(alloc, name_of(name), &options.drop_in, shelf) {

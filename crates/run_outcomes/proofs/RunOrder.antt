@@ -1,5 +1,5 @@
 -- In which order runs read their files.
-use Rattle.std.proofs.Common.{◌≡◌, ℕ, List, [], ◌∷◌, ◌++◌, refl, sym, ap, subst, Option, None, Some}
+use Rattle.std.proofs.Common.{◌≡◌, ℕ, List, [], ◌∷◌, ◌++◌, refl, sym, subst, Option, None, Some}
 use Rattle.outside.specs.Outside.{Files}
 use Rattle.outside.specs.Reads.{ReadCall, ReadFailure, ReadsEach, ReadsFile, failure_in}
 use Rattle.outside.proofs.ReadOrder.{file_stops, files_stop, files_then, none_read}

@@ -24,8 +24,8 @@ names_of_rules named drop_in = listed named ++ listed drop_in
 abbrev pub names_in_order : Command → List (List ℕ)
 names_in_order command = names_of_rules (rules_name command) (drop_in_name command) ++ listed (source_name command)
 
--- A status tells of this failure of a read. After a failed read, what comes before the command reads
--- that file is in order, and the files before it are there.
+-- A status tells of this failure of a read. After a failed read, what comes before the command
+-- reads that file is in order, and the files before it are there.
 abbrev pub IsFailureOf : Command → Option Files → Status → Option ReadFailure → Type 0
 IsFailureOf command files status.ReadFault failure =
     (which : Which) × (name : List ℕ) × (file_of command which ≡ Some name) × IsPassed command files which
@@ -45,4 +45,5 @@ pub record ReadsInOrder (command : Command) (files : Option Files) (before now :
 abbrev pub FailsAt : Command → List ReadCall → List ReadCall → Which → Status → Type 0
 FailsAt command before now which result =
     (result ≡ status.ReadFault)
-    × ((name : List ℕ) × (file_of command which ≡ Some name) × ReadsEach (names_in_order command) before now (Some (failure_at name Failed)))
+    × ((name : List ℕ) × (file_of command which ≡ Some name)
+    × ReadsEach (names_in_order command) before now (Some (failure_at name Failed)))

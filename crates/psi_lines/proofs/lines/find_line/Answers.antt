@@ -1,10 +1,5 @@
-use Rattle.std.proofs.Common.{rules, arith, refl, ap, subst, ◌∙◌, ◌≡◌, ◌<◌}
-use Rattle.std.proofs.lemmas.Grind.{common_steps}
-use Rattle.std.specs.Prelude.{Err, Ok, Option, Result, ℕ}
-use Rattle.outside.specs.Reads.{ReadsFrom}
-use Rattle.outside.specs.Reads.Progress.{Next}
-use Rattle.outside.proofs.ReadOrder.{read_on, reads_then}
-use Rattle.psi_lines.specs.Next.{ReadsOn, progress_by_line, progress_by_read}
+use Rattle.std.proofs.Common.{rules, arith, refl}
+use Rattle.outside.proofs.ReadOrder.{read_on}
 use Rattle.psi_lines.proofs.Progress.{ends_at, fault_at, reads_on}
 use Rattle.psi_lines.proofs.lines.find_line.Goals as goal
 

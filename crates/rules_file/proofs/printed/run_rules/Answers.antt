@@ -2,6 +2,7 @@ use Rattle.std.proofs.Common.{refl}
 use Rattle.run_spec.specs.declared.command.Command.TheVariants.{Rules}
 use Rattle.run_outcomes.proofs.RunStops.{written_stops}
 use Rattle.rules_file.proofs.RulesRuns.{rules_written}
+use Rattle.run_outcomes.proofs.RunOrder.{printed_order}
 use Rattle.rules_file.proofs.printed.run_rules.Goals as goal
 
 pub returns-in-Ok-clause-runs : goal.returns-in-Ok-clause-runs
@@ -17,3 +18,9 @@ returns-in-Ok-clause-stops g c = written_stops (Rules c.args.name.now _) (g.S.Sh
 
 pub returns-in-Err-clause-stops : goal.returns-in-Err-clause-stops
 returns-in-Err-clause-stops g c = c.in-Err.ensures.stops (Rules c.args.name.now _) refl refl
+
+pub returns-in-Ok-clause-order : goal.returns-in-Ok-clause-order
+returns-in-Ok-clause-order g c = printed_order c.args.name.now _ (g.S.Shelf.holds c.args.shelf.now) _ _ _ _ _ _ _ c.print_rules.result c.in-Ok.ensures.order c.print_rules.ensures.writes
+
+pub returns-in-Err-clause-order : goal.returns-in-Err-clause-order
+returns-in-Err-clause-order g c = c.in-Err.ensures.order (Rules c.args.name.now _) refl refl

@@ -1,5 +1,6 @@
 use Rattle.rules_file.proofs.RulesRuns.{base_alone, base_ends, over_answers}
 use Rattle.rules_file.proofs.RulesStops.{base_stops, over_stops}
+use Rattle.rules_file.proofs.RulesOrder.{base_alone_order, base_order, over_order}
 use Rattle.rules_file.proofs.rules.read_joined.Goals as goal
 
 pub returns-in-Err-clause-answer : goal.returns-in-Err-clause-answer
@@ -23,3 +24,15 @@ returns-in-Some-clause-stops g c =
     let put = rw (c.name_of.ensures, c.in-Ok.ensures.kept) at c.read_over.ensures.answer in
     let more = rw (c.name_of.ensures, c.in-Ok.ensures.kept) at c.read_over.ensures.within in
     rw c.in-Some.is (over_stops c.in-Ok.base c.args.name.now c.in-Some.drop_in (g.S.Shelf.holds c.args.shelf.now) _ _ _ _ _ c.read_over.result put c.in-Ok.ensures.within more)
+
+pub returns-in-Err-clause-order : goal.returns-in-Err-clause-order
+returns-in-Err-clause-order g c = base_order c.args.name.now _ (g.S.Shelf.holds c.args.shelf.now) _ _ _ _ _ c.in-Err.ensures.answer c.in-Err.ensures.order
+
+pub returns-in-Some-clause-order : goal.returns-in-Some-clause-order
+returns-in-Some-clause-order g c =
+    let put = rw (c.name_of.ensures, c.in-Ok.ensures.kept) at c.read_over.ensures.answer in
+    let reads = rw c.name_of.ensures at c.read_over.ensures.order in
+    rw c.in-Some.is (over_order c.in-Ok.base c.args.name.now c.in-Some.drop_in (g.S.Shelf.holds c.args.shelf.now) _ _ _ _ _ _ c.read_over.result c.in-Ok.ensures.answer put c.in-Ok.ensures.order reads)
+
+pub returns-in-None-clause-order : goal.returns-in-None-clause-order
+returns-in-None-clause-order g c = rw c.in-None.is (base_alone_order c.args.name.now _ _ c.in-Ok.ensures.order)

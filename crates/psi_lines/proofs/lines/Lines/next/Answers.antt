@@ -9,6 +9,6 @@ returns-clause-line g c = λ bytes tells.
     let reader = c.find.new.self in
     let held = ap (λ (r : Reader). r.held) c.self.view_is in (
       line_begins reader.held (drop c.self.inside.at bytes) _ _ _ c.in-Some.count found.0 found.1 found.2 found.3 (ap (λ (r : Reader). reader.held ++ drop r.at bytes) c.self.view_is ∙ c.in_ok-count.ensures.left bytes tells)
-      (c.in_ok-bytes.ensures ∙ ap (take c.in-Some.count) (c.held.ensures.held ∙ held)) (c.take_line.follows.holds-at-none ∙ ap (drop (c.in-Some.count + 1)) held),
+          (c.in_ok-bytes.ensures ∙ ap (take c.in-Some.count) (c.held.ensures.held ∙ held)) (c.take_line.follows.holds-at-none ∙ ap (drop (c.in-Some.count + 1)) held),
       c.number-number.ensures,
     )

@@ -16,19 +16,23 @@ returns g c =
     let held = ap (λ (r : Reader). r.held) c.self.view_is in
     let at = ap (λ (r : Reader). r.at) c.self.view_is in
     let place : reader.at ≡ c.args.self.now.at + g.S.Shelf.given c.find.new.shelf - g.S.Shelf.given c.args.shelf.now = omega (arith, c.in_ok-count.ensures.given) in (
-      (refl, (λ _. tt), record {
-        name = ap (λ (r : Reader). r.name) c.self.view_is ∙ c.find.ensures.name;
-        number = ap (λ (r : Reader). r.number + 1) c.self.view_is ∙ ap (λ n. n + 1) c.find.ensures.number;
-        line = λ bytes tells. (
-          line_begins reader.held (drop c.self.inside.at bytes) _ _ _ c.in-Some.count found.0 found.1 found.2 found.3 (ap (λ (r : Reader). reader.held ++ drop r.at bytes) c.self.view_is ∙ c.in_ok-count.ensures.left bytes tells)
-          (c.take_line.ensures.bytes ∙ ap (take c.in-Some.count) held) (c.take_line.follows.holds-at-none ∙ ap (drop (c.in-Some.count + 1)) held),
-          refl,
-        );
-        fault = tt;
-        counted = omega (arith, c.find.ensures.given, at);
-        place = subst (λ n. n ≤ furthest c.args.self.now.number) (sym at) c.find.ensures.place;
-        missing = λ none lacks. absurd (let gone = c.in_ok-count.ensures.missing none lacks in gone.2);
-      }),
+      (
+        refl,
+        (λ _. tt),
+        record {
+          name = ap (λ (r : Reader). r.name) c.self.view_is ∙ c.find.ensures.name;
+          number = ap (λ (r : Reader). r.number + 1) c.self.view_is ∙ ap (λ n. n + 1) c.find.ensures.number;
+          line = λ bytes tells. (
+            line_begins reader.held (drop c.self.inside.at bytes) _ _ _ c.in-Some.count found.0 found.1 found.2 found.3 (ap (λ (r : Reader). reader.held ++ drop r.at bytes) c.self.view_is ∙ c.in_ok-count.ensures.left bytes tells)
+                (c.take_line.ensures.bytes ∙ ap (take c.in-Some.count) held) (c.take_line.follows.holds-at-none ∙ ap (drop (c.in-Some.count + 1)) held),
+            refl,
+          );
+          fault = tt;
+          counted = omega (arith, c.find.ensures.given, at);
+          place = subst (λ n. n ≤ furthest c.args.self.now.number) (sym at) c.find.ensures.place;
+          missing = λ none lacks. absurd (let gone = c.in_ok-count.ensures.missing none lacks in gone.2);
+        },
+      ),
       record {
         kept = c.find.ensures.kept;
         rest = tt;
