@@ -13,3 +13,4 @@ pub mod Texts
 pub mod Turns
 pub mod Whole
 pub mod Written
+pub mod Orders

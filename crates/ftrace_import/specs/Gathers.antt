@@ -1,6 +1,10 @@
 -- What gathering the events of a text gives.
 use Rattle.std.specs.Prelude.{◌≡◌, ℕ, ◌+◌, ◌-◌, ◌≤◌, List, [], ◌∷◌, ◌++◌, length, take, Bool, true, false, Option, None, Some, OnOk, IsErrOf, Result, Ok, Err, ⊤}
 use Rattle.outside.specs.Outside.{HasCauses, ShelfCounts}
+use Rattle.outside.specs.Reads.{ReadCall, ReadsFile, ReadsFrom}
+use Rattle.outside.specs.Reads.Progress.{Next}
+use Rattle.outside.specs.declared.shelf.ShelfFault.{ShelfFault}
+use Rattle.outside.specs.declared.shelf.ShelfFault.TheVariants as shelf
 use Rattle.psi_base.specs.Path.{parts_at}
 use Rattle.psi_base.specs.declared.event.Event.{Event}
 use Rattle.psi_base.specs.declared.event.Fault.{Fault}
@@ -97,6 +101,24 @@ NextGives number old new before behind known (Err fault) =
 -- a shelf counted this fault of an import and nothing else: a failed read, or a name that it hasn't
 abbrev pub CausesImportFault : {A : Type 0} → ShelfCounts → ShelfCounts → Result A ImportFault → Type 0
 CausesImportFault before now result = HasCauses before now (IsErrOf result import.ReadFault) (IsErrOf result import.NoFile)
+
+-- the fault of a shelf that a fault of an import is, if it is one
+abbrev pub shelf_fault : ImportFault → Option ShelfFault
+shelf_fault (import.Refused number why) = None
+shelf_fault import.NoFile = Some shelf.NoFile
+shelf_fault import.ReadFault = Some shelf.Failed
+shelf_fault (import.NoMemory _) = None
+
+-- the fault of a shelf that an answer has, if it has one
+abbrev pub shelf_fault_in : {A : Type 0} → Result A ImportFault → Option ShelfFault
+shelf_fault_in (Ok x) = None
+shelf_fault_in (Err found) = shelf_fault found
+
+-- A log grew by the reads for a line, from one place to another, or up to the end or a fault.
+abbrev pub LineInOrder : List ℕ → ℕ → ℕ → List ReadCall → List ReadCall → Result Bool ImportFault → Type 0
+LineInOrder name at place before now (Ok true) = ReadsFrom name (Next at) before now (Next place)
+LineInOrder name at place before now (Ok false) = ReadsFile name at before now None
+LineInOrder name at place before now (Err found) = ReadsFile name at before now (shelf_fault found)
 
 -- what reading the next line does to the reader and to the shelf, whatever stands on the line
 pub record ReadsLine {A : Type 0} (known : Option (List ℕ)) (old new : Reader) (counts counts_now : ShelfCounts) (given given_now : ℕ)

@@ -1,12 +1,13 @@
 //! The events of an import, one by one.
 ghost use Rattle.std.specs.Prelude.{◌≡◌, ◌+◌, ◌≤◌, ℕ, List, false, IfOk, IsErrOf, MatchResult, Some, None, Ok};
 ghost use Rattle.outside.specs.Outside.{told, Lacks, counts_of};
+ghost use Rattle.outside.specs.Reads.{ReadsFile};
 ghost use Rattle.psi_spec.specs.Trace.{IsCpuCount};
 ghost use Rattle.psi_spec.specs.World.{first_world};
 ghost use Rattle.import_spec.specs.Events.{made};
 ghost use Rattle.import_spec.specs.Import.{import_of};
 ghost use Rattle.ftrace_import.specs.Deeds.{event_by};
-ghost use Rattle.ftrace_import.specs.Gathers.{CausesImportFault, RefusalOf, StopsAtRefusal, TellsNothing, most_of_text, whole_events};
+ghost use Rattle.ftrace_import.specs.Gathers.{CausesImportFault, RefusalOf, StopsAtRefusal, TellsNothing, most_of_text, shelf_fault_in, whole_events};
 ghost use Rattle.ftrace_import.specs.Lending.{GoesOn, IsMade, shown};
 ghost use Rattle.ftrace_import.specs.Stands.{Ends};
 
@@ -172,6 +173,8 @@ pub fn read_import<S: Shelf>(
     ensures given { S.given shelf.new ≤ S.given shelf.old + most_of_text }
     ensures stops { StopsAtRefusal (import_of cpus) (told (S.holds shelf.old) name.now)
         (S.given shelf.old) (S.given shelf.new) result }
+    ensures order { ReadsFile name.now 0
+        (S.reads shelf.old) (S.reads shelf.new) (shelf_fault_in result) }
 {
     let gathering = gather(alloc, shelf, name, cpus)?;
     let events = Imported::make(alloc, gathering)?;

@@ -1,12 +1,13 @@
 //! The import of a file's text.
 ghost use Rattle.std.specs.Prelude.{◌≡◌, ◌+◌, ◌≤◌, ℕ, List, [], IfOk, IsErrOf, MatchResult, Some, None, Ok, true, false};
 ghost use Rattle.outside.specs.Outside.{told, Lacks, counts_of};
+ghost use Rattle.outside.specs.Reads.{ReadsFile};
 ghost use Rattle.psi_lines.specs.Lines.{left};
 ghost use Rattle.psi_spec.specs.Trace.{IsCpuCount};
 ghost use Rattle.psi_spec.specs.World.{first_world};
 ghost use Rattle.import_spec.specs.Events.{unreached};
 ghost use Rattle.import_spec.specs.Import.{import_of};
-ghost use Rattle.ftrace_import.specs.Gathers.{CausesImportFault, Gathers, IsGathered, IsLineFault, KeepsLines, LinesGive, NextGives, ReadsLine, RefusalOf, StopsAtRefusal, TellsNothing, import_fault, most_of_text, reached_in, rest_from, whole_events};
+ghost use Rattle.ftrace_import.specs.Gathers.{CausesImportFault, Gathers, IsGathered, IsLineFault, KeepsLines, LineInOrder, LinesGive, NextGives, ReadsLine, RefusalOf, StopsAtRefusal, TellsNothing, import_fault, most_of_text, reached_in, rest_from, shelf_fault_in, whole_events};
 ghost use Rattle.ftrace_import.specs.Stands.{Ends};
 
 use crate::deeds::event_of;
@@ -93,6 +94,8 @@ fn look_behind<S: Shelf>(
         lines.old lines.new result }
     ensures missing { lines.old.held ≡ [] → Lacks (S.holds shelf.old) lines.old.name →
         TellsNothing result }
+    ensures order { LineInOrder lines.old.name lines.old.at lines.new.at
+        (S.reads shelf.old) (S.reads shelf.new) result }
 {
     match lines.is_at_end(shelf) {
         Ok(true) => Ok(false),
@@ -124,6 +127,8 @@ fn take_next<S: Shelf>(
         lines.old lines.new result }
     ensures missing { lines.old.held ≡ [] → Lacks (S.holds shelf.old) lines.old.name →
         TellsNothing result }
+    ensures order { LineInOrder lines.old.name lines.old.at lines.new.at
+        (S.reads shelf.old) (S.reads shelf.new) result }
 {
     let number = lines.number();
     match lines.next_bytes(shelf) {
@@ -157,6 +162,8 @@ fn next_step<S: Shelf>(
         lines.old lines.new result }
     ensures missing { lines.old.held ≡ [] → Lacks (S.holds shelf.old) lines.old.name →
         TellsNothing result }
+    ensures order { LineInOrder lines.old.name lines.old.at lines.new.at
+        (S.reads shelf.old) (S.reads shelf.new) result }
 {
     if lines.number() > MOST_LINES {
         look_behind(g, lines, shelf)
@@ -188,6 +195,8 @@ fn take_lines<S: Shelf>(
     ensures given { S.given shelf.new ≤ S.given shelf.old + most_of_text }
     ensures stops { StopsAtRefusal (rest_from g.old.cpus unreached 1)
         (told (S.holds shelf.old) lines.old.name) (S.given shelf.old) (S.given shelf.new) result }
+    ensures order { ReadsFile lines.old.name lines.old.at
+        (S.reads shelf.old) (S.reads shelf.new) (shelf_fault_in result) }
 {
     'lines: loop {
         match next_step(g, lines, shelf) {
@@ -219,6 +228,8 @@ pub fn gather<S: Shelf>(
     ensures given { S.given shelf.new ≤ S.given shelf.old + most_of_text }
     ensures stops { StopsAtRefusal (import_of cpus) (told (S.holds shelf.old) name.now)
         (S.given shelf.old) (S.given shelf.new) result }
+    ensures order { ReadsFile name.now 0
+        (S.reads shelf.old) (S.reads shelf.new) (shelf_fault_in result) }
 {
     let mut lines = Lines::new(alloc, name)?;
     let mut g = start(alloc, cpus)?;
@@ -252,6 +263,8 @@ pub fn import<S: Shelf>(
     ensures given { S.given shelf.new ≤ S.given shelf.old + most_of_text }
     ensures stops { StopsAtRefusal (import_of cpus) (told (S.holds shelf.old) name.now)
         (S.given shelf.old) (S.given shelf.new) result }
+    ensures order { ReadsFile name.now 0
+        (S.reads shelf.old) (S.reads shelf.new) (shelf_fault_in result) }
 {
     let g = gather(alloc, shelf, name, cpus)?;
     let events = all_events(alloc, &g)?;

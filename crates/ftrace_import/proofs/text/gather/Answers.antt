@@ -1,5 +1,6 @@
 use Rattle.std.proofs.Common.{ℕ}
 use Rattle.outside.specs.Outside.{told}
+use Rattle.ftrace_import.proofs.Orders as order
 use Rattle.ftrace_import.proofs.Stops as stop
 use Rattle.ftrace_import.proofs.Texts as laws
 use Rattle.ftrace_import.proofs.text.gather.Goals as goal
@@ -15,3 +16,15 @@ returns-clause-content g c =
 pub returns-clause-stops : goal.returns-clause-stops
 returns-clause-stops g c =
     stop.gather_stops ℕ ℕ _ c.args.cpus (told (g.S.Shelf.holds c.args.shelf.now)) c.args.name.now c.in_ok-lines.lines (g.S.Shelf.given c.args.shelf.now) (g.S.Shelf.given c.take_lines.new.shelf) c.in-Err.fault c.in_ok-g.ensures.cpus c.in_ok-lines.ensures c.in-Err.ensures.stops
+
+pub returns-in-Ok-clause-order : goal.returns-in-Ok-clause-order
+returns-in-Ok-clause-order g c = rw c.in_ok-lines.ensures at c.in-Ok.ensures.order
+
+pub returns-clause-order : goal.returns-clause-order
+returns-clause-order g c = rw c.in_ok-lines.ensures at c.in-Err.ensures.order
+
+pub returns-in_err-lines-clause-order : goal.returns-in_err-lines-clause-order
+returns-in_err-lines-clause-order g c = order.nothing_read _ _ _ c.from_residual.result c.from_residual.ensures.0 c.from_residual.ensures.1
+
+pub returns-in_err-g-clause-order : goal.returns-in_err-g-clause-order
+returns-in_err-g-clause-order g c = order.nothing_read _ _ _ c.from_residual-in_err-g.result c.from_residual-in_err-g.ensures.0 c.from_residual-in_err-g.ensures.1

@@ -3,6 +3,8 @@ use Rattle.ftrace_import.specs.Gathers.{reached_in}
 use Rattle.ftrace_import.proofs.Texts.{rest_many, rest_none}
 use Rattle.outside.specs.Outside.{told}
 use Rattle.ftrace_import.proofs.Stops as stop
+use Rattle.outside.proofs.ReadOrder.{file_read}
+use Rattle.ftrace_import.proofs.Orders as order
 use Rattle.ftrace_import.proofs.text.look_behind.Goals as goal
 
 pub returns-in-Ok-true-clause-content : goal.returns-in-Ok-true-clause-content
@@ -29,3 +31,12 @@ returns-in-Ok-false-clause-stays g c = stop.many_keeps (told (g.S.Shelf.holds c.
 
 pub returns-in-Err-clause-stays : goal.returns-in-Err-clause-stays
 returns-in-Err-clause-stays g c = stop.unseen_keeps (told (g.S.Shelf.holds c.args.shelf.now) c.args.lines.now.name) c.args.lines.now c.is_at_end.new.self c.is_at_end.result c.in-Err.fault _ (λ bytes tells. let found = c.is_at_end.ensures.left bytes tells in found.0) c.is_at_end.ensures.same.1 c.is_at_end.ensures.unread c.is_at_end.ensures.faults c.in-Err.is c.import_fault.ensures
+
+pub returns-in-Ok-true-clause-order : goal.returns-in-Ok-true-clause-order
+returns-in-Ok-true-clause-order g c = file_read _ _ _ _ _ (rw (c.in-Ok-true.is, c.in-Ok-true.field-0-test) at c.is_at_end.ensures.order)
+
+pub returns-in-Ok-false-clause-order : goal.returns-in-Ok-false-clause-order
+returns-in-Ok-false-clause-order g c = file_read _ _ _ _ _ (rw (c.in-Ok-false.is, c.in-Ok-false.field-0-test) at c.is_at_end.ensures.order)
+
+pub returns-in-Err-clause-order : goal.returns-in-Err-clause-order
+returns-in-Err-clause-order g c = order.unread_order _ _ _ _ _ c.in-Err.fault _ (rw c.in-Err.is at c.is_at_end.ensures.order) c.import_fault.ensures

@@ -1,5 +1,7 @@
 use Rattle.std.proofs.Common.{◌≡◌, ◌+◌, ◌-◌, ◌≤◌, ℕ, List, []}
 use Rattle.outside.specs.Outside.{Lacks, told}
+use Rattle.outside.specs.Reads.{ReadsFrom}
+use Rattle.outside.specs.Reads.Progress.{Next}
 use Rattle.std.specs.Prelude.{Some}
 use Rattle.psi_lines.specs.Lines.{left, line_count}
 use Rattle.ftrace_import.proofs.Texts.{SoFar}
@@ -11,6 +13,7 @@ invariant-lines g l = record {
   faults : g.S.Shelf.faults l.shelf ≡ g.S.Shelf.faults l.fn.shelf;
   absent : g.S.Shelf.absent l.shelf ≡ g.S.Shelf.absent l.fn.shelf;
   given : g.S.Shelf.given l.shelf + l.fn.lines.at ≡ g.S.Shelf.given l.fn.shelf + l.lines.at;
+  order : ReadsFrom l.fn.lines.name (Next l.fn.lines.at) (g.S.Shelf.reads l.fn.shelf) (g.S.Shelf.reads l.shelf) (Next l.lines.at);
   name : l.lines.name ≡ l.fn.lines.name;
   few : l.lines.number ≤ 16000001;
   missing : Lacks (g.S.Shelf.holds l.fn.shelf) l.fn.lines.name → l.lines.held ≡ [];

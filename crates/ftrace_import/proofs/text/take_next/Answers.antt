@@ -1,9 +1,11 @@
-use Rattle.std.proofs.Common.{refl}
+use Rattle.std.proofs.Common.{arith, refl}
 use Rattle.outside.specs.Outside.{told}
 use Rattle.psi_lines.specs.Lines.{left}
 use Rattle.ftrace_import.specs.Gathers.{reached_in}
 use Rattle.ftrace_import.proofs.Texts as laws
 use Rattle.ftrace_import.proofs.Stops as stop
+use Rattle.outside.proofs.ReadOrder.{file_read}
+use Rattle.ftrace_import.proofs.Orders as order
 use Rattle.ftrace_import.proofs.text.take_next.Goals as goal
 
 pub returns-in-Ok-clause-content : goal.returns-in-Ok-clause-content
@@ -45,3 +47,17 @@ returns-in-Ok-None-clause-stays g c =
 pub returns-in-Err-clause-stays : goal.returns-in-Err-clause-stays
 returns-in-Err-clause-stays g c =
     stop.unread_keeps (g.S.Shelf.holds c.args.shelf.now) (g.S.Shelf.given c.args.shelf.now) (g.S.Shelf.given c.next_bytes.new.shelf) c.args.lines.now c.next_bytes.follows.lender-at-none c.next_bytes.result c.in-Err.fault _ c.next_bytes.follows.holds-at-none c.in-Err.is c.next_bytes.ensures.numbered c.import_fault.ensures
+
+pub returns-in-Ok-clause-order : goal.returns-in-Ok-clause-order
+returns-in-Ok-clause-order g c =
+    order.place_is _ _ _ _ _ _ (rw (c.in-Ok-Some.is, c.in-Ok-Some.field-0-is) at c.next_bytes.ensures.order) (omega (arith, c.next_bytes.follows.holds-at-none.counted))
+
+pub returns-in-Err-take_line-clause-order : goal.returns-in-Err-take_line-clause-order
+returns-in-Err-take_line-clause-order g c =
+    order.faulted_order _ _ _ _ _ _ c.in-Err-take_line.fault _ (rw (c.in-Ok-Some.is, c.in-Ok-Some.field-0-is) at c.next_bytes.ensures.order) c.fault_at.ensures
+
+pub returns-in-Ok-None-clause-order : goal.returns-in-Ok-None-clause-order
+returns-in-Ok-None-clause-order g c = file_read _ _ _ _ _ (rw (c.in-Ok-None.is, c.in-Ok-None.field-0-is) at c.next_bytes.ensures.order)
+
+pub returns-in-Err-clause-order : goal.returns-in-Err-clause-order
+returns-in-Err-clause-order g c = order.unread_order _ _ _ _ _ c.in-Err.fault _ (rw c.in-Err.is at c.next_bytes.ensures.order) c.import_fault.ensures
