@@ -1,4 +1,4 @@
--- What a tree of groups refuses, the groups above a group, and what a tree keeps beside its groups.
+-- Which changes a tree of groups rejects, the ancestors of a group, and the invariant of a tree.
 use Rattle.std.specs.Prelude.{◌≡◌, ℕ, zero, suc, ◌+◌, List, [], ◌∷◌, length, map, slice_index_or, nat_le, ◌&&◌, ◌||◌, Bool, if◌then◌else◌, Option, None, Some}
 use denote.Ref.{Bor}
 use Rattle.psi_base.specs.declared.event.Slot.{Slot}
@@ -15,29 +15,29 @@ use Rattle.psi_spec.specs.LegalGroups.{AreGroups}
 
 -- ---- refusals
 
--- the first cause against a new group: 1,024 were made, one with the path is live, or none with the
--- path above is
+-- the first cause against a new group: 1,024 were created, one with this path is live, or no live
+-- group has the parent path
 abbrev pub add_cause : List GroupLife → List ℕ → Option Cause
 add_cause groups path =
     if nat_le most_groups (length groups) then Some cause.TooManyGroups else
     if has_group groups (Some path) then Some cause.GroupExists else
     if lacks_parent groups (Some path) then Some cause.NoParent else None
 
--- the first cause against the end of a group: none with the path is live, or it is the root or has
--- a live child
+-- the first cause against removing a group: no live group has this path, or it is the root or has a
+-- live child
 abbrev pub remove_cause : List GroupLife → List ℕ → Option Cause
 remove_cause groups path =
     if lacks_group groups (Some path) then Some cause.UnknownGroup else
     if is_root path || has_child groups (slot_of groups path) then Some cause.GroupBusy else None
 
--- the first cause against a switch of a group's account: none with the path is live, or it is the
+-- the first cause against switching a group's accounting: no live group has this path, or it is the
 -- root
 abbrev pub pressure_cause : List GroupLife → List ℕ → Option Cause
 pressure_cause groups path =
     if lacks_group groups (Some path) then Some cause.UnknownGroup else
     if is_root path then Some cause.RootPressure else None
 
--- the fault is the first cause; memory is wanted only where there is none
+-- the fault is the first cause; it is out of memory only if there is no cause
 abbrev pub IsGroupFault : Option Cause → Fault Cause → Type 0
 IsGroupFault why (fault.Refused cause) = why ≡ Some cause
 IsGroupFault why (fault.NoMemory _) = why ≡ None
@@ -52,16 +52,17 @@ slot_at n = record { 0 = n }
 abbrev pub numbers_of : List Slot → List ℕ
 numbers_of slots = map (λ (slot : Slot). slot.0) slots
 
--- the numbers below another that pass a test, from the greatest down
+-- the numbers below a bound that pass a test, in descending order
 abbrev pub down_from : ℕ → (ℕ → Bool) → List ℕ
 down_from zero test = []
 down_from (suc n) test = if test n then n ∷ down_from n test else down_from n test
 
--- The chain of a group: its slot and all slots above it, the newest first. So the root is the last.
+-- The chain of a group: its slot and those of all its ancestors, the newest first. So the root is
+-- the last.
 abbrev pub chain_of : List GroupLife → ℕ → List Slot
 chain_of groups slot = map slot_at (down_from (suc slot) (is_under (parents_of groups) slot))
 
--- the chain of a group, if there is one
+-- the chain from a slot, empty without one
 abbrev pub chain_from : List GroupLife → Option Slot → List Slot
 chain_from groups None = []
 chain_from groups (Some slot) = chain_of groups slot.0
@@ -78,13 +79,13 @@ paths_and_slots groups = map (λ (pair : Bor (List ℕ) × Slot). (pair.0.now, p
 
 -- ---- what a tree keeps
 
--- how many live groups have this one as their parent
+-- the number of live groups whose parent is this one
 abbrev pub count_children : List GroupLife → ℕ → ℕ
 count_children [] slot = 0
 count_children (group ∷ groups) slot = count_children groups slot + (if is_live group && is_slot (Some slot) group.parent then 1 else 0)
 
--- What is true of each tree: its groups are those of a legal world, a look-up of a path finds the
--- live ones, and it has the number of live children of each.
+-- The invariant of each tree: its groups are those of a legal world, a look-up by path finds the
+-- live ones, and `children` has the number of live children of each group.
 pub record IsTree (groups : List GroupLife) (find : List ℕ → Option Slot) (children : List ℕ) : Type 0 where
   pub legal : AreGroups groups
   pub found : (path : List ℕ) → find path ≡ as_slot (slot_of groups path)

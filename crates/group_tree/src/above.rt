@@ -1,10 +1,10 @@
-//! The path above a path.
+//! The parent of a path.
 ghost use Rattle.std.specs.Prelude.{◌≡◌};
 ghost use Rattle.psi_spec.specs.World.{or_root, parent_path};
 
 use psi_base::Path;
 
-// The bytes, or those of the root's path where there are none.
+// The bytes, or the root's path if they are empty.
 fn or_root(bytes: &[u8]) -> &[u8]
     ensures { result.now ≡ or_root bytes.now }
 {
@@ -15,7 +15,7 @@ fn or_root(bytes: &[u8]) -> &[u8]
     }
 }
 
-// The bytes before the last slash, or those of the root's path.
+// The bytes before the last slash, or the root's path if these are empty.
 #[tactic(auto, using(crate::proofs::Slashes::slashes))]
 fn parent_bytes(path: &[u8]) -> &[u8]
     ensures { result.now ≡ parent_path path.now }
@@ -30,7 +30,7 @@ fn parent_bytes(path: &[u8]) -> &[u8]
     b"/".as_slice()
 }
 
-/// The path of the group above one with this path. That of the root is its own.
+/// The path of the parent of the group with this path. The root's parent path is its own.
 #[tactic(auto, using(crate::proofs::Slashes::texts))]
 pub(crate) fn path_above(path: &Path) -> &str
     ensures { result.now ≡ parent_path path.now }

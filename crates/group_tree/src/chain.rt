@@ -1,4 +1,4 @@
-//! The groups above a group.
+//! The ancestors of a group.
 ghost use Rattle.std.specs.Prelude.{◌≡◌, ◌<◌, length, slice_index_or, None, IfSome};
 ghost use Rattle.psi_spec.specs.Stall.{number_of_slot, parents_of};
 ghost use Rattle.psi_spec.specs.LegalGroups.{AreGroups};
@@ -8,7 +8,7 @@ use psi_base::Slot;
 use psi_spec::GroupLife;
 use std::marker::Model;
 
-/// The slot of the group above the one in a slot. A slot that wasn't made has none.
+/// The slot of the parent of the group in a slot. `None` for a slot without a group.
 #[tactic(auto, using(crate::proofs::Chains::parents))]
 pub(crate) fn parent_of(lives: &[GroupLife], slot: Slot) -> Option<Slot>
     ensures { number_of_slot result ≡ slice_index_or (parents_of lives.now) slot.0 None }
@@ -19,8 +19,8 @@ pub(crate) fn parent_of(lives: &[GroupLife], slot: Slot) -> Option<Slot>
     }
 }
 
-/// The slots of a group and of those above it that are left, from the newest to the root. Contracts
-/// see the list of them.
+/// An iterator over the slots of a group and its ancestors, from the newest to the root. Its model
+/// is the list of the slots that remain.
 #[derive(Drop)]
 pub struct Chain<'a> {
     lives: &'a [GroupLife],
@@ -43,7 +43,7 @@ impl<'a> Model for Chain<'a> {
 }
 
 impl<'a> Chain<'a> {
-    /// The chain from a slot on, if there is one.
+    /// The chain that begins at a slot, empty for `None`.
     pub(crate) fn new(lives: &'a [GroupLife], next: Option<Slot>) -> Chain<'a>
         requires groups { AreGroups lives.now }
         requires made { IfSome next (λ slot. slot.0 < length lives.now) }

@@ -1,4 +1,4 @@
-//! How groups are made and removed: the parts of a tree change together.
+//! Creating and removing groups: the parts of a tree change together.
 ghost use Rattle.std.specs.Prelude.{◌≡◌, ◌+◌, ◌<◌, ◌≤◌, ◌++◌, [], ◌∷◌, ℕ, length, map, Some, IfOk, OnOk, OnErr, IfSome, slice_index_or, string_bytes, true, false, if◌then◌else◌};
 ghost use Rattle.std.specs.HashMap.{get_by_text};
 ghost use Rattle.psi_spec.specs.World.{slot_of, marked_removed, is_root, is_live, most_groups};
@@ -10,7 +10,7 @@ use psi_base::{NoMemory, Ns, Path, Slot};
 use psi_spec::GroupLife;
 use std::collections::HashMap;
 
-/// Counts one live child more of a group, if there is one.
+/// Adds 1 to the parent's number of live children, if there is a parent.
 fn count_child(children: &mut [u32], parent: Option<Slot>)
     requires made { IfSome parent (λ slot. slot.0 < length children.old) }
     requires few { IfSome parent (λ slot. slice_index_or children.old slot.0 0 ≤ most_groups) }
@@ -24,7 +24,7 @@ fn count_child(children: &mut [u32], parent: Option<Slot>)
     }
 }
 
-/// Counts one live child less of a group, if there is one.
+/// Subtracts 1 from the parent's number of live children, if there is a parent.
 fn uncount_child(children: &mut [u32], parent: Option<Slot>)
     requires made { IfSome parent (λ slot. slot.0 < length children.old) }
     requires some { IfSome parent (λ slot. 0 < slice_index_or children.old slot.0 0) }
@@ -38,8 +38,7 @@ fn uncount_child(children: &mut [u32], parent: Option<Slot>)
     }
 }
 
-/// Puts a group behind the others. All memory is taken first, so that where there is none nothing
-/// changes.
+/// Appends a group. Allocates before the first change, so nothing changes if memory runs out.
 pub(crate) fn push_group(
     lives: &mut Vec<GroupLife>,
     slots: &mut HashMap<String, Slot>,
@@ -70,7 +69,7 @@ pub(crate) fn push_group(
     Ok(slot)
 }
 
-/// Ends a live group at a moment (ns). It takes no memory.
+/// Ends a live group at a time (ns). Does not allocate.
 pub(crate) fn end_group(
     lives: &mut Vec<GroupLife>,
     slots: &mut HashMap<String, Slot>,

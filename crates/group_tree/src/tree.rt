@@ -16,12 +16,12 @@ use std::alloc::Global;
 use std::collections::HashMap;
 use std::marker::Model;
 
-/// The most groups that may ever be made, the root among them.
+/// The maximal number of groups ever created, including the root.
 const MOST_GROUPS: usize = 1024;
 
-/// All groups ever made, in the order of their slots. Contracts see the list of their lives. A path
-/// finds its live group in a map, and the live children of each group are counted, so that no call
-/// but [`Tree::live_order`] and [`Tree::path_order`] walks all groups.
+/// All groups ever created, by slot; its model is the list of them. A map finds a live group by its
+/// path, and the live children of each group are counted, so only [`Tree::live_order`] and
+/// [`Tree::path_order`] visit all groups.
 #[derive(Drop)]
 pub struct Tree {
     alloc: Global,
@@ -48,7 +48,7 @@ impl Model for Tree {
 }
 
 impl Tree {
-    /// The root alone, made at 0.
+    /// A tree with the root alone, created at 0.
     pub fn new(alloc: Global) -> Result<Tree, NoMemory>
         ensures { IfOk result (λ tree. tree ≡ root ∷ []) }
     {
@@ -70,8 +70,7 @@ impl Tree {
         })
     }
 
-    /// All groups ever made, in the order of their slots. Those that were removed have the moment
-    /// in `gone`.
+    /// All groups ever created, by slot. `gone` is the time (ns) at which a group was removed.
     pub fn lives(&self) -> &[GroupLife]
         ensures lives { result.now ≡ self.now }
         ensures groups { AreGroups result.now }
@@ -79,7 +78,7 @@ impl Tree {
         &self.lives
     }
 
-    /// How many groups were ever made, 1,024 at most.
+    /// The number of groups ever created, at most 1,024.
     pub fn len(&self) -> usize
         ensures len { result ≡ length self.now }
         ensures few { result ≤ most_groups }
@@ -87,30 +86,30 @@ impl Tree {
         self.lives.len()
     }
 
-    /// The slot of the live group with this path. None exactly where no live group has it.
+    /// The slot of the live group with this path. `None` exactly if no live group has it.
     pub fn find(&self, path: &Path) -> Option<Slot>
         ensures { result ≡ as_slot (slot_of self.now path.now) }
     {
         self.slots.get(path.text()).copied()
     }
 
-    /// The slot of the live group with the path above this one.
+    /// The slot of the live group with the parent path of this one.
     fn find_above(&self, path: &Path) -> Option<Slot>
         ensures { result ≡ as_slot (slot_of self.now (parent_path path.now)) }
     {
         self.slots.get(path_above(path)).copied()
     }
 
-    /// A live group has this one as its parent.
+    /// Whether the group in a slot has a live child.
     fn has_child(&self, slot: Slot) -> bool
         ensures { result ≡ has_child self.now (Some slot.0) }
     {
         self.children.get(slot.0 as usize).copied().unwrap_or(0) > 0
     }
 
-    /// Why a group with this path can't be made: the first of TooManyGroups, where 1,024 were made,
-    /// GroupExists, where a live one has the path, and NoParent, where none has the path above.
-    /// None exactly where it can.
+    /// Why a group with this path can't be created. The causes in order of their checks:
+    /// TooManyGroups, if 1,024 were created; GroupExists, if a live group has the path; NoParent,
+    /// if no live group has the parent path. `None` exactly if it can be created.
     pub fn add_cause(&self, path: &Path) -> Option<Cause>
         ensures { result ≡ add_cause self.now path.now }
     {
@@ -125,9 +124,9 @@ impl Tree {
         }
     }
 
-    /// Why the group with this path can't be removed, as far as groups tell: UnknownGroup, where no
-    /// live one has it, or GroupBusy, where it is the root or has a live child. None exactly where
-    /// neither is so.
+    /// Why the group with this path can't be removed, apart from tasks in it: UnknownGroup, if no
+    /// live group has the path; GroupBusy, if it is the root or has a live child. `None` exactly if
+    /// neither holds.
     pub fn remove_cause(&self, path: &Path) -> Option<Cause>
         ensures { result ≡ remove_cause self.now path.now }
     {
@@ -141,8 +140,9 @@ impl Tree {
         }
     }
 
-    /// Why the account of the group with this path can't be switched: UnknownGroup, where no live
-    /// one has it, or RootPressure, where it is the root. None exactly where it can.
+    /// Why the pressure accounting of the group with this path can't be switched: UnknownGroup, if
+    /// no live group has the path; RootPressure, if it is the root. `None` exactly if it can be
+    /// switched.
     pub fn pressure_cause(&self, path: &Path) -> Option<Cause>
         ensures { result ≡ pressure_cause self.now path.now }
     {
@@ -155,7 +155,7 @@ impl Tree {
         }
     }
 
-    /// The slot of the group above. None for the root alone.
+    /// The slot of the parent. `None` only for the root.
     pub fn parent(&self, slot: Slot) -> Option<Slot>
         requires made { slot.0 < length self.now }
         ensures parent { number_of_slot result ≡
@@ -166,7 +166,7 @@ impl Tree {
         parent_of(&self.lives, slot)
     }
 
-    /// The slots from a group's own up to the root's, each the parent of the one before it.
+    /// The slots from a group to the root, each followed by its parent.
     pub fn chain(&self, slot: Slot) -> Chain<'_>
         requires made { slot.0 < length self.now }
         ensures { result ≡ chain_of self.now slot.0 }
@@ -174,8 +174,7 @@ impl Tree {
         Chain::new(&self.lives, Some(slot))
     }
 
-    /// The first group is the second, or has it among the groups above it. A group that wasn't made
-    /// is only itself.
+    /// Whether `low` is `high` or a descendant of it. A slot without a group is only under itself.
     pub fn is_under(&self, low: Slot, high: Slot) -> bool
         ensures { result ≡ is_under (parents_of self.now) low.0 high.0 }
     {
@@ -189,7 +188,7 @@ impl Tree {
         at.0 == high.0
     }
 
-    /// The new group with this path under the live one with the path above.
+    /// A new group with this path, as a child of the live group with the parent path.
     fn new_life(&self, path: &Path, at: Ns) -> Result<GroupLife, NoMemory>
         ensures { IfOk result (λ life. life ≡ new_group self.now path.now at) }
     {
@@ -202,8 +201,9 @@ impl Tree {
         })
     }
 
-    /// Makes a group at a moment (ns) in the next slot, which it gives. Refused exactly with the
-    /// cause of [`Tree::add_cause`], and nothing changes then, nor where there is no memory.
+    /// Creates a group at a time (ns) in the next slot, and returns the slot. Rejected exactly with
+    /// the cause of [`Tree::add_cause`]. After an error, out of memory included, nothing has
+    /// changed.
     pub fn add(&mut self, path: &Path, at: Ns) -> Result<Slot, Fault<Cause>>
         ensures legal { OnOk result (add_cause self.old path.now ≡ None) }
         ensures groups { OnOk result
@@ -228,8 +228,8 @@ impl Tree {
         Ok(slot)
     }
 
-    /// Ends the live group with this path at a moment (ns), and gives its slot. Refused exactly
-    /// with the cause of [`Tree::remove_cause`], and nothing changes then. It takes no memory.
+    /// Removes the live group with this path at a time (ns), and returns its slot. Rejected exactly
+    /// with the cause of [`Tree::remove_cause`]; then nothing changes. Does not allocate.
     pub fn remove(&mut self, path: &Path, at: Ns) -> Result<Slot, Cause>
         ensures legal { OnOk result (remove_cause self.old path.now ≡ None) }
         ensures groups { OnOk result (self.new ≡ map (marked_removed path.now at) self.old) }
@@ -254,9 +254,9 @@ impl Tree {
         Ok(slot)
     }
 
-    /// Switches the account of the live group with this path on, or off, and gives its slot.
-    /// Refused exactly with the cause of [`Tree::pressure_cause`], and nothing changes then. It
-    /// takes no memory.
+    /// Switches the pressure accounting of the live group with this path on or off, and returns its
+    /// slot. Rejected exactly with the cause of [`Tree::pressure_cause`]; then nothing changes.
+    /// Does not allocate.
     pub fn switch(&mut self, path: &Path, on: bool) -> Result<Slot, Cause>
         ensures legal { OnOk result (pressure_cause self.old path.now ≡ None) }
         ensures groups { OnOk result (self.new ≡ map (marked_switched path.now on) self.old) }
@@ -282,8 +282,8 @@ impl Tree {
         live_order(alloc, &self.lives)
     }
 
-    /// All slots in the byte order of their paths, the removed groups' too; those of one path stand
-    /// in any order.
+    /// All slots in the byte order of their paths, including those of removed groups. Slots with
+    /// equal paths are in any order.
     pub fn path_order(&self, alloc: Global) -> Result<Vec<Slot>, NoMemory>
         ensures { IfOk result (λ order. IsPathOrder self.now (numbers_of order.items)) }
     {
