@@ -1,4 +1,4 @@
--- What is printed up to the moment from which on the tasks of a group are taken out of a trace.
+-- What is printed up to the time at which the tasks of a group are removed from a trace.
 use Rattle.std.specs.Prelude.{◌≡◌, ℕ, suc, ◌≤◌, List, length, Some, Ok, slice_get}
 use Rattle.psi_spec.specs.World.{Limits, most_events}
 use Rattle.psi_spec.specs.Trace.{IsAccepted, Trace}
@@ -9,8 +9,8 @@ use Rattle.run_spec.specs.Replay.{Beside, Pace, tick_count, tick_text, ticks_tex
 use Rattle.run_spec.specs.Whatif.{after_rounds, all_kills}
 use Rattle.whatif_spec.specs.Without.{trace_without, without}
 
--- It has as many ticks, and up to and with the moment, at which a kill is, each tick prints the
--- same.
+-- The remaining trace has the same number of ticks, and each tick up to and including the kill's
+-- prints the same.
 abbrev pub SameUntilKill : Type 0
 SameUntilKill =
     (limits : Limits) (trace : Trace) (pace : Pace) (beside : Beside) (at victim : ℕ) → IsAccepted limits trace.events
@@ -18,8 +18,9 @@ SameUntilKill =
     (tick_count (trace_without trace at victim) pace ≡ tick_count trace pace)
     × ((i : ℕ) → tick_moment pace.length i ≤ at → tick_text (trace_without trace at victim) pace beside i ≡ tick_text trace pace beside i)
 
--- So it is of rounds: what a round leaves, which takes a kill out of what the rounds before it
--- left, has as many ticks as that, and up to and with the tick of the kill it prints the same.
+-- The same for rounds: the result of a round, which removes a kill from the result of the previous
+-- rounds, has the same number of ticks, and each tick up to and including the kill's prints the
+-- same.
 abbrev pub SameUntilRound : Type 0
 SameUntilRound = (limits : Limits) (trace left next : Trace) (pace : Pace) (rules : List Rule) (beside : Beside) (number : ℕ)
     (kill : Kill) → IsAccepted limits left.events → after_rounds trace pace rules number ≡ Ok left

@@ -1,5 +1,6 @@
-//! Laws of what is printed of a trace without the tasks of a group that is killed. In `specs/`:
-//! `Until`.
+//! Laws of the text printed for a trace without the tasks of a killed group.
+//!
+//! They relate definitions only: no other crate calls this one. In `specs/`: `Until`.
 #![tactic(auto)]
 
 mod laws;

@@ -1,4 +1,4 @@
--- What rounds have left of a trace so far, and what the next one finds.
+-- The trace that remains after some rounds, and the result of the next round.
 use Rattle.std.specs.Prelude.{◌≡◌, ℕ, List, ◌≤◌, None, Some, Ok, Err, ⊤, slice_get}
 use Rattle.psi_base.specs.declared.event.Event.{Event}
 use Rattle.psi_base.specs.declared.event.Fault.{Fault}
@@ -16,7 +16,7 @@ use Rattle.whatif_trace.specs.declared.removal.TooLarge.{TooLarge}
 use Rattle.whatif_rounds.specs.declared.rounds.Round.{Round}
 use Rattle.whatif_rounds.specs.declared.rounds.Round.TheVariants as found
 
--- what options say is in range, as far as a replay has it
+-- the options are in range, as far as a replay uses them
 pub record MayReplay (options : Options) : Type 0 where
   pub some : 1 ≤ options.tick_ms
   pub short : options.tick_ms ≤ 60000
@@ -24,33 +24,34 @@ pub record MayReplay (options : Options) : Type 0 where
   pub often : options.interval_s ≤ 3600
   pub workers : IsWithin 1 64 options.workers
 
--- a trace is accepted at the length of a tick that options say
+-- a trace is accepted with the tick length of the options
 pub record IsTraceAt (options : Options) (trace : Trace) : Type 0 where
   pub counted : IsCpuCount trace.cpus
   pub accepted : IsAccepted (limits_of (of_ms options.tick_ms) trace.cpus) trace.events
 
--- the trace of the version with a number, of so many processors and events
+-- the trace with this version, number of processors and events
 abbrev pub trace_from : ℕ → ℕ → List Event → Trace
 trace_from number cpus events = record { version = version_of number; cpus = cpus; events = events }
 
--- plans are those of a trace, which may be replayed as options say
+-- plans are those of a trace that may be replayed with the options
 abbrev pub ArePlansOf : PlansView → Options → Trace → Type 0
 ArePlansOf plans options trace = IsPlanned plans trace (pace_of options)
 
--- What a round finds in a trace: the kill with its number, or that it has none, and then the plans
--- of the trace.
+-- The result of a round for a trace: the kill with this number, or that there is none, with the
+-- trace's plans.
 abbrev pub Finds : Options → List Rule → ℕ → Trace → Round → Type 0
 Finds options rules number trace (found.Kill kill) = slice_get (all_kills trace (pace_of options) rules) number ≡ Some kill
 Finds options rules number trace (found.Last plans) =
     (slice_get (all_kills trace (pace_of options) rules) number ≡ None) × ArePlansOf plans options trace
 
--- The plans are those of the trace that is left when all kills were taken.
+-- The plans are those of the trace that remains after all kills.
 abbrev pub AreLastPlans : Options → List Rule → Trace → PlansView → Type 0
 AreLastPlans options rules trace plans =
     (last : Trace) × (last_trace trace (pace_of options) rules ≡ Ok last) × (last.version ≡ trace.version)
     × ArePlansOf plans options last
 
--- a round left too many events, so many as this tells; of want of memory nothing is said
+-- a `TooLarge` fault has the number of events of a round's result, which is above the limit; an
+-- out-of-memory fault states nothing
 abbrev pub IsOutgrown : Options → List Rule → Trace → Fault TooLarge → Type 0
 IsOutgrown options rules trace (fault.Refused large) = last_trace trace (pace_of options) rules ≡ Err large.events
 IsOutgrown options rules trace (fault.NoMemory _) = ⊤

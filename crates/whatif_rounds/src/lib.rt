@@ -1,7 +1,9 @@
-//! What is left of a trace where the victims of its kills are taken out of it, one kill after the
-//! other.
+//! The trace that remains if the victims of its kills are removed from it, one kill a round.
 //!
-//! In `specs/`: `Rounds` (what has been left so far, and what a round finds).
+//! It replays without output to find each kill, and leaves the removal to whatif_trace and the
+//! printing of the result to replay_core.
+//!
+//! In `specs/`: `Rounds` (the trace after some rounds, and the result of a round).
 #![tactic(auto)]
 
 mod rounds;

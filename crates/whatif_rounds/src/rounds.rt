@@ -1,4 +1,4 @@
-//! Kills taken out of a trace, round by round.
+//! Removing kills from a trace, round by round.
 ghost use Rattle.std.specs.Prelude.{◌≡◌, IfOk, MatchResult, Ok};
 ghost use Rattle.psi_base.specs.Gives.{FaultOf};
 ghost use Rattle.psi_spec.specs.Header.{IsVersion};
@@ -20,22 +20,22 @@ use std::alloc::Global;
 use std::thread::Threads;
 use whatif_trace::{TooLarge, without};
 
-/// How many kills are taken at most.
+/// The maximal number of kills that are removed.
 const MOST_ROUNDS: usize = 64;
 
-/// How many ns a million ticks have for each ms of a tick.
+/// The length (ns) of a million ticks of 1 ms.
 const MILLION_TICKS: Ns = 1_000_000_000_000;
 
-/// What a round finds in a trace.
+/// The result of a round.
 #[derive(Drop)]
 pub(crate) enum Round {
     /// The kill with the round's number.
     Kill(Kill),
-    /// No such kill. These are the plans of the trace.
+    /// There is no such kill. These are the plans of the trace.
     Last(Plans),
 }
 
-// The latest moment (ns) of a trace at the options' length of a tick.
+// The latest time (ns) of a trace with the options' tick length.
 fn latest_of(options: &Options) -> Ns
     requires { MayReplay options.now }
     ensures { result ≡ (limits_of (of_ms options.now.tick_ms) 1).latest }
@@ -43,7 +43,6 @@ fn latest_of(options: &Options) -> Ns
     Ns::from(options.tick_ms) * MILLION_TICKS
 }
 
-// The plans of the events of an accepted trace.
 fn plans_of(
     alloc: Global,
     cpus: u32,
@@ -62,7 +61,7 @@ fn plans_of(
     }
 }
 
-// Looks for the kill with a number, from 0, in an accepted trace of these events.
+// Looks for kill number `number`, from 0, in an accepted trace with these events.
 fn find_in<R: Threads + Sync>(
     rt: &R,
     alloc: Global,
@@ -88,7 +87,7 @@ fn find_in<R: Threads + Sync>(
     }
 }
 
-// What is left of an accepted trace of these events without the tasks of a kill's victim.
+// The events of an accepted trace without the tasks of a kill's victim.
 fn take_out(
     alloc: Global,
     cpus: u32,
@@ -114,10 +113,10 @@ fn take_out(
     )
 }
 
-/// The plans of what is left of an accepted trace, of a version, on so many processors and with
-/// these events, where the victims of its kills by these rules are taken out of it, one kill after
-/// the other, at most 64. It is replayed for that as options say. `TooLarge` exactly where more
-/// than 4,000,000 events are left behind a kill.
+/// The plans of an accepted trace, given by its version, number of processors and events, after the
+/// victims of its kills by these rules were removed, in order, for at most 64 kills. Each round
+/// replays the trace with these options. The error is `TooLarge` exactly if more than 4,000,000
+/// events remain after a kill.
 pub fn last_plans<R: Threads + Sync>(
     rt: &R,
     alloc: Global,

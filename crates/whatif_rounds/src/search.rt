@@ -1,4 +1,4 @@
-//! A replay that looks for a kill and writes nothing.
+//! A replay that looks for a kill and has no output.
 ghost use Rattle.std.specs.Prelude.{◌≡◌, List, IfOk, slice_get};
 ghost use Rattle.kill_spec.specs.declared.kill.Kill.{Kill};
 ghost use Rattle.psi_spec.specs.Header.{IsVersion, version_of};
@@ -23,7 +23,8 @@ use run_spec::Options;
 use std::alloc::Global;
 use std::thread::Threads;
 
-// The kill with a number, from 0, by tick, ruleset and action, of a replay before its first tick.
+// Kill number `number`, from 0, in order of tick, ruleset and action, of a replay before its first
+// tick.
 fn kill_of<R: Threads + Sync>(rt: &R, replay: &mut Replay<'_>, number: usize) -> Option<Kill>
     requires { (trace : Trace) × (pace : Pace) × (rules : List Rule)
         × IsReplay replay.old trace pace rules 0 }
@@ -42,8 +43,8 @@ fn kill_of<R: Threads + Sync>(rt: &R, replay: &mut Replay<'_>, number: usize) ->
     None
 }
 
-/// The kill with a number, from 0, by tick, ruleset and action, of the trace of plans, which has a
-/// version, where it is replayed with these rules as options say.
+/// Kill number `number`, from 0, in order of tick, ruleset and action, if the trace of these plans
+/// is replayed with these rules and options.
 pub(crate) fn find_kill<R: Threads + Sync>(
     rt: &R,
     alloc: Global,

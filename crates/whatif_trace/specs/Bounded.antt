@@ -4,6 +4,6 @@ use Rattle.psi_base.specs.declared.event.Event.{Event}
 use Rattle.psi_spec.specs.World.{most_events}
 use Rattle.whatif_trace.specs.declared.removal.TooLarge.{TooLarge}
 
--- the events, or how many there are where those are more than a trace may have
+-- the events, or their number if it exceeds the limit of a trace
 abbrev pub bounded : List Event → Result (List Event) TooLarge
 bounded events = if nat_lt most_events (length events) then Err (record { events = length events }) else Ok events

@@ -1,4 +1,4 @@
--- What holds of a trace without the tasks of a group.
+-- Laws of a trace without the tasks of a group.
 use Rattle.std.specs.Prelude.{◌≡◌, ℕ, ◌+◌, ◌<◌, ◌≤◌, List, ◌++◌, length, true, None}
 use Rattle.psi_base.specs.declared.event.Event.{Event}
 use Rattle.psi_spec.specs.World.{Limits, after, after_from, most_cpus, most_events, task_of, up_to}
@@ -6,14 +6,14 @@ use Rattle.psi_spec.specs.Trace.{IsAccepted}
 use Rattle.whatif_spec.specs.Without.{behind, exits_from, is_pid_among, members, rest_without, without}
 use Rattle.whatif_trace.specs.Rest.{IsWithout, dead_behind}
 
--- Of an accepted trace what is left without the tasks of a group is accepted, where it isn't too
+-- If a trace is accepted, the trace without the tasks of a group is accepted too, unless it is too
 -- long.
 abbrev pub WithoutIsAccepted : Type 0
 WithoutIsAccepted =
     (limits : Limits) (events : List Event) (at victim : ℕ) → limits.cpus ≤ most_cpus → IsAccepted limits events
     → length (without events at victim) ≤ most_events → IsAccepted limits (without events at victim)
 
--- Behind the exits none of the tasks is live.
+-- After the exits none of the tasks is live.
 abbrev pub ExitsLeaveNone : Type 0
 ExitsLeaveNone =
     (limits : Limits) (events : List Event) (at victim : ℕ) → IsAccepted limits events → at < (after events).last
@@ -22,8 +22,8 @@ ExitsLeaveNone =
     task_of (after (up_to events at ++ exits_from (at + 1) (after (up_to events at))
     (members (after (up_to events at)) victim))).tasks pid ≡ None
 
--- The world behind each part of the rest is that of the trace without the tasks that are dead then,
--- but for the number of lines and the last moment.
+-- The world after each prefix of the rest is the original trace's world without the tasks that are
+-- dead by then, except for the number of lines and the last time.
 abbrev pub WorldsWithout : Type 0
 WorldsWithout =
     (limits : Limits) (events : List Event) (at victim : ℕ) → IsAccepted limits events → at < (after events).last

@@ -1,4 +1,4 @@
--- What is left of a trace, by the numbers of the tasks that run on its processors.
+-- The trace without the victims, computed from the pids of the tasks that run on its processors.
 use Rattle.std.specs.Prelude.{◌≡◌, ℕ, ◌+◌, ◌<◌, List, [], ◌∷◌, ◌++◌, length, nat_le, Bool, true, false, if◌then◌else◌, Option, None, Some, Result, OnOk, is_some, slice_index_or, slice_set, ◌==◌, ◌||◌}
 use Rattle.psi_base.specs.declared.event.Pid.{Pid}
 use Rattle.psi_base.specs.declared.event.How.TheVariants.{Exit}
@@ -11,16 +11,16 @@ use Rattle.psi_spec.specs.Stall.{is_under, parents_of}
 use Rattle.psi_spec.specs.World.{Tasks, World, is_running, is_running_on, task_of, events_at}
 use Rattle.whatif_spec.specs.Without.{act_of, exit_acts, switch_without, without_pid}
 
--- these events were added to what is kept, unless memory ran out
+-- these events were appended to the stored ones, unless memory ran out
 abbrev pub Adds : {T E : Type 0} → List Event → List Event → Result T E → List Event → Type 0
 Adds old new result events = OnOk result (new ≡ old ++ events)
 
--- how many events stand before the first that is later than a moment (ns)
+-- the number of events before the first that is later than a time (ns)
 abbrev pub front_length : ℕ → List Event → ℕ
 front_length at [] = 0
 front_length at (event ∷ events) = if nat_le event.at at then front_length at events + 1 else 0
 
--- an act tells of a group's memory, or sets a trigger on it
+-- an act is a sample of a group's memory, or sets a trigger on a group
 abbrev pub tells_of_group : Act → Bool
 tells_of_group (act.Mem path current swap scan) = true
 tells_of_group (act.Trigger path res level threshold_us window_us) = true
@@ -28,37 +28,37 @@ tells_of_group what = false
 
 -- ---- who runs
 
--- the number of the task that runs on a processor, if one does
+-- the pid of the task that runs on a processor, if any
 abbrev pub runner_at : List (Option Pid) → ℕ → Option Pid
 runner_at runners cpu = slice_index_or runners cpu None
 
--- who runs behind an act
+-- who runs after an act
 abbrev pub turned : List (Option Pid) → Act → List (Option Pid)
 turned runners (act.Switch cpu next how) = slice_set runners cpu.0 next
 turned runners what = runners
 
--- who runs behind events
+-- who runs after events
 abbrev pub turned_by : List (Option Pid) → List Event → List (Option Pid)
 turned_by runners [] = runners
 turned_by runners (event ∷ events) = turned_by (turned runners event.act) events
 
--- a runner has this number
+-- a runner has this pid
 abbrev pub is_pid : ℕ → Option Pid → Bool
 is_pid q None = false
 is_pid q (Some pid) = q == pid.0
 
--- a list has for each of so many processors the number of the task that runs on it
+-- a list has, for each processor, the pid of the task that runs on it
 pub record AreRunners (cpus : ℕ) (runners : List (Option Pid)) (tasks : Tasks) : Type 0 where
   pub long : length runners ≡ cpus
   pub each : (q cpu : ℕ) → cpu < cpus → is_some_and (task_of tasks q) (is_running_on cpu) ≡ is_pid q (slice_index_or runners cpu None)
 
 -- ---- the members
 
--- a task with this number is live, in a group or below it
+-- a task with this pid is live, in a group or below it
 abbrev pub is_member : World → ℕ → ℕ → Bool
 is_member w slot pid = is_some_and (task_of w.tasks pid) (λ task. is_under (parents_of w.groups) task.slot.0 slot)
 
--- an act makes the task with this number
+-- an act creates the task with this pid
 abbrev pub makes : ℕ → Act → Bool
 makes pid (act.Fork new path cpu) = pid == new.0
 makes pid what = false
@@ -68,23 +68,23 @@ abbrev pub is_made : ℕ → List Event → Bool
 is_made pid [] = false
 is_made pid (event ∷ events) = makes pid event.act || is_made pid events
 
--- each of these tasks was made by one of these events
+-- each of these tasks was created by one of these events
 abbrev pub AreForked : Tasks → List Event → Type 0
 AreForked tasks events = (pid : ℕ) → is_some (task_of tasks pid) ≡ true → is_made pid events ≡ true
 
 -- ---- the exits
 
--- the exit of a task, if there is one, where these run
+-- the exit of a task, if there is one, given the runners
 abbrev pub exit_left : List (Option Pid) → ℕ → Option Task → List Act
 exit_left runners pid None = []
 exit_left runners pid (Some task) = exit_acts pid task (runner_at runners task.cpu.0)
 
--- who runs when it is gone
+-- who runs after its exit
 abbrev pub exited : List (Option Pid) → Option Task → List (Option Pid)
 exited runners None = runners
 exited runners (Some task) = if is_running task.mode then slice_set runners task.cpu.0 None else runners
 
--- the exits of tasks at a moment (ns), one after the other
+-- the exits of tasks at a time (ns), in order
 abbrev pub exits_left : ℕ → Tasks → List (Option Pid) → List ℕ → List Event
 exits_left at tasks runners [] = []
 exits_left at tasks runners (pid ∷ pids) =
@@ -93,7 +93,7 @@ exits_left at tasks runners (pid ∷ pids) =
 
 -- ---- the rest
 
--- the task whose act it is, but for a switch
+-- the task that does an act; none for a switch
 abbrev pub doer : Act → Option Pid
 doer (act.Wake pid cpu) = Some pid
 doer (act.Stall pid) = Some pid
@@ -102,22 +102,22 @@ doer (act.Migrate pid cpu) = Some pid
 doer (act.Move pid path) = Some pid
 doer what = None
 
--- an act of this task, if it is one's, unless that one is dead
+-- an act, dropped if its task is dead
 abbrev pub left_if : List ℕ → Option Pid → Act → List Act
 left_if dead None what = what ∷ []
 left_if dead (Some pid) what = act_of dead pid what
 
--- what is left of an act without these tasks, where these run
+-- an act without the dead tasks, given the runners: one act or none
 abbrev pub act_left : List ℕ → List (Option Pid) → Act → List Act
 act_left dead runners (act.Switch cpu next how) = switch_without dead cpu (runner_at runners cpu.0) next how
 act_left dead runners what = left_if dead (doer what) what
 
--- the tasks that are dead behind it
+-- the tasks that are dead after an act
 abbrev pub dead_left : List ℕ → List (Option Pid) → Act → List ℕ
 dead_left dead runners (act.Switch cpu next Exit) = without_pid dead (runner_at runners cpu.0)
 dead_left dead runners what = dead
 
--- what is left of events
+-- the events without the dead tasks
 abbrev pub rest_left : List ℕ → List (Option Pid) → List Event → List Event
 rest_left dead runners [] = []
 rest_left dead runners (event ∷ events) =

@@ -1,16 +1,16 @@
--- How the world of a trace without dead tasks goes on beside that of the trace.
+-- How the world of a trace without dead tasks relates to the original trace's world.
 use Rattle.std.specs.Prelude.{◌≡◌, ℕ, List, [], ◌∷◌, if◌then◌else◌, Option, None}
 use Rattle.psi_base.specs.declared.event.Event.{Event}
 use Rattle.psi_spec.specs.declared.machine.Task.{Task}
 use Rattle.psi_spec.specs.World.{World, after_event, task_of}
 use Rattle.whatif_spec.specs.Without.{dead_after, is_pid_among}
 
--- what is found under a number, where these tasks are dead
+-- the result of a look-up by pid, if these tasks are dead
 abbrev pub kept : List ℕ → ℕ → Option Task → Option Task
 kept dead pid found = if is_pid_among dead pid then None else found
 
--- A world is another without the dead tasks: all else is the same, but for the number of lines and
--- the last moment.
+-- A world is another one without the dead tasks: all else is equal, except for the number of lines
+-- and the last time.
 pub record IsWithout (dead : List ℕ) (w v : World) : Type 0 where
   pub tasks : (pid : ℕ) → task_of v.tasks pid ≡ kept dead pid (task_of w.tasks pid)
   pub groups : v.groups ≡ w.groups
@@ -19,7 +19,7 @@ pub record IsWithout (dead : List ℕ) (w v : World) : Type 0 where
   pub pressures : v.pressures ≡ w.pressures
   pub ended : v.ended ≡ w.ended
 
--- the tasks that are dead behind events, from a world of the trace on
+-- the tasks that are dead after events, beginning at a world of the trace
 abbrev pub dead_behind : List ℕ → World → List Event → List ℕ
 dead_behind dead w [] = dead
 dead_behind dead w (event ∷ events) = dead_behind (dead_after dead w event.act) (after_event w event) events

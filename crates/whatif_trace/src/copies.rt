@@ -1,4 +1,4 @@
-//! Events once more, and how they are kept.
+//! Copies of events, and the list that stores them.
 ghost use Rattle.std.specs.Prelude.{◌≡◌, ◌∷◌, [], IfOk, true};
 ghost use Rattle.whatif_spec.specs.Without.{acts_if};
 ghost use Rattle.psi_spec.specs.World.{events_at};
@@ -7,7 +7,7 @@ ghost use Rattle.whatif_trace.specs.Left.{Adds, tells_of_group};
 use psi_base::{Act, Event, NoMemory, Ns};
 use std::alloc::Global;
 
-// The same act, which tells of a group's memory or sets a trigger.
+// A copy of an act that samples a group's memory or sets a trigger.
 fn copy_told(alloc: Global, act: &Act) -> Result<Act, NoMemory>
     requires { tells_of_group act.now ≡ true }
     ensures { IfOk result (λ copy. copy ≡ act.now) }
@@ -41,7 +41,6 @@ fn copy_told(alloc: Global, act: &Act) -> Result<Act, NoMemory>
     })
 }
 
-// The same act.
 fn copy_act(alloc: Global, act: &Act) -> Result<Act, NoMemory>
     ensures { IfOk result (λ copy. copy ≡ act.now) }
 {
@@ -92,7 +91,7 @@ fn copy_act(alloc: Global, act: &Act) -> Result<Act, NoMemory>
     })
 }
 
-/// The same event, in memory of its own.
+/// A copy of an event, in memory of its own.
 pub fn copy_event(alloc: Global, event: &Event) -> Result<Event, NoMemory>
     ensures { IfOk result (λ copy. copy ≡ event.now) }
 {
@@ -102,7 +101,7 @@ pub fn copy_event(alloc: Global, event: &Event) -> Result<Event, NoMemory>
     })
 }
 
-/// Keeps one event more.
+/// Appends an event.
 pub(crate) fn keep(kept: &mut Vec<Event>, at: Ns, act: Act) -> Result<(), NoMemory>
     ensures { Adds kept.old.items kept.new.items result (events_at at (act ∷ [])) }
 {
@@ -110,7 +109,7 @@ pub(crate) fn keep(kept: &mut Vec<Event>, at: Ns, act: Act) -> Result<(), NoMemo
     Ok(())
 }
 
-/// Keeps an act, where this holds.
+/// Appends an act if the condition holds.
 #[tactic(auto, using(crate::proofs::Kept::none_kept))]
 pub(crate) fn keep_if(kept: &mut Vec<Event>, test: bool, at: Ns, act: Act) -> Result<(), NoMemory>
     ensures { Adds kept.old.items kept.new.items result
@@ -119,7 +118,7 @@ pub(crate) fn keep_if(kept: &mut Vec<Event>, test: bool, at: Ns, act: Act) -> Re
     if test { keep(kept, at, act) } else { Ok(()) }
 }
 
-/// Keeps an event as it is.
+/// Appends a copy of an event.
 pub(crate) fn keep_copy(alloc: Global, kept: &mut Vec<Event>, event: &Event) -> Result<(), NoMemory>
     ensures { Adds kept.old.items kept.new.items result (event.now ∷ []) }
 {
@@ -127,7 +126,7 @@ pub(crate) fn keep_copy(alloc: Global, kept: &mut Vec<Event>, event: &Event) -> 
     Ok(())
 }
 
-/// Keeps events as they are.
+/// Appends copies of events.
 #[tactic(auto, using(crate::proofs::Kept::none_kept, crate::proofs::Kept::part_kept))]
 pub(crate) fn keep_copies(
     alloc: Global,

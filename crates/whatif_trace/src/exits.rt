@@ -1,4 +1,4 @@
-//! The exits of tasks that are killed.
+//! The exits of killed tasks.
 ghost use Rattle.std.specs.Prelude.{◌≡◌};
 ghost use Rattle.psi_spec.specs.World.{is_active, events_at};
 ghost use Rattle.whatif_spec.specs.Without.{exit_acts, making_room};
@@ -10,7 +10,7 @@ use psi_base::{Act, Event, How, NoMemory, Ns, Pid};
 use psi_spec::{Mode, Task};
 use task_table::Table;
 
-/// The task is ready or runs.
+/// Whether a task is ready or running.
 fn is_active(mode: Mode) -> bool
     ensures { result ≡ is_active mode }
 {
@@ -20,7 +20,7 @@ fn is_active(mode: Mode) -> bool
     }
 }
 
-/// How the running task, if there is one, makes room for another.
+/// How the running task, if any, is switched out for another.
 fn making_room(running: Option<Pid>) -> How
     ensures { result ≡ making_room running }
 {
@@ -30,7 +30,7 @@ fn making_room(running: Option<Pid>) -> How
     }
 }
 
-/// Keeps the exit of a task at a moment (ns), where this task runs on its processor, if one does.
+/// Appends the exit of a task at a time (ns). `running` is the task that runs on its processor.
 #[tactic(auto, using(crate::proofs::Kept::four_kept))]
 fn keep_exit(
     kept: &mut Vec<Event>,
@@ -61,7 +61,7 @@ fn keep_exit(
     keep(kept, at, leaves)
 }
 
-/// Keeps the exit of one task, if it is live, and notes that it runs no more.
+/// Appends the exit of one task, if it is live, and removes it from the runners.
 #[tactic(auto, using(crate::proofs::Kept::none_kept))]
 fn keep_one(
     kept: &mut Vec<Event>,
@@ -84,7 +84,7 @@ fn keep_one(
     keep_exit(kept, at, pid, task, running)
 }
 
-/// Keeps the exits of tasks at a moment (ns), one after the other, where these run.
+/// Appends the exits of tasks at a time (ns), in order, and updates the runners.
 #[tactic(auto, using(crate::proofs::Kept::none_kept, crate::proofs::Kept::part_kept))]
 pub(crate) fn keep_exits(
     kept: &mut Vec<Event>,

@@ -2,13 +2,14 @@
 //! the law.
 ghost use Rattle.whatif_trace.specs.Laws.{ExitsLeaveNone, WithoutIsAccepted, WorldsWithout};
 
-/// What is left of an accepted trace is accepted, where it isn't too long.
+/// If a trace is accepted, the trace without the tasks of a group is accepted too, unless it is too
+/// long.
 pub fn law_without()
     ensures { WithoutIsAccepted }
 {}
 
-/// Behind the exits none of the tasks is live, and the worlds of the rest are those of the trace
-/// without them.
+/// After the exits none of the tasks is live, and the worlds of the rest are the original trace's
+/// without these tasks.
 pub fn law_worlds_without()
     ensures exits { ExitsLeaveNone }
     ensures worlds { WorldsWithout }

@@ -1,7 +1,10 @@
-//! Traces without the tasks of a group that is killed, and laws of what is left.
+//! Removes the tasks of a killed group from a trace, with laws of the result.
 //!
-//! In `specs/`: `Rest` (how the worlds of both traces stand beside each other), `Left` (what is
-//! left, by who runs on each processor), `Bounded` and `Laws`.
+//! It removes one group at one time; whatif_rounds finds the kills and repeats this for each of
+//! them.
+//!
+//! In `specs/`: `Rest` (how the worlds of both traces relate), `Left` (the events that remain,
+//! given who runs on each processor), `Bounded` and `Laws`.
 #![tactic(auto)]
 
 mod copies;

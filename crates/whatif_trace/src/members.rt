@@ -1,4 +1,4 @@
-//! The tasks of a group that is killed.
+//! The tasks of a killed group.
 ghost use Rattle.std.specs.Prelude.{◌≡◌, ◌&&◌, ◌||◌, ◌==◌, ℕ, IfOk, OnOk};
 ghost use Rattle.std.specs.List.Sorted.{IsStrictlySortedBy};
 ghost use Rattle.std.specs.Ordering.{nat_cmp};
@@ -10,7 +10,7 @@ use std::alloc::Global;
 use std::collections::BTreeSet;
 use task_table::Table;
 
-/// A task with this number is live, in a group or below it.
+/// Whether a task with this pid is live, in a group or below it.
 fn is_member(table: &Table, pid: Pid, victim: Slot) -> bool
     ensures { result ≡ is_member table.now.world victim.0 pid.0 }
 {
@@ -20,7 +20,7 @@ fn is_member(table: &Table, pid: Pid, victim: Slot) -> bool
     }
 }
 
-/// Adds a number, where this holds.
+/// Adds a pid if the condition holds.
 #[tactic(auto, using(crate::proofs::Adding::none_in))]
 fn add_if(members: &mut BTreeSet<u32>, test: bool, pid: Pid) -> Result<(), NoMemory>
     requires sorted { IsStrictlySortedBy nat_cmp members.old.keys }
@@ -34,7 +34,7 @@ fn add_if(members: &mut BTreeSet<u32>, test: bool, pid: Pid) -> Result<(), NoMem
     Ok(())
 }
 
-/// Adds a task that was made, if it is live in a group or below it.
+/// Adds the task that an event created, if it is live in a group or below it.
 #[tactic(auto, using(crate::proofs::Adding::same_member))]
 fn add_forked(
     members: &mut BTreeSet<u32>,
@@ -54,8 +54,8 @@ fn add_forked(
     }
 }
 
-/// The numbers of the live tasks that are in a group or below it. The events are those up to the
-/// world of the table.
+/// The pids of the live tasks that are in a group or below it. The events are those up to the world
+/// of the table.
 pub(crate) fn members(
     alloc: Global,
     table: &Table,

@@ -1,4 +1,4 @@
-//! A trace without the tasks of a group that is killed.
+//! A trace without the tasks of a killed group.
 ghost use Rattle.std.specs.Prelude.{◌≡◌, ◌++◌, ◌<◌, ◌≤◌, IfOk, MatchResult, None, OnOk, Ok, drop, length, nat_lt, take};
 ghost use Rattle.psi_base.specs.Gives.{FaultOf};
 ghost use Rattle.psi_spec.specs.Refusal.{AreLegal, cause_of};
@@ -18,17 +18,17 @@ use std::alloc::Global;
 use std::collections::BTreeSet;
 use task_table::Table;
 
-/// The most event lines that a trace may have.
+/// The maximal number of event lines of a trace.
 const MOST_EVENTS: usize = 4_000_000;
 
-/// What is left of a trace has more event lines than a trace may have.
+/// The remaining trace has more event lines than a trace may have.
 #[derive(Clone, Copy, Debug, PartialEq, Eq)]
 pub struct TooLarge {
-    /// How many it has, above 4,000,000.
+    /// The number of remaining events, above 4,000,000.
     pub events: u64,
 }
 
-/// How many events stand before the first that is later than a moment (ns).
+/// The number of events before the first that is later than a time (ns).
 fn front_length(events: &[Event], at: Ns) -> usize
     ensures length { result ≡ front_length at events.now }
     ensures inside { result ≤ length events.now }
@@ -40,7 +40,7 @@ fn front_length(events: &[Event], at: Ns) -> usize
     count
 }
 
-/// The first events, so many of them.
+/// The first `count` events.
 fn front_of(events: &[Event], count: usize) -> &[Event]
     requires { count ≤ length events.now }
     ensures { result.now ≡ take count events.now }
@@ -48,7 +48,7 @@ fn front_of(events: &[Event], count: usize) -> &[Event]
     &events[..count]
 }
 
-/// The events behind them.
+/// The events after the first `count`.
 fn rest_of(events: &[Event], count: usize) -> &[Event]
     requires { count ≤ length events.now }
     ensures { result.now ≡ drop count events.now }
@@ -63,7 +63,7 @@ fn numbers_of(alloc: Global, pids: &BTreeSet<u32>) -> Result<Vec<u32>, NoMemory>
     Ok(pids.iter().copied().collect(alloc)?)
 }
 
-/// A moment (ns) is before the end.
+/// Whether a time (ns) is before the end.
 #[tactic(auto, using(crate::proofs::Cutting::before_told))]
 fn is_before_end(events: &[Event], at: Ns) -> bool
     ensures { result ≡ nat_lt at (after events.now).last }
@@ -87,7 +87,7 @@ fn play_one(table: &mut Table, event: &Event) -> Result<(), NoMemory>
     }
 }
 
-/// Plays events that are legal in their turn, and notes who runs behind them.
+/// Plays events, each legal after the previous ones, and updates the runners.
 fn play_all(
     table: &mut Table,
     runners: &mut Vec<Option<Pid>>,
@@ -108,7 +108,7 @@ fn play_all(
     Ok(())
 }
 
-/// Keeps the exits of a set of tasks at a moment (ns), where these run.
+/// Appends the exits of a set of tasks at a time (ns), and updates the runners.
 fn keep_all_exits(
     alloc: Global,
     kept: &mut Vec<Event>,
@@ -125,8 +125,8 @@ fn keep_all_exits(
     keep_exits(kept, at, table, runners_then, &pids)
 }
 
-/// What is left of events, cut in two, without the tasks that are in a group or below it between
-/// the two.
+/// The events, split in two, without the tasks that are in a group or below it between the two
+/// parts.
 fn left_of(
     alloc: Global,
     table: &Table,
@@ -150,7 +150,7 @@ fn left_of(
     Ok(kept)
 }
 
-/// The events without the tasks that are in a group or below it at a moment (ns) before the end.
+/// The events without the tasks that are in a group or below it at a time (ns) before the end.
 fn cut_down(
     alloc: Global,
     cpus: u32,
@@ -174,7 +174,7 @@ fn cut_down(
     left_of(alloc, &table, runners, front, rest, at + 1, victim)
 }
 
-/// The events without the tasks that are in a group or below it at a moment (ns).
+/// The events without the tasks that are in a group or below it at a time (ns).
 fn all_left(
     alloc: Global,
     cpus: u32,
@@ -196,11 +196,11 @@ fn all_left(
     Ok(kept)
 }
 
-/// The events of a trace without the tasks that are in a group or below it at a moment (ns): those
-/// up to the moment, the exits of these tasks a nanosecond later, and the rest without them; all
-/// events where the moment isn't before the end. The trace has 1 to 64 processors, and no event is
-/// later than `latest` (ns). `TooLarge` exactly where more than 4,000,000 events are left, and else
-/// `NoMemory`.
+/// The events of a trace without the tasks that are in a group or below it at a time (ns): the
+/// events up to that time, the exits of these tasks a nanosecond later, and the rest without them.
+/// If the time isn't before the end, the result is all events. The trace has 1 to 64 processors,
+/// and no event is later than `latest` (ns). The error is `TooLarge` exactly if more than 4,000,000
+/// events remain; otherwise it is `NoMemory`.
 pub fn without(
     alloc: Global,
     cpus: u32,

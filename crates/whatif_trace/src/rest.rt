@@ -1,4 +1,4 @@
-//! What is left of the events behind the exits.
+//! The events after the exits, without the dead tasks.
 ghost use Rattle.std.specs.Prelude.{◌≡◌};
 ghost use Rattle.whatif_spec.specs.Without.{if_alive, is_alive, is_pid_among, switch_without, without_pid};
 ghost use Rattle.psi_spec.specs.World.{events_at};
@@ -10,7 +10,7 @@ use psi_base::{Act, Cpu, Event, How, NoMemory, Ns, Pid};
 use std::alloc::Global;
 use std::collections::BTreeSet;
 
-/// A number is among those of the dead tasks.
+/// Whether a pid is a dead task's.
 #[tactic(auto, using(crate::proofs::Killed::among_keys))]
 fn is_dead(dead: &BTreeSet<u32>, pid: Pid) -> bool
     ensures { result ≡ is_pid_among dead.now.keys pid.0 }
@@ -18,7 +18,7 @@ fn is_dead(dead: &BTreeSet<u32>, pid: Pid) -> bool
     dead.contains(&pid.0)
 }
 
-/// A task, if there is one, isn't dead.
+/// Whether a task, if there is one, isn't dead.
 fn is_alive(dead: &BTreeSet<u32>, pid: Option<Pid>) -> bool
     ensures { result ≡ is_alive dead.now.keys pid }
 {
@@ -28,14 +28,14 @@ fn is_alive(dead: &BTreeSet<u32>, pid: Option<Pid>) -> bool
     }
 }
 
-/// A task that isn't dead, and none for one that is.
+/// The task, or `None` if it is dead.
 fn if_alive(dead: &BTreeSet<u32>, next: Option<Pid>) -> Option<Pid>
     ensures { result ≡ if_alive dead.now.keys next }
 {
     if is_alive(dead, next) { next } else { None }
 }
 
-/// The task whose act it is, but for a switch.
+/// The task that does an act. `None` for a switch.
 fn doer(act: &Act) -> Option<Pid>
     ensures { result ≡ doer act.now }
 {
@@ -49,7 +49,7 @@ fn doer(act: &Act) -> Option<Pid>
     }
 }
 
-/// Keeps what is left of a switch, by the task that leaves, if one does.
+/// Appends what remains of a switch, given the task that is switched out, if any.
 #[tactic(auto, using(crate::proofs::Kept::none_kept))]
 fn keep_switch(
     kept: &mut Vec<Event>,
@@ -74,7 +74,7 @@ fn keep_switch(
     }
 }
 
-/// Keeps an event that is no switch, unless it is an act of a dead task.
+/// Appends an event other than a switch, unless a dead task does it.
 #[tactic(auto, using(crate::proofs::Kept::none_kept))]
 fn keep_act(
     alloc: Global,
@@ -91,7 +91,7 @@ fn keep_act(
     }
 }
 
-/// Keeps what is left of an event.
+/// Appends what remains of an event.
 fn keep_left(
     alloc: Global,
     kept: &mut Vec<Event>,
@@ -111,7 +111,7 @@ fn keep_left(
     }
 }
 
-/// The number of a task that exits, if one does, is no dead one's any more.
+/// Removes an exiting task's pid from `dead`: the pid may be reused.
 #[tactic(auto, using(crate::proofs::Killed::taken_out))]
 fn revive(dead: &mut BTreeSet<u32>, leaving: Option<Pid>)
     ensures { dead.new.keys ≡ without_pid dead.old.keys leaving }
@@ -122,7 +122,7 @@ fn revive(dead: &mut BTreeSet<u32>, leaving: Option<Pid>)
     }
 }
 
-/// The tasks that are dead behind an act.
+/// Updates `dead` after an act.
 fn note_exit(dead: &mut BTreeSet<u32>, runners: &[Option<Pid>], act: &Act)
     ensures { dead.new.keys ≡ dead_left dead.old.keys runners.now act.now }
 {
@@ -136,7 +136,7 @@ fn note_exit(dead: &mut BTreeSet<u32>, runners: &[Option<Pid>], act: &Act)
     }
 }
 
-/// Keeps what is left of events without these tasks, where these run before them.
+/// Appends what remains of events without the dead tasks. `runners` is who runs before the events.
 #[tactic(auto, using(crate::proofs::Kept::none_kept, crate::proofs::Kept::part_kept))]
 pub(crate) fn keep_rest(
     alloc: Global,

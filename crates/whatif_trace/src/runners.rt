@@ -1,18 +1,18 @@
-//! The numbers of the tasks that run on the processors.
+//! The pids of the tasks that run on the processors.
 ghost use Rattle.std.specs.Prelude.{◌≡◌, ◌<◌, IfOk, None, replicate, slice_set};
 ghost use Rattle.whatif_trace.specs.Left.{runner_at, turned};
 
 use psi_base::{Act, Cpu, NoMemory, Pid};
 use std::alloc::Global;
 
-/// No task runs on any of these processors.
+/// A list of `cpus` processors on which no task runs.
 pub(crate) fn no_runners(alloc: Global, cpus: u32) -> Result<Vec<Option<Pid>>, NoMemory>
     ensures { IfOk result (λ runners. runners.items ≡ replicate cpus None) }
 {
     Ok(vec![in alloc; None; cpus as usize]?)
 }
 
-/// The number of the task that runs on a processor, if one does.
+/// The pid of the task that runs on a processor, if any.
 pub(crate) fn runner_at(runners: &[Option<Pid>], cpu: Cpu) -> Option<Pid>
     ensures { result ≡ runner_at runners.now cpu.0 }
 {
@@ -22,7 +22,7 @@ pub(crate) fn runner_at(runners: &[Option<Pid>], cpu: Cpu) -> Option<Pid>
     }
 }
 
-/// This task runs on a processor, or none.
+/// Sets the task that runs on a processor; `None` if it is idle.
 pub(crate) fn set_runner(runners: &mut Vec<Option<Pid>>, cpu: Cpu, runner: Option<Pid>)
     ensures { runners.new.items ≡ slice_set runners.old.items cpu.0 runner }
 {
@@ -32,7 +32,7 @@ pub(crate) fn set_runner(runners: &mut Vec<Option<Pid>>, cpu: Cpu, runner: Optio
     }
 }
 
-/// Who runs behind an act.
+/// Updates the runners after an act.
 pub(crate) fn turn(runners: &mut Vec<Option<Pid>>, act: &Act)
     ensures { runners.new.items ≡ turned runners.old.items act.now }
 {
