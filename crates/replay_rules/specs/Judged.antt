@@ -1,4 +1,4 @@
--- A judge, and for how many ticks of a trace it has decided what rules kill.
+-- A judge, and the number of ticks of a trace at which it has decided what rules kill.
 use Rattle.std.specs.Prelude.{◌≡◌, ℕ, ◌+◌, List, [], Bool, if◌then◌else◌}
 use Rattle.std.specs.Prelude.{Option, None, Some}
 use Rattle.psi_base.specs.declared.event.Slot.{Slot}
@@ -22,13 +22,14 @@ use Rattle.replay_rules.specs.Planned.{HasTicked, IsPlanned}
 
 -- ---- what a judge keeps
 
--- An evaluator: the killer, the watch of what events tell beside pressure, and room for a reading.
+-- An evaluator: the killer, the state of what events report besides pressure, and space for a
+-- reading.
 pub record EvaluatorView : Type 0 where
   pub killer : KillerView
   pub watch : SideView
   pub reading : ReadingView
 
--- A judge: the interval of evaluations (ns), an evaluator where there are rules, and whether it
+-- A judge: the interval of evaluations (ns), an evaluator if there are rules, and whether it
 -- evaluated them at the last tick.
 pub record JudgeView : Type 0 where
   pub interval : ℕ
@@ -43,67 +44,67 @@ judge_of interval evaluator evaluated = record {
   evaluated = evaluated;
 }
 
--- the kills that an evaluator told of last, if there is one
+-- the kills of the last evaluation, if there is an evaluator
 abbrev pub told_last : Option EvaluatorView → List Kill
 told_last None = []
 told_last (Some evaluator) = evaluator.killer.found
 
--- the kills of a judge at the last tick: none where it evaluated no rules then
+-- the kills of a judge at the last tick: none if that was no evaluation
 abbrev pub judge_kills : JudgeView → List Kill
 judge_kills judge = if judge.evaluated then told_last judge.evaluator else []
 
--- the rulesets of a rules file, and none where there is no file
+-- the rulesets of a rules file; none without a file
 abbrev pub given_rules : Option Rules → List Rule
 given_rules None = []
 given_rules (Some given) = given.rules
 
 -- ---- what it stands for
 
--- the reading of a trace at the tick with a number
+-- the reading of a trace at the tick with this number
 abbrev pub read_at : Trace → Pace → ℕ → Reading
 read_at trace pace i = reading_at trace.cpus trace.events pace.length i
 
--- the readings of a trace at the evaluations among its first so many ticks, the newest first
+-- the readings of a trace at the evaluations among its first n ticks, the newest first
 abbrev pub readings_of : Trace → Pace → ℕ → List Reading
 readings_of trace pace i = readings_until trace.cpus trace.events pace.length pace.interval i
 
--- An evaluator with rules has taken these readings of a trace, the newest first: its killer stands
--- for them, and its watch tells what the events up to the moment of the newest tell.
+-- An evaluator with rules has taken these readings of a trace, the newest first: its killer
+-- represents them, and its watch is the state after the events up to the time of the newest.
 pub record HasRead (evaluator : EvaluatorView) (trace : Trace) (rules : List Rule)
     (readings : List Reading) : Type 0 where
   pub killer : StandsFor evaluator.killer (lives_of trace) rules readings
   pub watch : HasFollowed trace.events (newest_moment readings) evaluator.watch
   pub lives : evaluator.reading.lives ≡ lives_of trace
 
--- So it is of an evaluator that there may be: without one there are no rules.
+-- The same for an optional evaluator: without one there are no rules.
 abbrev pub HasReadAll : Option EvaluatorView → Trace → List Rule → List Reading → Type 0
 HasReadAll None trace rules readings = rules ≡ []
 HasReadAll (Some evaluator) trace rules readings = HasRead evaluator trace rules readings
 
--- A judge with rules has decided at the first so many ticks of a trace at a pace: it has the pace's
--- interval, has taken the readings of all evaluations among them, and tells the kills at the last
--- of these ticks.
+-- A judge with rules has decided at the first `i` ticks of a trace with these timings: it has their
+-- interval, has taken the readings of all evaluations among these ticks, and has the kills of the
+-- last one.
 pub record HasJudged (judge : JudgeView) (trace : Trace) (pace : Pace) (rules : List Rule) (i : ℕ)
     : Type 0 where
   pub interval : judge.interval ≡ pace.interval
   pub read : HasReadAll judge.evaluator trace rules (readings_of trace pace i)
   pub kills : judge_kills judge ≡ kills_in trace pace rules i
 
--- At a tick that is no evaluation a judge keeps what it has, and there are no kills.
+-- At a tick without an evaluation a judge's state stays the same, and there are no kills.
 pub record Rests (old new : JudgeView) : Type 0 where
   pub evaluator : new.evaluator ≡ old.evaluator
   pub kills : judge_kills new ≡ []
 
 -- ---- one tick
 
--- All is there to begin: plans of a trace, which is replayed at a pace with this interval of
--- evaluations (ns).
+-- The state before a replay: plans of a trace, which is replayed with this interval of evaluations
+-- (ns).
 pub record IsToBegin (plans : PlansView) (trace : Trace) (pace : Pace) (interval : ℕ)
     : Type 0 where
   pub planned : IsPlanned plans trace pace
   pub interval_is : interval ≡ pace.interval
 
--- All is there to evaluate at a moment (ns): that of the tick behind the first so many.
+-- The state before an evaluation at a time (ns): that of the tick after the first n.
 pub record IsToEvaluate (evaluator : EvaluatorView) (plans : PlansView) (engine : EngineView)
     (order : List Slot) (trace : Trace) (pace : Pace) (rules : List Rule) (i at : ℕ) : Type 0 where
   pub planned : IsPlanned plans trace pace
@@ -112,9 +113,9 @@ pub record IsToEvaluate (evaluator : EvaluatorView) (plans : PlansView) (engine 
   pub by_path : IsPathOrder plans.lives (numbers_of order)
   pub read : HasRead evaluator trace rules (readings_of trace pace i)
 
--- All is there to decide at the tick that comes behind the first so many: at its moment (ns), by
--- the length of a tick (ns). The engine has taken it, the order has all slots by path, and the
--- judge has decided at those before it.
+-- The state before a decision at the tick after the first n, at its time (ns) and for a tick length
+-- (ns). The engine has taken the tick, the order has all slots by path, and the judge has decided
+-- at the previous ticks.
 pub record IsToJudge (judge : JudgeView) (plans : PlansView) (engine : EngineView)
     (order : List Slot) (trace : Trace) (pace : Pace) (rules : List Rule) (i at length : ℕ)
     : Type 0 where

@@ -1,4 +1,4 @@
--- What holds of the evaluations of a trace, from tick to tick.
+-- Laws of the evaluations of a trace, from tick to tick.
 use Rattle.std.specs.Prelude.{◌≡◌, ℕ, ◌+◌, ◌<◌, List, [], ◌∷◌, true, false}
 use Rattle.psi_spec.specs.Trace.{IsAccepted, Trace, limits_of}
 use Rattle.pressure_spec.specs.Ticks.{is_evaluation}
@@ -8,37 +8,37 @@ use Rattle.kill_spec.specs.Kills.{kills}
 use Rattle.run_spec.specs.Replay.{Pace, kills_in, lives_of}
 use Rattle.replay_rules.specs.Judged.{read_at, readings_of}
 
--- Between evaluations nothing is read,
+-- Between evaluations nothing is read.
 abbrev pub ReadingsStay : Type 0
 ReadingsStay = (trace : Trace) (pace : Pace) (i : ℕ) →
     is_evaluation pace.interval pace.length (i + 1) ≡ false →
     readings_of trace pace (i + 1) ≡ readings_of trace pace i
 
--- and at an evaluation there is one reading more.
+-- An evaluation adds one reading.
 abbrev pub OneReadingMore : Type 0
 OneReadingMore = (trace : Trace) (pace : Pace) (i : ℕ) →
     is_evaluation pace.interval pace.length (i + 1) ≡ true →
     readings_of trace pace (i + 1) ≡ read_at trace pace (i + 1) ∷ readings_of trace pace i
 
--- Between evaluations nothing is killed,
+-- Between evaluations nothing is killed.
 abbrev pub NoKillsBetween : Type 0
 NoKillsBetween = (trace : Trace) (pace : Pace) (rules : List Rule) (i : ℕ) →
     is_evaluation pace.interval pace.length i ≡ false → kills_in trace pace rules i ≡ []
 
--- at an evaluation what the rules kill at its reading, after the readings before it,
+-- An evaluation kills what the rules kill at its reading, given the previous readings.
 abbrev pub KillsAtReading : Type 0
 KillsAtReading = (trace : Trace) (pace : Pace) (rules : List Rule) (i : ℕ) →
     is_evaluation pace.interval pace.length (i + 1) ≡ true →
     kills_in trace pace rules (i + 1)
     ≡ kills (lives_of trace) rules (read_at trace pace (i + 1)) (readings_of trace pace i)
 
--- and without rules nothing ever.
+-- Without rules nothing is killed.
 abbrev pub NoneWithoutRules : Type 0
 NoneWithoutRules = (trace : Trace) (pace : Pace) (i : ℕ) → kills_in trace pace [] i ≡ []
 
--- The readings of an accepted trace are readings: each is of the live groups in the order of their
--- paths, all in their ranges, and is later than those before it. So a ruleset never has two
--- chain-ending kills closer than the delay of the first.
+-- The readings of an accepted trace are well formed: each has the live groups in the order of their
+-- paths, all values are in range, and it is later than the previous ones. So a ruleset never has
+-- two chain-ending kills within the delay of the first.
 abbrev pub ReadingsAreReadings : Type 0
 ReadingsAreReadings = (trace : Trace) (pace : Pace) (i : ℕ) →
     IsAccepted (limits_of pace.length trace.cpus) trace.events → 0 < pace.length →

@@ -1,4 +1,4 @@
--- What a replay stands on: plans of an accepted trace, and an engine that has taken its ticks.
+-- The basis of a replay: plans of an accepted trace, and an engine that has taken its ticks.
 use Rattle.std.specs.Prelude.{ℕ, ◌<◌, ◌≤◌}
 use Rattle.psi_spec.specs.Told.{triggers_of}
 use Rattle.psi_spec.specs.Trace.{IsAccepted, IsCpuCount, Trace, limits_of}
@@ -8,7 +8,7 @@ use Rattle.run_spec.specs.Replay.{Pace, lives_of}
 use Rattle.proc_plan.specs.Plans.{PlansView, StandFor}
 use Rattle.tick_engine.specs.Engine.{EngineView, StandsFor}
 
--- plans stand for an accepted trace, which may be replayed at a pace
+-- plans represent an accepted trace, which may be replayed with these timings
 pub record IsPlanned (plans : PlansView) (trace : Trace) (pace : Pace) : Type 0 where
   pub counted : IsCpuCount trace.cpus
   pub stand : StandFor plans trace.cpus trace.events
@@ -17,7 +17,7 @@ pub record IsPlanned (plans : PlansView) (trace : Trace) (pace : Pace) : Type 0 
   pub short : pace.length ≤ longest_tick
   pub due : 0 < pace.interval
 
--- the engine stands for the first so many ticks of a trace
+-- the engine represents the first n ticks of a trace
 abbrev pub HasTicked : EngineView → Trace → Pace → ℕ → Type 0
 HasTicked engine trace pace i =
     StandsFor engine trace.cpus (lives_of trace) (triggers_of trace.events)

@@ -1,4 +1,4 @@
--- What an engine and a watch tell of the live groups at an evaluation.
+-- The live groups at an evaluation, as an engine and a watch have them.
 use Rattle.std.specs.Prelude.{◌≡◌, ℕ, List, length, map, filter, take}
 use Rattle.psi_spec.specs.declared.machine.GroupLife.{GroupLife}
 use Rattle.psi_spec.specs.Groups.{path_at}
@@ -11,11 +11,11 @@ use Rattle.tick_engine.specs.Engine.{EngineView, averages_in}
 use Rattle.detectors.specs.Views.{ReadingView, reading_of, seen_at}
 use Rattle.side_watch.specs.Watch.{SideView, has_tasks, side_cell_at}
 
--- an engine has the averages of a group of each pressure quantity
+-- an engine has the averages of a group for each pressure quantity
 abbrev pub HasRows : EngineView → ℕ → Type 0
 HasRows engine slot = length (averages_in engine slot).averages ≡ length pressure_places
 
--- the group in a slot as an engine and a watch tell of it
+-- the reading of the group in a slot, from an engine and a watch
 abbrev pub group_by : EngineView → SideView → ℕ → GroupReading
 group_by engine watch slot = record {
   slot = record { 0 = slot };
@@ -27,7 +27,7 @@ group_by engine watch slot = record {
   populated = has_tasks watch slot;
 }
 
--- the slots of an order whose groups are live at a moment (ns)
+-- the slots of an order whose groups are live at a time (ns)
 abbrev pub slots_live_at : List GroupLife → ℕ → List ℕ → List ℕ
 slots_live_at lives at order = filter (is_live_slot lives at) order
 
@@ -35,17 +35,17 @@ slots_live_at lives at order = filter (is_live_slot lives at) order
 abbrev pub LiveAscend : List GroupLife → ℕ → List ℕ → Type 0
 LiveAscend lives at order = Ascend (map (path_at lives) (slots_live_at lives at order))
 
--- the groups of an order that are live at a moment (ns), as an engine and a watch tell of them
+-- the readings of the groups of an order that are live at a time (ns), from an engine and a watch
 abbrev pub groups_by :
     EngineView → SideView → List GroupLife → ℕ → List ℕ → List GroupReading
 groups_by engine watch lives at order = map (group_by engine watch) (slots_live_at lives at order)
 
--- the reading of them, with the host as the watch tells of it
+-- the reading of these groups, with the watch's values for the host
 abbrev pub reading_by : EngineView → SideView → List GroupLife → ℕ → List ℕ → Reading
 reading_by engine watch lives at order =
     seen_at at watch.host (groups_by engine watch lives at order)
 
--- it, of groups with these lives
+-- the same, as the model of a reading of groups with these lives
 abbrev pub read_by : EngineView → SideView → List GroupLife → ℕ → List ℕ → ReadingView
 read_by engine watch lives at order =
     reading_of lives (reading_by engine watch lives at order)

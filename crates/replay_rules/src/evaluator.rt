@@ -18,12 +18,12 @@ use std::alloc::Global;
 use std::marker::Model;
 use tick_engine::Engine;
 
-/// What is kept between evaluations.
+/// The state between evaluations.
 #[derive(Drop)]
 pub(crate) struct Evaluator {
     killer: Killer,
     watch: SideWatch,
-    /// Room for what is read.
+    /// Space for the current reading.
     reading: Reading,
 }
 
@@ -36,8 +36,8 @@ impl Model for Evaluator {
 }
 
 impl Evaluator {
-    /// An evaluator of these rules before the first evaluation of the trace of plans. Takes all
-    /// memory that it will need.
+    /// An evaluator of these rules before the first evaluation of the plans' trace. Allocates
+    /// everything up front.
     pub(crate) fn make(alloc: Global, plans: &Plans, rules: Rules) -> Result<Evaluator, NoMemory>
         ensures { IfOk result (λ evaluator. (trace : Trace) (pace : Pace) →
             IsPlanned plans.now trace pace → HasRead evaluator trace rules.rules []) }
@@ -50,7 +50,7 @@ impl Evaluator {
         })
     }
 
-    /// The evaluation at the moment (ns) of the tick that the engine took last. Takes no memory.
+    /// The evaluation at the time (ns) of the engine's last tick. Does not allocate.
     pub(crate) fn evaluate(&mut self, plans: &Plans, engine: &Engine, order: &[Slot], at: Ns)
         requires { (trace : Trace) × (pace : Pace) × (rules : List Rule) × (i : ℕ) ×
             IsToEvaluate self.old plans.now engine.now order.now trace pace rules i at }

@@ -1,4 +1,4 @@
-//! The judge.
+//! Decides at each tick what rules kill.
 ghost use Rattle.std.specs.Prelude.{◌≡◌, ◌+◌, ◌<◌, ℕ, List, IfOk, None, false};
 ghost use Rattle.psi_spec.specs.Trace.{Trace};
 ghost use Rattle.pressure_spec.specs.Ticks.{is_evaluation, tick_moment};
@@ -17,12 +17,12 @@ use std::alloc::Global;
 use std::marker::Model;
 use tick_engine::Engine;
 
-/// What rules decide at the ticks of a replay, one after another. Contracts see it whole.
+/// Decides what rules kill at the ticks of a replay, in order. Its model has all its fields.
 #[derive(Drop)]
 pub struct Judge {
     /// The interval of evaluations (ns).
     interval: Ns,
-    /// None without rules: then no tick costs anything.
+    /// `None` without rules: then a tick costs nothing.
     evaluator: Option<Evaluator>,
     /// Whether rules were evaluated at the last tick.
     evaluated: bool,
@@ -37,8 +37,8 @@ impl Model for Judge {
 }
 
 impl Judge {
-    /// A judge by these rules of the trace of plans, before its first tick, with this interval of
-    /// evaluations (ns). Takes all memory that it will need. Without rules it keeps nothing.
+    /// A judge for the plans' trace with these rules, before the first tick, with this interval of
+    /// evaluations (ns). Allocates everything up front. Without rules it stores nothing.
     pub fn make(
         alloc: Global,
         plans: &Plans,
@@ -61,9 +61,9 @@ impl Judge {
         })
     }
 
-    /// The tick at a moment (ns), which the engine took last, by the length of a tick (ns): where
-    /// it is an evaluation, all live groups are read, and the rules decide. The order has all slots
-    /// by path. [`Judge::kills`] has the kills then. Takes no memory.
+    /// The tick at a time (ns), which must be the engine's last, for a tick length (ns). If it is
+    /// an evaluation, all live groups are read, the rules decide, and [`Judge::kills`] has the
+    /// kills. The order has all slots by path. Does not allocate.
     pub fn tick(&mut self, plans: &Plans, engine: &Engine, order: &[Slot], at: Ns, length: Ns)
         requires { (trace : Trace) × (pace : Pace) × (rules : List Rule) × (i : ℕ) ×
             IsToJudge self.old plans.now engine.now order.now trace pace rules i at length }
@@ -82,8 +82,8 @@ impl Judge {
         }
     }
 
-    /// The kills at the last tick, by ruleset and action. None where it was no evaluation, and
-    /// before the first.
+    /// The kills at the last tick, by ruleset and action. Empty if it was no evaluation, and before
+    /// the first tick.
     pub fn kills(&self) -> &[Kill]
         ensures { result.now ≡ judge_kills self.now }
     {

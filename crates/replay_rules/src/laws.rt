@@ -2,8 +2,8 @@
 ghost use Rattle.replay_rules.specs.Laws.{KillsAtReading, NoKillsBetween, NoneWithoutRules};
 ghost use Rattle.replay_rules.specs.Laws.{OneReadingMore, ReadingsAreReadings, ReadingsStay};
 
-/// From tick to tick: between evaluations nothing is read and nothing is killed; at each there is
-/// one reading more, and the rules kill by it and those before it; and without rules nothing is
+/// Laws from tick to tick: between evaluations nothing is read and nothing is killed; an evaluation
+/// adds one reading, and the rules decide by it and the previous ones; without rules nothing is
 /// killed.
 pub fn law_evaluations()
     ensures stay { ReadingsStay }
@@ -13,7 +13,7 @@ pub fn law_evaluations()
     ensures without { NoneWithoutRules }
 {}
 
-/// The readings of an accepted trace are readings, each later than those before it.
+/// The readings of an accepted trace are well formed, each later than the previous ones.
 pub fn law_readings()
     ensures { ReadingsAreReadings }
 {}

@@ -1,9 +1,11 @@
-//! What rules decide at the ticks of a replay.
+//! Decides what rules kill at the ticks of a replay.
 //!
-//! [`Judge`] has all that rules need between the ticks: what detectors and rests remember, and
-//! what the trace tells of memory, preferences and tasks. At each evaluation it reads all live
-//! groups, and tells which of them are killed. [`tick_moment`] tells when a tick is, and [`is_due`]
-//! at which ticks something is done each period.
+//! [`Judge`] has all state that rules need between ticks: that of detectors and post-action delays,
+//! and what the trace reports about memory, preferences and tasks. At each evaluation it reads all
+//! live groups and returns the kills. [`tick_moment`] is the time of a tick, and [`is_due`] says at
+//! which ticks a periodic action is due.
+//!
+//! It doesn't evaluate a rule itself (kill_engine does), and it neither prints nor ends anything.
 #![tactic(auto)]
 
 mod evaluator;

@@ -1,10 +1,10 @@
-//! When ticks are, and which of them are due.
+//! The times of ticks, and which of them are due.
 ghost use Rattle.std.specs.Prelude.{◌≡◌, ◌*◌, ◌<◌, ◌^◌, ℕ};
 ghost use Rattle.pressure_spec.specs.Ticks.{is_due, tick_moment};
 
 use psi_base::Ns;
 
-/// The moment (ns) of the tick with a number from 1, by the length of a tick (ns).
+/// The time (ns) of tick number `tick`, from 1, for a tick length (ns).
 pub fn tick_moment(length: Ns, tick: u64) -> Ns
     requires { tick_moment length tick < 2 ^ 64 }
     ensures { result ≡ tick_moment length tick }
@@ -12,8 +12,8 @@ pub fn tick_moment(length: Ns, tick: u64) -> Ns
     tick * length
 }
 
-/// Whether what is done each period (ns) is due at the tick at a moment (ns), by the length of a
-/// tick (ns): a multiple of the period lies behind the tick before it, and not behind it.
+/// Whether an action with this period (ns) is due at the tick at `at` (ns), for a tick length (ns):
+/// if a multiple of `period` lies in (at - length, at].
 pub fn is_due(period: Ns, length: Ns, at: Ns) -> bool
     requires due { 0 < period }
     requires tick { (tick : ℕ) × (0 < tick) × (at ≡ tick_moment length tick) }

@@ -1,4 +1,4 @@
-//! What is read at an evaluation.
+//! The reading of an evaluation.
 ghost use Rattle.std.specs.Prelude.{◌≡◌, ◌<◌, ℕ, All, length, take};
 ghost use Rattle.pressure_spec.specs.Within.{IsRow};
 ghost use Rattle.pressure_spec.specs.Share.{irq_quantity};
@@ -14,8 +14,8 @@ use psi_base::{Ns, Slot, State};
 use side_watch::SideWatch;
 use tick_engine::{Engine, is_live_at};
 
-/// The averages of a group over 10, 60 and 300 seconds, of each state but nonidle, in the order of
-/// the states.
+/// The averages of a group over 10, 60 and 300 seconds, for each state except nonidle, ordered by
+/// state.
 fn averages_of(engine: &Engine, slot: Slot) -> [[u64; 3]; QUANTITIES - 1]
     requires made { slot.0 < length engine.now.groups }
     requires rows { HasRows engine.now slot.0 }
@@ -33,7 +33,8 @@ fn averages_of(engine: &Engine, slot: Slot) -> [[u64; 3]; QUANTITIES - 1]
     ]
 }
 
-/// What is seen of a group: its averages after the tick, and the last of what the trace told of it.
+/// The reading of a group: its averages after the tick, and the latest values that the trace
+/// reports for it.
 fn read_group(engine: &Engine, watch: &SideWatch, slot: Slot) -> GroupReading
     requires made { slot.0 < length engine.now.groups }
     requires rows { HasRows engine.now slot.0 }
@@ -52,8 +53,8 @@ fn read_group(engine: &Engine, watch: &SideWatch, slot: Slot) -> GroupReading
     }
 }
 
-/// Reads the groups that are live at a moment (ns), in this order of slots, which is that of their
-/// paths. Takes no memory.
+/// Reads the groups that are live at a time (ns), in this order of slots, which is the order of
+/// their paths. Does not allocate.
 pub(crate) fn fill_reading(
     reading: &mut Reading,
     engine: &Engine,

@@ -1,5 +1,5 @@
--- Live lines in the output of a replay: what is watched at a moment, and the text with its live
--- lines tick by tick.
+-- Live lines in the output of a replay: the watched group at each tick, and the text with its live
+-- lines, tick by tick.
 use Rattle.std.specs.Prelude.{◌≡◌, ℕ, ◌+◌, ◌≤◌, List, [], ◌∷◌, ◌++◌, bytes_eq, ◌&&◌, if◌then◌else◌, Option, None, Some}
 use Rattle.psi_base.specs.declared.event.Event.{Event}
 use Rattle.psi_spec.specs.declared.machine.GroupLife.{GroupLife}
@@ -11,20 +11,20 @@ use Rattle.run_spec.specs.Live.{IsLiveText, live_slot_at}
 use Rattle.run_spec.specs.Replay.{IsReplayText, Pace, last_line, replay_text, tick_count, tick_text, ticks_text, with_rules}
 use Rattle.ruleset_json.specs.declared.types.Rule.{Rule}
 
--- the slot of the group with a path that is live at a moment (ns), among lives whose slots are
--- counted from this one on
+-- the slot of the group with this path that is live at a time (ns); the first of the lives has
+-- number `slot`
 abbrev pub live_slot : ℕ → List GroupLife → List ℕ → ℕ → Option ℕ
 live_slot slot [] path at = None
 live_slot slot (life ∷ lives) path at =
     if is_live_at life at && bytes_eq life.path path then Some slot else live_slot (slot + 1) lives path at
 
--- a text is the lines of a tick, with live lines that it may have
+-- a text is the lines of a tick, with possible live lines
 abbrev pub IsTickText : Trace → Pace → List Rule → ℕ → List ℕ → Type 0
 IsTickText trace pace rules i text =
     (live : List ℕ) × IsLiveText trace pace.length pace.watch i live
     × (text ≡ tick_text trace pace (record { live = λ _. live; rules = rules }) i)
 
--- a text is the lines of the first so many ticks, each with live lines that it may have
+-- a text is the lines of the first n ticks, each with possible live lines
 abbrev pub AreTickTexts : Trace → Pace → List Rule → ℕ → List ℕ → Type 0
 AreTickTexts trace pace rules count text =
     (live : ℕ → List ℕ) × ((i : ℕ) → 1 ≤ i → i ≤ count → IsLiveText trace pace.length pace.watch i (live i))
@@ -32,24 +32,24 @@ AreTickTexts trace pace rules count text =
 
 -- ---- laws
 
--- Which slot a path has at a moment is told by the lives of all groups.
+-- The lives of all groups determine the slot of a path at each time.
 abbrev pub SlotByLives : Type 0
 SlotByLives = (limits : Limits) (events : List Event) → AreLegal limits first_world events → (path : List ℕ) (at : ℕ) →
     live_slot_at events path at ≡ live_slot 0 (after events).groups path at
 
--- The lines of one more tick come behind those of the ticks before it.
+-- The lines of the next tick are appended to those of the previous ticks.
 abbrev pub OneTextMore : Type 0
 OneTextMore = (trace : Trace) (pace : Pace) (rules : List Rule) (i : ℕ) (text line : List ℕ) →
     AreTickTexts trace pace rules i text → IsTickText trace pace rules (i + 1) line →
     AreTickTexts trace pace rules (i + 1) (text ++ line)
 
--- Behind the lines of all ticks the last line ends the output.
+-- After the lines of all ticks, the last line ends the output.
 abbrev pub WholeText : Type 0
 WholeText = (trace : Trace) (pace : Pace) (rules : List Rule) (text : List ℕ) →
     AreTickTexts trace pace rules (tick_count trace pace) text →
     IsReplayText trace pace rules (text ++ last_line trace pace (with_rules rules))
 
--- The lines of some ticks of a legal trace begin some output, and so there is one.
+-- The lines of some ticks of a legal trace are a prefix of an output, so there is an output.
 abbrev pub TextsGoOn : Type 0
 TextsGoOn = (limits : Limits) (trace : Trace) (pace : Pace) (rules : List Rule) (i : ℕ) (text : List ℕ) →
     AreLegal limits first_world trace.events → i ≤ tick_count trace pace → AreTickTexts trace pace rules i text →
@@ -59,7 +59,7 @@ TextsGoOn = (limits : Limits) (trace : Trace) (pace : Pace) (rules : List Rule) 
 abbrev pub NoTextAtFirst : Type 0
 NoTextAtFirst = (trace : Trace) (pace : Pace) (rules : List Rule) → AreTickTexts trace pace rules 0 []
 
--- Where no group is watched there is one output.
+-- If no group is watched there is exactly one output.
 abbrev pub OneTextUnwatched : Type 0
 OneTextUnwatched = (trace : Trace) (pace : Pace) (rules : List Rule) (text : List ℕ) →
     pace.watch ≡ None → IsReplayText trace pace rules text → text ≡ replay_text trace pace (with_rules rules)

@@ -1,4 +1,4 @@
--- The report of a tick by slots, in one order of all of them.
+-- The report of a tick, by slots, in one order of all slots.
 use Rattle.std.specs.Prelude.{◌≡◌, ℕ, List, [], if◌then◌else◌}
 use Rattle.std.specs.List.{flat_map}
 use Rattle.psi_spec.specs.declared.machine.GroupLife.{GroupLife}
@@ -13,8 +13,8 @@ use Rattle.pressure_spec.specs.Ticks.{tick_moment, ticks_of}
 use Rattle.pressure_spec.specs.Samples.{group_averages, life_of, totals_after}
 use Rattle.run_spec.specs.Replay.{Pace, files_text, lives_of, reports}
 
--- the report of the group in a slot at a moment (ns) in a trace of a version, where it is live
--- then, by the totals (ns) and averages of slots
+-- the report of the group in a slot at a time (ns), empty if it isn't live, from the totals (ns)
+-- and averages by slot, in the format of a trace version
 abbrev pub slot_report : Version → ℕ → List GroupLife → (ℕ → List ℕ) → (ℕ → AverageState) → ℕ → List ℕ
 slot_report version at lives totals averages slot =
     if is_live_at (life_of lives slot) at then files_text version at (path_at lives slot) slot (totals slot) (averages slot).averages
@@ -24,17 +24,17 @@ slot_report version at lives totals averages slot =
 abbrev pub slot_reports : Version → ℕ → List GroupLife → (ℕ → List ℕ) → (ℕ → AverageState) → List ℕ → List ℕ
 slot_reports version at lives totals averages order = flat_map (slot_report version at lives totals averages) order
 
--- the totals (ns) of slots after ticks of a trace
+-- the totals (ns) by slot after ticks of a trace
 abbrev pub totals_at : Trace → Pace → ℕ → ℕ → List ℕ
 totals_at trace pace i slot = totals_after trace.cpus (lives_of trace) (ticks_of trace.cpus trace.events pace.length i) slot
 
--- the averages of slots after ticks of a trace
+-- the averages by slot after ticks of a trace
 abbrev pub average_state_at : Trace → Pace → ℕ → ℕ → AverageState
 average_state_at trace pace i slot = group_averages trace.cpus (lives_of trace) (ticks_of trace.cpus trace.events pace.length i) slot
 
 -- ---- laws
 
--- The reports of a tick are those of the slots that are live then, in any one order of all slots by
+-- The reports of a tick are those of the slots that are live, in any fixed order of all slots by
 -- path.
 abbrev pub ReportsByOrder : Type 0
 ReportsByOrder = (limits : Limits) (trace : Trace) (pace : Pace) (i : ℕ) (order : List ℕ) →

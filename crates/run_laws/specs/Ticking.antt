@@ -1,4 +1,4 @@
--- A replay, one tick more at a time.
+-- A replay, tick by tick.
 use Rattle.std.specs.Prelude.{◌≡◌, ℕ, ◌+◌, ◌<◌, ◌≤◌, List, [], ◌∷◌, ◌++◌, length}
 use Rattle.psi_base.specs.declared.event.Event.{Event}
 use Rattle.psi_spec.specs.Refusal.{AreLegal}
@@ -10,34 +10,34 @@ use Rattle.pressure_spec.specs.NextTick.{IsNextTick, last_tick, no_tick}
 use Rattle.run_spec.specs.Replay.{Beside, Pace, fired_in, kills_in, kills_until, signals_until, tick_text, ticks_text}
 use Rattle.ruleset_json.specs.declared.types.Rule.{Rule}
 
--- before the first tick of events on so many processors
+-- the state before the first tick, for a number of processors and events
 abbrev pub before_ticks : ℕ → List Event → Tick
 before_ticks cpus events = no_tick cpus (length (after events).groups)
 
--- The ticks of legal events come one after another, on no more processors than the world keeps a
--- last moment of interrupts for.
+-- The ticks of legal events follow one another, for at most as many processors as the world stores
+-- a last interrupt time for.
 abbrev pub TicksFollow : Type 0
 TicksFollow =
     (limits : Limits) (cpus : ℕ) (events : List Event) (length i : ℕ) → AreLegal limits first_world events → limits.cpus ≤ most_cpus →
     0 < length → length ≤ longest_tick → tick_moment length (i + 1) ≤ last_moment →
     IsNextTick (last_tick (before_ticks cpus events) (ticks_of cpus events length i)) (tick_of cpus events length (i + 1))
 
--- One more tick stands behind the others.
+-- The next tick is appended to the others.
 abbrev pub TicksMore : Type 0
 TicksMore = (cpus : ℕ) (events : List Event) (length i : ℕ) →
     ticks_of cpus events length (i + 1) ≡ ticks_of cpus events length i ++ tick_of cpus events length (i + 1) ∷ []
 
--- Its signals are counted with those before.
+-- Its signals are counted with the previous ones.
 abbrev pub SignalsMore : Type 0
 SignalsMore = (trace : Trace) (pace : Pace) (i : ℕ) →
     signals_until trace pace (i + 1) ≡ signals_until trace pace i + length (fired_in trace pace (i + 1))
 
--- Its kills are counted with those before.
+-- Its kills are counted with the previous ones.
 abbrev pub KillsMore : Type 0
 KillsMore = (trace : Trace) (pace : Pace) (rules : List Rule) (i : ℕ) →
     kills_until trace pace rules (i + 1) ≡ kills_until trace pace rules i + length (kills_in trace pace rules (i + 1))
 
--- Its lines come behind those before.
+-- Its lines are appended to the previous ones.
 abbrev pub TextMore : Type 0
 TextMore = (trace : Trace) (pace : Pace) (beside : Beside) (i : ℕ) →
     ticks_text trace pace beside (i + 1) ≡ ticks_text trace pace beside i ++ tick_text trace pace beside (i + 1)

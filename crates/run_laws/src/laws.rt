@@ -1,15 +1,15 @@
-//! Laws of what a replay prints. Each function has an empty body: its contract is the law.
+//! Laws of the output of a replay. Each function has an empty body: its contract is the law.
 ghost use Rattle.run_laws.specs.Live.{NoTextAtFirst, OneTextMore, OneTextUnwatched, SlotByLives, TextsGoOn, WholeText};
 ghost use Rattle.run_laws.specs.Reports.{ReportsByOrder};
 ghost use Rattle.run_laws.specs.Ticking.{KillsMore, SignalsMore, TextMore, TicksFollow, TicksMore};
 
-/// The ticks of an accepted trace come one after another: no time falls, or grows by more than the
-/// time in between, and what interrupts took, by more than that and a second.
+/// The ticks of an accepted trace follow one another: no time falls. A state's time grows by at
+/// most the time between two ticks, and interrupt time by at most that plus a second.
 pub fn law_next_tick()
     ensures { TicksFollow }
 {}
 
-/// One tick more: its table behind the others, its signals, its kills, its lines.
+/// The next tick: its table, signals, kills and lines are appended to the previous ones.
 pub fn law_one_tick_more()
     ensures ticks { TicksMore }
     ensures signals { SignalsMore }
@@ -17,19 +17,19 @@ pub fn law_one_tick_more()
     ensures text { TextMore }
 {}
 
-/// The reports of a tick are those of the slots that are live then, in one order of all slots by
+/// The reports of a tick are those of the slots that are live, in one fixed order of all slots by
 /// path.
 pub fn law_reports()
     ensures { ReportsByOrder }
 {}
 
-/// Which slot a path has at a moment is told by the lives of all groups.
+/// The lives of all groups determine the slot of a path at each time.
 pub fn law_live_slot()
     ensures { SlotByLives }
 {}
 
-/// Lines with live samples, tick by tick: a tick more, the end behind all ticks, an output that
-/// goes on from some ticks, and none before the first.
+/// Lines with live samples, tick by tick: the next tick, the end after all ticks, an output that
+/// continues from some ticks, and no line before the first tick.
 pub fn law_live_texts()
     ensures more { OneTextMore }
     ensures whole { WholeText }
@@ -37,7 +37,7 @@ pub fn law_live_texts()
     ensures none { NoTextAtFirst }
 {}
 
-/// Where no group is watched there is one output.
+/// If no group is watched there is exactly one output.
 pub fn law_unwatched()
     ensures { OneTextUnwatched }
 {}

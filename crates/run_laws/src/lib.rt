@@ -1,4 +1,7 @@
-//! How what a replay prints comes out tick by tick, and group by group in one order of all slots.
+//! Laws of a replay's output: how it grows tick by tick, and group by group in one order of all
+//! slots.
+//!
+//! They relate definitions only. The code that prints is in replay_ticks and above.
 #![tactic(auto)]
 
 mod laws;

@@ -1,4 +1,4 @@
--- What a generator of a trace stands for: the events that are left.
+-- The model of a trace generator: the events that remain.
 use Rattle.std.specs.Prelude.{◌≡◌, ℕ, ◌+◌, List, [], ◌++◌, Bool, if◌then◌else◌}
 use Rattle.psi_base.specs.declared.event.Act.{Act}
 use Rattle.psi_base.specs.declared.event.Event.{Event}
@@ -9,18 +9,18 @@ use Rattle.run_spec.specs.LegalCommand.{IsShape}
 use Rattle.task_table.specs.Stands.{TableView}
 use Rattle.trace_gen.specs.Generating.{IsGenerating, limits_in}
 
--- an act that was drawn, and the state behind it
+-- a random act, and the generator's state after it
 abbrev pub drawn_act : Act → ℕ → Drawn
 drawn_act a state = record { act = a; state = state }
 
--- the events that are left: some of those that make groups and tasks, and unless the end was given,
--- so many more from a world and a state on, and the end
+-- the events that remain: some of those that create groups and tasks, then, unless the end was
+-- returned, `left` more from a world and a state, and the end
 abbrev pub events_left : Shape → List Event → World → ℕ → ℕ → Bool → List Event
 events_left shape first w state left ended =
     first ++ (if ended then [] else drawn_events shape left w state)
 
--- What is true of each generator: its shape is in range, and its table has the limits of the shape
--- and a world of it, in which so many events are left.
+-- The invariant of each generator: its shape is in range, and its table has the limits of the shape
+-- and a world of it in which `left` events remain.
 pub record IsGenerator (shape : Shape) (table : TableView) (left : ℕ) : Type 0 where
   pub shaped : IsShape shape
   pub limits : table.limits ≡ limits_in shape

@@ -1,4 +1,4 @@
--- What writing a generated text gives.
+-- The result of writing a generated text.
 use Rattle.std.specs.Prelude.{◌≡◌, ℕ, List, Option, Result, Ok, Err}
 use Rattle.std.specs.Io.KnownBytes.{Appends, Keeps}
 use Rattle.outside.specs.Outside.{AppendsFront, Rose}
@@ -11,15 +11,16 @@ abbrev pub shape_by : ℕ → ℕ → ℕ → ℕ → Shape
 shape_by seed cpus groups events =
     record { seed = seed; cpus = cpus; groups = groups; events = events }
 
--- a text that couldn't be written: a front of it was where a write failed, and the count of failed
--- writes rose; without memory none of it was, and the count is as before
+-- A text that wasn't written completely. After a failed write a prefix of it was written, and the
+-- count of failed writes has increased. After out of memory nothing was written, and the count is
+-- unchanged.
 abbrev pub Misses : {E : Type 0} → List ℕ → ℕ → ℕ → Option (List ℕ) → Option (List ℕ) → Fault E
     → Type 0
 Misses text before now had has (Refused failed) = AppendsFront had has text × Rose before now
 Misses text before now had has (NoMemory _) = Keeps had has × (now ≡ before)
 
--- what writing a text gave: all of it, with the count of failed writes as before; or what Misses
--- says of a fault
+-- The result of writing a text: all of it was written, with the count of failed writes unchanged;
+-- or `Misses` describes the fault.
 abbrev pub WritesWhole :
     {T E : Type 0} → List ℕ → ℕ → ℕ → Option (List ℕ) → Option (List ℕ) → Result T (Fault E) → Type 0
 WritesWhole text before now had has (Ok done) = Appends had has text × (now ≡ before)

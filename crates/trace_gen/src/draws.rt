@@ -1,11 +1,11 @@
-//! Random numbers, the same at each time.
+//! Pseudo-random numbers, equal for equal seeds.
 ghost use Rattle.std.specs.Prelude.{◌≡◌, ℕ, ◌<◌};
 ghost use Rattle.run_spec.specs.Generated.{drawn, next_state};
 
 use std::marker::Model;
 
-/// The state behind random numbers, which contracts see as a number: a linear congruence of 64
-/// bits, with the constants of Knuth's MMIX.
+/// The state of the generator; its model is a number. A linear congruential generator of 64 bits,
+/// with the constants of Knuth's MMIX.
 #[derive(Drop)]
 pub(crate) struct Draws {
     state: u64,
@@ -18,14 +18,14 @@ impl Model for Draws {
 }
 
 impl Draws {
-    /// Random numbers that begin at a state.
+    /// Random numbers that begin at this state.
     pub(crate) fn new(seed: u64) -> Draws
         ensures { result ≡ seed }
     {
         Draws { state: seed }
     }
 
-    /// The next number below a bound.
+    /// The next number below `bound`.
     pub(crate) fn draw(&mut self, bound: u32) -> u32
         requires { 0 < bound }
         ensures state { self.new ≡ next_state self.old }

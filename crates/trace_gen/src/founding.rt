@@ -1,4 +1,4 @@
-//! The events that make groups and tasks.
+//! The events that create groups and tasks.
 ghost use Rattle.std.specs.Prelude.{◌≡◌, ◌≤◌, ◌<◌, ◌++◌, ◌∷◌, [], None, IfOk, OnOk, map};
 ghost use Rattle.std.specs.List.{range_with_len};
 ghost use Rattle.psi_spec.specs.Refusal.{cause_of};
@@ -14,7 +14,7 @@ use std::alloc::Global;
 use std::collections::VecDeque;
 use task_table::Table;
 
-/// How many tasks there are for each processor.
+/// The number of tasks for each processor.
 pub(crate) const TASKS_EACH: u32 = 4;
 
 /// The path of a group, by its number from 0.
@@ -43,7 +43,7 @@ fn home_of(alloc: Global, shape: Shape, pid: u32) -> Result<Path, NoMemory>
     }
 }
 
-/// The event that makes a group.
+/// The event that creates a group.
 fn made_group(alloc: Global, number: u32) -> Result<Event, NoMemory>
     ensures { IfOk result (λ event. event ≡ at_start (made_group number)) }
 {
@@ -54,7 +54,7 @@ fn made_group(alloc: Global, number: u32) -> Result<Event, NoMemory>
     })
 }
 
-/// The event that makes a task.
+/// The event that creates a task.
 fn made_task(alloc: Global, shape: Shape, pid: u32) -> Result<Event, NoMemory>
     requires { 1 ≤ pid }
     ensures { IfOk result (λ event. event ≡ at_start (made_task shape pid)) }
@@ -70,7 +70,8 @@ fn made_task(alloc: Global, shape: Shape, pid: u32) -> Result<Event, NoMemory>
     })
 }
 
-/// Plays a legal event in a table whose world is that after others, and keeps it behind these.
+/// Plays a legal event in a table whose world is that after the previous ones, and appends it to
+/// these.
 #[tactic(auto, using(crate::proofs::Drawing::one_after))]
 fn play(events: &mut VecDeque<Event>, table: &mut Table, event: Event) -> Result<(), NoMemory>
     requires world { table.old.world ≡ after events.old.items }
@@ -88,7 +89,7 @@ fn play(events: &mut VecDeque<Event>, table: &mut Table, event: Event) -> Result
     Ok(())
 }
 
-/// Makes all groups of a shape, before any other event.
+/// Creates all groups of a shape, before any other event.
 fn make_groups(
     alloc: Global,
     shape: Shape,
@@ -109,7 +110,7 @@ fn make_groups(
     Ok(())
 }
 
-/// Makes all tasks of a shape, behind its groups.
+/// Creates all tasks of a shape, after its groups.
 fn make_tasks(
     alloc: Global,
     shape: Shape,
@@ -131,8 +132,8 @@ fn make_tasks(
     Ok(())
 }
 
-/// The events that make all groups and tasks of a shape, in the order in which they are played in a
-/// new table.
+/// The events that create all groups and tasks of a shape, in the order in which they are played in
+/// a new table.
 pub(crate) fn found(
     alloc: Global,
     shape: Shape,

@@ -15,24 +15,24 @@ use std::collections::VecDeque;
 use std::marker::Model;
 use task_table::Table;
 
-/// The time between two events is below this (ns).
+/// An upper bound (ns) of the time between two events; the time is below it.
 const LONGEST_WAIT: u32 = 2_000_000;
 
-/// The last moment (ns) that the default tick of 2 s allows, a million ticks.
+/// The last time (ns) that the default tick of 2 s allows: a million ticks.
 const LATEST: u64 = 2_000_000_000_000_000;
 
-/// The events of a generated trace, which contracts see as the list of those that are left.
+/// The events of a generated trace. Its model is the list of those that remain.
 #[derive(Drop)]
 pub struct Generator {
     shape: Shape,
-    /// What is left of the events that make the groups and tasks.
+    /// The remaining events that create groups and tasks.
     first: VecDeque<Event>,
-    /// The world after all events that were given, and those in `first`.
+    /// The world after all events that were returned, and those in `first`.
     table: Table,
     draws: Draws,
-    /// How many events are left behind those in `first`, without the end.
+    /// The number of events that remain after those in `first`, without the end.
     left: u32,
-    /// The end was given.
+    /// Whether the end was returned.
     ended: bool,
 }
 
@@ -53,8 +53,8 @@ impl Model for Generator {
 }
 
 impl Generator {
-    /// All events of a shape: seed, processors, groups and the number of events are in range. It
-    /// takes all memory that they need.
+    /// All events of a shape, whose seed, processors, groups and number of events are in range.
+    /// Allocates everything up front.
     pub fn make(alloc: Global, shape: Shape) -> Result<Generator, NoMemory>
         requires { IsShape shape }
         ensures { IfOk result (λ g. g ≡ (generated shape).events) }
@@ -71,7 +71,7 @@ impl Generator {
         })
     }
 
-    /// The next event, or none behind the end. It takes no memory.
+    /// The next event, or `None` after the end. Does not allocate.
     pub fn next(&mut self) -> Option<Event>
         ensures { MatchOption result ((self.old ≡ []) × (self.new ≡ []))
             (λ event. self.old ≡ event ∷ self.new) }
@@ -93,7 +93,7 @@ impl Generator {
     }
 }
 
-/// Takes the first of some events.
+/// Removes the first event.
 fn next_first(events: &mut VecDeque<Event>) -> Option<Event>
     ensures { MatchOption result ((events.old.items ≡ []) × (events.new.items ≡ []))
         (λ event. events.old.items ≡ event ∷ events.new.items) }
@@ -101,7 +101,7 @@ fn next_first(events: &mut VecDeque<Event>) -> Option<Event>
     events.pop_front()
 }
 
-/// Plays the event that comes next, of so many. It is legal, and takes no memory.
+/// Plays the next event, with `left` to go. It is legal. Does not allocate.
 fn play_next(shape: Shape, table: &mut Table, draws: &mut Draws, left: &mut u32) -> Event
     requires some { 0 < left.old }
     requires so { IsGenerator shape table.old left.old }
@@ -119,7 +119,7 @@ fn play_next(shape: Shape, table: &mut Table, draws: &mut Draws, left: &mut u32)
     }
 }
 
-/// The event that comes next in a world.
+/// The next event in a world.
 #[tactic(auto, unfolding(run_spec::specs::Generated::next_drawn))]
 fn next_event(shape: Shape, table: &Table, draws: &mut Draws) -> Event
     requires shaped { IsShape shape }
@@ -160,7 +160,7 @@ fn woken(shape: Shape, draws: &mut Draws, pid: Pid) -> Act
     }
 }
 
-/// A ready task runs next on its processor: where that idles nothing more is drawn.
+/// A ready task runs next on its processor. If that is idle no further number is drawn.
 #[tactic(auto, using(crate::proofs::Drawing::some_part))]
 fn started(table: &Table, draws: &mut Draws, pid: Pid, task: Task) -> Act
     ensures { drawn_act result draws.new
@@ -177,7 +177,7 @@ fn started(table: &Table, draws: &mut Draws, pid: Pid, task: Task) -> Act
     }
 }
 
-/// How the running task makes way, by a number below 4.
+/// How the running task is switched out, by a number below 4.
 fn way_of(number: u32) -> How
     ensures { result ≡ way_of number }
 {
@@ -188,7 +188,7 @@ fn way_of(number: u32) -> How
     }
 }
 
-/// A running task sleeps or waits for IO, or a stall of its begins or ends.
+/// A running task sleeps or waits for IO, or its memory stall begins or ends.
 fn running_act(draws: &mut Draws, pid: Pid, task: Task) -> Act
     ensures { (draws.new ≡ next_state draws.old)
         × (result ≡ running_act pid.0 task (drawn (next_state draws.old) 4)) }
@@ -197,7 +197,7 @@ fn running_act(draws: &mut Draws, pid: Pid, task: Task) -> Act
     leaving(number, pid, task)
 }
 
-/// A running task sleeps or waits for IO, or a stall of its begins or ends, by a number below 4.
+/// The same, by a number below 4.
 fn leaving(number: u32, pid: Pid, task: Task) -> Act
     ensures { result ≡ running_act pid.0 task number }
 {
@@ -213,7 +213,7 @@ fn leaving(number: u32, pid: Pid, task: Task) -> Act
     }
 }
 
-/// A task's stall on memory ends where it is in one, and else begins.
+/// Ends a task's memory stall if it is in one, and begins one otherwise.
 fn stall_turn(pid: Pid, task: Task) -> Act
     ensures { result ≡ stall_turn pid.0 task }
 {

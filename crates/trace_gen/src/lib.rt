@@ -1,9 +1,11 @@
-//! Generated traces: large valid ones, each from the few numbers of its shape, and the same at each
-//! time.
+//! Generated traces: large valid ones, each from the few numbers of its shape, and reproducible.
 //!
-//! [`Generator`] gives the events one by one, [`generate`] writes their text, and [`law_generated`]
-//! says that the text is accepted. [`put_header`] and [`put_event`] write one line of a trace, and
-//! take no memory.
+//! [`Generator`] returns the events one by one, [`generate`] writes their text, and
+//! [`law_generated`] states that the text is accepted. [`put_header`] and [`put_event`] write one
+//! line of a trace without allocating.
+//!
+//! The definition of a generated trace is in run_spec. It models no real machine: the events are
+//! random legal ones.
 #![tactic(auto)]
 
 mod draws;

@@ -15,11 +15,11 @@ use psi_trace::{write_event, write_header};
 use run_spec::Shape;
 use std::alloc::Global;
 
-/// How many bytes the line of an event has at most, with its newline.
+/// The maximal length (bytes) of an event's line, with its newline.
 const ROOM: usize = 513;
 
-/// Makes the line the header for so many processors. It takes no memory, since there is room for
-/// it.
+/// Sets the line to the header for `cpus` processors. Does not allocate, since the capacity
+/// suffices.
 #[tactic(auto, using(psi_trace::proofs::Headers::header_short))]
 fn make_header(cpus: u32, line: &mut Vec<u8>)
     requires { 513 ≤ vec_capacity line.old }
@@ -33,7 +33,7 @@ fn make_header(cpus: u32, line: &mut Vec<u8>)
     }
 }
 
-/// Makes the line that of an event. It takes no memory, since there is room for each.
+/// Sets the line to that of an event. Does not allocate, since the capacity suffices for each.
 #[tactic(auto, using(crate::proofs::Sending::line_short))]
 fn make_line(event: &Event, line: &mut Vec<u8>)
     requires fits { Fits event.now }
@@ -48,8 +48,8 @@ fn make_line(event: &Event, line: &mut Vec<u8>)
     }
 }
 
-/// Writes the line of the header for so many processors. It takes no memory, since there is room
-/// for it.
+/// Writes the header line for `cpus` processors. Does not allocate, since the capacity of `line`
+/// suffices.
 pub fn put_header<K: Sink>(cpus: u32, line: &mut Vec<u8>, out: &mut K) -> Result<(), WriteFailed>
     requires room { 513 ≤ vec_capacity line.old }
     ensures room { 513 ≤ vec_capacity line.new }
@@ -61,7 +61,7 @@ pub fn put_header<K: Sink>(cpus: u32, line: &mut Vec<u8>, out: &mut K) -> Result
     put_all(out, line)
 }
 
-/// Writes the line of an event. It takes no memory, since there is room for it.
+/// Writes the line of an event. Does not allocate, since the capacity of `line` suffices.
 pub fn put_event<K: Sink>(event: &Event, line: &mut Vec<u8>, out: &mut K) -> Result<(), WriteFailed>
     requires fits { Fits event.now }
     requires room { 513 ≤ vec_capacity line.old }
@@ -75,7 +75,7 @@ pub fn put_event<K: Sink>(event: &Event, line: &mut Vec<u8>, out: &mut K) -> Res
     put_all(out, line)
 }
 
-/// Writes the line of an event, which is dropped then.
+/// Writes the line of an event, and drops the event.
 fn put_owned<K: Sink>(event: Event, line: &mut Vec<u8>, out: &mut K) -> Result<(), WriteFailed>
     requires fits { Fits event }
     requires room { 513 ≤ vec_capacity line.old }
@@ -87,7 +87,7 @@ fn put_owned<K: Sink>(event: Event, line: &mut Vec<u8>, out: &mut K) -> Result<(
     put_event(&event, line, out)
 }
 
-/// Writes the lines of the events that a generator has left.
+/// Writes the lines of a generator's remaining events.
 fn put_events<K: Sink>(
     generator: &mut Generator,
     line: &mut Vec<u8>,
@@ -105,7 +105,7 @@ fn put_events<K: Sink>(
     Ok(())
 }
 
-/// Writes the header for so many processors, and the lines of the events that a generator has left.
+/// Writes the header for `cpus` processors, and the lines of a generator's remaining events.
 #[tactic(auto, using(outside::proofs::Grows::chain))]
 fn put_trace<K: Sink>(
     cpus: u32,
@@ -125,11 +125,10 @@ fn put_trace<K: Sink>(
 }
 
 /// Writes the text of the trace that is generated from these numbers: any seed, 1 to 64 processors,
-/// at most 1,000 groups and 3,900,000 events. It is sent line by line, with one write a line or
-/// more.
+/// at most 1,000 groups and 3,900,000 events. Each line takes at least one write.
 ///
-/// `Refused` where a write failed: then a front of the text was written. `NoMemory` before anything
-/// is.
+/// `Refused` if a write failed: then a prefix of the text was written. `NoMemory` is returned
+/// before anything is written.
 pub fn generate<K: Sink>(
     alloc: Global,
     seed: u64,

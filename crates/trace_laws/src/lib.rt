@@ -1,5 +1,7 @@
-//! Laws of the grammar and of whole traces, which psi_spec defines: what the reader of lines, the
-//! generator and a run rest on. Nothing that plays events waits for them.
+//! Laws of the grammar and of whole traces, which psi_spec defines, for the crates that read lines,
+//! generate traces or run.
+//!
+//! Crates that play events don't depend on them.
 #![tactic(auto)]
 
 mod grammar;
