@@ -1,4 +1,4 @@
-//! The commands over generated traces, which read no file.
+//! The commands for generated traces. They read no file.
 ghost use Rattle.std.specs.Prelude.{◌≡◌, ◌++◌, ◌∷◌, List, [], IfOk, None, OnOk};
 ghost use Rattle.outside.specs.Outside.{HasCause, StaysOver};
 ghost use Rattle.outside.specs.Calls.{PutsAll};
@@ -25,10 +25,10 @@ use std::alloc::Global;
 use std::thread::Threads;
 use trace_gen::{Generator, generate};
 
-/// The latest moment (ns) of a trace at the default tick.
+/// The latest time (ns) of a trace at the default tick.
 const LATEST: Ns = 2_000_000_000_000_000;
 
-/// Writes the text of a generated trace. Where memory is wanting, nothing is written.
+/// Writes the text of a generated trace. If memory runs out, nothing is written.
 pub fn write_generated<K: Sink>(alloc: Global, shape: Shape, out: &mut K) -> Status
     requires { IsShape shape }
     ensures writes { WritesText (gen_text shape) (K.faults out.old) (K.faults out.new)
@@ -49,7 +49,7 @@ pub fn write_generated<K: Sink>(alloc: Global, shape: Shape, out: &mut K) -> Sta
     }
 }
 
-// Has a planner take an event that is legal behind those that it has taken.
+// Adds an event, legal after the previous ones, to a planner.
 fn take_legal(planner: &mut Planner, event: Event) -> Result<(), NoMemory>
     requires fits { Fits event }
     requires legal { (limits : Limits) × (events : List Event)
@@ -66,7 +66,7 @@ fn take_legal(planner: &mut Planner, event: Event) -> Result<(), NoMemory>
     }
 }
 
-// Takes a generated trace apart by processor.
+// Splits a generated trace by processor.
 fn plan_generated(alloc: Global, shape: Shape) -> Result<Planner, NoMemory>
     requires { IsShape shape }
     ensures { IfOk result (λ planner.
@@ -80,8 +80,8 @@ fn plan_generated(alloc: Global, shape: Shape) -> Result<Planner, NoMemory>
     Ok(planner)
 }
 
-// Makes all ticks that are left, and writes the report of the root at the last one, if there is
-// one, and the last line.
+// Makes all remaining ticks, and writes the report of the root at the last tick, if there is one,
+// and the last line.
 fn put_end<R: Threads + Sync, K: Sink, G: Gate>(
     rt: &R,
     replay: &mut Replay<'_>,
@@ -105,7 +105,7 @@ fn put_end<R: Threads + Sync, K: Sink, G: Gate>(
     replay.finish(out)
 }
 
-// The defaults of `replay`, but for reports at the last tick alone, and so many threads.
+// The defaults of `replay`, but with a report only at the last tick, and with `workers` threads.
 fn stress_options(workers: u32) -> Options
     ensures { result ≡ stress_options workers }
 {
@@ -122,7 +122,7 @@ fn stress_options(workers: u32) -> Options
 }
 
 /// Replays a generated trace, and writes the report of the root at its last tick and the last line.
-/// Where memory is wanting, nothing is written.
+/// If memory runs out, nothing is written.
 pub fn write_stress<R: Threads + Sync, K: Sink, G: Gate>(
     rt: &R,
     alloc: Global,

@@ -1,4 +1,6 @@
-//! The commands `gen` and `stress`, over generated traces.
+//! The commands `gen` and `stress`, for generated traces.
+//!
+//! They read no file and evaluate no rules. Arguments are parsed in replay_core.
 #![tactic(auto)]
 
 mod generated;

@@ -1,4 +1,4 @@
--- What importing a text comes to as the status of a run.
+-- The exit status of an import.
 use Rattle.std.specs.Prelude.{◌≡◌}
 use Rattle.run_spec.specs.declared.status.Status.{Status}
 use Rattle.run_spec.specs.declared.status.Status.TheVariants as status

@@ -1,4 +1,4 @@
-//! `import`: the trace that a text of the kernel's ftrace is.
+//! `import`: converts a text of the kernel's ftrace to a trace.
 ghost use Rattle.std.specs.Prelude.{◌≡◌, ◌+◌, ◌≤◌, ◌++◌, ◌∷◌, IfOk, vec_capacity};
 ghost use Rattle.outside.specs.Outside.{HasCause, StaysOver};
 ghost use Rattle.outside.specs.Calls.{PutsAll};
@@ -19,7 +19,7 @@ use run_spec::{Command, Status, Which};
 use std::alloc::Global;
 use trace_gen::{put_event, put_header};
 
-/// How many bytes the line of an event has at most, with its newline.
+/// The maximal length (bytes) of an event's line, with its newline.
 const ROOM: usize = 513;
 
 // The status of a text that can't be imported.
@@ -36,7 +36,7 @@ fn import_status(fault: ImportFault) -> Status
     }
 }
 
-// Writes the lines of the events that are left.
+// Writes the lines of the remaining events.
 fn put_events<K: Sink>(
     events: &mut Imported,
     line: &mut Vec<u8>,
@@ -54,7 +54,7 @@ fn put_events<K: Sink>(
     Ok(())
 }
 
-// Writes the header for so many processors, and the lines of the events that are left.
+// Writes the header for `cpus` processors, and the lines of the remaining events.
 #[tactic(auto, using(outside::proofs::Grows::chain))]
 fn put_imported<K: Sink>(
     cpus: u32,
@@ -73,14 +73,14 @@ fn put_imported<K: Sink>(
     put_events(events, line, out)
 }
 
-// A line with room for that of any event.
+// An empty line with capacity for that of any event.
 fn new_line(alloc: Global) -> Result<Vec<u8>, NoMemory>
     ensures { IfOk result (λ line. 513 ≤ vec_capacity line) }
 {
     Ok(Vec::with_capacity(alloc, ROOM)?)
 }
 
-// Writes the trace of imported events. Where memory is wanting, nothing is written.
+// Writes the trace of imported events. If memory runs out, nothing is written.
 fn write_imported<K: Sink>(alloc: Global, cpus: u32, mut events: Imported, out: &mut K) -> Status
     requires { AllFit events.left }
     ensures writes { WritesText (text_of (import_trace cpus events.left))
@@ -106,8 +106,8 @@ fn write_imported<K: Sink>(alloc: Global, cpus: u32, mut events: Imported, out: 
     }
 }
 
-/// Runs `import` over a text of ftrace, of a machine with so many processors. All is read before
-/// anything is written.
+/// Runs `import` for a text of ftrace from a machine with this number of processors. The whole text
+/// is read before anything is written.
 pub fn run_import<S: Shelf, K: Sink>(
     alloc: Global,
     name: &str,

@@ -1,4 +1,7 @@
-//! What `replay` writes of a trace that was taken apart, and `whatif` of the last one.
+//! The output of `replay` for a trace that was split by processor, and of `whatif` for the trace
+//! that remains after its kills.
+//!
+//! Reading the trace and the rules, and removing the victims, are done before, in other crates.
 #![tactic(auto)]
 
 mod replay;

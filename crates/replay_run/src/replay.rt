@@ -24,7 +24,7 @@ use run_spec::{Options, Status};
 use std::alloc::Global;
 use std::thread::Threads;
 
-// Makes all ticks that are left, and writes their lines and the last line.
+// Makes all remaining ticks, and writes their lines and the last line.
 fn put_replay<R: Threads + Sync, K: Sink, G: Gate>(
     rt: &R,
     replay: &mut Replay<'_>,
@@ -48,8 +48,8 @@ fn put_replay<R: Threads + Sync, K: Sink, G: Gate>(
     }
 }
 
-/// Writes the output of `replay` for the trace of plans, which has a version, with rules if there
-/// are some. Where memory is wanting, nothing is written.
+/// Writes the output of `replay` for the plans' trace, in the format of its version, with rules if
+/// there are any. If memory runs out, nothing is written.
 pub fn write_planned<R: Threads + Sync, K: Sink, G: Gate>(
     rt: &R,
     alloc: Global,
@@ -88,8 +88,8 @@ pub fn write_planned<R: Threads + Sync, K: Sink, G: Gate>(
     }
 }
 
-/// Writes the output of `replay` for a trace of a version that was taken apart, with rules if there
-/// are some. Where memory is wanting, nothing is written.
+/// Writes the output of `replay` for a trace that was split by processor, in the format of its
+/// version, with rules if there are any. If memory runs out, nothing is written.
 pub fn write_replay<R: Threads + Sync, K: Sink, G: Gate>(
     rt: &R,
     alloc: Global,

@@ -1,4 +1,7 @@
-//! What `stall` and `check` write of a trace that was played.
+//! The output of `stall` and `check` for a trace that was played.
+//!
+//! There are no ticks, averages or rules here. The trace is read in trace_file, and the clocks are
+//! those of replay_workers.
 #![tactic(auto)]
 
 mod check;

@@ -19,8 +19,8 @@ use psi_base::{Cpu, Ns, Slot};
 use psi_spec::GroupLife;
 use replay_workers::own_times;
 
-// Writes the line of a group on a processor at the last moment (ns) of a trace that tells of no
-// interrupts.
+// Writes the line of a group on a processor at the last time (ns) of a trace without interrupt
+// time.
 fn put_times<K: Sink, C: ProcClocks>(
     out: &mut K,
     cpu: Cpu,
@@ -46,8 +46,7 @@ fn put_times<K: Sink, C: ProcClocks>(
     write_stall(out, cpu, path, clocks.own(slot).opened(last))
 }
 
-// Writes the line of a group on a processor at the last moment (ns) of a trace that tells of
-// interrupts.
+// Writes the line of a group on a processor at the last time (ns) of a trace with interrupt time.
 fn put_irq_times<K: Sink, C: IrqClocks>(
     out: &mut K,
     cpu: Cpu,
@@ -73,7 +72,7 @@ fn put_irq_times<K: Sink, C: IrqClocks>(
     write_stall_irq(out, cpu, path, own_times(clocks, slot, last))
 }
 
-// Writes the line of a group on a processor at the last moment (ns) of a trace of a version.
+// Writes the line of a group on a processor at the last time (ns) of a trace, by its version.
 fn put_group<K: Sink, C: IrqClocks>(
     out: &mut K,
     version: u32,
@@ -104,8 +103,7 @@ fn put_group<K: Sink, C: IrqClocks>(
     }
 }
 
-// Writes the lines of a processor at the last moment (ns) of a trace of a version, for groups in
-// this order.
+// Writes the lines of a processor at the last time (ns) of a trace, for groups in this order.
 #[tactic(auto, using(outside::proofs::Grows::growth))]
 fn put_processor<K: Sink, C: IrqClocks>(
     out: &mut K,
@@ -134,9 +132,8 @@ fn put_processor<K: Sink, C: IrqClocks>(
     Ok(())
 }
 
-/// Writes the lines of all processors at the last moment (ns) of a trace of a version: those of
-/// each processor in turn, for groups in this order. The clocks are those of the plans, after all
-/// changes.
+/// Writes the lines of all processors, in order, at the last time (ns) of a trace, for groups in
+/// this order. The clocks are those of the plans, after all changes.
 pub(crate) fn put_lines<K: Sink>(
     out: &mut K,
     version: u32,

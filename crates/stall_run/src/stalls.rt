@@ -1,5 +1,4 @@
-//! The stall sums of a trace: it is taken apart by processor, and then clocks make the changes of
-//! each.
+//! The stall sums of a trace: it is split by processor, and then clocks make the changes of each.
 ghost use Rattle.std.specs.Prelude.{◌≡◌, ℕ, ◌<◌, ◌≤◌, List, length};
 ghost use Rattle.psi_base.specs.declared.event.Event.{Event};
 ghost use Rattle.outside.specs.Outside.{StaysOver};
@@ -22,8 +21,8 @@ use std::alloc::Global;
 use std::thread;
 use std::thread::Threads;
 
-// Makes all changes of all processors, those of each in a thread of its own where it can be
-// started: they tell nothing of one another.
+// Makes all changes of all processors, each in a thread of its own if that can be started. Threads
+// don't communicate.
 fn make_each<R: Threads + Sync>(rt: &R, plans: &Plans, clocks: &mut [PlainClocks<'_>])
     requires each { length clocks.old ≡ length plans.now.plans }
     requires few { length clocks.old ≤ 64 }
@@ -52,8 +51,8 @@ fn make_each<R: Threads + Sync>(rt: &R, plans: &Plans, clocks: &mut [PlainClocks
     );
 }
 
-/// Writes the stall sums of a trace of a version that was taken apart. Where memory is wanting,
-/// nothing is written.
+/// Writes the stall sums of a trace that was split by processor, in the format of its version. If
+/// memory runs out, nothing is written.
 pub fn write_stalls<R: Threads + Sync, K: Sink>(
     rt: &R,
     alloc: Global,
