@@ -1,6 +1,6 @@
 //! The commands `gen` and `stress`, for generated traces.
 //!
-//! They read no file and evaluate no rules. Arguments are parsed in replay_core.
+//! They read no file and evaluate no rules. Arguments are parsed in psi_words.
 #![tactic(auto)]
 
 mod generated;

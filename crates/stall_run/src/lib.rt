@@ -1,7 +1,7 @@
 //! The output of `stall` and `check` for a trace that was played.
 //!
 //! There are no ticks, averages or rules here. The trace is read in trace_file, and the clocks are
-//! those of replay_workers.
+//! advanced by replay_workers.
 #![tactic(auto)]
 
 mod check;
