@@ -1,4 +1,4 @@
--- A processor of tests: tasks in groups, and the clocks that follow their changes.
+-- A processor for tests: tasks in groups, and the clocks that follow their changes.
 use Rattle.std.specs.Prelude.{◌≡◌, ℕ, ◌≤◌, ◌<◌, List, length, Bool, Option, IfSome}
 use Rattle.std.specs.List.{All, sum_by}
 use Rattle.psi_base.specs.declared.event.Slot.{Slot}
@@ -8,22 +8,22 @@ use Rattle.psi_spec.specs.World.{most_groups}
 use Rattle.psi_counts.specs.Touch.{AreAtMost, on_chain}
 use Rattle.slot_clocks.specs.Clocks.{AreTold, ClocksView, cell_at}
 
--- a slot that there is
+-- a slot in range
 abbrev pub IsSlot : ℕ → Option (Slot × Bool) → Type 0
 IsSlot groups current = IfSome current (λ running. running.0.0 < groups)
 
--- a task is in a group that there is, and counts at most once
+-- a task is in an existing group, and counts at most once
 abbrev pub IsTask : ℕ → Option (Slot × Counts) → Type 0
 IsTask groups task = IfSome task (λ part. (part.0.0 < groups) × AreAtMost 1 part.1)
 
--- counts of a group are those of the tasks in it and below it
+-- a group's counts are the sums over the tasks in it and below it
 pub record AreSums (parents : List (Option ℕ)) (slot : ℕ) (tasks : List (Option (Slot × Counts))) (counts : Counts) : Type 0 where
   pub io : counts.io ≡ sum_by (λ task. (on_chain parents slot task).io) tasks
   pub stalled : counts.stalled ≡ sum_by (λ task. (on_chain parents slot task).stalled) tasks
   pub running : counts.running ≡ sum_by (λ task. (on_chain parents slot task).running) tasks
   pub stalled_running : counts.stalled_running ≡ sum_by (λ task. (on_chain parents slot task).stalled_running) tasks
 
--- the clocks stand for the tasks
+-- the clocks represent the tasks
 pub record IsProcessor (parents : List (Option ℕ)) (groups : ℕ) (tasks : List (Option (Slot × Counts))) (clocks : ClocksView)
     (last : ℕ) : Type 0 where
   pub older : AreOlder parents

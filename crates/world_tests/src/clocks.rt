@@ -19,7 +19,7 @@ const N: bool = false;
 
 const Y: bool = true;
 
-/// Counts, whether the running task is among them and in a stall, and the states that hold: IO some
+/// Counts, whether the running task is among them and in a stall, and the expected states: IO some
 /// and full, memory some and full, CPU some and full, nonidle.
 const STATES_HELD: [([u32; 4], bool, bool, [bool; 7]); 13] = [
     ([0, 0, 0, 0], N, N, [N, N, N, N, N, N, N]),
@@ -32,7 +32,7 @@ const STATES_HELD: [([u32; 4], bool, bool, [bool; 7]); 13] = [
     ([0, 0, 1, 0], Y, N, [N, N, N, N, N, N, Y]),
     ([0, 0, 1, 0], N, N, [N, N, N, N, Y, Y, Y]),
     ([0, 0, 2, 0], Y, N, [N, N, N, N, Y, N, Y]),
-    // The running task is in a stall: memory full, which the counts alone deny.
+    // The running task is in a stall: memory full, which the counts alone would exclude.
     ([0, 1, 2, 1], Y, Y, [N, N, Y, Y, Y, N, Y]),
     ([0, 1, 2, 1], Y, N, [N, N, Y, N, Y, N, Y]),
     // The running task is in a stall elsewhere.
@@ -56,7 +56,7 @@ fn states_by_counts(rt: HostRuntime) {
     assert!(rt; !Mask::empty().holds(State::Nonidle));
 }
 
-// A task forks and starts at 0, and waits for IO from 500,000,000 ns on.
+// A task forks and starts at 0, and waits for IO from 500,000,000 ns.
 #[test]
 fn clock_of_three_changes(rt: HostRuntime) {
     let mut clock = Clock::zero();
@@ -77,9 +77,9 @@ fn clock_of_three_changes(rt: HostRuntime) {
     is(&rt, again, words, "words of the clock of the words");
 }
 
-/// Counts at 35 ns of a task that runs from 10 ns on, whether the running task is among them, and
-/// the words of the clock then. Where the states stay the clock does too, and else it goes on from
-/// there.
+/// Counts at 35 ns for a task that runs from 10 ns, whether the running task is among them, and the
+/// words of the clock afterwards. If the states stay the same the clock is unchanged; otherwise it
+/// restarts at 35 ns.
 const TURNS: [([u32; 4], bool, [u64; 9]); 4] = [
     ([0, 0, 1, 0], true, [0, 0, 0, 0, 0, 0, 0, 0b100_0000, 10]),
     ([0, 0, 2, 0], true, [0, 0, 0, 0, 0, 0, 25, 0b101_0000, 35]),

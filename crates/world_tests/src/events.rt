@@ -1,4 +1,4 @@
-//! What tests share: events and plans from lines, and how a value is held against another.
+//! Shared helpers: events and plans from lines, and an assertion of equality.
 
 ghost use Rattle.std.specs.Prelude.{◌≡◌, ◌≤◌, length, IfOk};
 ghost use Rattle.psi_spec.specs.Trace.{AllFit, IsCpuCount};
@@ -20,8 +20,8 @@ pub const WAITS: [&[u8]; 5] = [
     b"2000000000 end",
 ];
 
-/// A task of the root runs for two seconds, of which interrupts took a quarter of one. They took no
-/// time from it by what they took when it had left.
+/// A task of the root runs for two seconds, with a quarter of a second of interrupts. Interrupts
+/// after it was switched out don't count for it.
 pub const INTERRUPTS: [&[u8]; 6] = [
     b"0 fork 1 / 0",
     b"0 switch 0 1 idle",
@@ -53,8 +53,8 @@ pub fn plans_of(rt: &impl Abort, alloc: Global, cpus: u32, latest: Ns, lines: &[
     Plans::build(alloc, cpus, latest, &events).expect(rt, "plans")
 }
 
-/// Ends the test where what was found isn't what is wanted, and tells of which case. It stands here
-/// once, since a check that formats what it tells is dear to prove at each place.
+/// Aborts the test if `found` isn't `wanted`, and prints the case. It is one function because a
+/// formatted check is expensive to prove at each call.
 pub fn is<T: Copy + PartialEq + Debug, C: Copy + Debug>(
     rt: &impl Abort,
     found: T,

@@ -11,7 +11,8 @@ fn path(rt: &impl Abort, alloc: Global, text: &str) -> Path {
     read.expect(rt, "a path")
 }
 
-/// Makes a group, or tells the cause that refuses it, which is the one that is asked for before it.
+/// Creates a group, or returns the cause that rejects it, which `add_cause` must have returned
+/// before.
 fn add(rt: &impl Abort, alloc: Global, tree: &mut Tree, text: &str, at: Ns) -> Result<Slot, Cause> {
     let path = path(rt, alloc, text);
     let asked = tree.add_cause(&path);
@@ -24,8 +25,8 @@ fn add(rt: &impl Abort, alloc: Global, tree: &mut Tree, text: &str, at: Ns) -> R
     given
 }
 
-/// Removes a group, or tells the cause that refuses it, which is the one that is asked for before
-/// it.
+/// Removes a group, or returns the cause that rejects it, which `remove_cause` must have returned
+/// before.
 fn remove(
     rt: &impl Abort,
     alloc: Global,
@@ -40,8 +41,8 @@ fn remove(
     given
 }
 
-/// Switches an account, or tells the cause that refuses it, which is the one that is asked for
-/// before it.
+/// Switches a group's accounting, or returns the cause that rejects it, which `pressure_cause` must
+/// have returned before.
 fn switch(
     rt: &impl Abort,
     alloc: Global,
@@ -56,7 +57,7 @@ fn switch(
     given
 }
 
-/// Groups that are made, and made again under the same paths.
+/// Groups, some of them removed and created again with the same path.
 fn small_forest(rt: &impl Abort, alloc: Global) -> Tree {
     let mut tree = Tree::new(alloc).expect(rt, "memory");
     for text in &["/a", "/a/b", "/b"] {
@@ -71,7 +72,7 @@ fn small_forest(rt: &impl Abort, alloc: Global) -> Tree {
     tree
 }
 
-/// The groups of the forest: the path, the group above, and from when to when (ns) it is live.
+/// The groups of the forest: path, parent, and from when to when (ns) it is live.
 const LIVES: [(&str, Option<Slot>, Ns, Option<Ns>); 8] = [
     ("/", None, 0, None),
     ("/a", Some(Slot(0)), 1, Some(2)),
@@ -83,7 +84,7 @@ const LIVES: [(&str, Option<Slot>, Ns, Option<Ns>); 8] = [
     ("/a/b/c", Some(Slot(5)), 3, None),
 ];
 
-// A path that is made again has a new slot, and what was removed stays in its own.
+// A path that is created again has a new slot, and the removed group keeps its own.
 #[test]
 fn lives_of_groups(rt: HostRuntime) {
     let tree = small_forest(&rt, rt.alloc());
@@ -94,8 +95,8 @@ fn lives_of_groups(rt: HostRuntime) {
     }
 }
 
-// An account is that of the live group alone: not of one that went, nor of the groups above and
-// below. A new group is on.
+// Accounting belongs to one live group: it is independent of a removed group with the same path, of
+// ancestors and of descendants. It is on for a new group.
 #[test]
 fn accounts_of_groups(rt: HostRuntime) {
     let mut tree = small_forest(&rt, rt.alloc());
@@ -153,7 +154,7 @@ fn found_groups(rt: HostRuntime) {
     }
 }
 
-/// These are the slots from one up to the root's.
+/// Checks the slots from a group's to the root's.
 fn has_above(rt: &impl Abort, alloc: Global, tree: &Tree, slot: Slot, want: &[Slot]) {
     assert!(rt; (slot.0 as usize) < tree.len());
     let up: Vec<Slot> = tree.chain(slot).collect(alloc).expect(rt, "memory");
@@ -180,7 +181,7 @@ fn groups_above(rt: HostRuntime) {
     }
 }
 
-// In the order of bytes `.` comes before `/`.
+// In byte order `.` comes before `/`.
 #[test]
 fn live_groups_by_path(rt: HostRuntime) {
     let tree = small_forest(&rt, rt.alloc());
@@ -189,7 +190,7 @@ fn live_groups_by_path(rt: HostRuntime) {
     is(&rt, order.as_slice(), want.as_slice(), "order");
 }
 
-/// The groups of these slots have these paths.
+/// Checks the paths of the groups in these slots.
 fn have_paths(rt: &impl Abort, tree: &Tree, slots: &[Slot], paths: &[&str]) {
     is(rt, slots.len(), paths.len(), "groups");
     for (slot, path) in slots.iter().zip(paths) {
@@ -198,7 +199,7 @@ fn have_paths(rt: &impl Abort, tree: &Tree, slots: &[Slot], paths: &[&str]) {
     }
 }
 
-// Removed groups stand beside those that have their paths now.
+// Removed groups are next to the groups that have their paths now.
 #[test]
 fn all_groups_by_path(rt: HostRuntime) {
     let tree = small_forest(&rt, rt.alloc());
@@ -207,13 +208,14 @@ fn all_groups_by_path(rt: HostRuntime) {
     have_paths(&rt, &tree, &order, &want);
 }
 
-/// A group that is made again and again under one path has this slot now.
+/// Creates and removes a group whose path is used again and again, and checks its slot.
 fn made_and_gone(rt: &impl Abort, alloc: Global, tree: &mut Tree, slot: Slot) {
     is(rt, add(rt, alloc, tree, "/g", 1), Ok(slot), "made");
     is(rt, remove(rt, alloc, tree, "/g", 1), Ok(slot), "gone");
 }
 
-// 1,024 groups are made, the root among them, and none more, whatever else stands against it.
+// At most 1,024 groups are created, including the root. This limit is checked before any other
+// cause.
 #[test]
 fn at_most_1024_groups(rt: HostRuntime) {
     let mut tree = Tree::new(rt.alloc()).expect(&rt, "memory");

@@ -1,5 +1,5 @@
-//! Observers: what a journal takes and in which order it gives entries back, what a watcher takes,
-//! and a board in two threads.
+//! Observers: which entries a journal accepts and in which order it returns them, what a watcher
+//! accepts, and a board with two threads.
 mod added;
 mod boards;
 mod entries;

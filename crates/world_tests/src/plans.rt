@@ -1,4 +1,4 @@
-//! Traces taken apart by processor.
+//! Traces split by processor.
 mod accounts;
 mod changes;
 mod clocks;

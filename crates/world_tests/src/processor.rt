@@ -13,11 +13,10 @@ use slot_clocks::{PackedChange, SlotClocks};
 use std::alloc::Global;
 use std::test::Fail;
 
-/// The last moment of a clock, in ns.
+/// The last time (ns) of a clock.
 const LAST_MOMENT: Ns = 60_000_000_000_000_000;
 
-/// A processor with tasks in groups: for each task its group and what it counts as, None where it
-/// isn't alive.
+/// A processor with tasks in groups: for each task its group and counts, `None` if it isn't live.
 #[derive(Drop)]
 pub struct Processor {
     parents: Vec<Option<Slot>>,
@@ -42,7 +41,7 @@ fn are_older(parents: &[Option<Slot>]) -> bool
     true
 }
 
-// The task's group is one of so many, and it counts at most once.
+// Whether the task's group number is below `groups`, and the task counts at most once.
 fn is_task(task: Option<(Slot, Counts)>, groups: usize) -> bool
     ensures { IsTrue result → IsTask groups task }
 {
@@ -58,7 +57,7 @@ fn is_task(task: Option<(Slot, Counts)>, groups: usize) -> bool
     }
 }
 
-// The running task's group is one of so many.
+// Whether the running task's group number is below `groups`.
 fn is_slot(current: Option<(Slot, bool)>, groups: usize) -> bool
     ensures { IsTrue result → IsSlot groups current }
 {
@@ -69,7 +68,7 @@ fn is_slot(current: Option<(Slot, bool)>, groups: usize) -> bool
 }
 
 impl Processor {
-    /// A processor with so many tasks, of which none is alive, over groups with these parents.
+    /// A processor with `tasks` tasks, none of them live, and groups with these parents.
     pub fn new(alloc: Global, parents: Vec<Option<Slot>>, tasks: usize) -> Result<Processor, Fail> {
         if tasks > 1000 || parents.len() > 1024 || !are_older(&parents) {
             return Err(Fail::new("there are too many tasks or groups, or a parent comes late"));
@@ -88,8 +87,8 @@ impl Processor {
         })
     }
 
-    /// A change: a task counts as this from now on, and this one runs. Whether it was made: it
-    /// isn't where there is no such task or group, or the moment is past.
+    /// A change: new counts of one task, and the running task. Returns whether it was made: it
+    /// isn't if there is no such task or group, or if the time is before the last change.
     pub fn change(
         &mut self,
         at: Ns,
@@ -120,7 +119,8 @@ impl Processor {
         true
     }
 
-    /// The times of a group at a moment, None where it isn't one from the last change on.
+    /// The times (ns) of a group up to `at`, `None` unless `at` is at or after the last change and
+    /// within the limit of clocks.
     pub fn opened(&self, slot: Slot, at: Ns) -> Option<[u64; 7]> {
         if at < self.last || at > LAST_MOMENT {
             return None;

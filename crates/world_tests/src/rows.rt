@@ -1,4 +1,4 @@
-//! Rows of clocks: what a row tells in one thread, and beside its writer.
+//! Rows of clocks: what a row contains with one thread, and with its writer in another thread.
 mod alone;
 mod irqs;
 mod live;

@@ -7,7 +7,7 @@ use psi_counts::Counts;
 use std::alloc::Global;
 use std::process::Abort;
 
-/// One task that is ready or runs.
+/// One task that is ready or running.
 const READY: Counts = Counts {
     io: 0,
     stalled: 0,
@@ -15,7 +15,7 @@ const READY: Counts = Counts {
     stalled_running: 0,
 };
 
-/// One that is so in a stall.
+/// One task that is ready or running, in a stall.
 const READY_IN_STALL: Counts = Counts {
     io: 0,
     stalled: 1,
@@ -23,7 +23,7 @@ const READY_IN_STALL: Counts = Counts {
     stalled_running: 1,
 };
 
-/// One that waits for IO in a stall.
+/// One task that waits for IO in a stall.
 const WAITS_IN_STALL: Counts = Counts {
     io: 1,
     stalled: 1,
@@ -31,14 +31,14 @@ const WAITS_IN_STALL: Counts = Counts {
     stalled_running: 0,
 };
 
-/// A change, and what is so after it.
+/// A change, and the expected state after it.
 #[derive(Clone, Copy)]
 struct Row {
     at: Ns,
-    /// The number of the task that changes, and what it counts as from then on.
+    /// The number of the task that changes, and its counts from then on.
     task: usize,
     now: Option<(Slot, Counts)>,
-    /// The group of the running task, and whether that is in a stall.
+    /// The group of the running task, and whether the task is in a stall.
     current: Option<(Slot, bool)>,
     /// The words of the four clocks: the times of IO some and full, memory some and full, CPU some
     /// and full and nonidle, the mask with a bit for each in this order, and the start.
@@ -48,7 +48,7 @@ struct Row {
 /// The words of a clock that no change has reached.
 const ZERO: [u64; 9] = [0; 9];
 
-/// Of the root, /a, /a/b and /c.
+/// The rows for the root, /a, /a/b and /c.
 const ROWS: [Row; 7] = [
     // A fork in /a/b.
     Row {
@@ -63,7 +63,7 @@ const ROWS: [Row; 7] = [
             ZERO,
         ],
     },
-    // A switch to it from an idle processor, which changes no count.
+    // A switch to it from idle, which changes no count.
     Row {
         at: 20,
         task: 2,
@@ -89,7 +89,8 @@ const ROWS: [Row; 7] = [
             ZERO,
         ],
     },
-    // A fork in /a: memory full by the running task, where the counts deny it.
+    // A fork in /a: memory full because of the running task, though the counts alone would exclude
+    // it.
     Row {
         at: 50,
         task: 1,
@@ -143,7 +144,7 @@ const ROWS: [Row; 7] = [
     },
 ];
 
-/// A processor with so many tasks over groups with these parents.
+/// A processor with `tasks` tasks and groups with these parents.
 fn processor(
     rt: &impl Abort,
     alloc: Global,
@@ -171,7 +172,7 @@ fn changes_of_a_processor(rt: HostRuntime) {
         is(&rt, is_made, true, row.at);
         is(&rt, words(&processor), row.clocks, row.at);
     }
-    // Up to a moment after the last change.
+    // Up to a time after the last change.
     let opened = processor.opened(Slot(2), 170);
     is(
         &rt,
@@ -181,7 +182,7 @@ fn changes_of_a_processor(rt: HostRuntime) {
     );
 }
 
-/// A hundred groups, each in the one before.
+/// A hundred groups, each a child of the previous one.
 fn nested(rt: &impl Abort, alloc: Global) -> Vec<Option<Slot>> {
     let mut parents = Vec::new(alloc);
     parents.push(None).expect(rt, "memory");
@@ -191,7 +192,7 @@ fn nested(rt: &impl Abort, alloc: Global) -> Vec<Option<Slot>> {
     parents
 }
 
-/// In all groups but the root a task has waited for the processor since 7 ns.
+/// In all groups except the root a task has waited for the processor since 7 ns.
 fn wait_since_seven(rt: &impl Abort, processor: &Processor) {
     for slot in 1..100u32 {
         let words = processor.clock(Slot(slot)).to_words();
@@ -199,7 +200,7 @@ fn wait_since_seven(rt: &impl Abort, processor: &Processor) {
     }
 }
 
-// A change reaches all of them at once. A slot beyond them has the zero clock.
+// A change reaches all of them at once. A slot out of range has the zero clock.
 #[test]
 fn groups_that_a_change_first_reaches(rt: HostRuntime) {
     let parents = nested(&rt, rt.alloc());

@@ -1,4 +1,4 @@
-//! Clocks that have walked a plan.
+//! Clocks after changes of a plan.
 
 ghost use Rattle.std.specs.Prelude.{◌≡◌, ◌≤◌, length, IfOk};
 
@@ -6,7 +6,7 @@ use proc_plan::{PlainClocks, Plan, ProcClocks};
 use psi_base::NoMemory;
 use std::alloc::Global;
 
-/// The clocks of so many slots after so many changes of a plan.
+/// The clocks of the first `slots` slots after `changes` changes of a plan.
 pub fn clocks_after<'a>(
     alloc: Global,
     plan: &'a Plan,

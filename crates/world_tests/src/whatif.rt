@@ -1,4 +1,4 @@
-//! Small traces, and what is left of each behind a kill.
+//! Small traces, and what remains of each after a kill.
 
 ghost use Rattle.psi_spec.specs.Trace.{AllFit};
 
@@ -10,13 +10,13 @@ use std::alloc::Global;
 use std::process::Abort;
 use whatif_trace::without;
 
-/// How many processors each trace has.
+/// The number of processors of each trace.
 const CPUS: u32 = 2;
 
-/// The latest moment (ns).
+/// The latest time (ns).
 const LATEST: u64 = 2_000_000_000_000_000;
 
-/// A ready task alone.
+/// A single ready task.
 const READY: [&[u8]; 4] = [
     b"0 group /s",
     b"0 group /s/a",
@@ -35,8 +35,8 @@ const READY_LEFT: [&[u8]; 6] = [
 ];
 
 /// Tasks of the victim: one waits, one runs in a stall, one is blocked in a stall and one is ready.
-/// A task of the root runs beside them, and makes room for two of them. One of them comes again as
-/// a task of the root.
+/// A task of the root also runs, and is switched out for two of them. One of them is created again
+/// as a task of the root.
 const MANY: [&[u8]; 22] = [
     b"0 group /s",
     b"0 group /s/a",
@@ -62,7 +62,7 @@ const MANY: [&[u8]; 22] = [
     b"29 end",
 ];
 
-/// Their exits at 11 ns, and what is left of the later lines.
+/// Their exits at 11 ns, and what remains of the later lines.
 const MANY_LEFT: [&[u8]; 31] = [
     b"0 group /s",
     b"0 group /s/a",
@@ -97,7 +97,7 @@ const MANY_LEFT: [&[u8]; 31] = [
     b"29 end",
 ];
 
-/// The lines of events, each with a newline behind it.
+/// The lines of events, each with a newline after it.
 fn text_of(rt: &impl Abort, alloc: Global, events: &[Event]) -> Vec<u8>
     requires { AllFit events.now }
 {
@@ -111,7 +111,7 @@ fn text_of(rt: &impl Abort, alloc: Global, events: &[Event]) -> Vec<u8>
     text
 }
 
-/// The lines that are left of a trace without the tasks of a group at a moment (ns).
+/// The remaining lines of a trace without the tasks of a group at a time (ns).
 fn left_of(rt: &impl Abort, alloc: Global, lines: &[&[u8]], at: u64, victim: Slot) -> Vec<u8> {
     let events = events_of(alloc, lines).expect(rt, "events");
     drop(Plans::build(alloc, CPUS, LATEST, &events).expect(rt, "a legal trace"));
@@ -119,7 +119,7 @@ fn left_of(rt: &impl Abort, alloc: Global, lines: &[&[u8]], at: u64, victim: Slo
     text_of(rt, alloc, &left)
 }
 
-/// Exactly these lines are left without the tasks of a group at a moment (ns).
+/// Checks that exactly these lines remain without the tasks of a group at a time (ns).
 fn leaves(rt: &impl Abort, alloc: Global, lines: &[&[u8]], at: u64, victim: Slot, want: &[&[u8]]) {
     let wanted = events_of(alloc, want).expect(rt, "events");
     let wanted = text_of(rt, alloc, &wanted);

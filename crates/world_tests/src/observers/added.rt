@@ -1,4 +1,4 @@
-//! What a journal takes, and in which order it gives entries back.
+//! Which entries a journal accepts, and in which order it returns them.
 
 ghost use Rattle.std.specs.Prelude.{◌≡◌, length};
 
@@ -13,15 +13,15 @@ use std::marker::Brand;
 use std::process::Abort;
 use std::sync::ledger::Blank;
 
-// An entry with fewer changes than the last one of its observer and processor is refused, with the
-// count of that one.
+// An entry with fewer changes than the last entry of its observer and processor is rejected, with
+// the last one's count.
 #[test]
 fn counts_never_fall(rt: HostRuntime) {
     let plans = plans_of(&rt, rt.alloc(), 1, 2_000_000_000, &WAITS);
     falls(&rt, rt.alloc(), &plans);
 }
 
-// Whether an entry was refused since this count is greater.
+// Whether an entry was rejected because this count is greater.
 fn is_fall_from(added: Result<(), AddFault>, last: u64) -> bool {
     match added {
         Err(AddFault::Falls(fall)) => fall.last() == last,
@@ -46,7 +46,7 @@ fn falls(rt: &impl Abort, alloc: Global, plans: &Plans)
     is(rt, added.entries, 1, "entries");
 }
 
-// The same entries of two observers stand beside each other, whichever comes first.
+// Equal entries of two observers are adjacent, whichever comes first.
 #[test]
 fn counts_are_each_observers_own(rt: HostRuntime) {
     let plans = plans_of(&rt, rt.alloc(), 1, 2_000_000_000, &WAITS);
@@ -67,8 +67,8 @@ fn both_added(rt: &impl Abort, alloc: Global, plans: &Plans)
     is(rt, added.entries, 2, "entries");
 }
 
-// A journal that doesn't agree with the lists gives list after list; one that agrees gives its own
-// order.
+// A journal that doesn't match the lists returns list after list; a journal that matches returns
+// its own order.
 #[test]
 fn entries_in_the_order_of_the_journal(rt: HostRuntime) {
     let plans = plans_of(&rt, rt.alloc(), 1, 2_000_000_000, &WAITS);
@@ -82,7 +82,7 @@ fn only_entry<'a>(rt: &impl Abort, own: &Own<'a>) -> Entry<'a> {
     own.entries()[0]
 }
 
-// The entries are one of each of two observers, in this order.
+// Checks that there is one entry of each of two observers, in this order.
 fn are_by(rt: &impl Abort, entries: &[Entry<'_>], observers: [u32; 2]) {
     assert!(rt; entries.len() == 2);
     let found = [entries[0].observer, entries[1].observer];

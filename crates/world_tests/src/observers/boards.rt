@@ -1,4 +1,4 @@
-//! A board in two threads.
+//! A board with two threads.
 
 ghost use Rattle.std.specs.Prelude.{◌≡◌, ◌+◌, length};
 ghost use Rattle.std.specs.Thread.{IsSync};
@@ -9,20 +9,20 @@ use std::process::Abort;
 use std::sync::Wait;
 use std::thread::{Threads, join, yield_now};
 
-/// How often the observer reads at most, whatever the driver does meanwhile.
+/// The maximal number of reads, whatever the driver does at the same time.
 const READS: u64 = 20_000_000;
 
-/// How many events there are by a tick.
+/// The number of events of a tick.
 const EVENTS_OF_A_TICK: u64 = 3;
 
-/// What an observer read: the states while the driver was at work, each once, and the last one.
+/// What an observer read: the distinct states while the driver was running, and the last state.
 #[derive(Drop)]
 pub struct Readings {
     pub states: Vec<BoardState>,
     pub last: BoardState,
 }
 
-// Publishes so many ticks.
+// Publishes ticks up to number `ticks`.
 fn published<R: Wait>(rt: &R, board: &Board, mut driver: DriverPass, ticks: u32) -> DriverPass
     requires board { driver.board ≡ board.now }
     requires first { length driver.states ≡ 1 }
@@ -42,7 +42,7 @@ fn published<R: Wait>(rt: &R, board: &Board, mut driver: DriverPass, ticks: u32)
     driver
 }
 
-// Reads until the tick is shown, or often enough.
+// Reads until the tick is shown, or until the limit of reads.
 fn watched<R: Wait>(
     rt: &R,
     alloc: Global,
@@ -68,8 +68,8 @@ fn watched<R: Wait>(
     (pass, states)
 }
 
-/// A driver publishes so many ticks, and an observer in another thread reads them meanwhile. Then
-/// the driver tells it all, and it reads the last one.
+/// A driver publishes `ticks` ticks while an observer in another thread reads them. Then `tell`
+/// gives the observer all states of the driver, and it reads the last one.
 pub fn beside<R: Abort + Threads + Wait + Sync>(rt: &R, alloc: Global, ticks: u32) -> Readings {
     let (board, mut driver) = Board::make(alloc).expect(rt, "memory");
     let pass = board.pass(rt, &mut driver).expect(rt, "memory");

@@ -1,4 +1,4 @@
-//! Looks at a gate.
+//! Looks with a gate.
 
 ghost use Rattle.std.specs.Prelude.{◌≡◌, length};
 
@@ -18,8 +18,8 @@ const RUNS: [&[u8]; 3] = [b"0 fork 1 / 0", b"0 switch 0 1 idle", b"2000000000 en
 /// The observer whose looks are counted.
 const OBSERVER: u32 = 5;
 
-/// A gate that counts how often it is called ahead of a sample of the observer on processor 0, and
-/// how often otherwise.
+/// A gate that counts its calls before a sample of the observer on processor 0, and all other
+/// calls.
 #[derive(Drop)]
 struct Counting {
     ahead: AtomicU64,
@@ -45,15 +45,15 @@ impl Gate for Counting {
     }
 }
 
-// A look calls its gate once, ahead of the sample and with the number of its observer. Where memory
-// is wanting there is neither sample nor call.
+// A look calls its gate once, before the sample and with the number of its observer. Out of memory,
+// there is neither a sample nor a call.
 #[test]
 fn a_look_calls_its_gate_once(rt: HostRuntime) {
     let plans = plans_of(&rt, rt.alloc(), 1, 2_000_000_000, &RUNS);
     called_once(&rt, rt.alloc(), &plans);
 }
 
-// How many entries one look gives, None where it had no memory.
+// The number of entries of one look, `None` if it ran out of memory.
 fn entries_of(
     rt: &impl Abort,
     alloc: Global,
@@ -70,7 +70,7 @@ fn entries_of(
     }
 }
 
-// How often the gate was called ahead of a sample of the observer, and otherwise.
+// The number of calls before a sample of the observer, and of all other calls.
 fn calls(gate: &Counting) -> [u64; 2] {
     [gate.ahead.load(SeqCst), gate.otherwise.load(SeqCst)]
 }

@@ -8,7 +8,7 @@ use psi_base::NoMemory;
 use std::alloc::Global;
 use std::sync::ledger::{Blank, Ledger};
 
-/// What a new journal answered to two entries, and how many it has then.
+/// The answers of a new journal to two entries, and its number of entries afterwards.
 #[derive(Clone, Copy, Debug)]
 pub struct Added {
     pub first: Result<(), AddFault>,
@@ -35,7 +35,7 @@ pub fn add_both<L: Ledger>(
     }
 }
 
-/// The entries of two observers' lists in the order of a new journal, to which these were added
+/// The entries of two observers' lists in the order of a new journal, to which `added` was added
 /// first.
 pub fn ordered<'a, L: Ledger>(
     alloc: Global,
@@ -52,7 +52,7 @@ pub fn ordered<'a, L: Ledger>(
     let (book, mut share) = blank.open::<L>();
     let mut journal = Journal::make(alloc, book);
     'entries: for entry in added {
-        // What is refused stays out.
+        // Rejected entries are left out.
         let _ = journal.add(*entry, &mut share);
     }
     journal.order(&[first, second])

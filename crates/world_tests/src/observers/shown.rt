@@ -1,13 +1,13 @@
-//! Reads of a board while its driver is at work.
+//! Reads of a board while its driver is running.
 
 use crate::events::is;
 use crate::observers::boards::beside;
 
-/// How many ticks are published.
+/// The number of published ticks.
 const TICKS: u32 = 10_000;
 
-// Each state that was read is one that was published, their ticks rise, and the last one is that of
-// the last tick.
+// Each state that was read was published, the ticks increase, and the last state is the last
+// tick's.
 #[test]
 fn reads_beside_the_driver(rt: HostRuntime) {
     let readings = beside(&rt, rt.alloc(), TICKS);

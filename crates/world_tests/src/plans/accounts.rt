@@ -1,4 +1,4 @@
-//! Accounts of groups that are switched, by the plans of processors and their clocks.
+//! Groups whose accounting is switched, in the plans of processors and their clocks.
 
 ghost use Rattle.std.specs.Prelude.{◌≡◌, length};
 
@@ -11,7 +11,7 @@ use psi_counts::Change;
 use std::alloc::Global;
 use std::process::Abort;
 
-/// The task of a group waits for IO, and for half a second the group's account is off.
+/// The task of a group waits for IO, and for half a second the group's accounting is off.
 const LINES: [&[u8]; 7] = [
     b"0 group /a",
     b"0 fork 1 /a 0",
@@ -22,7 +22,7 @@ const LINES: [&[u8]; 7] = [
     b"2000000000 end",
 ];
 
-/// What each processor has of a switch of the first group below the root, where no task runs.
+/// A processor's change for switching the first group below the root, while no task runs.
 fn account(at: Ns, on: bool) -> Change {
     Change {
         at,
@@ -55,8 +55,8 @@ fn each_has_accounts(rt: &impl Abort, plans: &Plans)
     is(rt, nth(rt, second, 2), on, "on on 1");
 }
 
-/// What the clocks of the first processor tell after so many changes of the group with this slot:
-/// for how long (ns) interrupts took from it, and its clock as words.
+/// The values of the first processor's clocks after a number of changes, for the group in a slot:
+/// its interrupt time (ns), and its clock as words.
 struct Row {
     changes: u64,
     slot: u32,
@@ -78,7 +78,8 @@ fn tells_row(rt: &impl Abort, alloc: Global, plans: &Plans, row: &Row)
     is(rt, clocks.own(slot).to_words(), row.words, case);
 }
 
-/// There are so many groups and changes of the first processor, and its clocks tell these rows.
+/// Checks the number of groups, the number of changes of the first processor, and these rows of its
+/// clocks.
 fn tells(rt: &impl Abort, alloc: Global, plans: &Plans, counts: (usize, u64), rows: &[Row])
     requires { length plans.now.plans ≡ 1 }
 {
@@ -89,13 +90,14 @@ fn tells(rt: &impl Abort, alloc: Global, plans: &Plans, counts: (usize, u64), ro
     }
 }
 
-/// For how long the task waits before its group's account goes off, in ns.
+/// How long (ns) the task waits before its group's accounting is switched off.
 const SECOND: Ns = 1_000_000_000;
 
-/// When the account is on again, in ns.
+/// The time (ns) at which accounting is on again.
 const AGAIN: Ns = 1_500_000_000;
 
-/// While the account is off no state holds, and what was before it stays. That of the root goes on.
+/// While accounting is off no state holds, and the times up to then stay. The root's clock
+/// continues.
 const OFF_AND_ON: [Row; 4] = [
     Row {
         changes: 4,
@@ -129,8 +131,8 @@ fn clocks_of_a_group_off(rt: HostRuntime) {
     tells(&rt, rt.alloc(), &plans, (2, 5), &OFF_AND_ON);
 }
 
-/// A task of /a/b runs, waits for IO and is ready, while /a is off and then /a/b. One goes off and
-/// the other on at one moment.
+/// A task of /a/b runs, waits for IO and is ready, while first /a is off and then /a/b. At one
+/// time, one is switched off and the other on.
 const NESTED: [&[u8]; 12] = [
     b"0 group /a",
     b"0 group /a/b",
@@ -146,8 +148,8 @@ const NESTED: [&[u8]; 12] = [
     b"5000 end",
 ];
 
-/// Each account is its group's alone: groups above and below go on. What the tasks do while one is
-/// off is known when it is on again.
+/// Accounting is switched for one group only: its ancestors and descendants continue. The state of
+/// the tasks while a group is off is known when it is on again.
 const OF_NESTED: [Row; 3] = [
     Row {
         changes: 9,

@@ -15,7 +15,7 @@ const LINES: [&[u8]; 5] = [
     b"4000000000 end",
 ];
 
-/// The moment at which the task wakes, in ns.
+/// The time (ns) at which the task wakes.
 const WOKEN: Ns = 2_000_000_000;
 
 /// One task that is ready or runs.
@@ -47,13 +47,13 @@ fn change(at: Ns, minus: Option<Counts>, plus: Option<Counts>, runs: bool) -> Ch
     }
 }
 
-/// A change that a plan has, from the first.
+/// Change number `k` of a plan, from 1.
 pub fn nth(rt: &impl Abort, plan: &Plan, k: u64) -> Change {
     assert!(rt; 1 <= k && k <= plan.len(), "no change {k}");
     plan.change(k)
 }
 
-/// These are the changes of a plan.
+/// Checks the changes of a plan.
 fn has_changes(rt: &impl Abort, plan: &Plan, want: &[Change]) {
     assert!(rt; plan.len() == want.len() as u64);
     for k in 1..=plan.len() {
@@ -63,7 +63,7 @@ fn has_changes(rt: &impl Abort, plan: &Plan, want: &[Change]) {
     }
 }
 
-// The wake changes both processors, and each has its own changes alone. A switch that changes no
+// The wake changes both processors, and each has only its own changes. A switch that changes no
 // count is a change too.
 #[test]
 fn changes_of_each_processor(rt: HostRuntime) {
@@ -80,7 +80,7 @@ fn changes_of_each_processor(rt: HostRuntime) {
     has_changes(&rt, plans.plan(Cpu(1)), &second);
 }
 
-// Changes at the moment itself are among those up to it.
+// Changes at exactly the time are among those up to it.
 #[test]
 fn changes_up_to_a_moment(rt: HostRuntime) {
     let plans = plans_of(&rt, rt.alloc(), 2, 4_000_000_000, &LINES);
@@ -97,7 +97,7 @@ fn changes_up_to_a_moment(rt: HostRuntime) {
     }
 }
 
-// What the plans keep beside the changes.
+// What the plans store besides the changes.
 #[test]
 fn what_all_processors_share(rt: HostRuntime) {
     let plans = plans_of(&rt, rt.alloc(), 2, 4_000_000_000, &LINES);

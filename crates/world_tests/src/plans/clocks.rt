@@ -1,4 +1,4 @@
-//! Clocks that run on a plan.
+//! Clocks that follow a plan.
 
 ghost use Rattle.std.specs.Prelude.{◌≡◌, length};
 

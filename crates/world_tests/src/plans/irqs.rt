@@ -1,4 +1,4 @@
-//! For how long interrupts took from groups, by the clocks of plans.
+//! Interrupt times of groups, by the clocks of plans.
 
 ghost use Rattle.std.specs.Prelude.{◌≡◌, length};
 
@@ -10,8 +10,8 @@ use psi_base::{Cpu, Slot};
 use std::alloc::Global;
 use std::process::Abort;
 
-/// The root has /a, /a/b and /c. A task of /a/b runs on the first processor, moves to /c, goes to
-/// the second processor and exits there.
+/// The root has /a, /a/b and /c. A task of /a/b runs on the first processor, moves to /c, migrates
+/// to the second processor and exits there.
 const LINES: [&[u8]; 21] = [
     b"0 group /a",
     b"0 group /a/b",
@@ -36,24 +36,24 @@ const LINES: [&[u8]; 21] = [
     b"8000 end",
 ];
 
-/// A processor, how many of its changes are made, and for how long (ns) interrupts have then taken
-/// from the root, /a, /a/b and /c.
+/// A processor, the number of its changes made, and the interrupt times (ns) of the root, /a, /a/b
+/// and /c at that point.
 const ROWS: [(u32, u64, [u64; 4]); 16] = [
-    // The task comes and starts to run.
+    // The task arrives and starts to run.
     (0, 0, [0, 0, 0, 0]),
     (0, 2, [0, 0, 0, 0]),
-    // Some interrupts, none at the same moment, and some behind them.
+    // Some interrupts: none at the same time as the previous ones, and some later.
     (0, 3, [100, 100, 100, 0]),
     (0, 4, [100, 100, 100, 0]),
     (0, 5, [101, 101, 101, 0]),
     // It moves.
     (0, 6, [101, 101, 101, 0]),
     (0, 7, [121, 101, 101, 20]),
-    // It waits for the processor, which idles, and then leaves it.
+    // It waits for the processor, which is idle, and then leaves it.
     (0, 9, [121, 101, 101, 20]),
     (0, 10, [121, 101, 101, 20]),
     (0, 11, [121, 101, 101, 20]),
-    // The other processor idles, until the task comes and starts to run.
+    // The other processor is idle until the task arrives and starts to run.
     (1, 1, [0, 0, 0, 0]),
     (1, 2, [0, 0, 0, 0]),
     (1, 4, [0, 0, 0, 0]),
@@ -63,8 +63,8 @@ const ROWS: [(u32, u64, [u64; 4]); 16] = [
     (1, 7, [4, 0, 0, 4]),
 ];
 
-// For how long (ns) interrupts took from the four groups, by so many changes of a plan, or by all
-// that it has.
+// The interrupt times (ns) of the four groups after `changes` changes of a plan, or after all that
+// it has.
 fn irqs_after(rt: &impl Abort, alloc: Global, plan: &Plan, changes: u64) -> [u64; 4]
     requires { length plan.now.parents ≡ 4 }
 {
@@ -78,9 +78,8 @@ fn irqs_after(rt: &impl Abort, alloc: Global, plan: &Plan, changes: u64) -> [u64
     ]
 }
 
-// A change that tells of interrupts counts for the group of the task that runs then and for all
-// above it, and for none where the processor idles. What a task's groups got stays with them when
-// it moves, goes elsewhere or exits.
+// Interrupt time counts for the group of the running task and all its ancestors, and for no group
+// if the processor is idle. It stays with these groups when the task moves, migrates or exits.
 #[test]
 fn interrupts_of_each_processor(rt: HostRuntime) {
     let plans = plans_of(&rt, rt.alloc(), 2, 8000, &LINES);
@@ -92,8 +91,8 @@ fn interrupts_of_each_processor(rt: HostRuntime) {
     }
 }
 
-// For how long (ns) interrupts took from the root by so many changes of a plan that has it alone,
-// by two looks at its clocks, and how many changes these have made then.
+// The root's interrupt time (ns) after `changes` changes of a plan with only the root, read twice
+// from its clocks, and the number of changes made afterwards.
 fn root_after(rt: &impl Abort, alloc: Global, plan: &Plan, changes: u64) -> (u64, u64, u64)
     requires { length plan.now.parents ≡ 1 }
 {
@@ -104,8 +103,7 @@ fn root_after(rt: &impl Abort, alloc: Global, plan: &Plan, changes: u64) -> (u64
     (first, second, clocks.count())
 }
 
-// The clocks say the same however often they are asked, and asking changes nothing of what they
-// have made.
+// Reading the clocks is repeatable, and doesn't change the number of changes made.
 #[test]
 fn interrupts_of_the_root(rt: HostRuntime) {
     let plans = plans_of(&rt, rt.alloc(), 1, 2_000_000_000, &INTERRUPTS);

@@ -1,4 +1,4 @@
-//! What a trace tells beside the changes of processors.
+//! What a trace contains besides the changes of processors.
 
 use crate::events::{is, plans_of};
 use proc_plan::{Side, SideAct};
@@ -14,13 +14,13 @@ const LINES: [&[u8]; 19] = [
     b"4 prefer /a none",
     b"5 host 100 50 25",
     b"6 trigger /a io some 150000 1000000",
-    // It goes to another group, and then into the one where it is.
+    // It moves to another group, and then to the group that it is already in.
     b"7 move 1 /a/b",
     b"8 move 1 /a/b",
     b"9 switch 0 1 idle",
     b"9 trigger / memory full 1 500000",
     b"10 switch 0 0 exit",
-    // The path has another slot from then on.
+    // From here the path has another slot.
     b"11 rmgroup /a/b",
     b"11 group /a/b",
     b"12 mem /a/b 1 2 3",
@@ -33,7 +33,7 @@ fn side(at: Ns, what: SideAct) -> Side {
     Side { at, what }
 }
 
-/// A task that comes into a group (1) or leaves it (-1).
+/// A task that enters a group (1) or leaves it (-1).
 fn task(at: Ns, slot: u32, added: i8) -> Side {
     let slot = Slot(slot);
     side(at, SideAct::Tasks { slot, added })
@@ -102,7 +102,7 @@ fn triggers_in_their_order(rt: HostRuntime) {
     is(&rt, plans.triggers(), want.as_slice(), "triggers");
 }
 
-// A plan knows the parents of all groups, also of those that are gone.
+// A plan has the parents of all groups, including removed ones.
 #[test]
 fn parents_of_all_slots(rt: HostRuntime) {
     let plans = plans_of(&rt, rt.alloc(), 1, 13, &LINES);

@@ -1,4 +1,4 @@
-//! Rows in one thread.
+//! Rows with one thread.
 
 ghost use Rattle.std.specs.Prelude.{◌≡◌, ◌≤◌, length};
 
@@ -12,11 +12,11 @@ use std::process::Abort;
 
 const ROOT: Slot = Slot(0);
 
-/// The root's clock after three of its changes: a task waits for IO, beside which nothing runs.
+/// The root's clock after three of its changes: a task waits for IO, and nothing runs.
 const WAITING: [u64; 9] = [0, 0, 0, 0, 0, 0, 500_000_000, 0b100_0011, 500_000_000];
 
-// What is shown of the root by a writer that made three changes and a reader from before them, and
-// by one from after them.
+// What a row shows of the root after three changes, to a reader from before them and to a reader
+// from after them.
 fn shown_early_and_late(rt: &impl Abort, alloc: Global, plan: &Plan) -> [Shown; 2]
     requires root { length plan.now.parents ≡ 1 }
     requires changes { 3 ≤ length plan.now.changes }
@@ -26,7 +26,7 @@ fn shown_early_and_late(rt: &impl Abort, alloc: Global, plan: &Plan) -> [Shown; 
     [early, show_late(rt, &mut writer, ROOT)]
 }
 
-// What is shown of the root after three changes by a reader that had seen so many of them.
+// What a row shows of the root after three changes, to a reader that had seen `seen` of them.
 fn waiting(seen: u64) -> Shown {
     Shown {
         made: 3,
@@ -37,8 +37,8 @@ fn waiting(seen: u64) -> Shown {
     }
 }
 
-// The writer's own clock is what each reader samples. One that was made after the changes has seen
-// them; one that was made before and met nobody samples the same.
+// Each reader samples the writer's own clock. A reader that was made after the changes has seen
+// them; one that was made before, without a `meet`, samples the same.
 #[test]
 fn one_slot_after_three_changes(rt: HostRuntime) {
     let plans = plans_of(&rt, rt.alloc(), 1, 2_000_000_000, &WAITS);
@@ -66,8 +66,7 @@ const TURNS: [&[u8]; 6] = [
     b"2000000000 end",
 ];
 
-// The clocks of all slots by a writer that made four changes and met its reader, which samples them
-// at one count.
+// The clocks of all slots after four changes and a `meet`; the reader samples them at one count.
 fn all_after_four(rt: &impl Abort, alloc: Global, plan: &Plan) -> [Clock; 2]
     requires slots { length plan.now.parents ≡ 2 }
     requires changes { 4 ≤ length plan.now.changes }
@@ -79,8 +78,8 @@ fn all_after_four(rt: &impl Abort, alloc: Global, plan: &Plan) -> [Clock; 2]
     clocks
 }
 
-// The last switch leaves the root's states, so its clock starts where it did before; that of the
-// group turns.
+// The last switch doesn't change the root's states, so its clock keeps its start; the group's clock
+// restarts.
 #[test]
 fn all_slots_at_one_count(rt: HostRuntime) {
     let plans = plans_of(&rt, rt.alloc(), 1, 2_000_000_000, &TURNS);

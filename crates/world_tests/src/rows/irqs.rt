@@ -1,4 +1,4 @@
-//! Interrupt time that a writer keeps beside its row.
+//! Interrupt time that a writer stores next to its row.
 
 ghost use Rattle.std.specs.Prelude.{◌≡◌, ◌≤◌, length};
 
@@ -11,11 +11,11 @@ use std::process::Abort;
 
 const ROOT: Slot = Slot(0);
 
-/// The root's clock while the task runs: interrupts don't move it.
+/// The root's clock while the task runs: interrupts don't change it.
 const RUNNING: [u64; 9] = [0, 0, 0, 0, 0, 0, 0, 0b100_0000, 0];
 
-// The root's interrupt time (ns) by a writer that made so many changes of a plan that has the root
-// alone, and what the two ends of its row show of it.
+// The root's interrupt time (ns) after `changes` changes of a plan with only the root, and what the
+// two ends of the row have of the root.
 fn shown_after(rt: &impl Abort, alloc: Global, plan: &Plan, changes: u64) -> (u64, Shown)
     requires root { 1 ≡ length plan.now.parents }
     requires changes { changes ≤ length plan.now.changes }
@@ -25,8 +25,8 @@ fn shown_after(rt: &impl Abort, alloc: Global, plan: &Plan, changes: u64) -> (u6
     (irq, show(&mut writer, &mut reader, ROOT))
 }
 
-// Only the interrupts beside a running task count. They are no words of the row: its clock stays,
-// and the change is seen.
+// Only interrupts during a running task count. They aren't among the words of the row: its clock
+// stays the same, and the change is seen.
 #[test]
 fn interrupts_of_the_root(rt: HostRuntime) {
     let plans = plans_of(&rt, rt.alloc(), 1, 2_000_000_000, &INTERRUPTS);
@@ -52,8 +52,8 @@ fn beside_a_task_alone(rt: &impl Abort, alloc: Global, plans: &Plans)
     is(rt, third, (250_000_000, want), "after the third change");
 }
 
-/// Interrupts beside a task in a group below another, beside one that moves to the root, and beside
-/// none.
+/// Interrupts while a task in a nested group runs, while one that moves to the root runs, and while
+/// the processor is idle.
 const GROUPS: [&[u8]; 14] = [
     b"0 group /a",
     b"0 group /a/b",
@@ -71,7 +71,7 @@ const GROUPS: [&[u8]; 14] = [
     b"60 end",
 ];
 
-/// A writer tells these interrupt times (ns) of four slots after so many changes.
+/// Checks a writer's interrupt times (ns) of four slots after `changes` changes.
 fn has_irqs(rt: &impl Abort, alloc: Global, plan: &Plan, changes: u64, wanted: [u64; 4])
     requires slots { 4 ≡ length plan.now.parents }
     requires changes { changes ≤ length plan.now.changes }
@@ -86,7 +86,7 @@ fn has_irqs(rt: &impl Abort, alloc: Global, plan: &Plan, changes: u64, wanted: [
     is(rt, (changes, found), (changes, wanted), "by changes");
 }
 
-// A group has the interrupts of the tasks in it and below it, and keeps them when a task goes.
+// A group has the interrupts of the tasks in it and below it, and keeps them when a task leaves.
 #[test]
 fn interrupts_of_groups(rt: HostRuntime) {
     let plans = plans_of(&rt, rt.alloc(), 1, 2_000_000_000, &GROUPS);

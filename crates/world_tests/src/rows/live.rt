@@ -1,4 +1,4 @@
-//! Samples beside a writer that is at work.
+//! Samples while a writer is running.
 
 ghost use Rattle.std.specs.Prelude.{◌≡◌, ◌≤◌, ◌^◌, length};
 
@@ -11,10 +11,10 @@ use std::alloc::Global;
 use std::process::Abort;
 use std::thread::Threads;
 
-/// How often two tasks, one of them in a group, take turns: three changes each time.
+/// How often two tasks, one of them in a group, alternate, with three changes each time.
 const ROUNDS: u64 = 33_333;
 
-// One round of turns from a moment on.
+// One round, beginning at `at`.
 fn put_round(rt: &impl Abort, text: &mut String, at: u64)
     requires { at ≤ 2 ^ 63 }
 {
@@ -35,7 +35,6 @@ fn lines(rt: &impl Abort, alloc: Global) -> String {
     text
 }
 
-// The plans of these lines.
 fn plans_of_rounds(rt: &impl Abort, alloc: Global) -> Plans
     ensures { length result.plans ≡ 1 }
 {
@@ -47,7 +46,7 @@ fn plans_of_rounds(rt: &impl Abort, alloc: Global) -> Plans
     plans_of(rt, alloc, 1, 60_000_000_000, &lines)
 }
 
-// Samples of the group beside a writer that makes all changes.
+// Samples of the group while a writer makes all changes.
 fn sampled<R: Abort + Threads + Sync>(rt: &R, alloc: Global, plans: &Plans) -> Vec<Sample>
     requires { length plans.now.plans ≡ 1 }
 {
@@ -63,8 +62,8 @@ fn sampled<R: Abort + Threads + Sync>(rt: &R, alloc: Global, plans: &Plans) -> V
     samples
 }
 
-// Each sample is the clock of one thread after as many changes, and counts never fall. The reader
-// ends once it has seen all.
+// Each sample equals the clock of a single thread after the same number of changes, and counts
+// never fall. The reader ends once it has seen all changes.
 #[test]
 fn samples_beside_the_writer(rt: HostRuntime) {
     let plans = plans_of_rounds(&rt, rt.alloc());

@@ -8,22 +8,22 @@ use psi_base::Slot;
 use std::alloc::Global;
 use std::process::Abort;
 
-/// What the two ends of a row have of a slot.
+/// The values of a slot at the two ends of a row.
 #[derive(Clone, Copy, Debug, PartialEq, Eq)]
 pub struct Shown {
-    /// How many changes the writer made.
+    /// The number of changes that the writer made.
     pub made: u64,
     /// The words of its own clock.
     pub own: [u64; 9],
-    /// How many changes the reader had seen before it tried to sample.
+    /// The number of changes that the reader had seen before it tried to sample.
     pub seen: u64,
-    /// What it sampled: after how many changes, and the words. None where it met a change.
+    /// Its sample: the number of changes, and the words. `None` if a change interfered.
     pub sampled: Option<(u64, [u64; 9])>,
-    /// How many it has seen then.
+    /// The number of changes that it has seen afterwards.
     pub seen_then: u64,
 }
 
-/// Makes changes until there are so many.
+/// Makes changes until there are `changes`.
 fn make_changes(writer: &mut ClockWriter<'_>, changes: u64)
     requires all { changes ≤ length writer.old.knows.plan.changes }
     requires within { writer.old.knows.count ≤ changes }
@@ -35,7 +35,7 @@ fn make_changes(writer: &mut ClockWriter<'_>, changes: u64)
     }
 }
 
-/// A writer that made so many changes of a plan, and a reader from before them.
+/// A writer that made `changes` changes of a plan, and a reader from before them.
 pub fn writer_after<'a>(
     rt: &impl Abort,
     alloc: Global,
@@ -55,7 +55,7 @@ pub fn writer_after<'a>(
     (writer, reader)
 }
 
-/// What a reader samples of a slot.
+/// A reader's sample of a slot.
 fn sample_of(reader: &mut ClockReader, slot: Slot) -> Option<(u64, [u64; 9])>
     requires { slot.0 < length reader.old.knows.plan.parents }
 {
@@ -65,7 +65,7 @@ fn sample_of(reader: &mut ClockReader, slot: Slot) -> Option<(u64, [u64; 9])>
     }
 }
 
-/// What the two ends have of a slot.
+/// The values of a slot at the two ends.
 pub fn show(writer: &mut ClockWriter<'_>, reader: &mut ClockReader, slot: Slot) -> Shown
     requires writer { slot.0 < length writer.old.knows.plan.parents }
     requires reader { slot.0 < length reader.old.knows.plan.parents }
@@ -82,7 +82,7 @@ pub fn show(writer: &mut ClockWriter<'_>, reader: &mut ClockReader, slot: Slot) 
     }
 }
 
-/// What the writer has of a slot and a new reader, which it meets and settles with.
+/// The values of a slot at the writer and at a new reader, after `meet` and `settle`.
 pub fn show_late(rt: &impl Abort, writer: &mut ClockWriter<'_>, slot: Slot) -> Shown
     requires { slot.0 < length writer.old.knows.plan.parents }
 {

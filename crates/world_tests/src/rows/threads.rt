@@ -1,4 +1,4 @@
-//! A writer and a reader in two threads.
+//! A writer and a reader with a thread each.
 
 ghost use Rattle.std.specs.Prelude.{◌≡◌, ◌≤◌, ◌<◌, length};
 
@@ -9,14 +9,14 @@ use std::alloc::Global;
 use std::process::Abort;
 use std::thread::{Threads, join, yield_now};
 
-/// After so many changes the writer lets another thread run, so that the two take turns on one
-/// processor too.
+/// After this number of changes the writer yields, so that the two also alternate on a single
+/// processor.
 const CHANGES_IN_A_TURN: u64 = 512;
 
-/// How often the reader tries, whatever the writer does meanwhile.
+/// The maximal number of tries of the reader, whatever the writer does at the same time.
 const TRIES: u64 = 20_000_000;
 
-/// Makes the changes of a plan up to so many.
+/// Makes the changes of a plan up to number `changes`.
 fn written<'a>(mut writer: ClockWriter<'a>, changes: u64) -> ClockWriter<'a>
     requires all { changes ≤ length writer.knows.plan.changes }
     requires within { writer.knows.count ≤ changes }
@@ -30,14 +30,14 @@ fn written<'a>(mut writer: ClockWriter<'a>, changes: u64) -> ClockWriter<'a>
     writer
 }
 
-/// Keeps a sample, if its count isn't that of the last one, and there is memory.
+/// Appends a sample, if its count differs from the last one's and there is memory.
 fn keep(samples: &mut Vec<Sample>, sample: Sample) {
     if samples.last().is_none_or(|last| last.count != sample.count) {
         let _ = samples.push(sample);
     }
 }
 
-/// Samples a slot until the reader has seen so many changes, or tried often enough.
+/// Samples a slot until the reader has seen `all` changes, or until the limit of tries.
 fn sampled(alloc: Global, mut reader: ClockReader, slot: Slot, all: u64) -> Vec<Sample>
     requires { slot.0 < length reader.knows.plan.parents }
 {
@@ -53,8 +53,8 @@ fn sampled(alloc: Global, mut reader: ClockReader, slot: Slot, all: u64) -> Vec<
     samples
 }
 
-/// A writer makes so many changes of a plan in one thread, while a reader in another samples a
-/// slot. How many changes were made, and the samples.
+/// A writer makes `changes` changes of a plan in one thread, while a reader in another samples a
+/// slot. Returns the number of changes made, and the samples.
 pub fn beside<R: Abort + Threads + Sync>(
     rt: &R,
     alloc: Global,
@@ -82,7 +82,8 @@ pub fn beside<R: Abort + Threads + Sync>(
     (writer.count(), samples)
 }
 
-/// The counts of samples never fall, and each clock is that of plain clocks after as many changes.
+/// The counts of samples never fall, and each clock equals plain clocks after the same number of
+/// changes.
 pub fn are_plain(
     alloc: Global,
     plan: &Plan,

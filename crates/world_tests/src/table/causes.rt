@@ -1,4 +1,4 @@
-//! Which lines are refused, and why.
+//! Which lines are rejected, and why.
 
 ghost use Rattle.std.specs.Prelude.{◌≤◌};
 
@@ -9,9 +9,9 @@ use std::alloc::Global;
 use std::process::Abort;
 use task_table::Table;
 
-/// One trace of two processors up to 1,000 ns. Each line has its cause behind it, and a refused one
-/// leaves the table as it was. Where two causes stand against a line, the earlier in the order of
-/// causes is the one.
+/// One trace of two processors up to 1,000 ns. Each line is followed by its cause. A rejected line
+/// doesn't change the table. If there are two causes against a line, the earlier in the order of
+/// causes is expected.
 const LINES: &str = "5 fork 1 / 0 | ok;\
     4 fork 2 / 0 | TimeBack;\
     4 fork 1 / 2 | TimeBack;\
@@ -85,8 +85,8 @@ const LINES: &str = "5 fork 1 / 0 | ok;\
     1000 end | AfterEnd;\
     4 fork 1 / 2 | AfterEnd";
 
-/// One trace of two processors up to 4 s with `irq` lines, told as above. Each is measured from the
-/// last one of its processor, whatever stands between them.
+/// One trace of two processors up to 4 s with `irq` lines, in the same format. Each is compared
+/// with the last one of its processor, whatever is between them.
 const IRQ_LINES: &str = "5 irq 2 6 | BadCpu;\
     5 irq 2 1000000001 | BadCpu;\
     5 irq 0 6 | IrqTooLong;\
@@ -110,8 +110,8 @@ const IRQ_LINES: &str = "5 irq 2 6 | BadCpu;\
     2000000014 end | ok;\
     2000000014 irq 0 0 | AfterEnd";
 
-/// One trace of two processors up to 1,000 ns with `pressure` lines, told as above. Switching an
-/// account to what it is is legal.
+/// One trace of two processors up to 1,000 ns with `pressure` lines, in the same format. Switching
+/// to the current setting is legal.
 const PRESSURE_LINES: &str = "5 pressure /x on | UnknownGroup;\
     5 pressure / off | RootPressure;\
     5 pressure / on | RootPressure;\
@@ -128,7 +128,7 @@ const PRESSURE_LINES: &str = "5 pressure /x on | UnknownGroup;\
     8 end | ok;\
     8 pressure / off | AfterEnd";
 
-/// The table of a trace of so many processors up to a moment.
+/// The table of a trace of `cpus` processors up to a time (ns).
 fn table(rt: &impl Abort, alloc: Global, cpus: u32, latest: Ns) -> Table
     requires some { 1 ≤ cpus }
     requires few { cpus ≤ 64 }
@@ -141,7 +141,7 @@ fn event(rt: &impl Abort, alloc: Global, line: &str) -> Event {
     read_event(alloc, 2, line.as_bytes()).expect(rt, line)
 }
 
-/// The cause has this name, and there is none where it is `ok`.
+/// Whether the cause has this name, or is absent if the name is `ok`.
 fn is_named(rt: &impl Abort, alloc: Global, cause: Option<Cause>, name: &str) -> bool {
     match cause {
         Some(cause) => format!(in alloc; "{cause:?}").expect(rt, "memory").as_str() == name,
@@ -149,7 +149,7 @@ fn is_named(rt: &impl Abort, alloc: Global, cause: Option<Cause>, name: &str) ->
     }
 }
 
-/// The first cause against the event, when it is played.
+/// Plays the event, and returns the first cause against it.
 fn played(rt: &impl Abort, table: &mut Table, event: &Event) -> Option<Cause> {
     match table.step(event) {
         Ok(_) => None,
@@ -158,7 +158,7 @@ fn played(rt: &impl Abort, table: &mut Table, event: &Event) -> Option<Cause> {
     }
 }
 
-/// The table checks and plays the line of the row as it tells.
+/// Checks that the table checks and plays the line of the row as expected.
 fn plays_row(rt: &impl Abort, alloc: Global, table: &mut Table, row: &str) {
     let (line, want) = row.split_once(" | ").expect(rt, row);
     let event = event(rt, alloc, line);
@@ -168,7 +168,7 @@ fn plays_row(rt: &impl Abort, alloc: Global, table: &mut Table, row: &str) {
     is(rt, is_named(rt, alloc, played, want), true, row);
 }
 
-/// The same of each of these rows.
+/// The same for each of these rows.
 fn plays(rt: &impl Abort, alloc: Global, table: &mut Table, rows: &str) {
     for row in rows.split(';') {
         plays_row(rt, alloc, table, row);
@@ -206,7 +206,7 @@ fn accounts_that_are_switched(rt: HostRuntime) {
     assert!(rt; on.eq([true, true, false]));
 }
 
-/// The line may be played so many times.
+/// Checks that the line can be played `times` times.
 fn takes(rt: &impl Abort, alloc: Global, table: &mut Table, line: &str, times: u32) {
     let event = event(rt, alloc, line);
     for count in 0..times {
@@ -214,13 +214,13 @@ fn takes(rt: &impl Abort, alloc: Global, table: &mut Table, line: &str, times: u
     }
 }
 
-/// The line is refused for this cause.
+/// Checks that the line is rejected with this cause.
 fn refuses(rt: &impl Abort, alloc: Global, table: &mut Table, line: &str, cause: Cause) {
     let event = event(rt, alloc, line);
     is(rt, table.play(&event), Err(Fault::Refused(cause)), line);
 }
 
-// One line more than a limit is refused: the 257th trigger.
+// One line above a limit is rejected: the 257th trigger.
 #[test]
 fn triggers_up_to_the_limit(rt: HostRuntime) {
     let mut table = table(&rt, rt.alloc(), 1, 1000);
@@ -229,7 +229,7 @@ fn triggers_up_to_the_limit(rt: HostRuntime) {
     refuses(&rt, rt.alloc(), &mut table, line, Cause::TooManyTriggers);
 }
 
-// So is the 65,537th `pressure` line, ahead of what else stands against it.
+// The 65,537th `pressure` line is rejected, before other causes against it are checked.
 #[test]
 fn pressure_lines_up_to_the_limit(rt: HostRuntime) {
     let mut table = table(&rt, rt.alloc(), 1, 1000);
@@ -240,7 +240,7 @@ fn pressure_lines_up_to_the_limit(rt: HostRuntime) {
     }
 }
 
-/// Makes the task with this number, in the root and on the first processor.
+/// Creates the task with this pid, in the root and on the first processor.
 fn fork(rt: &impl Abort, alloc: Global, table: &mut Table, pid: u32) -> Result<(), Fault<Cause>> {
     let act = Act::Fork {
         pid: Pid(pid),
@@ -250,7 +250,7 @@ fn fork(rt: &impl Abort, alloc: Global, table: &mut Table, pid: u32) -> Result<(
     table.play(&Event { at: 1, act })
 }
 
-// So is the 65,537th task.
+// The 65,537th task is rejected.
 #[test]
 fn tasks_up_to_the_limit(rt: HostRuntime) {
     let mut table = table(&rt, rt.alloc(), 1, 1000);

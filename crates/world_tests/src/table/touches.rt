@@ -1,4 +1,4 @@
-//! What lines change on processors.
+//! The changes of processors by lines.
 
 use crate::events::is;
 use psi_base::{Cpu, Ns, Slot};
@@ -9,15 +9,16 @@ use std::process::Abort;
 use task_table::Table;
 
 /// A task of one group is in a stall, sleeps, wakes elsewhere, migrates, moves and exits. A wake or
-/// a migration from one processor to another changes both, and one that stays, or a move that
-/// stays, is a change too. So are interrupts.
+/// a migration from one processor to another changes both. A wake, migration or move that stays in
+/// place is a change too. So are interrupts.
 ///
-/// Behind a line stands each processor that it changes: its number, the task that is taken from the
-/// chain of a slot there, the task that is added to one, and afterwards the slot of the running
-/// task. Before each task stands the slot of its group. A task is `a` blocked, `w` waiting for IO,
-/// `r` ready or running, and in a stall `A` or `R`. A running task is `!` in a stall, and else `=`.
-/// Behind a `+` stands what interrupts took there (ns). Where an account is switched, the slot of
-/// the group stands alone, with `on` or `off`: that is so on each processor.
+/// Each line is followed by the processors that it changes: the processor's number, the task that
+/// is subtracted from the chain of a slot there, the task that is added to a chain, and the slot of
+/// the running task afterwards. Each task is preceded by the slot of its group. A task is `a`
+/// blocked, `w` waiting for IO, `r` ready or running, and in a stall `A` or `R`. A running task is
+/// `!` in a stall, and `=` otherwise. A `+` is followed by the interrupt time (ns) there. If
+/// accounting is switched, only the slot of the group is given, with `on` or `off`: this applies to
+/// every processor.
 const LINES: &str = "1 group /a;\
     1 fork 1 /a 0 | 0 .. 1r ..;\
     2 switch 0 1 idle | 0 .. .. 1=;\
@@ -49,7 +50,7 @@ fn number(digit: u8) -> u32 {
     u32::from(digit.wrapping_sub(b'0'))
 }
 
-/// The counts of one task in a group, if there is one.
+/// The counts of one task and its group, if there is one.
 fn part(kind: u8, slot: u8) -> Option<(Slot, Counts)> {
     let (io, stalled, running, stalled_running) = match kind {
         b'a' => (0, 0, 0, 0),
@@ -68,7 +69,7 @@ fn part(kind: u8, slot: u8) -> Option<(Slot, Counts)> {
     Some((Slot(number(slot)), counts))
 }
 
-/// The processor with its change at this moment, if there is one.
+/// The processor with its change at this time (ns), if there is one.
 fn change(at: Ns, told: &str) -> Option<(Cpu, Change)> {
     let (told, irq) = told.split_once(" +").unwrap_or((told, "0"));
     let [cpu, _, from, minus, _, to, plus, _, slot, current] = told.as_bytes() else {
@@ -89,7 +90,7 @@ fn change(at: Ns, told: &str) -> Option<(Cpu, Change)> {
     Some((Cpu(number(*cpu)), change))
 }
 
-/// The account that is switched, if one is.
+/// The group whose accounting is switched, if one is.
 fn account(told: &str) -> Option<(Slot, bool)> {
     match told.as_bytes() {
         [slot, b' ', b'o', b'n'] => Some((Slot(number(*slot)), true)),
@@ -98,7 +99,7 @@ fn account(told: &str) -> Option<(Slot, bool)> {
     }
 }
 
-/// What stands behind a line at this moment.
+/// The expected changes after a line, at this time (ns).
 fn touch(at: Ns, told: &str) -> Touch {
     let (first, second) = told.split_once(" | ").unwrap_or((told, ""));
     Touch {
@@ -108,7 +109,7 @@ fn touch(at: Ns, told: &str) -> Touch {
     }
 }
 
-/// The line of the row changes what stands behind it.
+/// Checks that the line of the row makes the changes after it.
 fn plays_row(rt: &impl Abort, alloc: Global, table: &mut Table, row: &str) {
     let (line, told) = row.split_once(" | ").unwrap_or((row, ""));
     let event = read_event(alloc, 2, line.as_bytes()).expect(rt, line);
