@@ -1,9 +1,9 @@
-//! A trace that ends behind any of its bytes.
+//! A trace that is truncated after any of its bytes.
 
 use crate::runs::{Host, assert_prints, assert_refused};
 use psi_base::Cause;
 
-/// A group is removed and made again, and a task that waits moves into the new one.
+/// A group is removed and created again, and a waiting task moves into the new group.
 const TRACE: &str = "psitrace 1 cpus=1\n\
     0 fork 1 / 0\n\
     0 switch 0 1 idle\n\
@@ -16,7 +16,7 @@ const TRACE: &str = "psitrace 1 cpus=1\n\
 
 const COMMANDS: [&str; 3] = ["check t", "stall t", "replay t --report-s 2"];
 
-/// Each command refuses a front of the trace at this line, the first one that isn't whole.
+/// Checks that each command rejects a prefix of the trace at this line, the first incomplete one.
 fn assert_front_refused(rt: &impl Host, front: &[u8], line: u32) {
     let (cause, name) = if line == 1 {
         (Cause::BadHeader, "BadHeader")

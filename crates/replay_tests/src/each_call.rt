@@ -1,14 +1,14 @@
-//! Replays in which each call of the shelf, and each of the sink, fails in turn.
+//! Replays in which each read and each write fails in turn.
 
 use crate::gates::{LIVE_LINES, ONE_PROCESSOR};
 use crate::replays::REPLAYED;
 use crate::runs::{Failing, Files, Host, NO_FAULT, NONE, ONE_WAIT, Ran, run_files, trace_alone};
 use replay_core::Status;
 
-/// How many bytes a call moves.
+/// The maximal number of bytes of a call.
 const MOST: usize = 7;
 
-/// A group has more memory than the rules allow it from the first evaluation, at 5 s, on.
+/// A group has more memory than the rules allow from the first evaluation, at 5 s.
 const LOADED: &str = "psitrace 1 cpus=1\n\
     0 group /s\n\
     0 group /s/a\n\
@@ -16,12 +16,12 @@ const LOADED: &str = "psitrace 1 cpus=1\n\
     0 mem /s/a 100 0 0\n\
     22000000000 end\n";
 
-/// They kill it once it has had that for 15 seconds.
+/// Rules that kill it after 15 seconds above the limit.
 const RULES: &str = "{\"rulesets\":[{\"name\":\"r\",\"detectors\":[[\"g\",\
     {\"name\":\"memory_above\",\"args\":{\"cgroup\":\"s/a\",\"threshold\":\"50\",\"duration\":\"15\"}}]],\
     \"actions\":[{\"name\":\"kill_by_memory_size_or_growth\",\"args\":{\"cgroup\":\"s/*\"}}]}]}";
 
-/// A replay, and the outputs that it may print where no call fails.
+/// A replay, and its possible outputs if no call fails.
 #[derive(Clone, Copy)]
 struct Replay<'a> {
     line: &'a str,
@@ -30,12 +30,12 @@ struct Replay<'a> {
 }
 
 impl Replay<'_> {
-    /// Whether a run was one without a fault.
+    /// Whether a run had no fault and a complete output.
     fn is_whole(&self, ran: &Ran) -> bool {
         ran.status == Status::Done && ran.note.is_empty() && self.outputs.contains(&ran.output)
     }
 
-    /// Whether a run ended with a write that failed, behind a part of an output.
+    /// Whether a run ended with a failed write, after a prefix of an output.
     fn is_front(&self, ran: &Ran) -> bool {
         let is_told = ran.note.as_slice() == b"write fault\n".as_slice();
         let is_front = self.outputs.iter().any(|whole| ran.output.len() < whole.len()
@@ -44,13 +44,14 @@ impl Replay<'_> {
     }
 }
 
-/// Whether a run ended with a read that failed, and nothing printed.
+/// Whether a run ended with a failed read, and printed nothing.
 fn is_unread(ran: &Ran) -> bool {
     let is_told = ran.note.as_slice() == b"read fault\n".as_slice();
     ran.status == Status::ReadFault && is_told && ran.output.is_empty()
 }
 
-/// Whether a replay, one read of which fails, is whole all the same. Else the read fails it.
+/// Whether a replay with this failed read succeeds, because the read isn't made. Otherwise the run
+/// must end with the failed read.
 fn is_read(rt: &impl Host, replay: &Replay, read: u64) -> bool {
     let failing = Failing { read, ..NO_FAULT };
     let ran = run_files(rt, replay.line, replay.files, MOST, failing);
@@ -59,7 +60,7 @@ fn is_read(rt: &impl Host, replay: &Replay, read: u64) -> bool {
     is_whole
 }
 
-/// The same of one write.
+/// The same for a failed write.
 fn is_written(rt: &impl Host, replay: &Replay, write: u64) -> bool {
     let failing = Failing { write, ..NO_FAULT };
     let ran = run_files(rt, replay.line, replay.files, MOST, failing);
@@ -68,7 +69,7 @@ fn is_written(rt: &impl Host, replay: &Replay, write: u64) -> bool {
     is_whole
 }
 
-/// How many reads there are, each of which fails the run where it fails.
+/// The number of reads. Each of them fails the run if it fails.
 fn reads_of(rt: &impl Host, replay: &Replay) -> u64 {
     for read in 0..NONE {
         if is_read(rt, replay, read) {
@@ -78,7 +79,7 @@ fn reads_of(rt: &impl Host, replay: &Replay) -> u64 {
     panic!(rt; "{}: each read fails", replay.line)
 }
 
-/// The same of its writes.
+/// The same for its writes.
 fn writes_of(rt: &impl Host, replay: &Replay) -> u64 {
     for write in 0..NONE {
         if is_written(rt, replay, write) {
@@ -88,7 +89,7 @@ fn writes_of(rt: &impl Host, replay: &Replay) -> u64 {
     panic!(rt; "{}: each write fails", replay.line)
 }
 
-/// So many calls are enough for these bytes.
+/// Checks that there were enough calls for these bytes.
 fn assert_enough(rt: &impl Host, line: &str, calls: u64, bytes: usize) {
     assert!(rt;
         (bytes / MOST) as u64 <= calls,
@@ -96,7 +97,7 @@ fn assert_enough(rt: &impl Host, line: &str, calls: u64, bytes: usize) {
     );
 }
 
-/// Each read and each write of a replay fails in turn, and then none does.
+/// Checks a replay in which each read and each write fails in turn, and then none.
 fn assert_each_call_fails(rt: &impl Host, line: &str, files: Files, outputs: &[Vec<u8>]) {
     let replay = Replay {
         line,
@@ -108,7 +109,7 @@ fn assert_each_call_fails(rt: &impl Host, line: &str, files: Files, outputs: &[V
     assert_enough(rt, line, writes_of(rt, &replay), printed);
 }
 
-/// What a command line prints where no call fails.
+/// The output of a command line if no call fails.
 fn printed(rt: &impl Host, line: &str, files: Files) -> Vec<u8> {
     run_files(rt, line, files, 65536, NO_FAULT).output
 }
@@ -118,7 +119,7 @@ fn one_output(rt: &impl Host, output: Vec<u8>) -> Vec<Vec<u8>> {
     vec![in rt.alloc(); output].expect(rt, "memory")
 }
 
-/// An output with each of the live lines in front.
+/// An output preceded by each possible live line.
 fn with_live_lines(rt: &impl Host, plain: &[u8]) -> Vec<Vec<u8>> {
     let mut outputs = Vec::new(rt.alloc());
     for live in &LIVE_LINES {
@@ -151,8 +152,8 @@ fn one_kill(rt: HostRuntime) {
     assert_each_call_fails(&rt, line, files, &one_output(&rt, whole));
 }
 
-/// The live line may be of the tick before, or of any of the changes since then, another one in
-/// each run.
+/// The live line may be that of the previous tick or of any change since then, and may differ
+/// between runs.
 #[test]
 fn one_live_line(rt: HostRuntime) {
     let files = trace_alone(ONE_PROCESSOR.as_bytes());

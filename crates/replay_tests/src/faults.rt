@@ -13,8 +13,8 @@ const REFUSED_IN_FRONT: &str = "psitrace 1 cpus=1\n5 fork 1 / 0\n4 end\n5 end\n"
 
 const BEHIND_THE_END: &str = "psitrace 1 cpus=1\n5 end\nxyz";
 
-/// `stall` prints nothing of this trace, and ends with this status and note, where this read of so
-/// many bytes fails.
+/// Checks that `stall` prints nothing, and ends with this status and note, if this read of at most
+/// `most` bytes fails.
 fn assert_unread(rt: &impl Host, trace: &str, most: usize, read: u64, status: Status, note: &str) {
     assert_prints_nothing(rt, "stall t", trace, most, read, status, note);
 }
@@ -25,9 +25,9 @@ fn reads_that_fail(rt: HostRuntime) {
     let told = "read fault\n";
     assert_unread(&rt, ONE_WAIT, 65536, 0, fault, told);
     assert_unread(&rt, ONE_WAIT, 1, 40, fault, told);
-    // The look behind the end fails.
+    // The read after the end fails.
     assert_unread(&rt, ONE_WAIT, 65536, 1, fault, told);
-    // A refused line that is held is told, though the next read would fail.
+    // A rejected line that was already read is reported, though the next read would fail.
     let back = Status::Trace {
         line: 3,
         cause: Cause::TimeBack,
@@ -40,7 +40,7 @@ fn reads_that_fail(rt: HostRuntime) {
         back,
         "trace line 3: TimeBack\n",
     );
-    // What stands behind the end is seen by its first byte: the read of the second one isn't made.
+    // Bytes after the end are detected by the first of them: the second one isn't read.
     let refused = Status::Trace {
         line: 3,
         cause: Cause::AfterEnd,
@@ -60,7 +60,7 @@ fn writes_that_fail(rt: HostRuntime) {
     for write in &[0, 1, 5] {
         assert_prints_front(&rt, "stall t", ONE_WAIT, 7, *write, SUMS);
     }
-    // A note that fails changes no status.
+    // A failed write of a note changes no status.
     let failing = Failing {
         read: 0,
         write: NONE,

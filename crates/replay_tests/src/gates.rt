@@ -1,4 +1,4 @@
-//! Threads that run at one time: a gate holds each of them until it has met another.
+//! Threads that run at the same time: a gate blocks each of them until another one has arrived.
 
 use crate::runs::{Host, assert_run, run_gated, run_open};
 use outside::Gate;
@@ -7,10 +7,10 @@ use replay_core::Status;
 use std::sync::atomic::AtomicBool;
 use std::sync::atomic::Ordering::SeqCst;
 
-/// How often a thread looks for another one before it gives up.
+/// How often a thread checks for another one before it gives up.
 const TURNS: u32 = 200_000_000;
 
-/// A task runs on the one processor, waits for IO for a second, and is ready to the end.
+/// A task runs on the one processor, waits for IO for a second, and is ready until the end.
 pub const ONE_PROCESSOR: &str = "psitrace 1 cpus=1\n\
     0 fork 1 / 0\n\
     0 switch 0 1 idle\n\
@@ -18,7 +18,7 @@ pub const ONE_PROCESSOR: &str = "psitrace 1 cpus=1\n\
     1500000000 wake 1 0\n\
     2000000000 end\n";
 
-/// What a live line may say of it, by how many of its changes were made.
+/// The possible live lines, by the number of changes made.
 pub const LIVE_LINES: [&str; 5] = [
     "live 2000000000 cpu=0 count=0 0 0 0 0 0 0 0",
     "live 2000000000 cpu=0 count=1 0 0 0 0 2000000000 2000000000 2000000000",
@@ -49,7 +49,7 @@ const REPORTED: &str = "report 2000000000 / io\n\
     full avg10=0.00 avg60=0.00 avg300=0.00 total=0\n\
     end 2000000000 ticks=1 events=0 kills=0\n";
 
-/// A gate at which the first change of processor 0 and that of processor 1 wait for one another.
+/// A gate at which the first changes of processors 0 and 1 wait for each other.
 #[derive(Drop)]
 struct Meeting {
     first: AtomicBool,
@@ -57,7 +57,7 @@ struct Meeting {
     is_missed: AtomicBool,
 }
 
-/// Waits until another thread has come, and tells of it where it didn't.
+/// Waits until another thread has arrived, and records it if none did.
 fn wait_for(other: &AtomicBool, is_missed: &AtomicBool) {
     for _ in 0..TURNS {
         if other.load(SeqCst) {
@@ -99,8 +99,8 @@ fn workers_meet(rt: HostRuntime) {
     assert!(rt; !gate.is_missed.load(SeqCst), "a worker waited in vain");
 }
 
-/// A gate at which a change of a processor and the first sample there wait for one another: the
-/// sample is taken once the change is made, and the next change is made once it is taken.
+/// A gate at which a change of a processor and the first sample there wait for each other: the
+/// sample is taken once the change is made, and the next change is made once the sample is taken.
 #[derive(Drop)]
 struct Between {
     cpu: Cpu,
@@ -143,15 +143,15 @@ impl Gate for Between {
     }
 }
 
-/// The line with a number from 0.
+/// Line number `number`, from 0.
 fn line_of(text: &[u8], number: usize) -> &[u8] {
     text.split(|byte| *byte == b'\n')
         .nth(number)
         .unwrap_or(b"".as_slice())
 }
 
-/// A command line over a trace prints this line at this place, where the first sample of a
-/// processor is taken behind so many of its changes.
+/// Checks that a command line prints this line at this place, if the first sample of a processor is
+/// taken after this number of its changes.
 fn assert_samples_between(
     rt: &impl Host,
     line: &str,
@@ -187,14 +187,14 @@ fn samples_while_workers_run(rt: HostRuntime) {
     }
 }
 
-/// The place of a line among those that a live line may be, from one on.
+/// The index of a line among the possible live lines, searched from `from`.
 fn place_from(line: &[u8], from: usize) -> Option<usize> {
     let place = LIVE_LINES.iter().position(|live| live.as_bytes() == line)?;
     if place < from { None } else { Some(place) }
 }
 
-/// Whether an output begins with so many live lines, none of which is of fewer changes than the one
-/// before, and ends as another output does.
+/// Whether an output begins with `count` live lines, whose numbers of changes never fall, and the
+/// rest is `end`.
 fn begins_live(output: &[u8], count: usize, end: &[u8]) -> bool {
     let mut from = 0;
     for number in 0..count {
@@ -206,7 +206,7 @@ fn begins_live(output: &[u8], count: usize, end: &[u8]) -> bool {
     output.ends_with(end) && line_of(output, count) == line_of(end, 0)
 }
 
-/// A command line prints so many live lines in front of what is printed without them.
+/// Checks that a command line prints `count` live lines before what is printed without them.
 fn assert_begins_live(rt: &impl Host, line: &str, count: usize, plain: &[u8]) {
     let ran = run_open(rt, line, ONE_PROCESSOR);
     assert!(rt; begins_live(&ran.output, count, plain), "{line}, {ran}");

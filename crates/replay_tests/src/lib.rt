@@ -1,6 +1,8 @@
-//! Tests of the top call over shelves and sinks in memory: traces and outputs in pieces, words,
-//! faults at each call, traces that are cut anywhere, traces at their limits, gates that hold
-//! threads or count, drop-in files over rules, and traces without the victims of kills.
+//! Tests of the top call with files and sinks in memory: traces and outputs in pieces, words,
+//! faults at each call, traces truncated at any byte, traces at their limits, gates that block
+//! threads or count, drop-in files, and traces without the victims of kills.
+//!
+//! Real files and processes aren't used here: they are tested with the built program.
 #![tactic(auto)]
 
 #[cfg(test)]

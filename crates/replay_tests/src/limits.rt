@@ -1,5 +1,5 @@
-//! Traces at their limits, and one beyond. The limits of event lines stand with the cases of the
-//! built program, those of a rules file in rule_tests.
+//! Traces at their limits, and one beyond. The limits of event lines are tested with the built
+//! program, those of a rules file in rule_tests.
 
 use crate::runs::{Host, assert_prints, assert_refused};
 use psi_base::Cause;
@@ -17,7 +17,7 @@ fn text_of(rt: &impl Host, front: &str) -> String {
     String::from_str(rt.alloc(), front).expect(rt, "memory")
 }
 
-/// A piece so many times behind a text.
+/// A text followed by a piece `times` times.
 fn repeated(rt: &impl Host, front: &str, piece: &str, times: usize) -> String {
     let mut text = text_of(rt, front);
     for _ in 0..times {
@@ -26,13 +26,13 @@ fn repeated(rt: &impl Host, front: &str, piece: &str, times: usize) -> String {
     text
 }
 
-/// `check` accepts these lines with an end behind them, and prints this.
+/// Checks that `check` accepts these lines, followed by an end, and prints this.
 fn assert_accepted(rt: &impl Host, lines: &str, told: &str) {
     let trace = repeated(rt, lines, "0 end\n", 1);
     assert_prints(rt, "check t", &trace, 65536, told);
 }
 
-/// `check` refuses these lines at this one for this cause.
+/// Checks that `check` rejects these lines at this one with this cause.
 fn assert_line_refused(rt: &impl Host, lines: &str, number: u32, cause: Cause, name: &str) {
     assert_refused(rt, "check t", lines.as_bytes(), number, cause, name);
 }

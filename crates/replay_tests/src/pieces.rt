@@ -1,18 +1,18 @@
-//! Accepted traces, which come and whose output goes in pieces.
+//! Accepted traces that are read, and whose output is written, in pieces.
 
 use crate::runs::{Host, assert_prints};
 use std::process::Abort;
 
-/// Traces, and behind each what `stall` and `check` print of it. No task; a wait for IO without
-/// end; one that ends early; two tasks, of which one waits. Then:
+/// Traces, each followed by the output of `stall` and `check`. The first have no task; a wait for
+/// IO that doesn't end; a wait that ends early; two tasks, one of them waiting. Then:
 ///
-/// - one of two running tasks is in a stall, and it is the one that runs: memory is full by it
-///   alone;
+/// - one of two ready or running tasks is in a stall, and it is the running one: memory is full
+///   because of it alone;
 /// - a task waits on one processor and wakes on another;
 /// - the running one of two tasks moves up to the root, and the ready one migrates to another
 ///   processor;
-/// - a group is removed and made again, and a waiting task moves into the new one;
-/// - two tasks of two groups on one processor: the one that is ready sees the processor taken, its
+/// - a group is removed and created again, and a waiting task moves into the new one;
+/// - two tasks of two groups on one processor: the ready one finds the processor busy, its
 ///   group doesn't run, and the root's one running task keeps the root's processor from being full;
 /// - groups are printed in the byte order of their paths, and removed ones aren't.
 const TRACES: &str = "psitrace 1 cpus=1\n\
@@ -120,13 +120,13 @@ const TRACES: &str = "psitrace 1 cpus=1\n\
     stall cpu=0 /b 0 0 0 0 0 0 0\n|\
     ok lines=12 events=11 end=7\n";
 
-/// A part of a row, and the row behind it.
+/// A part of a row, and the rest of the row.
 fn part_of<'a>(rt: &impl Abort, row: &'a str) -> (&'a str, &'a str) {
     row.split_once('|').expect(rt, "a trace and two outputs")
 }
 
-/// Both commands print what stands behind the trace, where the shelf and the sinks move so many
-/// bytes a call.
+/// Checks that both commands print what follows the trace, if the shelf and the sinks move at most
+/// `most` bytes a call.
 fn assert_row(rt: &impl Host, row: &str, most: usize) {
     let (trace, outputs) = part_of(rt, row);
     let (sums, line) = part_of(rt, outputs);

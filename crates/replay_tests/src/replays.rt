@@ -1,10 +1,10 @@
-//! A replay whose trace comes, and whose output goes, byte by byte, and each of whose calls fails
-//! in turn.
+//! A replay whose trace is read, and whose output is written, byte by byte; each call fails in
+//! turn.
 
 use crate::runs::{ONE_WAIT, assert_prints, assert_prints_front, assert_prints_nothing};
 use replay_core::Status;
 
-/// The one tick of the trace, which ends with it.
+/// The one tick of the trace, at its end.
 pub const REPLAYED: &str = "report 2000000000 / io\n\
     some avg10=18.11 avg60=3.27 avg300=0.68 total=2000000\n\
     full avg10=18.11 avg60=3.27 avg300=0.68 total=2000000\n\
@@ -16,10 +16,10 @@ pub const REPLAYED: &str = "report 2000000000 / io\n\
     full avg10=0.00 avg60=0.00 avg300=0.00 total=0\n\
     end 2000000000 ticks=1 events=0 kills=0\n";
 
-/// How many calls of the shelf there are: one for each byte of the trace, and the look behind it.
+/// The number of reads: one for each byte of the trace, and one after the end.
 const READS: u64 = 85;
 
-/// How many calls of the sink there are: one for each byte of the output.
+/// The number of writes: one for each byte of the output.
 const WRITES: u64 = 410;
 
 #[test]

@@ -1,5 +1,5 @@
-//! Running words over one trace, and at most one rules file and one drop-in file, in memory, and
-//! what is asserted of a run. Want of memory ends a test.
+//! Runs words with one trace, and at most one rules file and one drop-in file, in memory, with
+//! assertions about a run. A test ends if memory runs out.
 
 use outside::{Gate, OpenGate};
 use outside_fakes::{MemShelf, MemSink};
@@ -9,7 +9,7 @@ use std::fmt;
 use std::process::Abort;
 use std::thread::Threads;
 
-/// Which call of the shelf, the output and the note fails, counted from 0. One far off fails none.
+/// Which call of the shelf, the output and the note fails, counted from 0. `NONE` fails none.
 #[derive(Clone, Copy, Debug)]
 pub struct Failing {
     pub read: u64,
@@ -27,23 +27,23 @@ pub const NO_FAULT: Failing = Failing {
     note: NONE,
 };
 
-/// How many bytes there is room for in each sink.
+/// The capacity (bytes) of each sink.
 const ROOM: usize = 4096;
 
-/// A trace of one task that waits for IO to the end.
+/// A trace of one task that waits for IO until the end.
 pub const ONE_WAIT: &str = "psitrace 1 cpus=1\n\
     0 fork 1 / 0\n\
     0 switch 0 1 idle\n\
     0 switch 0 0 iowait\n\
     2000000000 end\n";
 
-/// What a test is given: threads, memory, and a way to end it.
+/// What a test needs: threads, memory, and a way to abort.
 pub trait Host: Threads + AllocGlobal + Sync + Abort {}
 
 impl<R: Threads + AllocGlobal + Sync + Abort> Host for R {}
 
-/// What a run gave: its status, its output and its note. And how it was made, for messages: how
-/// long the trace is, and how many bytes a call moves at most.
+/// The results of a run: its status, output and note. For messages, also the length of the trace
+/// and the maximal number of bytes of a call.
 #[derive(Drop)]
 pub struct Ran {
     pub status: Status,
@@ -54,7 +54,7 @@ pub struct Ran {
     failing: Failing,
 }
 
-/// Bytes as a message shows them.
+/// Bytes as they are shown in a message.
 fn shown(bytes: &[u8]) -> &str {
     str::from_utf8(bytes).unwrap_or("no text")
 }
@@ -71,8 +71,8 @@ impl fmt::Display for Ran {
     }
 }
 
-/// What the shelf holds: a trace by the name `t`, rules by the name `r`, and a drop-in file over
-/// them by the name `d`.
+/// The files of the shelf: a trace with the name `t`, rules with the name `r`, and a drop-in file
+/// with the name `d`.
 #[derive(Clone, Copy)]
 pub struct Files<'a> {
     pub trace: &'a [u8],
@@ -80,7 +80,7 @@ pub struct Files<'a> {
     pub drop_in: &'a str,
 }
 
-/// A trace, with no rules and nothing over them.
+/// A trace, without rules and drop-in file.
 pub fn trace_alone(trace: &[u8]) -> Files<'_> {
     Files {
         trace,
@@ -89,7 +89,7 @@ pub fn trace_alone(trace: &[u8]) -> Files<'_> {
     }
 }
 
-/// The words of a command line, parted at spaces.
+/// The words of a command line, split at spaces.
 fn words_of(rt: &impl Host, line: &str) -> Vec<String> {
     let mut words = Vec::new(rt.alloc());
     for word in line.split(' ') {
@@ -111,7 +111,7 @@ fn call_of(rt: &impl Host, call: u64) -> Vec<u64> {
     vec![in rt.alloc(); call].expect(rt, "memory")
 }
 
-/// A shelf that gives at most so many bytes a call.
+/// A shelf that returns at most `most` bytes a call.
 fn shelf_of(rt: &impl Host, files: Files, most: usize, failing: Failing) -> MemShelf {
     let held = vec![in rt.alloc();
         file_of(rt, "t", files.trace),
@@ -122,14 +122,14 @@ fn shelf_of(rt: &impl Host, files: Files, most: usize, failing: Failing) -> MemS
     MemShelf::new(held, most.max(1), call_of(rt, failing.read))
 }
 
-/// A sink that takes at most so many bytes a call, one of which fails.
+/// A sink that accepts at most `most` bytes a call; one call fails.
 fn sink_of(rt: &impl Host, most: usize, call: u64) -> MemSink {
     let sink = MemSink::new(rt.alloc(), ROOM, most.max(1), call_of(rt, call));
     sink.expect(rt, "memory")
 }
 
-/// Runs a command line over a shelf, where some calls fail, and threads are held by a gate. The
-/// shelf and both sinks move at most so many bytes a call.
+/// Runs a command line with a shelf, with some failing calls and with a gate that may block
+/// threads. The shelf and both sinks move at most `most` bytes a call.
 fn run_over(
     rt: &impl Host,
     line: &str,
@@ -161,13 +161,13 @@ fn run_over(
     }
 }
 
-/// Runs a command line over these files, where some calls fail.
+/// Runs a command line with these files and some failing calls.
 pub fn run_files(rt: &impl Host, line: &str, files: Files, most: usize, failing: Failing) -> Ran {
     run_over(rt, line, files, most, failing, &OpenGate)
 }
 
-/// Runs a command line over this trace and no rules, where no call fails, and threads are held by a
-/// gate.
+/// Runs a command line with this trace, without rules and failing calls, with a gate that may block
+/// threads.
 pub fn run_gated(rt: &impl Host, line: &str, trace: &str, gate: &impl Gate) -> Ran {
     run_over(
         rt,
@@ -179,17 +179,17 @@ pub fn run_gated(rt: &impl Host, line: &str, trace: &str, gate: &impl Gate) -> R
     )
 }
 
-/// Runs a command line over this trace and no rules, where no call fails.
+/// Runs a command line with this trace, without rules and failing calls.
 pub fn run_open(rt: &impl Host, line: &str, trace: &str) -> Ran {
     run_gated(rt, line, trace, &OpenGate)
 }
 
-/// Runs a command line over this trace and no rules, where some calls fail.
+/// Runs a command line with this trace, without rules, with some failing calls.
 pub fn run_trace(rt: &impl Host, line: &str, trace: &str, most: usize, failing: Failing) -> Ran {
     run_files(rt, line, trace_alone(trace.as_bytes()), most, failing)
 }
 
-/// A run ended with this status, output and note.
+/// Checks the status, output and note of a run.
 pub fn assert_run(
     rt: &impl Abort,
     line: &str,
@@ -207,14 +207,14 @@ pub fn assert_run(
     );
 }
 
-/// A command line over this trace prints this output, where no call fails.
+/// Checks that a command line prints this output for this trace, if no call fails.
 pub fn assert_prints(rt: &impl Host, line: &str, trace: &str, most: usize, output: &str) {
     let ran = run_trace(rt, line, trace, most, NO_FAULT);
     assert_run(rt, line, &ran, Status::Done, output, "");
 }
 
-/// A command line over this trace ends with this status and note, and prints nothing, where this
-/// call of the shelf fails.
+/// Checks that a command line ends with this status and note, and prints nothing, if this call of
+/// the shelf fails.
 pub fn assert_prints_nothing(
     rt: &impl Host,
     line: &str,
@@ -228,7 +228,7 @@ pub fn assert_prints_nothing(
     assert_run(rt, line, &ran, status, "", note);
 }
 
-/// A command line over this trace prints a front of this output, where this call of the sink fails.
+/// Checks that a command line prints a prefix of this output, if this call of the sink fails.
 pub fn assert_prints_front(
     rt: &impl Host,
     line: &str,
@@ -244,7 +244,8 @@ pub fn assert_prints_front(
     assert!(rt; is_right, "{line}, {ran} in place of a front of {output:?}");
 }
 
-/// A command line over this trace is refused at this line for this cause, which the note names so.
+/// Checks that this trace is rejected at this line with this cause, and that the note names the
+/// cause.
 pub fn assert_refused(
     rt: &impl Host,
     line: &str,

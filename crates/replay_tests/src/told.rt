@@ -1,4 +1,4 @@
-//! What a gate is told: each change once with its number, and two calls for each sample.
+//! The calls of a gate: one for each change with its number, and two for each sample.
 
 use crate::runs::{Host, Ran, run_gated};
 use outside::Gate;
@@ -7,8 +7,7 @@ use replay_core::Status;
 use std::sync::atomic::Ordering::SeqCst;
 use std::sync::atomic::{AtomicBool, AtomicU64};
 
-/// Three ticks of two processors, at each of which the root is live. In the second interval nothing
-/// changes.
+/// Three ticks of two processors; the root is live at each. In the second interval nothing changes.
 const THREE_TICKS: &str = "psitrace 1 cpus=2\n\
     0 fork 1 / 0\n\
     0 fork 2 / 1\n\
@@ -20,22 +19,22 @@ const THREE_TICKS: &str = "psitrace 1 cpus=2\n\
     5000000000 switch 1 0 sleep\n\
     6000000000 end\n";
 
-/// How many changes each of its processors has.
+/// The number of changes of each of its processors.
 const CHANGES: [u64; 2] = [5, 3];
 
-/// Room for the samples of a processor.
+/// Capacity for the samples of a processor.
 const ROOM: usize = 16;
 
-/// What a gate was told of a processor.
+/// The calls of a gate for a processor.
 #[derive(Drop)]
 struct Told {
-    /// How many changes.
+    /// The number of changes.
     moved: AtomicU64,
-    /// How many samples, before each.
+    /// The number of calls before a sample.
     asked: AtomicU64,
-    /// How many samples, once each was taken.
+    /// The number of calls after a sample.
     sampled: AtomicU64,
-    /// After how many changes each sample was.
+    /// The number of changes before each sample.
     counts: Vec<AtomicU64>,
 }
 
@@ -53,17 +52,17 @@ impl Told {
         }
     }
 
-    /// After how many changes the sample with this number was.
+    /// The number of changes before sample number `number`.
     fn count_at(&self, number: usize) -> Option<u64> {
         self.counts.get(number).map(|count| count.load(SeqCst))
     }
 }
 
-/// A gate that counts its calls by processor, and notes where one doesn't have the next number.
+/// A gate that counts its calls by processor, and records whether a call has an unexpected number.
 #[derive(Drop)]
 struct Counting {
     told: Vec<Told>,
-    /// How many samples of a processor an interval has.
+    /// The number of samples of a processor in an interval.
     each: u64,
     is_wrong: AtomicBool,
 }
@@ -78,7 +77,7 @@ impl Counting {
         }
     }
 
-    /// Notes whether a call was as it must be.
+    /// Records whether a call was as expected.
     fn note(&self, is_right: Option<bool>) {
         if is_right != Some(true) {
             self.is_wrong.store(true, SeqCst);
@@ -92,7 +91,7 @@ impl Counting {
         Some(before < count && count - before == 1)
     }
 
-    /// Whether a sample of a processor is the next one of its interval, and the one before was
+    /// Whether a sample of a processor is the next one of its interval, and the previous one was
     /// taken.
     fn is_next_sample(&self, cpu: Cpu, index: u32) -> Option<bool> {
         let told = self.told.get(cpu.0 as usize)?;
@@ -101,7 +100,7 @@ impl Counting {
         Some(place == u64::from(index) && told.sampled.load(SeqCst) == before)
     }
 
-    /// Whether a sample was asked for before it was taken, after so many changes.
+    /// Whether the gate was called before this sample, which was taken after `count` changes.
     fn is_asked(&self, cpu: Cpu, count: u64) -> Option<bool> {
         let told = self.told.get(cpu.0 as usize)?;
         let before = told.sampled.fetch_add(1, SeqCst);
@@ -125,7 +124,7 @@ impl Gate for Counting {
     }
 }
 
-/// The count in a line, where it is a live line of a processor.
+/// The count in a live line of a processor. `None` for another line.
 fn live_count(line: &[u8], cpu: u8) -> Option<u64> {
     let rest = line.strip_prefix(b"live ")?;
     let mut words = rest.split(|byte| *byte == b' ').skip(1);
@@ -136,8 +135,8 @@ fn live_count(line: &[u8], cpu: u8) -> Option<u64> {
     read_number(words.next()?.strip_prefix(b"count=")?)
 }
 
-/// Whether the live lines of a processor are so many, each after as many changes as the gate was
-/// told of its sample.
+/// Whether a processor has `samples` live lines, each with the number of changes that the gate
+/// received for its sample.
 fn are_lines(ran: &Ran, cpu: u8, told: &Told, samples: usize) -> bool {
     let lines = ran.output.split(|byte| *byte == b'\n');
     let live = lines.filter_map(|line| live_count(line, cpu)).count();
@@ -151,7 +150,7 @@ fn are_lines(ran: &Ran, cpu: u8, told: &Told, samples: usize) -> bool {
             .all(|(number, count)| told.count_at(number) == Some(count))
 }
 
-/// Whether a run told its gate of all changes and of so many samples of each processor.
+/// Whether the gate of a run received all changes and `samples` samples of each processor.
 fn is_told(ran: &Ran, gate: &Counting, samples: usize) -> bool {
     ran.status == Status::Done
         && !gate.is_wrong.load(SeqCst)
@@ -161,15 +160,15 @@ fn is_told(ran: &Ran, gate: &Counting, samples: usize) -> bool {
         })
 }
 
-/// A command line tells its gate of each change, and of so many samples of each processor, of which
-/// an interval has these.
+/// Checks that the gate of a command line receives each change, and `samples` samples of each
+/// processor, with `each` an interval.
 fn assert_told(rt: &impl Host, line: &str, each: u64, samples: usize) {
     let gate = Counting::new(rt, each);
     let ran = run_gated(rt, line, THREE_TICKS, &gate);
     assert!(rt; is_told(&ran, &gate, samples), "{line}, {ran}");
 }
 
-// Whatever the number of workers is.
+// For any number of workers.
 #[test]
 fn each_change_once(rt: HostRuntime) {
     assert_told(&rt, "replay t", 1, 0);

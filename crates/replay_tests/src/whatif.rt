@@ -5,8 +5,8 @@ use replay_core::Status;
 
 const WHATIF: &str = "whatif t --rules r --tick-ms 1000 --report-s 0";
 
-/// Any group under `/s` is killed at each evaluation, but that the ruleset rests for 15 s: the one
-/// that has most memory, and of two the first by path.
+/// Any group under `/s` is killed at each evaluation, with a post-action delay of 15 s for the
+/// ruleset: the group with most memory, and of two equal ones the first by path.
 const KILLS: &str =
     r#"{"rulesets":[{"name":"r","detectors":[["g",{"name":"exists","args":{"cgroup":"s/*"}}]],"actions":[{"name":"kill_by_memory_size_or_growth","args":{"cgroup":"s/*"}}]}]}"#;
 
@@ -30,7 +30,7 @@ const TWO: &str = "psitrace 1 cpus=1\n\
     0 fork 2 /s/b 0\n\
     36000000000 end\n";
 
-/// The victim forks one more task behind its kill, which lives on, and may be killed.
+/// The victim forks one more task after its kill. This task stays live, and may be killed.
 const LATER: &str = "psitrace 1 cpus=1\n\
     0 group /s\n\
     0 group /s/a\n\
@@ -47,7 +47,7 @@ const AT_END: &str = "psitrace 1 cpus=1\n\
     0 fork 1 /s/a 0\n\
     5000000000 end\n";
 
-/// Runs a command line over a trace with rules, where some calls fail.
+/// Runs a command line with a trace and rules and some failing calls.
 fn run_over(rt: &impl Host, line: &str, trace: &str, rules: &str, failing: Failing) -> Ran {
     let files = Files {
         trace: trace.as_bytes(),
@@ -57,8 +57,7 @@ fn run_over(rt: &impl Host, line: &str, trace: &str, rules: &str, failing: Faili
     run_files(rt, line, files, 65536, failing)
 }
 
-/// Whether an output begins with these lines of kills, has no more of them, and ends with this
-/// line.
+/// Whether an output begins with exactly these lines of kills, and ends with this line.
 fn has_kills(output: &[u8], kills: &str, end: &str) -> bool {
     let others = output.strip_prefix(kills.as_bytes());
     let others = others.and_then(|others| str::from_utf8(others).ok());
@@ -67,7 +66,7 @@ fn has_kills(output: &[u8], kills: &str, end: &str) -> bool {
     no_more && output.ends_with(end.as_bytes())
 }
 
-/// `whatif` prints these lines of kills and the last line, and else the report of the last tick.
+/// Checks that `whatif` prints these lines of kills, the report of the last tick and the last line.
 fn assert_tells(rt: &impl Host, trace: &str, rules: &str, kills: &str, end: &str) {
     let ran = run_over(rt, WHATIF, trace, rules, NO_FAULT);
     let is_done = ran.status == Status::Done && ran.note.is_empty();
@@ -126,7 +125,7 @@ fn as_replay_without_kills(rt: HostRuntime) {
     assert!(rt; !ran.output.is_empty() && ran.output.as_slice() == wanted.output.as_slice());
 }
 
-/// `whatif` prints nothing where a call fails, and ends with this status and note.
+/// Checks that `whatif` prints nothing if a call fails, and ends with this status and note.
 fn assert_fault(rt: &impl Host, failing: Failing, status: Status, note: &str) {
     let ran = run_over(rt, WHATIF, ONE, KILLS, failing);
     assert_run(rt, WHATIF, &ran, status, "", note);

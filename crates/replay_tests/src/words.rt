@@ -1,4 +1,4 @@
-//! Words that are no command, names that aren't held, and statuses.
+//! Words that are no command, missing files, and statuses.
 
 use crate::runs::{Host, NONE, ONE_WAIT, assert_prints_nothing};
 use dropin_rules::{DropCause, DropFault};
@@ -13,12 +13,12 @@ const NO_FILE: Status = Status::NoFile {
     which: Which::TraceFile,
 };
 
-/// A command line prints nothing, and ends with this status and note.
+/// Checks that a command line prints nothing, and ends with this status and note.
 fn assert_told(rt: &impl Host, line: &str, status: Status, note: &str) {
     assert_prints_nothing(rt, line, ONE_WAIT, 7, NONE, status, note);
 }
 
-// The shelf in memory holds nothing by the names `u` and `-`.
+// The shelf in memory has no files with the names `u` and `-`.
 #[test]
 fn words_and_names(rt: HostRuntime) {
     let usage =
@@ -29,7 +29,7 @@ fn words_and_names(rt: HostRuntime) {
     assert_told(&rt, "stall -", NO_FILE, "no file: -\n");
 }
 
-// Want of memory, as a growth that is always refused gives it.
+// An out-of-memory failure, as returned by an allocation that always fails.
 fn wanting(rt: &impl Abort, alloc: Global) -> NoMemory {
     match Vec::<u8>::with_capacity(alloc, usize::MAX) {
         Ok(_) => panic!(rt; "there is room for all bytes that can be named"),
