@@ -1,4 +1,4 @@
-//! What a test must see before it calls a reading or asks for a victim, and of what it got.
+//! Checks before a test takes a reading or asks for a victim, and checks of results.
 
 ghost use Rattle.std.specs.Prelude.{◌≡◌, ◌<◌, ◌≤◌, All, length, true};
 ghost use Rattle.pressure_spec.specs.Within.{IsRow};
@@ -12,20 +12,20 @@ use ruleset_json::{Action, After, Size};
 use std::fmt::Display;
 use std::process::Abort;
 
-/// The most bytes and scans that a sample tells (2^60).
+/// The maximal number of bytes and scans in a sample (2^60).
 pub const MOST: u64 = 1 << 60;
 
 /// The greatest average, 100 percent.
 const WHOLE: u64 = 204_800;
 
-/// A sample of the host is in its ranges.
+/// Whether a sample of the host is in range.
 pub fn is_host(host: &HostReading) -> bool
     ensures { result ≡ true → IsHostReading host.now }
 {
     host.mem_total <= MOST && host.swap_total <= MOST && host.swap_free <= MOST
 }
 
-/// A row of averages is.
+/// Whether a row of averages is in range.
 fn is_row(row: &[u64; 3]) -> bool
     ensures { result ≡ true → IsRow row.now }
 {
@@ -37,7 +37,7 @@ fn is_row(row: &[u64; 3]) -> bool
     true
 }
 
-/// All rows are.
+/// Whether all rows are in range.
 fn are_rows(rows: &[[u64; 3]]) -> bool
     ensures { result ≡ true → All IsRow rows.now }
 {
@@ -49,7 +49,7 @@ fn are_rows(rows: &[[u64; 3]]) -> bool
     true
 }
 
-/// A group is, of so many.
+/// Whether a group is in range, with its slot below `slots`.
 pub fn is_group(group: &GroupReading, slots: usize) -> bool
     ensures { result ≡ true → IsGroupReading slots group.now }
 {
@@ -57,7 +57,7 @@ pub fn is_group(group: &GroupReading, slots: usize) -> bool
     (group.slot.0 as usize) < slots && is_small && are_rows(&group.averages)
 }
 
-/// A group's path comes after those of a reading.
+/// Whether a group's path comes after those of a reading.
 pub fn comes_last(reading: &Reading, group: &GroupReading) -> bool
     requires { group.now.slot.0 < length reading.now.lives }
     ensures { result ≡ true → ComesLast reading.now group.now }
@@ -93,7 +93,7 @@ fn is_time(after: &After) -> bool
     after.delay_s <= 1_000_000
 }
 
-/// An action's arguments are in their ranges.
+/// Whether an action's arguments are in range.
 pub fn is_action(action: &Action) -> bool
     ensures { result ≡ true → FitsAction action.now }
 {
@@ -119,7 +119,7 @@ pub fn is_action(action: &Action) -> bool
     }
 }
 
-/// The text is the one that is wanted, in this case.
+/// Checks that the text is the expected one in this case.
 pub fn is_text(rt: &impl Abort, found: &str, wanted: &str, case: impl Display + Drop) {
     assert_eq!(rt; found, wanted, "at {case}");
 }

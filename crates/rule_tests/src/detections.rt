@@ -1,5 +1,5 @@
-//! Detectors over rows of readings, each with what is wanted. The numbers are from the rules of
-//! detectors.
+//! Detectors with rows of readings, each with the expected answer. The numbers follow from the
+//! rules of detectors.
 
 use crate::checks::MOST;
 use crate::readings::{NO_HOST, SECOND, bare_group, life, scanned, using};
@@ -12,8 +12,8 @@ use ruleset_json::{DetectorSpec, Size};
 use std::alloc::Global;
 use std::process::Abort;
 
-/// A reading as a test has it: its moment (s), the host, the groups, and whether the detector is
-/// true at it.
+/// A reading as tests write it: its time (s), the host, the groups, and whether the detector is
+/// true.
 #[derive(Clone, Copy)]
 struct Case {
     at_s: u32,
@@ -22,14 +22,14 @@ struct Case {
     is_true: bool,
 }
 
-/// A group with pressure of IO over 10 s and over 60 s.
+/// A group with IO pressure over 10 s and over 60 s.
 fn pressed(slot: u32, ten: u64, sixty: u64) -> Option<GroupReading> {
     let mut group = bare_group(slot);
     group.averages[State::IoFull as usize] = [ten, sixty, 0];
     Some(group)
 }
 
-/// A reading of groups, of a host of which nothing was told.
+/// A reading of groups, without a sample of the host.
 fn row(at_s: u32, groups: [Option<GroupReading>; 2], is_true: bool) -> Case {
     Case {
         at_s,
@@ -39,7 +39,8 @@ fn row(at_s: u32, groups: [Option<GroupReading>; 2], is_true: bool) -> Case {
     }
 }
 
-/// A reading of a host with so much memory (bytes), and of one group that uses so much.
+/// A reading of a host with `mem_total` bytes of memory, and of one group that uses `current`
+/// bytes.
 fn filled(at_s: u32, mem_total: u64, current: u64, is_true: bool) -> Case {
     let host = HostReading {
         mem_total,
@@ -54,7 +55,7 @@ fn filled(at_s: u32, mem_total: u64, current: u64, is_true: bool) -> Case {
     }
 }
 
-/// A reading of a host with so much swap, of which so much is free (bytes).
+/// A reading of a host with `swap_total` bytes of swap, `swap_free` of them free.
 fn swapped(at_s: u32, swap_total: u64, swap_free: u64, is_true: bool) -> Case {
     let host = HostReading {
         mem_total: 0,
@@ -69,7 +70,7 @@ fn swapped(at_s: u32, swap_total: u64, swap_free: u64, is_true: bool) -> Case {
     }
 }
 
-/// Four groups: the root, two below it, and one below the first of them.
+/// Four groups: the root, two children of it, and a child of the first of them.
 fn groups(rt: &impl Abort, alloc: Global) -> [GroupLife; 4] {
     [
         life(rt, alloc, "/", None),
@@ -84,7 +85,7 @@ fn patterns(rt: &impl Abort, alloc: Global, text: &str) -> Patterns {
     Patterns::read(alloc, text).expect(rt, text)
 }
 
-/// A detector answers at each row what is wanted.
+/// Checks a detector's answer at each row.
 fn answers(rt: &impl Abort, alloc: Global, spec: &DetectorSpec, rows: &[Case]) {
     let mut rig = Rig::make(rt, alloc, &groups(rt, alloc));
     let detector = Detector::new(alloc, spec, rig.reading.lives().len() as u32);
@@ -100,7 +101,7 @@ fn answers(rt: &impl Abort, alloc: Global, spec: &DetectorSpec, rows: &[Case]) {
     }
 }
 
-// Pressure over 10 s is above 40 percent, 81920, for so many seconds.
+// Pressure over 10 s is above 40 percent, 81920, for `duration_s` seconds.
 fn pressure_above(rt: &impl Abort, alloc: Global, text: &str, duration_s: u32) -> DetectorSpec {
     DetectorSpec::PressureAbove {
         cgroup: patterns(rt, alloc, text),
@@ -110,8 +111,8 @@ fn pressure_above(rt: &impl Abort, alloc: Global, text: &str, duration_s: u32) -
     }
 }
 
-// Pressure over 60 s is above 40 percent for so many seconds, and that over 10 s is still 0.85 of
-// the last one.
+// Pressure over 60 s is above 40 percent for `duration_s` seconds, and pressure over 10 s is at
+// least 0.85 of its previous value.
 fn pressure_rising(rt: &impl Abort, alloc: Global, text: &str, duration_s: u32) -> DetectorSpec {
     DetectorSpec::PressureRisingBeyond {
         cgroup: patterns(rt, alloc, text),

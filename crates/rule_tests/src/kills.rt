@@ -1,5 +1,5 @@
-//! Rules over rows of readings, each with the kills that are wanted. What is wanted follows from
-//! the rules of chains and of rests.
+//! Rules with rows of readings, each with the expected kills. These follow from the rules of chains
+//! and of post-action delays.
 
 use crate::checks::is_text;
 use crate::readings::{NO_HOST, SECOND, life, using};
@@ -13,12 +13,11 @@ use ruleset_json::{Rules, read};
 use std::alloc::Global;
 use std::process::Abort;
 
-/// A reading as a test has it, five seconds after the one before: the memory (bytes) of the group
-/// `/a`, if it is live, and the kills that are wanted, each as moment (s), ruleset, action and
-/// slot.
+/// A reading as tests write it, five seconds after the previous one: the memory (bytes) of the
+/// group `/a`, if it is live, and the expected kills, each as time (s), ruleset, action and slot.
 type Case = (Option<u64>, &'static str);
 
-/// The root and a group below it.
+/// The root and a child of it.
 fn groups(rt: &impl Abort, alloc: Global) -> [GroupLife; 2] {
     [life(rt, alloc, "/", None), life(rt, alloc, "/a", None)]
 }
@@ -29,7 +28,7 @@ fn rules(rt: &impl Abort, alloc: Global, text: &str) -> Rules {
     read(alloc, text.as_bytes()).expect(rt, "rules")
 }
 
-/// The group `/a` with so much memory, if it is live.
+/// The group `/a` with `current` bytes of memory, if it is live.
 fn group(current: &Option<u64>) -> Option<GroupReading> {
     match current {
         Some(current) => using(1, *current),
@@ -48,7 +47,7 @@ fn shown(rt: &impl Abort, alloc: Global, kills: &[Kill]) -> String {
     text
 }
 
-/// Rules give at each row the kills that are wanted.
+/// Checks the kills at each row.
 fn kills(rt: &impl Abort, alloc: Global, text: &str, rows: &[Case]) {
     let mut rig = Rig::make(rt, alloc, &groups(rt, alloc));
     let killer = Killer::make(alloc, rules(rt, alloc, text), rig.reading.lives());

@@ -1,4 +1,7 @@
 //! Tests of rules: rules files and the patterns in them, detectors, victims and kills.
+//!
+//! Readings are written by hand, without a trace. Rules in whole replays are tested in
+//! replay_tests.
 #![tactic(auto)]
 
 #[cfg(test)]

@@ -1,4 +1,4 @@
-//! What tests put into readings.
+//! The parts of readings in tests.
 use detectors::{GroupReading, HostReading};
 use pressure_spec::QUANTITIES;
 use psi_base::{Ns, Path, Preference, Slot};
@@ -9,7 +9,7 @@ use std::process::Abort;
 /// A second (ns).
 pub const SECOND: Ns = 1_000_000_000;
 
-/// A host of which nothing was told.
+/// A host without samples.
 pub const NO_HOST: HostReading = HostReading {
     mem_total: 0,
     swap_total: 0,
@@ -22,7 +22,7 @@ pub fn path(rt: &impl Abort, alloc: Global, text: &str) -> Path {
     path.expect(rt, text)
 }
 
-/// The life of a group that was made at 0.
+/// The life of a group that was created at 0.
 pub fn life(rt: &impl Abort, alloc: Global, text: &str, parent: Option<Slot>) -> GroupLife {
     GroupLife {
         path: path(rt, alloc, text),
@@ -33,7 +33,7 @@ pub fn life(rt: &impl Abort, alloc: Global, text: &str, parent: Option<Slot>) ->
     }
 }
 
-/// A group with tasks, of which nothing else is read.
+/// A group with tasks and without other values.
 pub fn bare_group(slot: u32) -> GroupReading {
     GroupReading {
         slot: Slot(slot),

@@ -1,4 +1,4 @@
-//! Readings that a test gives, one after another.
+//! Readings that a test takes in order.
 ghost use Rattle.std.specs.Prelude.{◌≡◌, None, Some};
 ghost use Rattle.detectors.specs.Views.{IsAfter};
 
@@ -9,14 +9,14 @@ use psi_spec::GroupLife;
 use std::alloc::Global;
 use std::process::Abort;
 
-/// A reading, and its moment (ns) once there was one.
+/// A reading, and its time (ns) after the first one.
 #[derive(Drop)]
 pub struct Rig {
     pub reading: Reading,
     last: Option<Ns>,
 }
 
-/// Puts groups into a reading, each of which is in its ranges and comes next.
+/// Puts groups into a reading. Each must be in range and come next.
 fn put_groups(rt: &impl Abort, reading: &mut Reading, groups: &[Option<GroupReading>])
     ensures lives { reading.new.lives ≡ reading.old.lives }
     ensures at { reading.new.seen.at ≡ reading.old.seen.at }
@@ -34,7 +34,7 @@ fn put_groups(rt: &impl Abort, reading: &mut Reading, groups: &[Option<GroupRead
 }
 
 impl Rig {
-    /// Of groups with these lives, before the first reading.
+    /// A rig of groups with these lives, before the first reading.
     pub fn make(rt: &impl Abort, alloc: Global, lives: &[GroupLife]) -> Rig
         ensures lives { result.reading.lives ≡ lives.now }
         ensures last { result.last ≡ None }
@@ -46,8 +46,8 @@ impl Rig {
         }
     }
 
-    /// The next reading, at a later moment (ns): the host, and the groups in the byte order of
-    /// their paths.
+    /// The next reading, at a later time (ns): the host, and the groups in the byte order of their
+    /// paths.
     pub fn read(
         &mut self,
         rt: &impl Abort,

@@ -1,5 +1,5 @@
-//! Choices over rows of readings, each with the victim that is wanted. The numbers are from the
-//! rules of victims.
+//! Choices with rows of readings, each with the expected victim. The numbers follow from the rules
+//! of victims.
 
 ghost use Rattle.std.specs.Prelude.{◌≡◌, length};
 
@@ -15,7 +15,7 @@ use std::alloc::Global;
 use std::process::Abort;
 use victim_rank::{MatchTable, Past, victim};
 
-/// A reading as a test has it: the groups in the byte order of their paths.
+/// A reading as tests write it: the groups in the byte order of their paths.
 type Row = [Option<GroupReading>; 3];
 
 /// A group that uses memory (bytes), with a preference.
@@ -41,15 +41,15 @@ fn swapping(slot: u32, swap: u64) -> Option<GroupReading> {
     Some(group)
 }
 
-/// A group with full averages of memory over 10 s and over 60 s.
+/// A group with memory full averages over 10 s and over 60 s.
 fn pressed(slot: u32, ten: u64, sixty: u64) -> Option<GroupReading> {
     let mut group = bare_group(slot);
     group.averages[State::MemFull as usize] = [ten, sixty, 0];
     Some(group)
 }
 
-/// The root, three groups below it, and two below the first of them, whose paths come before those
-/// of the others.
+/// The root, three children of it, and two children of the first of them, whose paths come before
+/// those of the others.
 fn lives(rt: &impl Abort, alloc: Global) -> [GroupLife; 6] {
     [
         life(rt, alloc, "/", None),
@@ -61,7 +61,7 @@ fn lives(rt: &impl Abort, alloc: Global) -> [GroupLife; 6] {
     ]
 }
 
-/// What an action says of the time after it.
+/// The action's `After`: delay, recursive, always_continue.
 fn after(recursive: bool) -> After {
     After {
         recursive,
@@ -70,13 +70,12 @@ fn after(recursive: bool) -> After {
     }
 }
 
-/// The groups right below the root.
+/// The children of the root.
 fn below_root(rt: &impl Abort, alloc: Global) -> Patterns {
     Patterns::read(alloc, "*").expect(rt, "patterns")
 }
 
-/// The groups right below the root, by size or growth: half of the memory of all, or a growth by
-/// 1.25.
+/// The children of the root, by size or growth: half of the memory of all, or a growth by 1.25.
 fn size_or_growth(rt: &impl Abort, alloc: Global, percentile: u32, recursive: bool) -> Action {
     Action::SizeOrGrowth {
         cgroup: below_root(rt, alloc),
@@ -110,7 +109,7 @@ fn pg_scan(rt: &impl Abort, alloc: Global) -> Action {
     }
 }
 
-/// The victim at the reading is the group in the slot that is wanted.
+/// Checks that the victim at the reading is the group in the `wanted` slot.
 fn is_victim(
     rt: &impl Abort,
     alloc: Global,
@@ -127,7 +126,7 @@ fn is_victim(
     assert_eq!(rt; victim(action, &table, reading, past, lives), wanted);
 }
 
-/// The victim at the last of these readings is the group in the slot that is wanted.
+/// Checks that the victim at the last of these readings is the group in the `wanted` slot.
 fn kills(rt: &impl Abort, alloc: Global, action: &Action, rows: &[Row], wanted: Option<Slot>) {
     let mut rig = Rig::make(rt, alloc, &lives(rt, alloc));
     let past = Past::make(alloc, rig.reading.lives().len() as u32);
@@ -143,7 +142,7 @@ fn kills(rt: &impl Abort, alloc: Global, action: &Action, rows: &[Row], wanted: 
 
 // ---- size or growth
 
-// None has half of 108. The second grew from a mean of 30 to 38, by 1.27.
+// No group has half of 108. The second grew from a mean of 30 to 38, by 1.27.
 #[test]
 fn growth_is_over_the_mean_of_the_past(rt: HostRuntime) {
     let before = [using(1, 40), using(2, 30), using(3, 30)];
@@ -159,7 +158,7 @@ fn growth_is_over_the_mean_of_the_past(rt: HostRuntime) {
     kills(&rt, rt.alloc(), &action, &[now], Some(Slot(1)));
 }
 
-// A reading at which the group wasn't live is left out, and so is the fifth size before the present
+// A reading at which the group wasn't live is left out, and so is the fifth size before the current
 // one: over four sizes of 30 it grew by 1.23, and over three of them and one of 10 by 1.48.
 #[test]
 fn the_past_has_four_sizes(rt: HostRuntime) {
@@ -184,8 +183,8 @@ fn the_past_has_four_sizes(rt: HostRuntime) {
     );
 }
 
-// Of three groups one stands above the percentile 80: 0.6, rounded up. So the one that grew isn't
-// looked at.
+// One of three groups is above percentile 80: 0.6, rounded up. So the group that grew isn't
+// considered.
 #[test]
 fn the_percentile_is_rounded_up(rt: HostRuntime) {
     let before = [using(1, 40), using(2, 30), using(3, 30)];
@@ -206,8 +205,8 @@ fn the_percentile_is_rounded_up(rt: HostRuntime) {
     );
 }
 
-// A group with half of all is taken though another grew; at a total of 0 each has its share, and
-// the first path is taken.
+// A group with half of all is chosen though another grew. If the total is 0 each group has its
+// share, and the first path is chosen.
 #[test]
 fn half_of_all_is_large(rt: HostRuntime) {
     let before = [using(1, 50), using(2, 10), None];
@@ -316,8 +315,7 @@ fn pressure_and_scans_are_above_zero(rt: HostRuntime) {
 
 // ---- children
 
-// The choice goes down to a child, though no pattern matches it, and stays where no child is
-// eligible.
+// The choice descends to a child, though no pattern matches it, and stops if no child is eligible.
 #[test]
 fn recursive_goes_down(rt: HostRuntime) {
     let sizes = [using(1, 60), using(4, 20), using(5, 40)];

@@ -1,5 +1,5 @@
-//! The faults of rules files: each place with each cause that can stand there, and which of two
-//! comes first.
+//! The faults of rules files: each place with each possible cause, and which of two faults is
+//! reported.
 use crate::rules::shown::reads_rows;
 
 const WHOLE: &str = "{!BadJson
@@ -116,7 +116,7 @@ fn plugins(rt: HostRuntime) {
     }
 }
 
-// Each required argument is missed, and arguments are taken in the order of the tables.
+// Each required argument is missing in turn, and arguments are checked in the order of the tables.
 const DETECTOR_ARGUMENTS: &str =
     "{'name':'pressure_above','args':{'resource':'io','threshold':1,'duration':1}}!MissingKey
 {'name':'pressure_above','args':{'cgroup':'g0','threshold':1,'duration':1}}!MissingKey
@@ -169,9 +169,9 @@ fn arguments_in_order(rt: HostRuntime) {
     reads_rows(&rt, rt.alloc(), OF_ACTION, "@", AT_ACTION, ACTION_ARGUMENTS);
 }
 
-// A ruleset with two faults, before one with another. The walk goes down into each part before the
-// next: of a ruleset the name, the delay, the detectors, the actions. A list comes before its
-// items, a group's name before its detectors, a plugin's name before its arguments.
+// A ruleset with two faults, before one with another. Each part is checked with its children before
+// the next part: in a ruleset the name, the delay, the detectors, the actions. A list comes before
+// its items, a group's name before its detectors, a plugin's name before its arguments.
 const OF_TWO: &str = "{'rulesets':[{@},5]}";
 
 const TWO: &str = "'post_action_delay':'x'!: MissingKey

@@ -1,4 +1,4 @@
-//! The arguments: each form at its borders, and each default.
+//! The arguments: each form at its limits, and each default.
 use crate::rules::shown::reads_rows;
 
 /// The fault of the one detector.
@@ -202,7 +202,7 @@ true~/true false
 'x,x,x,x,x,x,x,x,x,x,x,x,x,x,x,x,?'!BadArg
 null!WrongKind";
 
-// Arguments that no plugin knows, and those of others, are accepted with any value.
+// Unknown arguments, and those of other plugins, are accepted with any value.
 const UNKNOWN: &str =
     "'g0','dry':'true','duration':null,'recursive':'no','post_action_delay':[{}]~/g0 false
 'g0'},'kind':[],'Args':{~/g0 false";
@@ -276,7 +276,7 @@ fn defaults(rt: HostRuntime) {
     reads_rows(&rt, rt.alloc(), OF_ACTION, "r: @;\n", AT_ACTION, ACTIONS);
 }
 
-// The ruleset's delay stands for that of an action that has none.
+// An action without a delay has the ruleset's.
 const OF_DELAY: &str =
     "{'rulesets':[{'silence-logs':null,'name':'r','detectors':[],'post_action_delay':@}}]}],'version':1.5}";
 

@@ -1,11 +1,11 @@
-//! Patterns of paths: which match what, and which texts have none.
+//! Patterns of paths: which paths they match, and which texts are malformed.
 use crate::readings;
 use path_match::{PatternFault, Patterns};
 use psi_base::Fault;
 use std::alloc::Global;
 use std::process::Abort;
 
-// The patterns of a text match a path or don't, and so do those of a copy.
+// Checks whether the patterns of a text match a path, and that a copy gives the same result.
 fn is_so(rt: &impl Abort, alloc: Global, text: &str, path: &str, wanted: bool) {
     let patterns = Patterns::read(alloc, text).expect(rt, text);
     let copy = patterns.copy(alloc).expect(rt, "memory");
@@ -86,7 +86,7 @@ fn patterns_match(rt: HostRuntime) {
     are_so(&rt, rt.alloc(), OTHERS, false);
 }
 
-// The fault for which the text is refused, if it is.
+// Why the text is rejected; `None` if it isn't.
 fn fault_of(rt: &impl Abort, alloc: Global, text: &str) -> Option<PatternFault> {
     match Patterns::read(alloc, text) {
         Ok(_) => None,
@@ -95,12 +95,12 @@ fn fault_of(rt: &impl Abort, alloc: Global, text: &str) -> Option<PatternFault> 
     }
 }
 
-// The text is refused for this fault, or has patterns where there is none.
+// Checks that the text is rejected with this fault, or has patterns if there is none.
 fn is_read(rt: &impl Abort, alloc: Global, text: &str, fault: Option<PatternFault>) {
     assert_eq!(rt; fault_of(rt, alloc, text), fault, "at {text}");
 }
 
-// So is each of these behind the front.
+// The same for the prefix followed by each of these ends.
 fn are_read(rt: &impl Abort, alloc: Global, front: &str, ends: &str, fault: Option<PatternFault>) {
     for end in ends.split('|') {
         let text = [front, end].concat(alloc).expect(rt, "memory");
@@ -134,7 +134,7 @@ fn limits(rt: HostRuntime) {
     is_so(&rt, alloc, last, "/a/b/c", false);
 }
 
-// The piece as many times.
+// The piece `times` times.
 fn repeated(rt: &impl Abort, alloc: Global, piece: &str, times: usize) -> String {
     piece.repeat(alloc, times).expect(rt, "memory")
 }
@@ -148,8 +148,8 @@ fn long_texts(rt: HostRuntime) {
     is_read(&rt, alloc, &repeated(&rt, alloc, "/a", 33), None);
 }
 
-// The piece as many times, with this end, matches the path of the root's child of 254 letters `a`,
-// or doesn't.
+// Checks whether the piece `times` times, followed by this end, matches the path of the root's
+// child with 254 letters `a`.
 fn is_so_of_long(
     rt: &impl Abort,
     alloc: Global,
@@ -176,7 +176,7 @@ fn long_patterns(rt: HostRuntime) {
     is_so_of_long(&rt, alloc, "a", 300, "", false);
 }
 
-// The text of as many levels matches the path of 32, or doesn't.
+// Checks whether the text of `levels` levels matches the path of 32.
 fn is_so_of_deep(rt: &impl Abort, alloc: Global, levels: usize, wanted: bool) {
     let text = repeated(rt, alloc, "/*", levels);
     let path = repeated(rt, alloc, "/a", 32);

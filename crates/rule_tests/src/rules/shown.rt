@@ -1,4 +1,4 @@
-//! What a rules file is read as, as one text: the rules, or the fault as it is told.
+//! The result of reading a rules file, as one text: the rules, or the printed fault.
 use crate::checks::is_text;
 use crate::readings::path;
 use path_match::Patterns;
@@ -10,16 +10,16 @@ use std::alloc::Global;
 use std::fmt::Display;
 use std::process::Abort;
 
-// Paths of which it is shown whether patterns match.
+// Paths for which it is shown whether patterns match.
 const SAMPLE: [&str; 7] = ["/", "/g0", "/g1", "/g2", "/5", "/true", "/s/a"];
 
-/// Writes this behind the text.
+/// Appends this to the text.
 pub fn put(rt: &impl Abort, to: &mut String, text: impl Display + Drop) {
     to.write(text).expect(rt, "memory");
 }
 
-// The name of a plugin and the paths of the sample that its patterns match, each with a space
-// behind it.
+// The name of a plugin and the paths of the sample that its patterns match, each with a space after
+// it.
 fn put_plugin(rt: &impl Abort, alloc: Global, to: &mut String, name: &str, patterns: &Patterns) {
     put(rt, to, name);
     put(rt, to, " ");
@@ -96,7 +96,7 @@ fn put_after(rt: &impl Abort, to: &mut String, after: &After) {
     );
 }
 
-// What is shown of an action is what is its own, and then what each has.
+// An action is shown with its own fields, followed by those that each action has.
 fn put_action(rt: &impl Abort, alloc: Global, to: &mut String, action: &Action) {
     let after = match action {
         Action::SizeOrGrowth {
@@ -165,7 +165,7 @@ fn put_actions(rt: &impl Abort, alloc: Global, to: &mut String, actions: &[Actio
 }
 
 // A ruleset is its name and a colon, then each group in brackets, each detector with a semicolon
-// before it, then each action with one behind it.
+// before it, then each action with a semicolon after it.
 fn put_rule(rt: &impl Abort, alloc: Global, to: &mut String, rule: &Rule) {
     put_name(rt, to, &rule.name);
     put(rt, to, ":");
@@ -186,7 +186,7 @@ fn put_number(rt: &impl Abort, to: &mut String, word: &str, number: u32) {
     put(rt, to, format_args!(" {word} {number}"));
 }
 
-// Where a fault stands, with a space before each word.
+// The place of a fault, with a space before each word.
 fn put_place(rt: &impl Abort, to: &mut String, place: Place) {
     match place {
         Place::Whole => {}
@@ -221,14 +221,14 @@ fn put_read(rt: &impl Abort, alloc: Global, to: &mut String, bytes: &[u8]) {
     }
 }
 
-// The bytes of the file are read as this text.
+// Checks what is read from the bytes of the file.
 fn reads_file(rt: &impl Abort, alloc: Global, bytes: &[u8], text: &str, file: &str) {
     let mut shown = String::new(alloc);
     put_read(rt, alloc, &mut shown, bytes);
     is_text(rt, &shown, text, file);
 }
 
-/// The bytes are read as this text.
+/// Checks what is read from the bytes.
 pub fn reads_bytes(rt: &impl Abort, alloc: Global, bytes: &[u8], text: &str) {
     reads_file(rt, alloc, bytes, text, "bytes");
 }
@@ -238,7 +238,7 @@ pub fn quoted(rt: &impl Abort, alloc: Global, text: &str) -> String {
     text.replace(alloc, "'", "\"").expect(rt, "memory")
 }
 
-/// The file is read as this text. Its quotes are written `'`.
+/// Checks what is read from the file, whose quotes are written `'`.
 pub fn reads(rt: &impl Abort, alloc: Global, file: &str, text: &str) {
     let quoted = quoted(rt, alloc, file);
     reads_file(rt, alloc, quoted.as_bytes(), text, file);
@@ -249,7 +249,7 @@ pub fn with(rt: &impl Abort, alloc: Global, text: &str, value: &str) -> String {
     text.replacen(alloc, "@", value, 1).expect(rt, "memory")
 }
 
-// The file with the one value is read as the text with the other.
+// Checks what is read from the file: both have their value in place of `@`.
 fn reads_with(
     rt: &impl Abort,
     alloc: Global,
@@ -261,7 +261,7 @@ fn reads_with(
     reads(rt, alloc, &file, &text);
 }
 
-// The file and the text of a row: behind a `~` the rules, and behind a `!` the fault.
+// The file and the text of a row: after a `~` the rules, and after a `!` the fault.
 fn parted<'a>(
     rt: &impl Abort,
     row: &'a str,
@@ -275,9 +275,9 @@ fn parted<'a>(
     (value, fault, cause)
 }
 
-/// Files and what they are read as, a row each. A row is what stands for the `@` of the file, and
-/// behind a `~` what stands for that of the rules as they are shown, or behind a `!` what stands
-/// for that of the fault.
+/// Files and what is read from them, one row each. A row has the replacement for the `@` of the
+/// file, followed by `~` and the replacement in the rules as they are shown, or by `!` and the
+/// replacement in the fault.
 pub fn reads_rows(
     rt: &impl Abort,
     alloc: Global,

@@ -40,7 +40,7 @@ fn file_of_one(rt: HostRuntime) {
     reads_rows(&rt, rt.alloc(), ONE, rules, fault, "*~\n?!");
 }
 
-// Pieces in a file, and what is shown of them.
+// Pieces of a file, and how they are shown.
 struct Lists {
     file: &'static str,
     piece: &'static str,
@@ -51,14 +51,15 @@ struct Lists {
     fault: &'static str,
 }
 
-// The file of as many pieces is read as this text.
+// Checks what is read from the file with the piece `times` times.
 fn reads_listed(rt: &impl Abort, alloc: Global, lists: &Lists, times: usize, text: &str) {
     let pieces = vec![in alloc; lists.piece; times].expect(rt, "memory");
     let pieces = pieces.join(alloc, lists.between).expect(rt, "memory");
     reads(rt, alloc, &with(rt, alloc, lists.file, &pieces), text);
 }
 
-// A file of as many pieces as there may be is shown, and one of one more has the fault.
+// Checks that a file with the maximal number of pieces is accepted, and that one more piece gives
+// the fault.
 fn are_limited(rt: &impl Abort, alloc: Global, lists: &Lists) {
     let shown = lists.shown.repeat(alloc, lists.most).expect(rt, "memory");
     let rules = with(rt, alloc, lists.rules, &shown);
@@ -117,8 +118,7 @@ fn lists_at_their_limits(rt: HostRuntime) {
 const ALL: &[u8] =
     b"{\"rulesets\":[{\"name\":\"r\",\"detectors\":[[\"g\"],[\"h\"]],\"actions\":[{\"name\":\"kill_by_pg_scan\",\"args\":{\"cgroup\":\"g0\"}}]}]}";
 
-// The rule has the name `r`, two groups of which one is left where one is taken away, and one
-// action.
+// Whether the rule has the name `r`, one action and two groups, and one group after one is removed.
 fn is_the_rule(rule: Rule) -> bool {
     let Rule {
         name,
@@ -134,7 +134,7 @@ fn is_the_rule(rule: Rule) -> bool {
     is_taken && lengths == (2, 1, 1) && name.bytes() == b"r".as_slice()
 }
 
-// Lists give their members, and are made of them again.
+// Lists return their members, and are built from them again.
 #[test]
 fn lists_again(rt: HostRuntime) {
     let Rules { rules } = read(rt.alloc(), ALL).expect(&rt, "rules");

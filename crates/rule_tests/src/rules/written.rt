@@ -1,12 +1,12 @@
-//! Rules as text: what is read of a file is written, and what was written is read again as the
-//! same.
+//! Rules as text: the result of reading a file is written, and reading the written text gives the
+//! same result (a round trip).
 use crate::rules::shown::{quoted, with};
 use dropin_rules::write_rules;
 use ruleset_json::read;
 use std::alloc::Global;
 use std::process::Abort;
 
-// The text of the rules that the bytes are read as, behind a mark.
+// The text of the rules that are read from the bytes, after a mark.
 fn written(rt: &impl Abort, alloc: Global, bytes: &[u8]) -> Vec<u8> {
     let rules = read(alloc, bytes).expect(rt, "rules");
     let mut text = Vec::from_slice(alloc, b">".as_slice()).expect(rt, "memory");
@@ -14,20 +14,20 @@ fn written(rt: &impl Abort, alloc: Global, bytes: &[u8]) -> Vec<u8> {
     text
 }
 
-// The bytes are written as this text, behind what stands there.
+// Checks that the bytes are written as this text, appended to what is already there.
 fn writes_once(rt: &impl Abort, alloc: Global, bytes: &[u8], text: &[u8]) {
     let written = written(rt, alloc, bytes);
     let behind = written.strip_prefix(b">").expect(rt, "no mark");
     assert_eq!(rt; str::from_utf8(behind), str::from_utf8(text));
 }
 
-// So they are, and so is what is read of the text.
+// The same, and that the text is written as itself.
 fn writes_bytes(rt: &impl Abort, alloc: Global, bytes: &[u8], text: &[u8]) {
     writes_once(rt, alloc, bytes, text);
     writes_once(rt, alloc, text, text);
 }
 
-// The same of texts whose quotes are written `'`.
+// The same for texts whose quotes are written `'`.
 fn writes(rt: &impl Abort, alloc: Global, file: &str, text: &str) {
     let (file, text) = (quoted(rt, alloc, file), quoted(rt, alloc, text));
     writes_bytes(rt, alloc, file.as_bytes(), text.as_bytes());
@@ -44,7 +44,7 @@ fn file_of_one(rt: HostRuntime) {
     );
 }
 
-// What stands before a mark, and behind it.
+// The text before a mark, and after it.
 fn halves<'a>(rt: &impl Abort, text: &'a str, mark: char) -> (&'a str, &'a str) {
     text.split_once(mark).expect(rt, text)
 }
@@ -54,7 +54,7 @@ fn with_both(rt: &impl Abort, alloc: Global, text: &str, first: &str, next: &str
     with(rt, alloc, &with(rt, alloc, text, first), next)
 }
 
-// A plugin of this name and with these arguments is written with those.
+// Checks how a plugin with this name and these arguments is written.
 fn writes_plugin(
     rt: &impl Abort,
     alloc: Global,
@@ -67,8 +67,7 @@ fn writes_plugin(
     writes(rt, alloc, &file, &text);
 }
 
-// Plugins, a row each: a name, behind a `|` its arguments, and behind a `~` these as they are
-// written.
+// Plugins, one row each: a name, after a `|` its arguments, and after a `~` the written arguments.
 fn writes_rows(rt: &impl Abort, alloc: Global, file: &str, text: &str, rows: &str) {
     for row in rows.split('\n') {
         let (name, args) = halves(rt, row, '|');
