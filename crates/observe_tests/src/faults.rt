@@ -1,25 +1,25 @@
-//! Traces that are refused, and calls of the shelf and the sinks that fail.
+//! Traces that are rejected, and failing calls of the shelf and the sinks.
 
 use crate::runs::{Failing, Host, NO_FAULT, NONE, assert_prints_nothing, assert_run, run_failing};
 use observe_core::ObserveStatus;
 use psi_base::Cause;
 
-/// A task waits for IO, and the second tick comes without a change.
+/// A trace of two ticks without tasks, so that no processor changes.
 const TWO_TICKS: &str = "psitrace 1 cpus=1\n2500000000 group /a\n4000000000 end\n";
 
-/// What two observers print of its root, of which nothing changes.
+/// The output of two observers of its root, in which nothing changes.
 const PRINTED: &str = "board observer=0 tick=2 events=0 kills=0\n\
     board observer=1 tick=2 events=0 kills=0\n\
     end 4000000000 samples=0\n";
 
-/// How many bytes the trace has, each of which is read by a call of its own, and one call more
-/// looks behind it.
+/// The number of reads: one for each byte of the trace, and one after the end.
 const READS: u64 = 54;
 
-/// How many bytes the output has.
+/// The number of bytes of the output.
 const WRITES: u64 = 107;
 
-/// A command line over a trace is refused at the second line for this cause, which the note names.
+/// Checks that a trace is rejected at the second line with this cause, and that the note names the
+/// cause.
 fn assert_refused(rt: &impl Host, line: &str, trace: &str, cause: Cause, note: &str) {
     let status = ObserveStatus::Trace { line: 2, cause };
     assert_prints_nothing(rt, line, trace, status, note);
@@ -30,14 +30,14 @@ fn traces_that_are_refused(rt: HostRuntime) {
     let trace = "psitrace 1 cpus=1\n0 fork 1 nope 0\n0 end\n";
     let cause = Cause::BadField(2);
     assert_refused(&rt, "t 1 /", trace, cause, "trace line 2: BadField 2\n");
-    // A million ticks are the most.
+    // A trace has at most a million ticks.
     let trace = "psitrace 1 cpus=1\n2000000000000001 end\n";
     let cause = Cause::TimeTooLate;
     assert_refused(&rt, "t 8 /", trace, cause, "trace line 2: TimeTooLate\n");
 }
 
-/// Words over the trace end with this status and note, where some calls fail and one byte moves at
-/// each, and print a front of the output: the whole, where they are done.
+/// Checks a run with this status and note, with some failing calls and one byte a call, and that it
+/// prints a prefix of the output: all of it if the status is `Done`.
 fn assert_front(rt: &impl Host, failing: Failing, status: ObserveStatus, length: u64, note: &str) {
     let ran = run_failing(rt, "t 2 /a/b", TWO_TICKS, 1, failing);
     let front = PRINTED
@@ -67,7 +67,7 @@ fn each_call_fails_in_turn(rt: HostRuntime) {
     }
 }
 
-// A note that fails changes no status.
+// A failed write of a note changes no status.
 #[test]
 fn a_note_that_fails(rt: HostRuntime) {
     let failing = Failing {

@@ -1,5 +1,5 @@
-//! Observers and the threads of the replay at a gate that holds each of them until it has met
-//! another.
+//! Observers and the threads of the replay with a gate that blocks each of them until another one
+//! has arrived.
 
 use crate::runs::{Host, assert_ends, assert_run, line_of, run_gated};
 use observe_core::ObserveStatus;
@@ -8,10 +8,10 @@ use psi_base::Cpu;
 use std::sync::atomic::Ordering::SeqCst;
 use std::sync::atomic::{AtomicBool, AtomicU64};
 
-/// How often a thread looks for another one before it gives up.
+/// How often a thread checks for another one before it gives up.
 const TURNS: u32 = 200_000_000;
 
-/// A task runs on the one processor, waits for IO for a second, and is ready to the end.
+/// A task runs on the one processor, waits for IO for a second, and is ready until the end.
 pub const ONE_PROCESSOR: &str = "psitrace 1 cpus=1\n\
     0 fork 1 / 0\n\
     0 switch 0 1 idle\n\
@@ -19,13 +19,13 @@ pub const ONE_PROCESSOR: &str = "psitrace 1 cpus=1\n\
     1500000000 wake 1 0\n\
     2000000000 end\n";
 
-/// What one observer prints of it that samples after the third change.
+/// The output of one observer that samples it after the third change.
 const AFTER_THREE: &str = "sample observer=0 cpu=0 count=3 at=500000000 0 0 0 0 0 0 500000000\n\
     board observer=0 tick=1 events=0 kills=0\n\
     end 2000000000 samples=1\n";
 
-/// A group whose task runs, waits for IO for a second and is ready; it goes once the task has left
-/// it, and comes again.
+/// A group whose task runs, waits for IO for a second and is ready. The group is removed after the
+/// task has left it, and created again.
 const COMES_AGAIN: &str = "psitrace 1 cpus=1\n\
     0 group /a\n\
     0 fork 1 /a 0\n\
@@ -37,15 +37,15 @@ const COMES_AGAIN: &str = "psitrace 1 cpus=1\n\
     6500000000 group /a\n\
     8000000000 end\n";
 
-/// What one observer prints of it that first samples after the third change. At the third tick the
-/// group isn't live, and at the fourth it is another one, in which no time has passed.
+/// The output of one observer whose first sample is after the third change. At the third tick the
+/// group isn't live, and at the fourth it is a new one, in which no time has passed.
 const BOTH_LIVES: &str = "sample observer=0 cpu=0 count=3 at=500000000 0 0 0 0 0 0 500000000\n\
     sample observer=0 cpu=0 count=4 at=1500000000 1000000000 1000000000 0 0 0 0 1500000000\n\
     sample observer=0 cpu=0 count=5 at=4500000000 0 0 0 0 0 0 0\n\
     board observer=0 tick=4 events=0 kills=0\n\
     end 8000000000 samples=3\n";
 
-/// Waits until another thread has come, and tells of it where it didn't.
+/// Waits until another thread has arrived, and records it if none did.
 fn wait_for(other: &AtomicBool, is_missed: &AtomicBool) {
     for _ in 0..TURNS {
         if other.load(SeqCst) {
@@ -55,9 +55,9 @@ fn wait_for(other: &AtomicBool, is_missed: &AtomicBool) {
     is_missed.store(true, SeqCst);
 }
 
-/// A gate at which the third change of processor 0 and observer 0's first sample there wait for one
-/// another: the sample is taken once the change is made, and the next change is made once it is
-/// taken.
+/// A gate at which the third change of processor 0 and observer 0's first sample there wait for
+/// each other: the sample is taken once the change is made, and the next change is made once the
+/// sample is taken.
 #[derive(Drop)]
 struct AfterThird {
     is_moved: AtomicBool,
@@ -74,7 +74,7 @@ impl AfterThird {
         }
     }
 
-    /// Whether both came in time.
+    /// Whether both arrived in time.
     fn is_met(&self) -> bool {
         self.is_moved.load(SeqCst) && self.is_sampled.load(SeqCst) && !self.is_missed.load(SeqCst)
     }
@@ -99,7 +99,7 @@ impl Gate for AfterThird {
     }
 }
 
-/// A command line over a trace prints this, where a sample is taken after the third change.
+/// Checks the output for a trace if a sample is taken after the third change.
 fn assert_after_third(rt: &impl Host, line: &str, trace: &str, output: &str) {
     let gate = AfterThird::new();
     let ran = run_gated(rt, line, trace, &gate);
@@ -138,8 +138,7 @@ impl Gate for OtherFirst {
     }
 }
 
-// The samples stand in the order of the journal, and the states of the board in that of the
-// observers.
+// The samples are in the order of the journal, and the states of the board are ordered by observer.
 #[test]
 fn observers_in_the_order_of_the_journal(rt: HostRuntime) {
     let gate = OtherFirst {
@@ -157,10 +156,10 @@ fn observers_in_the_order_of_the_journal(rt: HostRuntime) {
     assert_ends(&rt, "t 2 /", &ran, end);
 }
 
-/// The most observers that there may be.
+/// The maximal number of observers.
 const OBSERVERS: u64 = 8;
 
-/// A gate at which each observer waits, before its only sample, until all have come.
+/// A gate at which each observer waits, before its only sample, until all have arrived.
 #[derive(Drop)]
 struct AllMeet {
     come: AtomicU64,

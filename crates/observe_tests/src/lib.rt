@@ -1,6 +1,8 @@
-//! Tests of the top call of psi_observe over shelves and sinks in memory: observers whose threads
-//! are held at gates, gates that count, groups that come and go, words, faults at each call, and
-//! how many samples there may be.
+//! Tests of the top call of psi_observe with shelves and sinks in memory: observers whose threads
+//! are blocked at gates, gates that count, groups that are created and removed, words, faults at
+//! each call, and the limit of samples.
+//!
+//! The board and the journal alone are tested in world_tests.
 #![tactic(auto)]
 
 #[cfg(test)]

@@ -1,17 +1,17 @@
-//! How many samples there may be.
+//! The limit of samples.
 
 use crate::runs::{Host, assert_ends, assert_prints_nothing, run_open};
 use observe_core::ObserveStatus;
 
-/// As many ticks as eight observers of 50 processors may have, and one more.
+/// The maximal number of ticks for eight observers of 50 processors, and one more.
 const MOST_TICKS: &str = "psitrace 1 cpus=50\n5000000000000 end\n";
 
 const ONE_TICK_MORE: &str = "psitrace 1 cpus=50\n5002000000000 end\n";
 
-/// Ticks of which two observers of one processor would have two samples more than may be.
+/// Ticks for which two observers of one processor would have two samples more than the limit.
 const TWO_SAMPLES_MORE: &str = "psitrace 1 cpus=1\n1000002000000000 end\n";
 
-/// A hundredth of the ticks that there may be.
+/// A hundredth of the maximal number of ticks.
 const SOME_TICKS: &str = "psitrace 1 cpus=50\n50000000000 end\n";
 
 #[test]
@@ -22,13 +22,13 @@ fn as_many_as_may_be(rt: HostRuntime) {
     assert_ends(&rt, "t 8 /nope", &ran, "\nend 5000000000000 samples=0\n");
 }
 
-/// A command line over a trace is told to have so many samples, which are too many.
+/// Checks that a run is rejected because it would have `samples` samples, which are too many.
 fn assert_too_many(rt: &impl Host, line: &str, trace: &str, samples: u64) {
     let status = ObserveStatus::TooManySamples { samples };
     assert_prints_nothing(rt, line, trace, status, "too many samples\n");
 }
 
-// Whether the group is ever live doesn't matter.
+// It doesn't matter whether the group is ever live.
 #[test]
 fn too_many(rt: HostRuntime) {
     assert_too_many(&rt, "t 8 /", ONE_TICK_MORE, 1_000_400);
@@ -40,7 +40,7 @@ fn too_many(rt: HostRuntime) {
 fn ten_thousand(rt: HostRuntime) {
     let ran = run_open(&rt, "t 8 /", SOME_TICKS);
     assert_ends(&rt, "t 8 /", &ran, "\nend 50000000000 samples=10000\n");
-    // A newline ends each of the samples, the eight states and the end.
+    // A newline ends each sample, each of the eight states and the last line.
     let ends = ran.output.iter().filter(|byte| **byte == b'\n').count();
     assert_eq!(rt; ends, 10_009);
 }

@@ -1,5 +1,5 @@
-//! Running words over one trace in memory, and what is asserted of a run. Want of memory ends a
-//! test.
+//! Runs words with one trace in memory, with assertions about a run. A test ends if memory runs
+//! out.
 
 use observe_core::{ObserveStatus, observe};
 use outside::{Gate, OpenGate};
@@ -10,12 +10,12 @@ use std::process::Abort;
 use std::sync::Wait;
 use std::thread::Threads;
 
-/// What a test is given: threads that may wait, memory, and a way to end it.
+/// What a test needs: threads that can wait, memory, and a way to abort.
 pub trait Host: Threads + Wait + AllocGlobal + Sync + Abort {}
 
 impl<R: Threads + Wait + AllocGlobal + Sync + Abort> Host for R {}
 
-/// What a run gave: its status, its output and its note.
+/// The results of a run: its status, output and note.
 #[derive(Drop)]
 pub struct Ran {
     pub status: ObserveStatus,
@@ -23,7 +23,7 @@ pub struct Ran {
     pub note: Vec<u8>,
 }
 
-/// Bytes as a message shows them.
+/// Bytes as they are shown in a message.
 fn shown(bytes: &[u8]) -> &str {
     str::from_utf8(bytes).unwrap_or("no text")
 }
@@ -35,7 +35,7 @@ impl fmt::Display for Ran {
     }
 }
 
-/// Which call of the shelf, the output and the note fails, counted from 0. One far off fails none.
+/// Which call of the shelf, the output and the note fails, counted from 0. `NONE` fails none.
 #[derive(Clone, Copy, Debug)]
 pub struct Failing {
     pub read: u64,
@@ -53,10 +53,10 @@ pub const NO_FAULT: Failing = Failing {
     note: NONE,
 };
 
-/// How many bytes there is room for in each sink.
+/// The capacity (bytes) of each sink.
 const ROOM: usize = 1 << 20;
 
-/// The words of a command line, parted at spaces.
+/// The words of a command line, split at spaces.
 fn words_of(rt: &impl Host, line: &str) -> Vec<String> {
     let mut words = Vec::new(rt.alloc());
     for word in line.split(' ') {
@@ -66,7 +66,6 @@ fn words_of(rt: &impl Host, line: &str) -> Vec<String> {
     words
 }
 
-/// A text of these bytes.
 fn text_of(rt: &impl Host, text: &str) -> Text {
     Text::make(rt.alloc(), text.as_bytes()).expect(rt, "memory")
 }
@@ -76,20 +75,20 @@ fn call_of(rt: &impl Host, call: u64) -> Vec<u64> {
     vec![in rt.alloc(); call].expect(rt, "memory")
 }
 
-/// A shelf that gives at most so many bytes a call, one of which fails.
+/// A shelf that returns at most `most` bytes a call; one call fails.
 fn shelf_of(rt: &impl Host, trace: &str, most: usize, call: u64) -> MemShelf {
     let files = vec![in rt.alloc(); (text_of(rt, "t"), text_of(rt, trace))];
     MemShelf::new(files.expect(rt, "memory"), most.max(1), call_of(rt, call))
 }
 
-/// A sink that takes at most so many bytes a call, one of which fails.
+/// A sink that accepts at most `most` bytes a call; one call fails.
 fn sink_of(rt: &impl Host, most: usize, call: u64) -> MemSink {
     let sink = MemSink::new(rt.alloc(), ROOM, most.max(1), call_of(rt, call));
     sink.expect(rt, "memory")
 }
 
-/// Runs a command line over a shelf that holds this trace by the name `t`, where some calls fail,
-/// and threads are held by a gate. The shelf and both sinks move at most so many bytes a call.
+/// Runs a command line with this trace as the file `t`, with some failing calls and a gate that may
+/// block threads. The shelf and both sinks move at most `most` bytes a call.
 fn run_over(
     rt: &impl Host,
     line: &str,
@@ -118,22 +117,22 @@ fn run_over(
     }
 }
 
-/// Runs a command line over this trace, where threads are held by a gate.
+/// Runs a command line with this trace and a gate that may block threads.
 pub fn run_gated(rt: &impl Host, line: &str, trace: &str, gate: &impl Gate) -> Ran {
     run_over(rt, line, trace, 65536, NO_FAULT, gate)
 }
 
-/// Runs a command line over this trace, where some calls fail.
+/// Runs a command line with this trace and some failing calls.
 pub fn run_failing(rt: &impl Host, line: &str, trace: &str, most: usize, failing: Failing) -> Ran {
     run_over(rt, line, trace, most, failing, &OpenGate)
 }
 
-/// Runs a command line over this trace.
+/// Runs a command line with this trace.
 pub fn run_open(rt: &impl Host, line: &str, trace: &str) -> Ran {
     run_failing(rt, line, trace, 65536, NO_FAULT)
 }
 
-/// A run ended with this status, output and note.
+/// Checks the status, output and note of a run.
 pub fn assert_run(
     rt: &impl Abort,
     line: &str,
@@ -151,19 +150,19 @@ pub fn assert_run(
     );
 }
 
-/// A run was done, and its output ends with this.
+/// Checks that a run succeeded, and that its output ends with this.
 pub fn assert_ends(rt: &impl Abort, line: &str, ran: &Ran, end: &str) {
     let is_right = ran.status == ObserveStatus::Done && ran.output.ends_with(end.as_bytes());
     assert!(rt; is_right, "{line}, {ran} in place of the end {end:?}");
 }
 
-/// A command line over this trace prints this output.
+/// Checks the output of a command line for this trace.
 pub fn assert_prints(rt: &impl Host, line: &str, trace: &str, output: &str) {
     let ran = run_open(rt, line, trace);
     assert_run(rt, line, &ran, ObserveStatus::Done, output, "");
 }
 
-/// A command line over this trace ends with this status and note, and prints nothing.
+/// Checks that a command line ends with this status and note for this trace, and prints nothing.
 pub fn assert_prints_nothing(
     rt: &impl Host,
     line: &str,
@@ -175,7 +174,7 @@ pub fn assert_prints_nothing(
     assert_run(rt, line, &ran, status, "", note);
 }
 
-/// The line with a number from 0, without its newline.
+/// Line number `number`, from 0, without its newline.
 pub fn line_of(text: &[u8], number: usize) -> &[u8] {
     text.split(|byte| *byte == b'\n')
         .nth(number)

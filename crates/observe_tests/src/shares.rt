@@ -3,7 +3,7 @@
 use crate::gates::ONE_PROCESSOR;
 use crate::runs::{Ran, assert_ends, line_of, run_open};
 
-/// What a line says, behind its observer's number, of the one processor after so many changes.
+/// The possible lines after the observer's number, by the number of changes of the one processor.
 const LOOKS: [&str; 5] = [
     " cpu=0 count=0 at=0 0 0 0 0 0 0 0",
     " cpu=0 count=1 at=0 0 0 0 0 0 0 0",
@@ -12,7 +12,7 @@ const LOOKS: [&str; 5] = [
     " cpu=0 count=4 at=1500000000 1000000000 1000000000 0 0 0 0 1500000000",
 ];
 
-/// Two processors with three ticks, whose changes all come before the first one.
+/// Two processors with three ticks. All changes are before the first tick.
 const THREE_TICKS: &str = "psitrace 1 cpus=2\n\
     0 fork 1 / 0\n\
     0 switch 0 1 idle\n\
@@ -20,16 +20,16 @@ const THREE_TICKS: &str = "psitrace 1 cpus=2\n\
     1500000000 wake 1 1\n\
     6000000000 end\n";
 
-/// What a line says of it at the second and the third tick.
+/// The lines for it at the second and the third tick, after the observer's number.
 const SETTLED: [&str; 2] = [
     " cpu=0 count=4 at=1500000000 0 0 0 0 0 0 500000000",
     " cpu=1 count=1 at=1500000000 0 0 0 0 0 0 0",
 ];
 
-/// How many observers there are.
+/// The number of observers.
 const OBSERVERS: usize = 8;
 
-/// What a line says behind the number of its observer, where it is this one's.
+/// The rest of a line after this observer's number. `None` for another observer's line.
 fn look_of(line: &[u8], observer: u8) -> Option<&[u8]> {
     let rest = line.strip_prefix(b"sample observer=")?;
     let (digit, look) = rest.split_first()?;
@@ -40,7 +40,7 @@ fn look_of(line: &[u8], observer: u8) -> Option<&[u8]> {
     }
 }
 
-/// How many lines of an output are an observer's and are among these texts.
+/// The number of lines of an output that are an observer's and have one of these texts.
 fn looks_among(output: &[u8], observer: u8, looks: &[&str]) -> usize {
     output
         .split(|byte| *byte == b'\n')
@@ -49,7 +49,7 @@ fn looks_among(output: &[u8], observer: u8, looks: &[&str]) -> usize {
         .count()
 }
 
-/// Each observer has one line of one processor, after any number of its changes.
+/// Whether each observer has one line for the one processor, after any number of its changes.
 fn is_shared(ran: &Ran) -> bool {
     (0..8u8).all(|observer| looks_among(&ran.output, observer, &LOOKS) == 1)
         && line_of(&ran.output, OBSERVERS) == b"board observer=0 tick=1 events=0 kills=0".as_slice()
@@ -62,8 +62,8 @@ fn a_sample_of_each_observer(rt: HostRuntime) {
     assert!(rt; is_shared(&ran), "{ran}");
 }
 
-/// Whether an observer has a line of each processor at each of three ticks, by tick, of which the
-/// last four are settled.
+/// Whether an observer has a line for each processor at each of three ticks, by tick, the last four
+/// after all changes.
 fn is_settled(output: &[u8], observer: u8) -> bool {
     let lines = output.split(|byte| *byte == b'\n');
     let count = lines.filter_map(|line| look_of(line, observer)).count();

@@ -1,4 +1,4 @@
-//! What a gate is told: each change once with its number, and two calls for each sample.
+//! The calls of a gate: one for each change with its number, and two for each sample.
 
 use crate::runs::{Host, Ran, assert_ends, run_gated};
 use outside::Gate;
@@ -6,8 +6,7 @@ use psi_base::{Cpu, read_number};
 use std::sync::atomic::Ordering::SeqCst;
 use std::sync::atomic::{AtomicBool, AtomicU64};
 
-/// Three ticks of two processors, at each of which the root is live. In the second interval nothing
-/// changes.
+/// Three ticks of two processors; the root is live at each. In the second interval nothing changes.
 const THREE_TICKS: &str = "psitrace 1 cpus=2\n\
     0 fork 1 / 0\n\
     0 fork 2 / 1\n\
@@ -23,16 +22,16 @@ const TICKS: u64 = 3;
 
 const CPUS: u64 = 2;
 
-/// How many changes each of its processors has.
+/// The number of changes of each of its processors.
 const CHANGES: [u64; 2] = [5, 3];
 
-/// Room for the numbers of changes after which samples may be.
+/// An exclusive upper bound of the number of changes before a sample.
 const ROOM: u64 = 8;
 
-/// How many observers there are.
+/// The number of observers.
 const OBSERVERS: u64 = 3;
 
-/// So many counters that stand at 0.
+/// `many` counters at 0.
 fn counters(rt: &impl Host, many: u64) -> Vec<AtomicU64> {
     let mut counters = Vec::new(rt.alloc());
     for _ in 0..many {
@@ -41,12 +40,12 @@ fn counters(rt: &impl Host, many: u64) -> Vec<AtomicU64> {
     counters
 }
 
-/// What a gate was told of a processor.
+/// The calls of a gate for a processor.
 #[derive(Drop)]
 struct Told {
-    /// How many changes.
+    /// The number of changes.
     moved: AtomicU64,
-    /// How many samples were taken after so many changes.
+    /// The number of samples by the number of changes before them.
     after: Vec<AtomicU64>,
 }
 
@@ -59,12 +58,12 @@ impl Told {
     }
 }
 
-/// A gate that counts its calls, and notes where one doesn't have the next number.
+/// A gate that counts its calls, and records whether a call has an unexpected number.
 #[derive(Drop)]
 struct Counting {
     /// By processor.
     told: Vec<Told>,
-    /// How many samples each observer was about to take.
+    /// The number of calls before a sample, by observer.
     asked: Vec<AtomicU64>,
     is_wrong: AtomicBool,
 }
@@ -79,7 +78,7 @@ impl Counting {
         }
     }
 
-    /// Notes whether a call was as it must be.
+    /// Records whether a call was as expected.
     fn note(&self, is_right: Option<bool>) {
         if is_right != Some(true) {
             self.is_wrong.store(true, SeqCst);
@@ -93,13 +92,13 @@ impl Counting {
         Some(before < count && count - before == 1)
     }
 
-    /// Whether an observer goes on to this processor.
+    /// Whether this processor is the observer's next one.
     fn is_next_cpu(&self, cpu: Cpu, observer: u32) -> Option<bool> {
         let before = self.asked.get(observer as usize)?.fetch_add(1, SeqCst);
         Some(before % CPUS == u64::from(cpu.0))
     }
 
-    /// Counts a sample of a processor, after so many of its changes.
+    /// Counts a sample of a processor, after `count` of its changes.
     fn count(&self, cpu: Cpu, count: u64) -> Option<bool> {
         let told = self.told.get(cpu.0 as usize)?;
         told.after.get(count as usize)?.fetch_add(1, SeqCst);
@@ -121,7 +120,7 @@ impl Gate for Counting {
     }
 }
 
-/// The processor and the count in a line, where it is a sample's.
+/// The processor and the count in a sample's line. `None` for another line.
 fn sample_of(line: &[u8]) -> Option<(u64, u64)> {
     let rest = line.strip_prefix(b"sample observer=")?;
     let mut words = rest.split(|byte| *byte == b' ').skip(1);
@@ -130,7 +129,7 @@ fn sample_of(line: &[u8]) -> Option<(u64, u64)> {
     Some((cpu, count))
 }
 
-/// Whether the samples of a processor that were printed are those that the gate was told of.
+/// Whether the printed samples of a processor are those that the gate received.
 fn are_lines(ran: &Ran, cpu: u64, told: &Told) -> bool {
     told.after.iter().enumerate().all(|(count, told)| {
         let lines = ran.output.split(|byte| *byte == b'\n');
@@ -142,7 +141,8 @@ fn are_lines(ran: &Ran, cpu: u64, told: &Told) -> bool {
     })
 }
 
-/// Whether a run told its gate of each change of a processor, and of the samples that it printed.
+/// Whether the gate of a run received each change of a processor, and the samples that were
+/// printed.
 fn is_told(ran: &Ran, cpu: usize, told: &Told) -> bool {
     CHANGES.get(cpu) == Some(&told.moved.load(SeqCst)) && are_lines(ran, cpu as u64, told)
 }

@@ -1,4 +1,4 @@
-//! Words that ask for nothing, and the codes of statuses.
+//! Words that are no command, and the exit codes of statuses.
 
 use crate::gates::ONE_PROCESSOR;
 use crate::runs::{Host, assert_prints_nothing};
@@ -25,7 +25,7 @@ const NOTHING_ASKED: [&str; 14] = [
     "",
 ];
 
-/// A command line prints nothing, and ends with this status and note.
+/// Checks that a command line prints nothing, and ends with this status and note.
 fn assert_told(rt: &impl Host, line: &str, status: ObserveStatus, note: &str) {
     assert_prints_nothing(rt, line, ONE_PROCESSOR, status, note);
 }
@@ -38,14 +38,14 @@ fn words_that_ask_for_nothing(rt: HostRuntime) {
     }
 }
 
-// The shelf holds the name `t` alone.
+// The shelf has only the file `t`.
 #[test]
 fn names_that_are_not_held(rt: HostRuntime) {
     assert_told(&rt, "u 1 /", ObserveStatus::NoFile, "no file: u\n");
     assert_told(&rt, "- 8 /a", ObserveStatus::NoFile, "no file: -\n");
 }
 
-// Want of memory, as a growth that is always refused gives it.
+// An out-of-memory failure, as returned by an allocation that always fails.
 fn wanting(rt: &impl Abort, alloc: Global) -> NoMemory {
     match Vec::<u8>::with_capacity(alloc, usize::MAX) {
         Ok(_) => panic!(rt; "there is room for all bytes that can be named"),

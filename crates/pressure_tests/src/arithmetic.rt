@@ -33,12 +33,12 @@ fn powers(rt: HostRuntime) {
     is(&rt, power(1677, u64::MAX), 0, "1677 to the greatest");
 }
 
-/// The totals of a group that was never out of an IO stall up to a moment.
+/// The totals of a group that was in an IO stall without a break up to a time (ns).
 fn io_until(at: u64) -> [u64; 7] {
     [at, at, 0, 0, 0, 0, 0]
 }
 
-// Ticks of 2 s: each is an update over a whole period.
+// Ticks of 2 s: each is an update for a whole period.
 #[test]
 fn averages_of_full_periods(rt: HostRuntime) {
     let mut averages = Averages::new(0);
@@ -56,7 +56,7 @@ fn averages_of_full_periods(rt: HostRuntime) {
     is(&rt, averages.irq(), [0, 0, 0], "interrupts");
 }
 
-// Interrupts take half of the first two seconds, and none of the next two.
+// Interrupts take half of the first two seconds, and nothing of the next two.
 #[test]
 fn averages_of_interrupts(rt: HostRuntime) {
     let mut averages = Averages::new(0);
@@ -67,8 +67,8 @@ fn averages_of_interrupts(rt: HostRuntime) {
     is(&rt, averages.get(State::CpuFull), [0, 0, 0], "processors");
 }
 
-// Ticks of 5 s: one period is missed at the first and two at the second, and what was above the
-// length of the sample waits.
+// Ticks of 5 s: one period is missed at the first and two at the second, and time above the length
+// of the sample is carried over.
 #[test]
 fn averages_of_missed_periods(rt: HostRuntime) {
     let mut averages = Averages::new(0);
@@ -79,7 +79,7 @@ fn averages_of_missed_periods(rt: HostRuntime) {
     is(&rt, averages.get(State::IoSome)[0], 57_467, "after 10 s");
 }
 
-// Processor 0 waits for IO all the time, and processor 1 is busy for half of it.
+// Processor 0 waits for IO all the time, and processor 1 is busy half of the time.
 #[test]
 fn weighted_shares(rt: HostRuntime) {
     let waits = [2 * SECOND, 2 * SECOND, 0, 0, 0, 0, 2 * SECOND, 0];
@@ -95,7 +95,7 @@ fn weighted_shares(rt: HostRuntime) {
     is(&rt, share(&[every]), [1, 2, 3, 4, 5, 6, 8], "every state");
 }
 
-// Processor 0 is busy for two seconds, of which interrupts take one, and processor 1 for a second
+// Processor 0 is busy for two seconds, one of them with interrupts, and processor 1 for a second
 // without interrupts: a plain mean would be half a second.
 #[test]
 fn weighted_interrupts(rt: HostRuntime) {
@@ -124,7 +124,8 @@ fn rows_by_slot_and_processor(rt: HostRuntime) {
     is(&rt, rows.row(Slot(2)), &[[2; 8], [0; 8]], "slot 2");
 }
 
-/// A trigger of this threshold in this window (us) is made, or refused as out of range.
+/// Checks that a trigger with this threshold and window (us) is created, or rejected as out of
+/// range.
 fn is_made(rt: &impl Abort, threshold: u64, window: u64, good: bool) {
     let refused = Trigger::new(0, 0, threshold, window).err();
     let wanted = if good { None } else { Some(Cause::BadWindow) };
@@ -143,8 +144,8 @@ fn windows_in_range(rt: HostRuntime) {
     is_made(&rt, u64::MAX, u64::MAX, false);
 }
 
-/// At these of the ticks (ms) of 100 ms up to 2500 ms a trigger of 150 ms in a window of a second
-/// signals, where the stall lasts up to a moment (ms).
+/// Checks at which ticks (ms), every 100 ms up to 2500 ms, a trigger of 150 ms in a window of a
+/// second fires, if the stall lasts up to `until` (ms).
 fn are_signals(rt: &impl Abort, alloc: Global, until: u64, wanted: &[u64]) {
     let mut at = Vec::new(alloc);
     let mut trigger = Trigger::new(0, 0, 150_000, 1_000_000).expect(rt, "a trigger");
@@ -157,8 +158,8 @@ fn are_signals(rt: &impl Abort, alloc: Global, until: u64, wanted: &[u64]) {
     is(rt, at.as_slice(), wanted, "signals");
 }
 
-// In a stall that doesn't end, the signals are a window apart. Of one that ends after the first
-// signal, the event that is pending then is signalled, and none after it.
+// In a stall that doesn't end, the trigger fires once a window. If the stall ends after the first
+// signal, the pending event is signalled, and none after it.
 #[test]
 fn signals_of_a_trigger(rt: HostRuntime) {
     are_signals(&rt, rt.alloc(), 2500, &[200, 1200, 2200]);

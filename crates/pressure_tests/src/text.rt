@@ -1,3 +1,3 @@
-//! The lines that commands print; pressure files, written and read again.
+//! The lines that commands print, and pressure files, written and read again.
 mod reading;
 mod writing;

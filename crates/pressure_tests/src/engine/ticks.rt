@@ -1,5 +1,5 @@
-//! Groups and triggers over ticks. The expected numbers were computed apart from this program, from
-//! the rules of shares, averages and triggers.
+//! Groups and triggers over ticks. The expected numbers were computed independently of this
+//! program, from the rules of shares, averages and triggers.
 
 use crate::check::is;
 use crate::engine::machine::Machine;
@@ -13,7 +13,7 @@ use std::process::Abort;
 /// A second (ns).
 const SECOND: Ns = 1_000_000_000;
 
-/// A group that is made at a moment and may go at another (ns). The engine reads no paths.
+/// A group that is created at `made` and may be removed at `gone` (ns). The engine reads no paths.
 fn group(rt: &impl Abort, alloc: Global, made: Ns, gone: Option<Ns>) -> GroupLife {
     GroupLife {
         path: Path::root(alloc).expect(rt, "memory"),
@@ -24,7 +24,7 @@ fn group(rt: &impl Abort, alloc: Global, made: Ns, gone: Option<Ns>) -> GroupLif
     }
 }
 
-/// A trigger on a group, from a moment on (ns), with its threshold and its window (us).
+/// A trigger on a group, set at a time (ns), with its threshold and its window (us).
 fn trigger(
     at: Ns,
     slot: u32,
@@ -43,7 +43,7 @@ fn trigger(
     }
 }
 
-/// By how much (ns) a time grows in an interval: a part of it that looks like chance.
+/// The growth (ns) of a time in an interval: a pseudo-random part of it.
 fn growth(tick: u64, slot: u64, cpu: u64, place: u64, interval: Ns) -> Ns {
     let mixed = tick
         .wrapping_mul(5)
@@ -82,7 +82,7 @@ fn large_machine(rt: &impl Abort, alloc: Global) -> Machine {
     Machine::make(rt, alloc, 3, &groups(rt, alloc), &triggers())
 }
 
-/// The moment of a tick (ns), and of the start.
+/// The time (ns) of a tick; 0 for the start.
 fn moment(tick: u64) -> Ns {
     match tick {
         0 => 0,
@@ -96,7 +96,7 @@ fn moment(tick: u64) -> Ns {
     }
 }
 
-/// The time at a place of a group on a processor up to a tick (ns).
+/// The time (ns) at an index, for a group on a processor up to a tick.
 fn time(tick: u64, slot: u32, cpu: u32, place: u64) -> Ns {
     let mut time = 0u64;
     for past in 1..=tick {
@@ -107,7 +107,7 @@ fn time(tick: u64, slot: u32, cpu: u32, place: u64) -> Ns {
     time
 }
 
-/// All of them.
+/// All times of a group on a processor up to a tick.
 fn times(tick: u64, slot: u32, cpu: u32) -> Times {
     [
         time(tick, slot, cpu, 0),
@@ -121,7 +121,7 @@ fn times(tick: u64, slot: u32, cpu: u32) -> Times {
     ]
 }
 
-/// Lets the times of four groups on three processors grow, and makes the tick.
+/// Grows the times of four groups on three processors, and makes the tick.
 fn play(rt: &impl Abort, machine: &mut Machine, tick: u64) {
     for place in 0..12u32 {
         let slot = place / 3;
@@ -131,7 +131,7 @@ fn play(rt: &impl Abort, machine: &mut Machine, tick: u64) {
     machine.tick(rt, moment(tick));
 }
 
-/// The four groups have these.
+/// Checks the totals of the four groups.
 fn have_totals(rt: &impl Abort, machine: &Machine, text: &str) {
     let mut slot = 0u32;
     for totals in text.split('|') {
@@ -141,7 +141,7 @@ fn have_totals(rt: &impl Abort, machine: &Machine, text: &str) {
     is(rt, slot, 4, "groups of a row");
 }
 
-/// After the tick the triggers and totals are those of the row.
+/// Makes the tick, and checks the triggers and totals of the row.
 fn play_row(rt: &impl Abort, machine: &mut Machine, tick: u64, row: &str) {
     let (digits, totals) = row
         .split_once('|')
@@ -151,7 +151,7 @@ fn play_row(rt: &impl Abort, machine: &mut Machine, tick: u64, row: &str) {
     have_totals(rt, machine, totals);
 }
 
-/// Each tick: the triggers that signal, and behind them the totals of each group.
+/// For each tick: the triggers that fire, followed by the totals of each group.
 const TICKS: &str = "04|\
     611764705 811764705 429411764 241176470 441176470 511764705 329411764|\
     613333333 813333333 353333333 553333333 386666666 586666666 253333333|\
@@ -195,7 +195,7 @@ const AVERAGES: &str =
     77486 16699 3608, 63912 14735 3223, 81155 17990 3908, 49316 11085 2411, 70754 15285 3303, 75985 16172 3486, 80522 18276 3986;\
     92356 19450 4172, 92356 19450 4172, 58387 13127 2844, 85307 18177 3906, 71951 15765 3402, 92356 19450 4172, 73527 15652 3364";
 
-/// The four groups have these.
+/// Checks the averages of the four groups.
 fn have_averages(rt: &impl Abort, machine: &Machine) {
     let mut slot = 0u32;
     for row in AVERAGES.split(';') {
@@ -205,11 +205,11 @@ fn have_averages(rt: &impl Abort, machine: &Machine) {
     is(rt, slot, 4, "groups with averages");
 }
 
-// The machine has three processors and four groups. The second group goes at the fourth tick, the
-// third is made between the second tick and the third, and the last at the third. Times grow also
-// where a group isn't live, and no total sees it. The second trigger is set at the very moment of a
-// tick, the third so on the group that is made then, the fourth a nanosecond later, and the fifth
-// is on the group that goes. There are ticks at which periods were missed.
+// The machine has three processors and four groups. The second group is removed at the fourth tick,
+// the third is created between the second tick and the third, and the last at the third. Times grow
+// even if a group isn't live, and no total includes that. The second trigger is set exactly at the
+// time of a tick, the third likewise on the group that is created then, the fourth a nanosecond
+// later, and the fifth is on the group that is removed. At some ticks periods were missed.
 #[test]
 fn groups_that_come_and_go(rt: HostRuntime) {
     let mut machine = large_machine(&rt, rt.alloc());
@@ -228,8 +228,8 @@ fn small_machine(rt: &impl Abort, alloc: Global, triggers: &[TriggerSpec]) -> Ma
     Machine::make(rt, alloc, 1, &lives, triggers)
 }
 
-/// At a moment up to which all time was one of waits for IO, of some and of all tasks, and none of
-/// memory and processors, the group has these totals and averages, and nothing signalled.
+/// Checks a tick at `now` if all time up to it was IO some and full, without memory and CPU waits:
+/// the group's totals and averages, and that no trigger fired.
 fn waits(rt: &impl Abort, machine: &mut Machine, now: Ns, totals: &str, averages: &str) {
     machine.set(rt, 0, 0, [now, now, 0, 0, 0, 0, now, 0]);
     machine.tick(rt, now);
@@ -238,7 +238,7 @@ fn waits(rt: &impl Abort, machine: &mut Machine, now: Ns, totals: &str, averages
     have_signalled(rt, machine, "");
 }
 
-// One processor, where some and all tasks wait for IO all the time, and ticks of two seconds.
+// One processor on which all tasks wait for IO all the time, and ticks of two seconds.
 #[test]
 fn waits_without_end(rt: HostRuntime) {
     let mut machine = small_machine(&rt, rt.alloc(), &[]);
@@ -250,8 +250,8 @@ fn waits_without_end(rt: HostRuntime) {
     waits(&rt, &mut machine, 4 * SECOND, totals, averages);
 }
 
-/// Interrupts took so long (ns) up to a moment from a group that is never idle on one processor,
-/// and in none of the states: it has that as its total, no other, and these averages.
+/// Checks a tick at `now` for a group that is never idle on one processor, in no other state, with
+/// `irq` ns of interrupts: its only total is `irq`, and it has these averages.
 fn interrupt(rt: &impl Abort, machine: &mut Machine, now: Ns, irq: Ns, averages: &str) {
     machine.set(rt, 0, 0, [0, 0, 0, 0, 0, 0, now, irq]);
     machine.tick(rt, now);
@@ -259,7 +259,7 @@ fn interrupt(rt: &impl Abort, machine: &mut Machine, now: Ns, irq: Ns, averages:
     has_averages(rt, machine, 0, averages);
 }
 
-/// So at each moment, with what interrupts took up to it and the averages.
+/// The same at each time (ns), with the interrupt time (ns) up to it and the averages.
 fn interrupts(rt: &impl Abort, alloc: Global, rows: &[(Ns, Ns, &str)]) {
     let mut machine = small_machine(rt, alloc, &[]);
     for (now, irq, averages) in rows {
@@ -267,7 +267,8 @@ fn interrupts(rt: &impl Abort, alloc: Global, rows: &[(Ns, Ns, &str)]) {
     }
 }
 
-// One processor, where interrupts took half of the first two seconds, and nothing of the next two.
+// One processor, on which interrupts took half of the first two seconds, and nothing of the next
+// two.
 #[test]
 fn interrupts_of_half_a_period(rt: HostRuntime) {
     let half = "0 0 0, 0 0 0, 0 0 0, 0 0 0, 0 0 0, 0 0 0, 18550 3350 700";
@@ -276,8 +277,8 @@ fn interrupts_of_half_a_period(rt: HostRuntime) {
     interrupts(&rt, rt.alloc(), &rows);
 }
 
-// A trace tells of interrupts when they are over. So a share may be a second longer than its
-// interval, which is half a second here.
+// A trace reports interrupts after their end. So a share may be a second longer than its interval,
+// which is half a second here.
 #[test]
 fn interrupts_told_late(rt: HostRuntime) {
     let none = "0 0 0, 0 0 0, 0 0 0, 0 0 0, 0 0 0, 0 0 0, 0 0 0";
@@ -302,7 +303,7 @@ fn many_triggers(rt: &impl Abort, alloc: Global) -> Vec<TriggerSpec> {
     triggers
 }
 
-/// The numbers are those from the first up to the one before the last.
+/// Whether the numbers are those from `from` to `to`, excluding `to`.
 fn is_range(numbers: &[u32], from: u32, to: u32) -> bool {
     let mut next = from;
     for number in numbers {
@@ -314,7 +315,8 @@ fn is_range(numbers: &[u32], from: u32, to: u32) -> bool {
     next == to
 }
 
-/// The first trigger that owes a signal after so many seconds, and the one behind the last.
+/// The range of the triggers that are due after this number of seconds: the first one, and the one
+/// after the last.
 fn owed(second: u64) -> (u32, u32) {
     match second {
         1 | 11 => (0, 100),
@@ -324,7 +326,7 @@ fn owed(second: u64) -> (u32, u32) {
     }
 }
 
-/// A second more is all stalled, and the triggers that signal after it are those that are owed.
+/// Adds a second of stall, and checks that the triggers that are due fire.
 fn stall(rt: &impl Abort, machine: &mut Machine, second: u64) {
     let now = second.wrapping_mul(SECOND);
     let (from, to) = owed(second);

@@ -1,9 +1,9 @@
-//! What a machine tells, held against texts.
+//! Checks of a machine's results against texts.
 use crate::engine::machine::Machine;
 use pressure_spec::AverageRows;
 use std::process::Abort;
 
-/// The numbers are those of the text.
+/// Whether the numbers are those of the text.
 fn are(numbers: &[u64], text: &str) -> bool {
     let mut words = text.split(' ');
     for number in numbers {
@@ -17,7 +17,7 @@ fn are(numbers: &[u64], text: &str) -> bool {
     words.next().is_none()
 }
 
-/// The group has these totals.
+/// Checks the totals of the group.
 pub fn has_totals(rt: &impl Abort, machine: &Machine, slot: u32, text: &str) {
     let totals = machine.totals(rt, slot);
     let at = machine.at();
@@ -27,7 +27,7 @@ pub fn has_totals(rt: &impl Abort, machine: &Machine, slot: u32, text: &str) {
     );
 }
 
-/// The numbers of all quantities are those of the text.
+/// Whether the numbers of all quantities are those of the text.
 fn are_averages(averages: &AverageRows, text: &str) -> bool {
     let mut parts = text.split(", ");
     for numbers in averages {
@@ -41,7 +41,7 @@ fn are_averages(averages: &AverageRows, text: &str) -> bool {
     parts.next().is_none()
 }
 
-/// The group has these averages.
+/// Checks the averages of the group.
 pub fn has_averages(rt: &impl Abort, machine: &Machine, slot: u32, text: &str) {
     let averages = machine.averages(rt, slot);
     let at = machine.at();
@@ -52,7 +52,7 @@ pub fn has_averages(rt: &impl Abort, machine: &Machine, slot: u32, text: &str) {
     );
 }
 
-/// The numbers are those whose digits stand here.
+/// Whether the numbers are these digits.
 fn are_digits(numbers: &[u32], digits: &str) -> bool {
     for (number, digit) in numbers.iter().zip(digits.bytes()) {
         if *number != u32::from(digit.wrapping_sub(b'0')) {
@@ -62,7 +62,7 @@ fn are_digits(numbers: &[u32], digits: &str) -> bool {
     numbers.len() == digits.len()
 }
 
-/// The triggers that signalled are those whose digits stand here.
+/// Checks that the triggers that fired are these digits.
 pub fn have_signalled(rt: &impl Abort, machine: &Machine, digits: &str) {
     let fired = machine.fired();
     let at = machine.at();

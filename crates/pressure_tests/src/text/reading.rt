@@ -1,19 +1,19 @@
-//! Pressure files at the borders of what is read.
+//! Reading pressure files, with values at their limits.
 use crate::check::is;
 use pressure_text::{PressureFile, PressureLine, read_file, read_irq};
 use std::alloc::Global;
 use std::process::Abort;
 
-/// A line of zeros on all tasks.
+/// A `full` line of zeros.
 const FULL: &str = "full avg10=0.00 avg60=0.00 avg300=0.00 total=0\n";
 
-/// What it tells.
+/// Its values.
 const ZEROS: PressureLine = PressureLine {
     hundredths: [0; 3],
     total_us: 0,
 };
 
-/// Lines on some tasks that are read, each with what it tells.
+/// Valid `some` lines, each with its values.
 const LINES: [(&str, PressureLine); 2] = [
     (
         "some avg10=18.11 avg60=3.27 avg300=0.68 total=2000000\n",
@@ -31,7 +31,7 @@ const LINES: [(&str, PressureLine); 2] = [
     ),
 ];
 
-/// Lines that aren't.
+/// Malformed lines.
 const WRONG_LINES: [&str; 17] = [
     "some avg10=100.01 avg60=0.00 avg300=0.00 total=0\n",
     "some avg10=0.00 avg60=0.00 avg300=101.00 total=0\n",
@@ -52,7 +52,7 @@ const WRONG_LINES: [&str; 17] = [
     "some avg10=0.00 avg60=0.00 avg300=0.00 total=0",
 ];
 
-/// Files that aren't read though their first line might be, or that have none.
+/// Malformed files, whose first line may be valid or missing.
 const WRONG_FILES: [&str; 6] = [
     "some avg10=0.00 avg60=0.00 avg300=0.00 total=0\n",
     "some avg10=0.00 avg60=0.00 avg300=0.00 total=0\nfull avg10=0.00 avg60=0.00 avg300=0.00 total=0",
@@ -62,7 +62,7 @@ const WRONG_FILES: [&str; 6] = [
     "",
 ];
 
-/// What is read of a file of this line and the one of zeros.
+/// Checks what is read from a file with this line and the line of zeros.
 fn reads(rt: &impl Abort, alloc: Global, line: &str, wanted: Option<PressureFile>) {
     let text = format!(in alloc; "{line}{}", FULL).expect(rt, "memory");
     is(rt, read_file(text.as_bytes()), wanted, text.as_str());
@@ -85,7 +85,7 @@ fn files_at_their_borders(rt: HostRuntime) {
     }
 }
 
-/// Files of interrupts that are read, each with what it tells.
+/// Valid files of interrupts, each with its values.
 const IRQ_FILES: [(&str, PressureLine); 3] = [
     (FULL, ZEROS),
     (
@@ -104,7 +104,7 @@ const IRQ_FILES: [(&str, PressureLine); 3] = [
     ),
 ];
 
-/// Files that aren't.
+/// Malformed files of interrupts.
 const WRONG_IRQ_FILES: [&str; 10] = [
     "full avg10=100.01 avg60=0.00 avg300=0.00 total=0\n",
     "full avg10=0.00 avg60=0.00 avg300=0.00 total=18446744073709551616\n",

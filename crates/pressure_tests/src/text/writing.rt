@@ -24,7 +24,7 @@ fn stalled_averages() -> Averages {
     averages
 }
 
-/// An empty sink with room for so many bytes.
+/// An empty sink with a capacity of `room` bytes.
 fn sink(rt: &impl Abort, alloc: Global, room: usize) -> HonestSink {
     HonestSink::new(alloc, room).expect(rt, "memory")
 }
@@ -83,7 +83,7 @@ fn lines(rt: HostRuntime) {
 /// The totals of a group (ns).
 const TOTALS: Amounts = [1_000, 2_000, 3_999, 4_000, TICK, 999, 5_000];
 
-/// The pressure file of a group with these totals has this text.
+/// Checks the pressure file of a group with these totals.
 fn is_file(rt: &impl Abort, alloc: Global, res: Res, root: bool, text: &[u8]) {
     let mut out = sink(rt, alloc, 256);
     write_file(&mut out, res, root, TOTALS, &stalled_averages()).expect(rt, "a file");
