@@ -1,4 +1,4 @@
-//! Calls with ample memory, the fakes in memory, and tables at the borders.
+//! Calls with enough memory, the fakes in memory, and tables with values at their limits.
 mod buffered;
 mod fakes;
 mod lines;

@@ -1,4 +1,4 @@
-//! Command words: those that are a command, with all that it says, and the others.
+//! Command words: those that are a command, with all its fields, and others.
 mod rows;
 
 use crate::checks::{is, shown};
@@ -16,7 +16,7 @@ fn name_shown(name: &Option<Text>) -> &str {
     }
 }
 
-// A drop-in file and what stands before it, if there is one.
+// A drop-in file preceded by `+`, if there is one.
 fn over_shown(drop_in: &Option<Text>) -> (&str, &str) {
     match drop_in {
         Some(name) => ("+", shown(name.bytes())),
@@ -96,7 +96,7 @@ fn words_of(rt: &impl Abort, alloc: Global, line: &str) -> Vec<String> {
     words
 }
 
-// What the words of a line are.
+// The command of a line's words, or why they aren't one.
 fn answer(rt: &impl Abort, alloc: Global, line: &str) -> String {
     let words = words_of(rt, alloc, line);
     match read_words(alloc, words.as_slice()) {
@@ -106,7 +106,7 @@ fn answer(rt: &impl Abort, alloc: Global, line: &str) -> String {
     }
 }
 
-// The words of a line are this.
+// Checks the answer for the words of a line.
 fn answers(rt: &impl Abort, alloc: Global, line: &str, wanted: &str) {
     let answer = answer(rt, alloc, line);
     is(rt, answer.as_str(), wanted, line);

@@ -1,4 +1,4 @@
-//! A buffered sink, over sinks that take little or fail.
+//! A buffered sink, with inner sinks that accept few bytes a call or fail.
 ghost use Rattle.std.specs.Prelude.{◌≡◌, ◌++◌, ◌<◌, decimal, []};
 ghost use Rattle.outside.specs.Outside.{HasCause};
 ghost use Rattle.outside.specs.Calls.{PutsAll};
@@ -9,7 +9,7 @@ use outside_fakes::MemSink;
 use std::alloc::Global;
 use std::process::Abort;
 
-// Puts bytes and a number by way of a buffer.
+// Writes bytes and a number through a buffer.
 fn put_buffered<K: Sink>(
     out: &mut K,
     pending: &mut Pending,
@@ -26,11 +26,12 @@ fn put_buffered<K: Sink>(
     buffered.flush()
 }
 
-// How a sink takes bytes by way of a buffer: the answer, and how many bytes and calls it took.
+// The result of a write through a buffer: the answer, and the number of bytes and calls at the
+// sink.
 type Taken = (Result<(), WriteFailed>, usize, u64);
 
-// Puts bytes and the number 12 by way of a buffer to a sink that takes at most so many bytes a
-// call, and fails at one.
+// Writes bytes and the number 12 through a buffer to a sink that accepts at most `most` bytes a
+// call, and fails at one call.
 fn goes_through(
     rt: &impl Abort,
     alloc: Global,
@@ -56,7 +57,7 @@ fn buffers_send_on_in_large_writes(rt: HostRuntime) {
     goes_through(&rt, alloc, b"abc", 1, u64::MAX, (Ok(()), 5, 5));
     goes_through(&rt, alloc, b"abc", 9, u64::MAX, (Ok(()), 5, 1));
     goes_through(&rt, alloc, b"abc", 1, 2, (Err(WriteFailed), 2, 3));
-    // More bytes than a buffer holds.
+    // More bytes than the capacity of a buffer.
     let long = vec![in alloc; b'x'; 65537].expect(&rt, "memory");
     goes_through(&rt, alloc, &long, 65536, u64::MAX, (Ok(()), 65539, 2));
     goes_through(&rt, alloc, &long, 65536, 0, (Err(WriteFailed), 0, 1));

@@ -1,4 +1,4 @@
-//! The shelves and sinks in memory: what each call answers and counts.
+//! The shelves and sinks in memory: the answer and the counts of each call.
 ghost use Rattle.std.specs.Prelude.{◌<◌};
 
 use crate::checks::is;
@@ -15,8 +15,8 @@ pub fn one_file(rt: &impl Abort, alloc: Global, bytes: &[u8]) -> Vec<(Text, Text
     vec![in alloc; (name, text)].expect(rt, "memory")
 }
 
-/// The file and the place that each call names, its answer, and how many calls, faults and absent
-/// files there are behind it.
+/// The file and position of each call, its answer, and the numbers of calls, faults and absent
+/// files after it.
 const READS: [(&str, u64, Result<usize, ShelfFault>, u64, u64, u64); 6] = [
     ("f", 0, Ok(2), 1, 0, 0),
     ("f", 0, Err(ShelfFault::Failed), 2, 1, 0),
@@ -26,7 +26,8 @@ const READS: [(&str, u64, Result<usize, ShelfFault>, u64, u64, u64); 6] = [
     ("f", 99, Ok(0), 6, 1, 1),
 ];
 
-// A shelf with the bytes `abcde`, which gives at most two of them a call and fails at the second.
+// A shelf with the bytes `abcde`, which returns at most two of them a call and fails at the second
+// call.
 fn failing_shelf(rt: &impl Abort, alloc: Global) -> MemShelf {
     let fails = vec![in alloc; 1].expect(rt, "memory");
     MemShelf::new(one_file(rt, alloc, b"abcde"), 2, fails)
@@ -55,7 +56,8 @@ fn honest_shelf_misses_only_names(rt: HostRuntime) {
     is(&rt, shelf.absent, 1, "absent files");
 }
 
-// A sink with room for nine bytes, which takes at most so many a call and fails at the second.
+// A sink with a capacity of nine bytes, which accepts at most `most` a call and fails at the second
+// call.
 fn failing_sink(rt: &impl Abort, alloc: Global, most: usize) -> MemSink
     requires { 0 < most }
 {
@@ -63,7 +65,7 @@ fn failing_sink(rt: &impl Abort, alloc: Global, most: usize) -> MemSink
     MemSink::new(alloc, 9, most, fails).expect(rt, "memory")
 }
 
-// The sink took these bytes, by so many calls with so many faults.
+// Checks the bytes of the sink, and its numbers of calls and faults.
 fn took(rt: &impl Abort, sink: &MemSink, bytes: &[u8], calls: u64, faults: u64) {
     is(rt, sink.bytes.as_slice(), bytes, "what the sink took");
     let counts = (sink.calls, sink.faults);

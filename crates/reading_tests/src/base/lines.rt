@@ -1,4 +1,4 @@
-//! Lines over shelves that cut them anywhere, and that fail.
+//! Lines from shelves that split them anywhere, and that fail.
 ghost use Rattle.std.specs.Prelude.{◌+◌, ◌<◌, ◌≤◌, ◌^◌};
 
 use crate::base::fakes::one_file;
@@ -8,7 +8,7 @@ use psi_lines::{LineFault, Lines};
 use std::alloc::Global;
 use std::process::Abort;
 
-// A shelf with the file `f`, which gives at most so many bytes a call and fails at one call.
+// A shelf with the file `f`, which returns at most `most` bytes a call and fails at one call.
 fn shelf_of(rt: &impl Abort, alloc: Global, bytes: &str, most: usize, fails: u64) -> MemShelf
     requires { 0 < most }
 {
@@ -16,7 +16,7 @@ fn shelf_of(rt: &impl Abort, alloc: Global, bytes: &str, most: usize, fails: u64
     MemShelf::new(one_file(rt, alloc, bytes.as_bytes()), most, fails)
 }
 
-// A reader of a name's lines.
+// A reader of the lines of a file.
 fn lines_of(rt: &impl Abort, alloc: Global, name: &str) -> Lines
     ensures { result.number ≤ 1 }
 {
@@ -38,7 +38,7 @@ fn told(
     line.expect(rt, "memory")
 }
 
-// The next line.
+// The next line, owned.
 fn next_own(rt: &impl Abort, alloc: Global, lines: &mut Lines, shelf: &mut MemShelf) -> String
     requires { lines.old.number < 2 ^ 32 }
     ensures { lines.new.number ≤ lines.old.number + 1 }
@@ -50,7 +50,7 @@ fn next_own(rt: &impl Abort, alloc: Global, lines: &mut Lines, shelf: &mut MemSh
     }
 }
 
-// The next line where it is lent.
+// The next line, borrowed.
 fn next_lent(rt: &impl Abort, alloc: Global, lines: &mut Lines, shelf: &mut MemShelf) -> String
     requires { lines.old.number < 2 ^ 32 }
     ensures { lines.new.number ≤ lines.old.number + 1 }
@@ -59,7 +59,7 @@ fn next_lent(rt: &impl Abort, alloc: Global, lines: &mut Lines, shelf: &mut MemS
     told(rt, alloc, number, lines.next_bytes(shelf))
 }
 
-// What so many calls answer, a line each.
+// The answers of `calls` calls, one line each.
 fn answers(
     rt: &impl Abort,
     alloc: Global,
@@ -81,8 +81,8 @@ fn answers(
     text
 }
 
-// So many calls over a shelf that gives at most so many bytes a call answer this, of lines of their
-// own and of lines that are lent.
+// Checks the answers of `calls` calls with a shelf that returns at most `most` bytes a call, both
+// with owned and with borrowed lines.
 fn agrees_by(rt: &impl Abort, alloc: Global, bytes: &str, most: usize, calls: u32, wanted: &str)
     requires { 0 < most }
 {
@@ -93,14 +93,14 @@ fn agrees_by(rt: &impl Abort, alloc: Global, bytes: &str, most: usize, calls: u3
     }
 }
 
-// Three ways to cut the bytes give the same answers.
+// Checks that three ways to split the bytes give the same answers.
 fn agrees(rt: &impl Abort, alloc: Global, bytes: &str, calls: u32, wanted: &str) {
     agrees_by(rt, alloc, bytes, 1, calls, wanted);
     agrees_by(rt, alloc, bytes, 7, calls, wanted);
     agrees_by(rt, alloc, bytes, 65536, calls, wanted);
 }
 
-/// Bytes, how many calls there are, and what they answer.
+/// Bytes, the number of calls, and their answers.
 const LINES: [(&str, u32, &str); 5] = [
     ("", 2, "end\nend\n"),
     ("\n", 2, "1:\nend\n"),
@@ -116,7 +116,7 @@ fn lines_are_the_same_in_all_pieces(rt: HostRuntime) {
     }
 }
 
-// A line of so many bytes, with a text before it and one behind it.
+// A line of `length` bytes, with a text before it and one after it.
 fn long_line(rt: &impl Abort, alloc: Global, before: &str, length: usize, behind: &str) -> String {
     let line = "a".repeat(alloc, length).expect(rt, "memory");
     format!(in alloc; "{before}{line}{behind}").expect(rt, "memory")
@@ -141,7 +141,7 @@ fn lines_have_no_513_bytes(rt: HostRuntime) {
     }
 }
 
-// What four calls answer where a read fails, with two bytes a call.
+// Checks the answers of four calls if a read fails, with two bytes a call.
 fn fails_once(rt: &impl Abort, alloc: Global, fails: u64, wanted: &str) {
     for lends in &[false, true] {
         let mut shelf = shelf_of(rt, alloc, "abc\nde\n", 2, fails);
@@ -169,8 +169,8 @@ fn absent_names_have_no_lines(rt: HostRuntime) {
     }
 }
 
-// Asks for the end behind one line twice, where the second read fails. The first of the two reads
-// once, and the second where nothing is held.
+// Asks twice whether the lines are at their end after one line. The second read fails. The first
+// question reads once, and the next one only if no byte is buffered.
 fn end_behind_line(rt: &impl Abort, alloc: Global, bytes: &str, is_end: bool, calls: u64) {
     let mut shelf = shelf_of(rt, alloc, bytes, 3, 1);
     let mut lines = lines_of(rt, alloc, "f");

@@ -1,10 +1,10 @@
-//! Numbers, paths and parts at their borders.
+//! Numbers, paths and parts at their limits.
 use crate::checks::is;
 use psi_base::{Parts, Path, Text, read_number};
 use std::alloc::Global;
 use std::process::Abort;
 
-/// Texts, each with the number that it writes, if it writes one.
+/// Texts, each with its number, if it is one.
 const NUMBERS: [(&str, Option<u64>); 11] = [
     ("0", Some(0)),
     ("7", Some(7)),
@@ -26,7 +26,7 @@ fn numbers(rt: HostRuntime) {
     }
 }
 
-// The text is a path, and is kept, or it is none.
+// Checks that the text is read unchanged as a path, or isn't a path.
 fn reads_path(rt: &impl Abort, alloc: Global, text: &str, is_path: bool) {
     let path = Path::read(alloc, text.as_bytes()).expect(rt, "memory");
     let kept = match &path {
@@ -70,7 +70,7 @@ fn root_is_a_path(rt: HostRuntime) {
     is(&rt, root.bytes(), b"/".as_slice(), "the root");
 }
 
-// So many components after one another are a path, or they are none.
+// Checks whether `count` components in a row are a path.
 fn repeats(rt: &impl Abort, alloc: Global, component: &str, count: usize, is_path: bool) {
     let text = component.repeat(alloc, count).expect(rt, "memory");
     reads_path(rt, alloc, text.as_str(), is_path);

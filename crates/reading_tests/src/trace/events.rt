@@ -1,4 +1,5 @@
-//! Event lines: which are read and written again, and which are refused for what.
+//! Event lines: which are read and written again (a round trip), and which are rejected with which
+//! cause.
 ghost use Rattle.psi_spec.specs.Header.{IsVersion};
 
 use crate::checks::is;
@@ -7,7 +8,7 @@ use psi_trace::{read_event, write_event};
 use std::alloc::Global;
 use std::process::Abort;
 
-/// A line of a trace of this version is read, and written behind the bytes.
+/// Reads a line of a trace of this version, and appends the written event.
 fn rewrite(rt: &impl Abort, alloc: Global, version: u32, line: &str, written: &mut Vec<u8>)
     requires { IsVersion version }
 {
@@ -15,7 +16,7 @@ fn rewrite(rt: &impl Abort, alloc: Global, version: u32, line: &str, written: &m
     write_event(&event, written).expect(rt, "memory");
 }
 
-/// Each line of a trace of this version is read, and written again as it stands.
+/// Checks that each line of a trace of this version is read, and written again unchanged.
 fn rewrites(rt: &impl Abort, alloc: Global, version: u32, lines: &[&str])
     requires { IsVersion version }
 {
@@ -26,7 +27,7 @@ fn rewrites(rt: &impl Abort, alloc: Global, version: u32, lines: &[&str])
     }
 }
 
-/// A line of a trace of this version is refused for this cause.
+/// Checks that a line of a trace of this version is rejected with this cause.
 fn is_refused(rt: &impl Abort, alloc: Global, version: u32, line: &str, cause: Cause)
     requires { IsVersion version }
 {
@@ -34,7 +35,7 @@ fn is_refused(rt: &impl Abort, alloc: Global, version: u32, line: &str, cause: C
     is(rt, refused, Some(Fault::Refused(cause)), line);
 }
 
-/// Each line of a trace of this version is refused for the cause beside it.
+/// Checks that each line of a trace of this version is rejected with the cause next to it.
 fn refuses(rt: &impl Abort, alloc: Global, version: u32, rows: &[(&str, Cause)])
     requires { IsVersion version }
 {
@@ -84,7 +85,7 @@ fn writes_what_it_reads(rt: HostRuntime) {
     rewrites(&rt, rt.alloc(), 2, &LINES);
 }
 
-/// Lines of interrupts and of accounts that are switched.
+/// Lines of interrupts and of accounting that is switched.
 const SECOND: [&str; 6] = [
     "5 irq 0 0",
     "5 irq 63 1000000000",
@@ -112,7 +113,7 @@ fn appends_to_what_is_there(rt: HostRuntime) {
     );
 }
 
-/// Lines of accounts that are switched.
+/// Lines of accounting that is switched.
 const ACCOUNTS: [(&str, Cause); 12] = [
     ("x pressure /a off", Cause::BadTime),
     ("5 Pressure /a off", Cause::BadVerb),
@@ -144,7 +145,7 @@ const INTERRUPTS: [(&str, Cause); 12] = [
     ("5 irq 0 1 1", Cause::BadField(3)),
 ];
 
-/// Lines without a time or a verb, or with words behind a verb that has none.
+/// Lines without a time or a verb, or with words after a verb that takes none.
 const TIMES_AND_VERBS: [(&str, Cause); 24] = [
     ("", Cause::BadTime),
     (" ", Cause::BadTime),
@@ -269,7 +270,7 @@ const GROUPS: [(&str, Cause); 36] = [
     ("5 trigger / io some 1 1 1", Cause::BadField(6)),
 ];
 
-/// Each line of a trace of either version is refused for the cause beside it.
+/// Checks that each line is rejected with the cause next to it, in a trace of either version.
 fn refuses_in_both(rt: &impl Abort, alloc: Global, rows: &[(&str, Cause)]) {
     refuses(rt, alloc, 1, rows);
     refuses(rt, alloc, 2, rows);

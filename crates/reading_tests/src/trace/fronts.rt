@@ -1,4 +1,4 @@
-//! Lines that are played where they stand, in front of others.
+//! Lines that are played in place, before others.
 use crate::checks::is;
 use psi_base::{Cpu, Ns, Pid};
 use psi_trace::{read_event, take_front};
@@ -9,7 +9,7 @@ use task_table::Table;
 /// Task 1 sleeps, 2 runs on processor 0, and 3 is ready on 1.
 const FIRST: &str = "0 fork 1 / 0;0 fork 2 / 0;0 fork 3 / 1;0 switch 0 1 idle;1 switch 0 2 sleep";
 
-/// Plays a line as any line is read: whether it is taken.
+/// Plays a line through the general reader, and returns whether it is accepted.
 fn is_taken(alloc: Global, table: &mut Table, line: &str) -> bool {
     match read_event(alloc, 1, line.as_bytes()) {
         Ok(event) => table.play(&event).is_ok(),
@@ -26,7 +26,7 @@ fn started(rt: &impl Abort, alloc: Global) -> Table {
     table
 }
 
-/// The tables tell the same of their tasks.
+/// Whether the tables have the same tasks.
 fn are_same(one: &Table, other: &Table) -> bool {
     one.lines() == other.lines()
         && one.last() == other.last()
@@ -34,7 +34,7 @@ fn are_same(one: &Table, other: &Table) -> bool {
         && (0..2).all(|cpu| one.running(Cpu(cpu)) == other.running(Cpu(cpu)))
 }
 
-/// No front of a line is taken, however long, since its newline isn't there.
+/// Whether no prefix of a line is played, however long, since its newline is missing.
 fn leaves_fronts(table: &mut Table, line: &[u8]) -> bool {
     let mut leaves = true;
     for held in 0..=line.len() {
@@ -43,14 +43,15 @@ fn leaves_fronts(table: &mut Table, line: &[u8]) -> bool {
     leaves
 }
 
-/// Plays the line in front of another: its length, and whether it is taken.
+/// Plays the line before another, and returns its length and whether it is accepted.
 fn front(rt: &impl Abort, alloc: Global, table: &mut Table, line: &str) -> (usize, bool) {
     let bytes = format!(in alloc; "{line}\n5 end\n").expect(rt, "memory");
     let played = take_front(bytes.as_bytes(), table).expect(rt, line);
     (played.count, played.answer.is_ok())
 }
 
-/// The line is played in front of another as any line is read, and no front of it is.
+/// Checks that the line is played before another as by the general reader, and that no prefix of it
+/// is.
 fn plays_as_read(rt: &impl Abort, alloc: Global, line: &str) {
     let mut table = started(rt, alloc);
     let leaves = leaves_fronts(&mut table, line.as_bytes());
@@ -62,7 +63,7 @@ fn plays_as_read(rt: &impl Abort, alloc: Global, line: &str) {
     assert!(rt; are_same(&table, &other), "at {line}");
 }
 
-/// Lines that are played where they stand.
+/// Lines that are played in place.
 const PLAYED: [&str; 20] = [
     "0 wake 1 0",
     "1 wake 1 1",

@@ -1,4 +1,4 @@
-//! Header lines: the versions and the numbers of processors that they name, and which are none.
+//! Header lines: their versions and numbers of processors, and malformed ones.
 use crate::checks::is;
 use psi_base::Cause;
 use psi_trace::{Header, read_header};
@@ -24,7 +24,7 @@ fn reads_the_version_and_the_number_of_processors(rt: HostRuntime) {
     }
 }
 
-/// Lines that are no header.
+/// Malformed headers.
 const OTHERS: [&str; 25] = [
     "",
     "psitrace",

@@ -1,13 +1,13 @@
-//! Words, parted by `|`, a row for each list of them.
+//! Words, split at `|`, one row for each list of them.
 
-/// Words, and behind `=>` the command:
+/// Words, and after `=>` the command:
 ///
-/// - its trace, and of `replay` and `whatif` the rules with the drop-in file behind `+`, the
+/// - its trace, and for `replay` and `whatif` the rules with the drop-in file after `+`, the
 ///   numbers of `--tick-ms`, `--interval-s`, `--report-s` and `--workers`, the path and the number
 ///   of `--live-count`;
-/// - of `gen` and `stress` the numbers of `--seed`, `--cpus`, `--groups` and `--events`, and of
+/// - for `gen` and `stress` the numbers of `--seed`, `--cpus`, `--groups` and `--events`, and for
 ///   `stress` that of `--workers`;
-/// - of `import` its file and the number of `--cpus`; of `rules` its file with the drop-in file.
+/// - for `import` its file and the number of `--cpus`; for `rules` its file with the drop-in file.
 pub const ACCEPTED: &str = "whatif|X|--rules=R => whatif X R 2000 5 10 64 none 1
 whatif|-|--rules|R => whatif - R 2000 5 10 64 none 1
 whatif|--drop-in=D|--report-s=0|X|--rules=R => whatif X R+D 2000 5 0 64 none 1
@@ -81,7 +81,7 @@ replay|X|--rules|R|--drop-in|D => replay X R+D 2000 5 10 64 none 1
 replay|--drop-in=D|X|--rules=R => replay X R+D 2000 5 10 64 none 1
 replay|X|--rules|R|--drop-in|R|--tick-ms|5 => replay X R+R 5 5 10 64 none 1";
 
-/// Words that are no command. The first row has none.
+/// Words that are no command. The first row has no words.
 pub const REFUSED: &str = "(none)
 
 |X
