@@ -72,7 +72,7 @@ next_can shape planner left rest event is so split =
     next_fits so.played event rest
     (subst AllFit (whole shape planner left rest event so split) (generated_is_trace shape is).accepted.fit)
 
--- and is legal behind those that were taken
+-- and is legal after those that were taken
 pub next_may : (shape : Shape) (planner : PlannerView) (left rest : List Event) (event : Event)
     → IsShape shape → HasPlayed shape planner left → left ≡ event ∷ rest
     → (limits : Limits) × (events : List Event) × HasTaken planner limits events
@@ -101,7 +101,7 @@ next_taken shape old new left rest event played split takes = record {
 
 -- ---- a replay of which the end alone is written
 
--- A replay without rules has made some ticks, and whether there was one is told.
+-- A replay without rules has made some ticks, and it is known whether there was one.
 pub record HasPassed (replay : ReplayView) (trace : Trace) (pace : Pace) (ticked : Bool) : Type 0 where
   pub is : IsReplay replay trace pace [] replay.made
   pub some : ticked ≡ true → 0 < replay.made
@@ -141,7 +141,7 @@ if_some n x y some =
 if_none : {A : Type 0} (n : ℕ) (x y : A) → n ≡ 0 → (if n == 0 then x else y) ≡ x
 if_none n x y none = rw none refl
 
--- the text where there is a tick
+-- the text if there is a tick
 pub stress_some : (trace : Trace) (pace : Pace) → 0 < tick_count trace pace
     → stress_text trace pace
     ≡ group_report trace pace (tick_count trace pace) root_group ++ last_line trace pace (with_rules [])
@@ -149,7 +149,7 @@ stress_some trace pace some =
     ap (λ xs. xs ++ last_line trace pace (with_rules []))
     (if_some (tick_count trace pace) [] (group_report trace pace (tick_count trace pace) root_group) some)
 
--- and where there is none
+-- and if there is none
 pub stress_none : (trace : Trace) (pace : Pace) → tick_count trace pace ≡ 0
     → stress_text trace pace ≡ last_line trace pace (with_rules [])
 stress_none trace pace none =
@@ -223,7 +223,7 @@ takes_generated command shape files unnamed first tick is =
       read = λ bytes known. absurd (let no : ⊥ = cc (unnamed, known.1) in no);
     }
 
--- a file that it doesn't name isn't told to be missing
+-- a file that it doesn't name isn't known to be missing
 not_named : (command : Command) (files : Option Files) (which : Which) → file_of command which ≡ None → IsThere command files which
 not_named command files which none = λ name is lacks. cc (none, is)
 
@@ -278,7 +278,7 @@ outgrown_reads (words.Stress shape workers) trace rules events is = absurd (let 
 outgrown_reads (words.Import file cpus) trace rules events is = absurd (let no : ⊥ = cc is in no)
 outgrown_reads (words.Rules file drop_in) trace rules events is = absurd (let no : ⊥ = cc is in no)
 
--- such a run is done, where no write failed and memory was there
+-- such a run is done, if no write failed and memory didn't run out
 pub makes : (command : Command) (files : Option Files) (before now : RunCounts)
     (had has : Option (List ℕ)) (result : Status) → Runs command files before now had has result
     → (ReadsFiles command → ⊥)

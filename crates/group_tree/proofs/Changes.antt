@@ -21,7 +21,7 @@ use Rattle.group_tree.proofs.Counting.{one, count_behind, count_set, count_at, c
 
 -- ---- a group is made
 
--- a zero behind changes no look-up
+-- an appended zero changes no look-up
 zero_behind : (xs : List ℕ) (n : ℕ) → slice_index_or (xs ++ 0 ∷ []) n 0 ≡ slice_index_or xs n 0
 zero_behind [] zero = refl
 zero_behind [] (suc n) = refl
@@ -102,7 +102,7 @@ is_none : (o : Option ℕ) → is_some o ≡ false → o ≡ None
 is_none None h = refl
 is_none (Some n) h = cc h
 
--- where no cause stands against a new group, it may be made
+-- if there is no cause against a new group, it may be created
 pub may_add : (groups : List GroupLife) (path : List ℕ) (at : ℕ) → add_cause groups path ≡ None → AreGroups groups → AreGroups (groups ++ new_group groups path at ∷ [])
 may_add groups path at none are =
     elim (nat_le 1024 (length groups)) as (λ few. nat_le 1024 (length groups) ≡ few → (if few then Some cause.TooManyGroups else (if is_some (slot_of groups path) then Some cause.GroupExists else (if not (is_some (slot_of groups (parent_path path))) then Some cause.NoParent else None))) ≡ None → AreGroups (groups ++ new_group groups path at ∷ [])) [
@@ -151,11 +151,11 @@ set_is_map f (group ∷ groups) (suc place) new here others =
     ap (λ g. g ∷ slice_set groups place new) (sym (others 0 group refl (omega arith)))
     ∙ ap (λ gs. f group ∷ gs) (set_is_map f groups place new here (λ at g is differs. others (suc at) g is (omega (arith, differs))))
 
--- a slot that is found is one that there is
+-- a slot that is found exists
 pub found_made : (groups : List GroupLife) (path : List ℕ) (slot : ℕ) → slot_of groups path ≡ Some slot → slot < length groups
 found_made groups path slot found = let below = found_below 0 groups path slot found in omega (arith, below.1)
 
--- a group in another place than the one that was found has another path, or is gone
+-- a group in another place than the found group's has another path, or was removed
 is_another : (groups : List GroupLife) (path : List ℕ) (place k : ℕ) (group : GroupLife) → IsOneLive groups → slot_of groups path ≡ Some place → slice_get groups k ≡ Some group → k ≢ place → (is_live group && bytes_eq group.path path) ≡ false
 is_another groups path place k group one found got differs =
     elim (is_live group && bytes_eq group.path path) as (λ b. (is_live group && bytes_eq group.path path) ≡ b → b ≡ false) [
@@ -168,7 +168,7 @@ is_another groups path place k group one found got differs =
       | false ↦ λ _. refl
     ] refl
 
--- the moment put into the found group's place is the removal
+-- storing the time in the found group's place is the removal
 pub ended_is : (groups : List GroupLife) (path : List ℕ) (at place : ℕ) (group : GroupLife) → IsOneLive groups → slot_of groups path ≡ Some place → slice_get groups place ≡ Some group → slice_set groups place (record group { gone = Some at }) ≡ map (marked_removed path at) groups
 ended_is groups path at place group one found got =
     set_is_map (marked_removed path at) groups place (record group { gone = Some at })
@@ -235,7 +235,7 @@ pub slot_back : (o : Option ℕ) (found : Option Slot) → found ≡ as_slot o �
 slot_back None found is slot some = absurd (cc (is, some))
 slot_back (Some n) found is slot some = let same : (let s : Slot = record { 0 = n } in s) ≡ slot = cc (is, some) in ap (λ (s : Slot). let o : Option ℕ = Some s.0 in o) same
 
--- where no cause stands against a switch, the group isn't the root
+-- if there is no cause against a switch, the group isn't the root
 pub not_root : (groups : List GroupLife) (path : List ℕ) → pressure_cause groups path ≡ None → is_root path ≡ false
 not_root groups path none =
     elim (is_some (slot_of groups path)) as (λ b. (if not b then Some cause.UnknownGroup else (if is_root path then Some cause.RootPressure else None)) ≡ None → is_root path ≡ false) [

@@ -18,7 +18,7 @@ once : (b : Bool) → (if b then 1 else 0) ≤ 1
 once true = omega arith
 once false = omega arith
 
--- one group more behind
+-- one appended group
 pub count_behind : (groups : List GroupLife) (group : GroupLife) (slot : ℕ) → count_children (groups ++ group ∷ []) slot ≡ count_children groups slot + one slot group
 count_behind [] group slot = refl
 count_behind (first ∷ groups) group slot =
@@ -79,7 +79,7 @@ some_more : (b : Bool) (n : ℕ) (any : Bool) → any ≡ nat_lt 0 n → (b || a
 some_more true n any is = grind (arith, nat_tests)
 some_more false n any is = grind (arith, nat_tests)
 
--- a live child is there where the count isn't 0
+-- there is a live child if the count isn't 0
 pub some_child : (groups : List GroupLife) (slot : ℕ) → has_child groups (Some slot) ≡ nat_lt 0 (count_children groups slot)
 some_child [] slot = refl
 some_child (group ∷ groups) slot = some_more (is_live group && is_slot (Some slot) group.parent) (count_children groups slot) (has_child groups (Some slot)) (some_child groups slot)

@@ -61,7 +61,7 @@ uncut (byte ∷ bytes) none =
 pub above_cut : (bytes : List ℕ) (at : ℕ) → at < length bytes → get_or bytes at 0 ≡ 47 → HasNoSlash bytes (at + 1) → parent_path bytes ≡ or_root (take at bytes)
 above_cut bytes at room is none = ap or_root (cut_at bytes at room is none)
 
--- the path above, where there is no slash
+-- the parent path, if there is no slash
 pub above_none : (bytes : List ℕ) → HasNoSlash bytes 0 → parent_path bytes ≡ codes "/"
 above_none bytes none = ap or_root (uncut bytes none)
 

@@ -35,7 +35,7 @@ tick_later length (suc tick) some =
 abbrev all_at : Trace → Pace → List ℕ → List Reading
 all_at trace pace numbers = map (reading_at trace.cpus trace.events pace.length) numbers
 
--- the readings of one tick more, where it is known whether it is an evaluation
+-- the readings after the next tick, if it is known whether it is an evaluation
 one_more : (trace : Trace) (pace : Pace) (i : ℕ) (b : Bool) →
     is_evaluation pace.interval pace.length (suc i) ≡ b →
     readings_of trace pace (suc i)
@@ -104,7 +104,7 @@ same_schedule judge plans engine order trace pace rules i at length is =
     ap (λ interval. is_evaluation interval length (i + 1)) is.judged.interval
     ∙ ap (λ length. is_evaluation pace.interval length (i + 1)) is.length_is
 
--- it is told the moment of the tick
+-- its time is the tick's
 pub moment_is : (judge : JudgeView) (plans : PlansView) (engine : EngineView)
     (order : List Slot) (trace : Trace) (pace : Pace) (rules : List Rule) (i at length : ℕ) →
     IsToJudge judge plans engine order trace pace rules i at length →
@@ -128,12 +128,12 @@ to_evaluate judge evaluator plans engine order trace pace rules i at length is k
       read = subst (λ e. HasReadAll e trace rules (readings_of trace pace i)) kept is.judged.read;
     }
 
--- one that keeps no evaluator tells none
+-- a judge without an evaluator has no kills
 tells_none : (judge : JudgeView) → judge.evaluator ≡ None → judge_kills judge ≡ []
 tells_none judge none =
     ap (λ e. if judge.evaluated then told_last e else []) none ∙ none_either judge.evaluated
 
--- and neither does one that evaluated no rules
+-- neither has a judge that evaluated no rules
 tells_no_old : (judge : JudgeView) → judge.evaluated ≡ false → judge_kills judge ≡ []
 tells_no_old judge none = ap (λ b. if b then told_last judge.evaluator else []) none
 
@@ -153,7 +153,7 @@ judged_none judge trace pace rules i number none is =
       kills = tells_none judge none ∙ sym unkilled;
     }
 
--- at a tick that is no evaluation a judge changes in nothing but that it tells no kills
+-- at a tick without an evaluation a judge changes only in that it has no kills
 pub judged_same : (old new : JudgeView) (trace : Trace) (pace : Pace) (rules : List Rule)
     (i : ℕ) →
     new.interval ≡ old.interval → new.evaluator ≡ old.evaluator → new.evaluated ≡ false →
@@ -169,7 +169,7 @@ judged_same old new trace pace rules i interval kept evaluated none is =
       kills = tells_no_old new evaluated ∙ sym (no_kills_between trace pace rules (i + 1) none);
     }
 
--- at an evaluation its evaluator has one reading more, and tells the kills at it
+-- at an evaluation its evaluator has one more reading, and the judge has the kills at it
 pub judged_next : (old new : JudgeView) (evaluator : EvaluatorView) (trace : Trace) (pace : Pace)
     (rules : List Rule) (i : ℕ) →
     new.interval ≡ old.interval → new.evaluator ≡ Some evaluator → new.evaluated ≡ true →
@@ -195,7 +195,7 @@ judged_next old new evaluator trace pace rules i interval kept on due read is =
 pub rests_none : (judge : JudgeView) → judge.evaluator ≡ None → Rests judge judge
 rests_none judge none = record { evaluator = refl; kills = tells_none judge none }
 
--- one that evaluated no rules rests
+-- a judge that evaluated no rules rests
 pub rests : (old new : JudgeView) →
     new.evaluator ≡ old.evaluator → new.evaluated ≡ false → Rests old new
 rests old new same none = record { evaluator = same; kills = tells_no_old new none }

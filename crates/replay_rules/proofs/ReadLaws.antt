@@ -71,7 +71,7 @@ order_made lives slots is =
 
 -- ---- averages
 
--- an engine tells the averages of each group after the ticks for which it stands
+-- an engine has the averages of each group after the ticks that it represents
 averages_are : (engine : EngineView) (trace : Trace) (pace : Pace) (i slot : ℕ) →
     HasTicked engine trace pace i → slot < length (lives_of trace) →
     averages_in engine slot
@@ -103,13 +103,13 @@ group_with slot averages memory preference populated = record {
   populated = populated;
 }
 
--- the group in a slot as the trace tells of it at a tick
+-- the reading of the group in a slot at a tick, according to the trace
 abbrev group_told : Trace → Pace → ℕ → ℕ → GroupReading
 group_told trace pace i slot =
     group_seen (up_to trace.events (tick_moment pace.length i))
     (averages_at trace.cpus trace.events pace.length i slot) slot
 
--- an engine and a watch that stand at a tick tell the same of it
+-- an engine and a watch at a tick give the same reading
 group_is : (engine : EngineView) (watch : SideView) (trace : Trace) (pace : Pace) (i slot : ℕ) →
     HasTicked engine trace pace i →
     HasFollowed trace.events (Some (tick_moment pace.length i)) watch →
@@ -128,7 +128,7 @@ group_is engine watch trace pace i slot ticked watching room =
     (preference_of slot (up_to trace.events (tick_moment pace.length i))) b)
     (watching.populated slot room)
 
--- of groups in slots that there are, both tell the same
+-- for groups in existing slots both are equal
 groups_are : (f g : ℕ → GroupReading) (n : ℕ) → ((slot : ℕ) → slot < n → f slot ≡ g slot) →
     (lives : List GroupLife) (slots : List ℕ) → All (λ slot. slot < n) slots →
     map f slots ≡ map (λ (group : List ℕ × ℕ). g group.1) (map (with_path lives) slots)
@@ -169,7 +169,7 @@ reading_is engine watch plans order trace pace i planned ticked watching by_path
 
 -- ---- moments
 
--- the last of the evaluations among the first ticks comes before each moment behind these
+-- the last of the evaluations among the first ticks is before each time after these
 pub last_before : (trace : Trace) (pace : Pace) (i at : ℕ) → tick_moment pace.length i < at →
     IsAfter (newest_moment (readings_of trace pace i)) at
 unfolding readings_until reading_at
@@ -189,7 +189,7 @@ not_after : (last : Option ℕ) (at : ℕ) → IsAfter last at → IsNotAfter la
 not_after None at is = tt
 not_after (Some before) at is = omega (arith, is)
 
--- so a tick comes behind the evaluations among those before it
+-- so a tick is after the evaluations among the previous ticks
 pub behind : (plans : PlansView) (trace : Trace) (pace : Pace) (i : ℕ) →
     IsPlanned plans trace pace →
     IsAfter (newest_moment (readings_of trace pace i)) (tick_moment pace.length (i + 1))
@@ -203,9 +203,8 @@ last_is : (cpus : ℕ) (events : List Event) (length i : ℕ) (past : List Readi
 unfolding reading_at
 last_is cpus events length i past = refl
 
--- An evaluator that took the readings of the evaluations among the first ticks has taken one more,
--- where its watch and its
--- killer have, and its reading is what engine and watch tell.
+-- An evaluator that took the readings of the evaluations among the first ticks has taken one more
+-- if its watch and its killer have, and its reading is that of the engine and the watch.
 pub read_next : (old new : EvaluatorView) (plans : PlansView) (engine : EngineView)
     (order : List Slot) (trace : Trace) (pace : Pace) (rules : List Rule) (i at : ℕ) →
     IsToEvaluate old plans engine order trace pace rules i at →

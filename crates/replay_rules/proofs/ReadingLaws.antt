@@ -51,7 +51,7 @@ both_all : {A : Type 0} → (P : A → Type 0) (xs ys : List A) → AllByRecursi
 both_all P [] ys all more = more
 both_all P (x ∷ xs) ys all more = (all.0, both_all P xs ys all.1 more)
 
--- what holds of all that each event tells holds of all that events tell
+-- if each event yields only values with a property, so do all events
 told_holds : {A : Type 0} → (P : A → Type 0) (tells : World → Event → List A) →
     ((w : World) (event : Event) → Fits event → AllByRecursion P (tells w event)) →
     (w : World) (events : List Event) → AllFit events →
@@ -168,7 +168,7 @@ live_placed lives from (group ∷ groups) placed =
       | false ↦ rest
     ]
 
--- the groups that are live at a moment stand among all
+-- the groups that are live at a time are among all groups
 live_stand : (limits : Limits) (events : List Event) → AreLegal limits first_world events →
     (at : ℕ) → AllByRecursion (StandsIn (after events).groups)
     (live_groups (after (up_to events at)).groups)

@@ -91,7 +91,7 @@ live_ascend limits events legal order is at =
     subst Ascend same (keys_ascend pairs
     (in_order_sorted (live_from 0 (after (up_to events at)).groups)))
 
--- a front of paths that ascend
+-- a prefix of ascending paths
 ascend_front : (paths behind : List (List ℕ)) → Ascend (paths ++ behind) → Ascend paths
 ascend_front [] behind is = tt
 ascend_front (first ∷ []) behind is = tt
@@ -123,7 +123,7 @@ alone_gone : (lives : List GroupLife) (at slot : ℕ) → is_live_slot lives at 
     slots_live_at lives at (slot ∷ []) ≡ []
 alone_gone lives at slot gone = ap (λ b. cond b (slot ∷ []) []) gone
 
--- the group in a slot that there is tells whether the slot is live
+-- the group in an existing slot determines whether the slot is live
 pub live_is : (lives : List GroupLife) (at slot : ℕ) (d : GroupLife) (b : Bool) →
     slot < length lives → is_live_at (get_or lives slot d) at ≡ b → is_live_slot lives at slot ≡ b
 live_is lives at slot d b room is =
@@ -163,7 +163,7 @@ paths_by engine watch lives [] = refl
 paths_by engine watch lives (slot ∷ slots) =
     ap (λ rest. path_at lives slot ∷ rest) (paths_by engine watch lives slots)
 
--- the paths of the groups of the first slots ascend where those of all do
+-- the paths of the groups of the first slots ascend if those of all do
 pub groups_ascend : (engine : EngineView) (watch : SideView) (lives : List GroupLife) (at : ℕ)
     (order : List Slot) (i : ℕ) → Ascend
     (map (path_at lives) (slots_live_at lives at (numbers_of order)))

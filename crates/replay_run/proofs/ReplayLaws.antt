@@ -40,7 +40,7 @@ none_ticked replay trace pace rules had is = record {
   sent = Appends-none had;
 }
 
--- the lines of a replay's ticks, and the one that it makes next
+-- the lines of a replay's ticks, and those of the next tick
 more_lines : (old new : ReplayView) (trace : Trace) (pace : Pace) (rules : List Rule) (had mid has : Option (List ℕ)) → (so : TickedTo old trace pace rules had mid) → TickGives trace pace rules old.made old new mid has (Ok true)
     → AreTickTexts trace pace rules (old.made + 1) (so.text ++ tick_lines trace pace rules (old.made + 1) (watches_text (tick_moment pace.length (old.made + 1)) trace.cpus new.crew.watches))
 more_lines old new trace pace rules had mid has so given =
@@ -82,7 +82,7 @@ last_ticked old new trace pace rules had mid has now result so given last = (
 pub whole_ticked : (old new : ReplayView) (trace : Trace) (pace : Pace) (rules : List Rule) (i : ℕ) (mid has : Option (List ℕ)) → TickGives trace pace rules i old new mid has (Ok false) → IsReplay new trace pace rules (tick_count trace pace)
 whole_ticked old new trace pace rules i mid has given = subst (IsReplay new trace pace rules) given.0 given.2
 
--- where a tick's lines failed, a front of some text was written
+-- if writing a tick's lines failed, a prefix of some text was written
 pub tick_failed : (old new : ReplayView) (trace : Trace) (pace : Pace) (rules : List Rule) (had mid has : Option (List ℕ)) (fault : TickFault) → TickedTo old trace pace rules had mid → TickGives trace pace rules old.made old new mid has (Err fault)
     → (text : List ℕ) × IsReplayText trace pace rules text × AppendsFront had has text
 tick_failed old new trace pace rules had mid has fault so given =

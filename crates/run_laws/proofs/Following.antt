@@ -1,4 +1,4 @@
--- The ticks of legal events come one after another.
+-- The ticks of legal events follow one another.
 use Rattle.std.proofs.Common.{◌≡◌, ℕ, zero, suc, ◌+◌, ◌-◌, ◌<◌, ◌≤◌, ◌==◌, List, [], ◌∷◌, ◌++◌, length, refl, sym, ap, ◌∙◌, subst, arith, ◌⊎◌, ⊎_elim, replicate}
 use Rattle.std.specs.Prelude.{if◌then◌else◌, slice_index, slice_index_or}
 use Rattle.std.proofs.lemmas.List.{get_or-replicate, get_or_past}
@@ -22,8 +22,8 @@ use Rattle.run_laws.proofs.OneMore.{ticks_more}
 abbrev pub Relation : Type 1
 Relation = ℕ → ℕ → ℕ → Type 0
 
--- two lists of times are related at each place, where the times in each state and those of
--- interrupts are, and at places outside
+-- two lists of times are related at each place, if the state times and the interrupt times are, and
+-- zeros at places outside
 places : (R : Relation) (f g : State → ℕ) (x y : ℕ) → ((place : ℕ) → R place 0 0) → ((place : ℕ) (state : State) → R place (f state) (g state)) → R irq_place x y
     → (place : ℕ) → R place (slice_index (times_with f x) place) (slice_index (times_with g y) place)
 places R f g x y none each irq zero = each 0 IoSome
@@ -57,8 +57,8 @@ times_past : (cpus cpu slot : ℕ) (events : List Event) (at : ℕ) → cpus ≤
 times_past cpus cpu slot events at past =
     get_or_past (row_until cpus slot events at) cpu [] (let many = length-map-range_with_len (λ c. times_until c slot events at) 0 cpus in omega (arith, many, past))
 
--- times at two moments are related at each place of the tables, where stall times and interrupt
--- times are
+-- times at two points are related at each place of the tables, if stall times and interrupt times
+-- are
 tables : (R : Relation) (cpus : ℕ) (events : List Event) (at later : ℕ) → ((place : ℕ) → R place 0 0)
     → ((place : ℕ) (state : State) (cpu slot : ℕ) → R place (stall state cpu slot (up_to events at) at) (stall state cpu slot (up_to events later) later))
     → ((cpu slot : ℕ) → R irq_place (irq_time cpu slot (up_to events at)) (irq_time cpu slot (up_to events later)))
@@ -105,14 +105,14 @@ last-push : (before : Tick) (ticks : List Tick) (tick : Tick) → last_tick befo
 last-push before [] tick = refl
 last-push before (first ∷ ticks) tick = last-push first ticks tick
 
--- no time up to a moment is longer than the time from 0 on
+-- no total up to a time is longer than the time from 0
 within_moment : (limits : Limits) (cpus : ℕ) (events : List Event) → AreLegal limits first_world events → limits.cpus ≤ most_cpus
     → (at slot cpu place : ℕ) → time_in (table_until cpus events at) slot cpu place ≤ at
 within_moment limits cpus events legal few at =
     tables (λ place x y. y ≤ at) cpus events at at (λ place. omega arith) (λ place state cpu slot. stall_is_within limits events legal state cpu slot at)
     (λ cpu slot. irq_is_within limits events legal few cpu slot at)
 
--- the first tick comes next after the moment 0
+-- the first tick follows time 0
 first_follows : (limits : Limits) (cpus : ℕ) (events : List Event) (length : ℕ) → AreLegal limits first_world events → limits.cpus ≤ most_cpus
     → 0 < length → length ≤ longest_tick → tick_moment length 1 ≤ last_moment → IsNextTick (before_ticks cpus events) (tick_of cpus events length 1)
 first_follows limits cpus events length legal few some short early =

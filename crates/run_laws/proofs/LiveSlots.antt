@@ -1,4 +1,4 @@
--- Which slot a path has at a moment, by the lives of all groups.
+-- The slot of a path at a time, from the lives of all groups.
 use Rattle.std.proofs.Common.{◌≡◌, ℕ, suc, ◌+◌, List, [], ◌∷◌, refl, ap, ◌∙◌, Bool, cond, Option, None, Some, length, map, take}
 use Rattle.std.specs.Prelude.{◌&&◌, slice_get}
 use Rattle.std.specs.Str.{bytes_eq}
@@ -9,7 +9,7 @@ use Rattle.psi_spec.specs.Groups.{is_live_at}
 use Rattle.plan_laws.proofs.MomentsLives.{groups_keep_slots, lives_tell_live}
 use Rattle.run_laws.specs.Live.{SlotByLives, live_slot}
 
--- which groups are live in the slots of some is told by the lives of all at a moment
+-- the lives of all groups determine which groups of some are live at a time
 abbrev TellsLives : List GroupLife → List GroupLife → ℕ → Type 0
 TellsLives some all at = (slot : ℕ) → is_some_and (slice_get some slot) is_live ≡ is_some_and (slice_get all slot) (λ life. is_live_at life at)
 
@@ -24,7 +24,7 @@ none_live slot (life ∷ all) path at tells =
     ap (λ b. cond (b && bytes_eq life.path path) (Some slot) None) (tells 0)
     ∙ ap (λ o. cond (is_live_at life at && bytes_eq life.path path) (Some slot) o) (none_live (slot + 1) all path at (λ k. tells (suc k)))
 
--- a group that is live where another is, and has its path, is found where that is
+-- a group that is live whenever another is, and has its path, is found in its place
 slot_here : (slot : ℕ) (path : List ℕ) (b c : Bool) (one other : List ℕ) (o p : Option ℕ) → b ≡ c → one ≡ other → o ≡ p
     → cond (b && bytes_eq one path) (Some slot) o ≡ cond (c && bytes_eq other path) (Some slot) p
 slot_here slot path b c one other o p live named rest = cc (live, named, rest)

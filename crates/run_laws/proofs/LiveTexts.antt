@@ -20,7 +20,7 @@ use Rattle.run_laws.proofs.OneMore.{text_more}
 
 -- ---- texts with one live text or another
 
--- what is beside a trace
+-- the data besides a trace
 abbrev beside_by : (ℕ → List ℕ) → List Rule → Beside
 beside_by live rules = record { live = live; rules = rules }
 
@@ -43,7 +43,7 @@ ticks_same trace pace rules old new (suc count) same =
 
 -- ---- one tick more
 
--- live lines of the first so many ticks, and others from then on
+-- live lines of the first n ticks, and others from then on
 abbrev lives_with : (ℕ → List ℕ) → ℕ → List ℕ → ℕ → List ℕ
 lives_with live i line j = cond (nat_le j i) (live j) line
 
@@ -90,7 +90,7 @@ one_text_unwatched trace pace rules text none is =
 
 -- ---- changes of a processor up to a tick
 
--- no fewer changes of a processor come up to a later moment
+-- the number of changes of a processor up to a later time isn't smaller
 pub count_more : (limits : Limits) (trace : Trace) → AreLegal limits first_world trace.events → (cpu at later : ℕ) → at ≤ later → count_at cpu trace.events at ≤ count_at cpu trace.events later
 count_more limits trace legal cpu at later forward =
     let few = (counts_by_plan limits trace.events legal cpu at).0 in
@@ -137,7 +137,7 @@ some_live limits trace legal tick (Some watch) i low = some_lines limits trace l
 
 -- ---- the rest of an output
 
--- the rest of an output after a tick and so many others that are left
+-- the rest of an output after a tick, with `left` more ticks
 rest_by : (limits : Limits) (trace : Trace) → AreLegal limits first_world trace.events → (pace : Pace) (rules : List Rule) (left i : ℕ) (text : List ℕ) → i + left ≡ tick_count trace pace
     → AreTickTexts trace pace rules i text → (rest : List ℕ) × IsReplayText trace pace rules (text ++ rest)
 rest_by limits trace legal pace rules zero i text end are =

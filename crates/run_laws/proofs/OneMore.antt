@@ -33,7 +33,7 @@ pub ticks_more : TicksMore
 unfolding ticks_of
 ticks_more cpus events length i = numbered_more (tick_of cpus events length) i
 
--- a sum over numbers from 1 on, of which there is one more
+-- a sum over numbers from 1, with one more number
 counted_more : (count : ℕ → ℕ) (i : ℕ) → sum_by count (range_with_len 1 (i + 1)) ≡ sum_by count (range_with_len 1 i) + count (i + 1)
 counted_more count i =
     let next : 1 + i ≡ i + 1 = omega arith in

@@ -11,7 +11,7 @@ pub taken_more : {X : Type 0} → (f : X → List ℕ) (xs : List X) (i : ℕ) (
 taken_more f xs i d inside =
     ap (flat_map f) (take_more xs i d inside) ∙ flat_map-append f (take i xs) (get_or xs i d ∷ []) ∙ ap (λ t. flat_map f (take i xs) ++ t) (append-nil (f (get_or xs i d)))
 
--- the pieces before one, that piece, and those behind it
+-- the pieces before one piece, that piece, and those after it
 pub pieces_at : (f : ℕ → List ℕ) (n i : ℕ) → i < n → flat_map f (range_with_len 0 n) ≡ flat_map f (range_with_len 0 i) ++ (f i ++ flat_map f (range_with_len (i + 1) (n - (i + 1))))
 pieces_at f n i inside =
     let whole : n ≡ i + suc (n - (i + 1)) = omega (arith, inside) in

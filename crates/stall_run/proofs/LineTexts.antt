@@ -76,7 +76,7 @@ if_live : (groups : List GroupLife) (live : Bool) (pair : List ℕ × ℕ) (pair
 if_live groups true pair pairs room is each = (room, is, each)
 if_live groups false pair pairs room is each = each
 
--- the group behind some
+-- the group after some others
 path_behind : (front rest : List GroupLife) (group : GroupLife) → path_at (front ++ group ∷ rest) (length front) ≡ group.path
 path_behind [] rest group = refl
 path_behind (first ∷ front) rest group = path_behind front rest group
@@ -103,7 +103,7 @@ live_below groups = slots_below groups (live_groups groups) (live_groups_of grou
 
 -- ---- lines by plans
 
--- the last change isn't behind the end
+-- the last change isn't after the end
 pub last_within : (limits : Limits) (events : List Event) (cpu : ℕ) → AreLegal limits first_world events → last_change (plan_of cpu events) (length (plan_of cpu events).changes) ≤ end_of events
 last_within limits events cpu legal = (stalls.in_order limits cpu events legal).end
 
@@ -124,7 +124,7 @@ irq_is limits events cpu slot legal =
     let all = place_of_moment plan (plan_is_in_order limits events legal cpu) (length plan.changes) (end_of events) (omega arith) (last_within limits events cpu legal) (λ more. absurd (omega (arith, more))) in
     ap (planned_irq plan slot) (sym all) ∙ planned_irq_until limits events legal cpu slot (end_of events) ∙ ap (irq_time cpu slot) (up_to_all limits events legal (end_of events) (omega arith))
 
--- so what a version tells by a plan is what it tells of the events
+-- so a version's values from a plan are those from the events
 told_are : (limits : Limits) (version : Version) (events : List Event) (cpu slot : ℕ) → AreLegal limits first_world events → plan_told version (plan_of cpu events) slot (end_of events) ≡ told_times version cpu slot events
 told_are limits One events cpu slot legal = times_are limits events cpu slot legal
 told_are limits Two events cpu slot legal =
@@ -156,7 +156,7 @@ flat_same f g from (suc n) same =
     let rest = flat_same f g (from + 1) n (λ i low high. same i (omega (arith, low)) (omega (arith, high))) in
     flat_map-cons f from (range_with_len (from + 1) n) ∙ ap (λ xs. xs ++ flat_map f (range_with_len (from + 1) n)) here ∙ ap (λ ys. g from ++ ys) rest ∙ sym (flat_map-cons g from (range_with_len (from + 1) n))
 
--- the lines of all processors by plans that stand for events are the text of the trace
+-- the lines of all processors from plans that represent events are the text of the trace
 pub printed_text : (limits : Limits) (version : Version) (plans : PlansView) (events : List Event) (order : List Slot) (last : ℕ) → AreLegal limits first_world events → StandFor plans limits.cpus events → order ≡ live_slots plans.lives → last ≡ plans.finish
     → all_lines version plans.lives order last plans.plans ≡ stall_text (record { version = version; cpus = limits.cpus; events = events })
 unfolding stall_text
@@ -172,13 +172,13 @@ printed_text limits version plans events order last legal stand ordered ended =
 
 -- ---- times by clocks
 
--- a clock that stands for a slot after all changes opens to the planned times
+-- a clock that represents a slot after all changes opens to the planned times
 pub times_at_end : (clock : ClockView) (plan : PlanView) (slot k at : ℕ) → IsClock clock plan slot k → k ≡ length plan.changes → last_change plan k ≤ at → opened clock at ≡ plan_times plan slot at
 times_at_end clock plan slot k at is all later = clock_tells_planned clock plan slot k at is later ∙ ap (λ n. planned plan slot n at) all
 
 -- ---- before the lines
 
--- no change of a plan is behind the end, and the end is in time
+-- no change of a plan is after the end, and the end is in time
 pub ends_later : (limits : Limits) (plans : PlansView) (events : List Event) (cpu : ℕ) → AreLegal limits first_world events → StandFor plans limits.cpus events → cpu < limits.cpus → last_change (plan_at plans cpu) (length (plan_at plans cpu).changes) ≤ plans.finish
 ends_later limits plans events cpu legal stand below =
     let moment : last_change (plan_at plans cpu) (length (plan_at plans cpu).changes) ≡ last_change (plan_of cpu events) (length (plan_of cpu events).changes) = ap (λ (plan : PlanView). last_change plan (length plan.changes)) (standing_plans plans limits.cpus events stand cpu below) in

@@ -22,7 +22,7 @@ use Rattle.trace_gen.specs.Left.{IsGenerator, events_left}
 use Rattle.trace_gen.proofs.FirstEvents.{founded}
 use Rattle.trace_gen.proofs.Following.{IsNext, next_is}
 
--- a running task is there where it is there with its number
+-- there is a running task if there is one with its number
 pub some_part : (o : Option (ℕ × Task)) → is_some (task_part o) ≡ is_some o
 some_part None = refl
 some_part (Some e) = refl
@@ -38,7 +38,7 @@ one_in_row f old mid new from count number event at were more is =
     ∙ ap (λ e. old ++ (map f (range_with_len from count) ++ e ∷ [])) is
     ∙ ap (λ es. old ++ es) (sym (map-range_with_len_more f from count number at))
 
--- a generator, where its groups and tasks were made
+-- a generator after its groups and tasks were created
 pub at_first : (shape : Shape) → IsShape shape → (table : TableView) → table.limits ≡ limits_in shape → table.world ≡ after (first_events shape) → IsGenerator shape table shape.events
 at_first shape shaped table limits world = record {
   shaped = shaped;
@@ -75,7 +75,7 @@ never_refused shape table left some so state event is f fails =
     let light : takes_memory event.act ≡ false = ap (λ (e : Event). takes_memory e.act) is ∙ next.light in
     no_fault (cause_of table.limits table.world event) event legal light f fails
 
--- behind the next one
+-- after the next one
 pub generator_on : (shape : Shape) (table later : TableView) (left : ℕ) → 0 < left → IsGenerator shape table left → (state : ℕ) (event : Event) → event ≡ next_event shape table.world state → HasPlayed table event later → IsGenerator shape later (left - 1)
 generator_on shape table later left some so state event is played =
     let next = generator_next shape table left some so state in
@@ -88,7 +88,7 @@ generator_on shape table later left some so state event is played =
       world = rw (played.world, is) next.later;
     }
 
--- the events from here on are the next one and those behind it
+-- the events from here are the next one and those after it
 pub next_from : (shape : Shape) (left : ℕ) → 0 < left → (w later : World) (state behind : ℕ) (event : Event) → event ≡ next_event shape w state → behind ≡ (next_drawn shape w.tasks state).state → later ≡ after_event w event → drawn_events shape left w state ≡ event ∷ drawn_events shape (left - 1) later behind
 unfolding drawn_events
 next_from shape zero some w later state behind event is on world = absurd (omega (arith, some))

@@ -41,7 +41,7 @@ record IsGood (limits : Limits) (Holds : ℕ → World → Type 0) (number : ℕ
   legal : cause_of limits w event ≡ None
   later : Holds (number + 1) (after_event w event)
 
--- so many events by numbers, and what holds after them
+-- numbered events up to `end`, and what holds after them
 record InRow (limits : Limits) (Holds : ℕ → World → Type 0) (end : ℕ) (w : World) (events : List Event) : Type 0 where
   go : Go limits w events
   later : Holds end (after_from w events)
@@ -196,7 +196,7 @@ home_is_path shape few pid =
           numbered_is_path ((pid - 1) % shape.groups) (omega (arith, few, below))
     ] refl
 
--- the number before the next is one that was, or this one
+-- a number below `number + 1` is below `number` or equal to it
 lower : (pid number : ℕ) → pid < number + 1 → (pid < number) ⊎ (pid ≡ number)
 lower pid number h = grind arith
 
@@ -276,7 +276,7 @@ groups_made shape w so =
       going = so.going;
     }
 
--- behind the last one
+-- after the last one
 tasks_made : (shape : Shape) (w : World) → HasTasks shape (1 + task_count shape) w → IsGenerating shape 0 w
 tasks_made shape w so =
     let lines = so.lines in
@@ -288,14 +288,14 @@ tasks_made shape w so =
       going = so.going;
     }
 
--- the event that makes the next group is legal behind those that made the groups before it
+-- the event that creates the next group is legal after those that created the previous groups
 group_turn : (shape : Shape) → IsShape shape → (number : ℕ) → number < shape.groups → cause_of (limits_in shape) (after_from first_world (made_groups shape number)) (at_start (made_group number)) ≡ None
 group_turn shape shaped number room =
     let so = in_row (limits_in shape) (HasGroups shape) number (λ i. at_start (made_group i)) (λ i w below. group_good shape shaped i w (omega (arith, below, room))) number 0 (omega arith) first_world (no_groups shape shaped) in
     (group_good shape shaped number (after_from first_world (made_groups shape number)) room so.later).legal
 
--- the event that makes the next task is legal behind those that made all groups and the tasks
--- before it
+-- the event that creates the next task is legal after those that created all groups and the
+-- previous tasks
 task_turn : (shape : Shape) → IsShape shape → (pid : ℕ) → pid < task_count shape → cause_of (limits_in shape) (after_from first_world (made_groups shape shape.groups ++ map (λ i. at_start (made_task shape i)) (range_with_len 1 pid))) (at_start (made_task shape (pid + 1))) ≡ None
 task_turn shape shaped pid room =
     let groups = made_groups shape shape.groups in

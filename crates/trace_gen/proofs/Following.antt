@@ -1,5 +1,5 @@
--- The events behind those that make groups and tasks: each may be spelled and is legal in its turn,
--- and the end is the last.
+-- The events after those that create groups and tasks: each may be spelled and is legal after the
+-- previous ones, and the end is the last.
 use Rattle.std.proofs.Common.{◌≡◌, ℕ, zero, suc, ◌+◌, ◌<◌, ◌≤◌, List, [], ◌∷◌, ◌++◌, refl, ap, ◌∙◌, sym, arith, append_assoc, false, None, length}
 use Rattle.std.proofs.Math.Nat.{mod-lt}
 use Rattle.psi_base.specs.declared.event.Act.TheVariants as act
@@ -26,7 +26,7 @@ pub record Go (limits : Limits) (w : World) (events : List Event) : Type 0 where
   pub known : AreKnown first_verbs events
   pub legal : AreLegal limits w events
 
--- one event, and those behind it
+-- one event, and those after it
 pub go_then : (limits : Limits) (w : World) (event : Event) (events : List Event) → Fits event → IsKnown first_verbs event → cause_of limits w event ≡ None → Go limits (after_event w event) events → Go limits w (event ∷ events)
 go_then limits w event events fits known legal rest = record {
   fit = (fits, rest.fit);
@@ -34,20 +34,20 @@ go_then limits w event events fits known legal rest = record {
   legal = (legal, rest.legal);
 }
 
--- events, and those behind them
+-- events, and those after them
 pub go_on : (limits : Limits) (w : World) (xs ys : List Event) → Go limits w xs → Go limits (after_from w xs) ys → Go limits w (xs ++ ys)
 go_on limits w [] ys front rest = rest
 go_on limits w (x ∷ xs) ys front rest =
     let inner : Go limits (after_event w x) xs = record { fit = front.fit.1; known = front.known.1; legal = front.legal.1 } in
     go_then limits w x (xs ++ ys) front.fit.0 front.known.0 front.legal.0 (go_on limits (after_event w x) xs ys inner rest)
 
--- the end stays last behind other events
+-- the end stays last after other events
 pub ends_behind : (xs ys : List Event) → EndsLast ys → EndsLast (xs ++ ys)
 ends_behind xs ys ends = (xs ++ ends.0, ends.1, ap (λ zs. xs ++ zs) ends.2 ∙ sym (append_assoc xs ends.0 (record { at = ends.1; act = act.End } ∷ [])))
 
 -- ---- one event
 
--- the event that comes next may be spelled and is legal, and all goes on behind it
+-- the next event may be spelled and is legal, and the invariant holds after it
 pub record IsNext (shape : Shape) (count : ℕ) (w : World) (event : Event) : Type 0 where
   pub fits : Fits event
   pub known : IsKnown first_verbs event
@@ -98,7 +98,7 @@ end_goes shape shaped count all w so =
 
 -- ---- all of them
 
--- so many events from a world on, and the end
+-- `left` events from a world, and the end
 pub events_go : (shape : Shape) → IsShape shape → (left count : ℕ) → count + left ≡ shape.events → (w : World) → IsGenerating shape count w → (state : ℕ) → Go (limits_in shape) w (drawn_events shape left w state)
 unfolding drawn_events
 events_go shape shaped zero count all w so state = end_goes shape shaped count (omega (arith, all)) w so

@@ -27,7 +27,7 @@ digit_at [] are k room = absurd (omega (arith, room))
 digit_at (c ∷ cs) are zero room = grind (arith, are)
 digit_at (c ∷ cs) are (suc k) room = digit_at cs (grind (arith, are)) k (omega (arith, room))
 
--- the bytes behind the slash have none
+-- the bytes after the slash have none
 name_at : (digits : List ℕ) → all_ascii_digits digits ≡ true → HasNone 47 (103 ∷ digits) (length (103 ∷ digits))
 name_at digits are zero room = λ same. absurd (omega (arith, same))
 name_at digits are (suc k) room = λ same. let large = digit_at digits are k (omega (arith, room)) in absurd (omega (arith, same, large))
@@ -42,7 +42,7 @@ named_path digits are short =
     let pass = digits_pass digits are in
     rw (fits, parts, some, pass) refl
 
--- no slash stands behind the first byte
+-- no slash is after the first byte
 no_more : (digits : List ℕ) → all_ascii_digits digits ≡ true → HasNoSlash (47 ∷ 103 ∷ digits) 1
 no_more digits are zero low room = absurd (omega (arith, low))
 no_more digits are (suc k) low room = name_at digits are k (omega (arith, room))

@@ -1,4 +1,4 @@
--- The lines of a trace, sent one after another.
+-- The lines of a trace, sent in order.
 use Rattle.std.proofs.Common.{◌≡◌, ℕ, List, [], ◌∷◌, ◌++◌, ◌≤◌, length, refl, ap, ◌∙◌, sym, append_assoc, Option, None, Some}
 use Rattle.std.specs.Prelude.{Result, Ok, Err}
 use Rattle.std.specs.Io.KnownBytes.{Appends, Keeps}
@@ -15,7 +15,7 @@ use Rattle.run_spec.specs.Generated.{generated}
 use Rattle.run_spec.specs.LegalCommand.{IsShape}
 use Rattle.trace_gen.proofs.Accepting.{generated_go}
 
--- what was sent first, and then all of the rest or a front of it
+-- what was sent first, and then all of the rest or a prefix of it
 pub PutsAll-behind : {T E : Type 0} → (old mid new : Option (List ℕ)) (result : Result T E) (xs ys : List ℕ) → Appends old mid xs → PutsAll mid new result ys → PutsAll old new result (xs ++ ys)
 PutsAll-behind old mid new (Ok value) xs ys first rest = Appends-then old mid new xs ys first rest
 PutsAll-behind old mid new (Err fault) xs ys first rest = AppendsFront-last old mid new xs ys first rest
@@ -42,7 +42,7 @@ one_sent old mid new event before left all so first more = record {
   rest = append_assoc so.sent (spelling event ++ 10 ∷ []) (lines_of left) ∙ ap (λ es. so.sent ++ lines_of es) (sym first) ∙ so.rest;
 }
 
--- a front of one more
+-- a prefix with one more line
 pub front_sent : (old mid new : Option (List ℕ)) (event : Event) (before left all : List Event) → AreSent old mid before all → before ≡ event ∷ left → AppendsFront mid new (spelling event ++ 10 ∷ []) → AppendsFront old new (lines_of all)
 front_sent old mid new event before left all so first front =
     let whole : so.sent ++ ((spelling event ++ 10 ∷ []) ++ lines_of left) ≡ lines_of all = ap (λ es. so.sent ++ lines_of es) (sym first) ∙ so.rest in
@@ -54,7 +54,7 @@ all_sent old new left all so none =
     let whole : so.sent ≡ lines_of all = sym (append-nil so.sent) ∙ ap (λ es. so.sent ++ lines_of es) (sym none) ∙ so.rest in
     rw (sym whole) so.grew
 
--- the first event may be spelled, and so may those behind it
+-- the first event may be spelled, and so may those after it
 pub first_fits : (events : List Event) (event : Event) (left : List Event) → AllFit events → events ≡ event ∷ left → Fits event
 first_fits events event left fit is = (rw is at fit).0
 

@@ -148,7 +148,7 @@ ready_on task ready = let same : (task.cpu.0 == task.cpu.0) ≡ true = grind (ar
 runs_on : (task : Task) → is_running task.mode ≡ true → is_running_on task.cpu.0 task ≡ true
 runs_on task runs = let same : (task.cpu.0 == task.cpu.0) ≡ true = grind (arith, nat_tests) in rw (same, runs) refl
 
--- how the running task makes way needs one that runs, and isn't that it exits
+-- switching out in this way is legal if a task runs, and the way is never an exit
 way_needs : (n : ℕ) (running : Option (ℕ × Task)) → is_some running ≡ true → is_wrong (way_of n) running ≡ false
 way_needs zero running some = rw some refl
 way_needs (suc zero) running some = rw some refl
@@ -159,7 +159,7 @@ way_stays zero = refl
 way_stays (suc zero) = refl
 way_stays (suc (suc n)) = refl
 
--- a ready task runs next on its processor, where the running one leaves as it may
+-- a ready task runs next on its processor, if the running one is switched out legally
 start_step : (shape : Shape) (tasks : Tasks) (pid : ℕ) (task : Task) → IsTask shape tasks pid task → is_ready task.mode ≡ true → (how : How) → is_exit how ≡ false → is_wrong how (running_on tasks task.cpu.0) ≡ false
     → IsStep shape tasks (act.Switch task.cpu (Some (record { 0 = pid })) how)
 start_step shape tasks pid task it ready how stays right =

@@ -90,7 +90,7 @@ made head events = record { version = head.version; cpus = head.cpus; events = e
 abbrev head_of : Trace → Header
 head_of trace = record { version = trace.version; cpus = trace.cpus }
 
--- the events behind a header, by what is accepted
+-- the events after a header, read with the verbs of its version
 abbrev behind_head : Accepts → Header → List ℕ → Events
 behind_head accepts head behind = rest_from (accepts.verbs head.version) (limits_of accepts.tick head.cpus) first_world 2 behind
 

@@ -27,7 +27,7 @@ err_same a b is = cc
 no_bad : {A : Type 0} (i : ℕ) (x : A) (words : List (List ℕ)) (why : Cause) → or_bad i (Some x) words ≡ Err why → ⊥
 no_bad i x words why is = cc
 
--- a word spells a value exactly where one is read from it
+-- a word spells a value exactly if one is read from it
 spells_value : (k : Kind) (text : List ℕ) (spells : Spells k text) → value_of k text ≡ Some spells.0
 spells_value k text spells = ap (value_of k) spells.1.1 ∙ value_again k spells.0 spells.1.0
 

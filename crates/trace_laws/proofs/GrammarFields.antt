@@ -46,7 +46,7 @@ if_found : {A : Type 0} (test : Bool) (x y : A) (rest : Option A) → (test ≡ 
 if_found true x y rest here later = ap (λ a. Some a) (sym (here refl))
 if_found false x y rest here later = later refl
 
--- one of the list is found by its name, where names differ
+-- an item of the list is found by its name, if names differ
 pub named_again : {A : Type 0} (name : A → List ℕ) (xs : List A) (x : A) → ((y : A) → IsAmong y xs → name x ≡ name y → x ≡ y) → IsAmong x xs → named name xs (name x) ≡ Some x
 named_again name [] x differ among = absurd among
 named_again name (y ∷ ys) x differ among =

@@ -1,4 +1,4 @@
--- A header is read exactly where it is spelled.
+-- A header is read exactly if it is spelled.
 use Rattle.std.proofs.Common.{◌≡◌, ◌≢◌, ◌⊎◌, inl, inr, ⊎_elim, subst, ◌==◌, map, ℕ, zero, suc, ◌+◌, ◌^◌, ◌<◌, ◌≤◌, List, [], ◌∷◌, ◌++◌, length, refl, sym, ap, ◌∙◌, arith, false, get_or, append_assoc, length-append}
 use Rattle.std.specs.Prelude.{decimal, codes}
 use Rattle.std.specs.List.{flat_map, range_with_len}
@@ -43,7 +43,7 @@ among_either : {A : Type 0} (x : A) (xs ys : List A) → IsAmong x (xs ++ ys) �
 among_either x [] ys among = inr among
 among_either x (y ∷ xs) ys among = ⊎_elim (λ same. inl (inl same)) (λ there. ⊎_elim (λ front. inl (inr front)) (λ back. inr back) (among_either x xs ys there)) among
 
--- those of a version have it, and so many processors
+-- the headers of a version have it, and a number of processors in the range
 ranged : (version : Version) (low n : ℕ) (head : Header) → IsAmong head (map (made version) (range_with_len low n)) → (head.version ≡ version) × (low ≤ head.cpus) × (head.cpus < low + n)
 ranged version low zero head among = absurd among
 ranged version low (suc n) head among = ⊎_elim

@@ -31,7 +31,7 @@ pub form_words : (verb : Verb) (values : Values (kinds_of verb)) → act_words (
 form_words Group values = refl
 form_words _ values = refl
 
--- and fits where they are in range
+-- and fits if they are in range
 form_fits : (verb : Verb) (values : Values (kinds_of verb)) → AreInRange (kinds_of verb) values → ActFits (act_of verb values)
 form_fits Group values are = are
 form_fits _ values are = are
@@ -219,7 +219,7 @@ spelled_event verbs event known fits =
 pub reads_spelled : ReadsSpelled
 reads_spelled verbs line event = (event_spelled verbs line event, λ spells. ap (event_of verbs) spells.2 ∙ spelled_event verbs event spells.1 spells.0)
 
--- each event is told of by a verb of the last version
+-- each event has a verb of the last version
 pub event_known : (event : Event) → IsKnown (verbs_of Two) event
 event_known event = all_known (phrase_of event.act).verb
 
@@ -227,7 +227,7 @@ event_known event = all_known (phrase_of event.act).verb
 pub found_first : (verb : Verb) → named verb_word first_verbs (verb_word verb) ≡ Some verb → IsAmong verb first_verbs
 found_first verb found = named_among verb_word first_verbs (verb_word verb) verb found
 
--- what the verbs of every version tell of, those of each do
+-- an event with a verb of every version has a verb of each
 pub known_still : (version : Version) (event : Event) → IsKnown first_verbs event → IsKnown (verbs_of version) event
 known_still One event known = known
 known_still Two event known = event_known event

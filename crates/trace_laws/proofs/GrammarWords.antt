@@ -1,4 +1,4 @@
--- The bytes of a field's word: none is a space or below it, and there are at most so many.
+-- The bytes of a field's word: none is a space or below it, and their number is bounded.
 use Rattle.std.proofs.Common.{◌≡◌, ℕ, ◌^◌, ◌<◌, ◌≤◌, ◌⊎◌, inl, inr, List, [], ◌∷◌, length, drop, refl, ap, arith, true, false, Bool, lit≤}
 use Rattle.std.specs.Prelude.{Option, None, Some, IfSome, decimal, codes, nat_lt, nat_le, slice_index, ◌&&◌, ◌||◌, ◌==◌, if◌then◌else◌}
 use Rattle.std.specs.List.{list_all}
@@ -71,7 +71,7 @@ parts_printed (byte ∷ bytes) are =
     let rest : IsPrinted bytes = parts_printed bytes both.1 in
     grind (arith, both.0, rest)
 
--- what is behind the slash of a path that isn't the root
+-- the bytes after the slash of a path that isn't the root
 record IsDeep (bytes : List ℕ) : Type 0 where
   pub slash : slice_index bytes 0 ≡ 47
   pub short : length bytes ≤ 255

@@ -1,4 +1,4 @@
--- Which bytes are accepted as a trace, and where others are refused.
+-- Which bytes are accepted as a trace, and at which line others are rejected.
 use Rattle.std.proofs.Common.{◌≡◌, ℕ, zero, suc, ◌+◌, ◌≤◌, List, [], ◌∷◌, ◌++◌, length, refl, sym, ap, ◌∙◌, arith, append_assoc, subst, ◌⊎◌, inl, inr, ⊎_elim, Bool, true, false}
 use Rattle.std.specs.Prelude.{Option, None, Some, Result, Ok, Err, nat_lt, if◌then◌else◌}
 use Rattle.psi_base.specs.Path.{parts_at}
@@ -29,7 +29,7 @@ step_parts : (verbs : List Verb) (limits : Limits) (w : World) (line : ℕ) (par
 unfolding events_from
 step_parts verbs limits w line part parts has = rw has.2 refl
 
--- a line with its newline is read, and then what stands behind it
+-- a line with its newline is read, and then the bytes after it
 pub rest_from-line : (verbs : List Verb) (limits : Limits) (w : World) (line : ℕ) (part behind : List ℕ) → HasNone 10 part (length part) → rest_from verbs limits w line (part ++ 10 ∷ behind) ≡ or_refused line (line_event verbs limits w part) (λ event. followed (event ∷ []) (rest_from verbs limits (after_event w event) (line + 1) behind))
 rest_from-line verbs limits w line part behind none = rw (parts_at-line 10 part behind none) (step_parts verbs limits w line part (parts_at 10 behind) (first_part 10 behind))
 
@@ -134,7 +134,7 @@ reads_rest verbs limits w line rest events none is =
     let so = rest_none w rest parts.0 in
     subst (Reads verbs limits w rest) parts.1 (record { text = so.1; fit = tt; known = tt; legal = tt; ended = so.0 })
 
--- an event's line in front of those of others
+-- an event's line before those of others
 joins : (part behind : List ℕ) (event : Event) (others : List Event) → part ≡ spelling event → behind ≡ lines_of others → part ++ 10 ∷ behind ≡ lines_of (event ∷ others)
 joins part behind event others first rest = rw (first, rest) (sym (append_assoc (spelling event) (10 ∷ []) (lines_of others)))
 
@@ -170,7 +170,7 @@ reads (suc n) verbs limits w line bytes events few is = ⊎_elim
     (sym (ap (rest_from verbs limits w line) c.whole) ∙ is)))
     (cut 10 bytes)
 
--- the lines of legal events are taken, and then what stands behind them is read
+-- the lines of legal events are accepted, and then the bytes after them are read
 lines-append : (event : Event) (others : List Event) (rest : List ℕ) → lines_of (event ∷ others) ++ rest ≡ spelling event ++ 10 ∷ (lines_of others ++ rest)
 lines-append event others rest = append_assoc (spelling event ++ 10 ∷ []) (lines_of others) rest ∙ append_assoc (spelling event) (10 ∷ []) (lines_of others ++ rest)
 
@@ -198,7 +198,7 @@ rest_from-lines verbs limits w line (event ∷ front) rest fit known legal =
 
 -- ---- refusals
 
--- input that is refused behind the lines of some legal events
+-- input that is rejected after the lines of some legal events
 pub record Refuses (verbs : List Verb) (limits : Limits) (w : World) (line : ℕ) (bytes : List ℕ) (at : ℕ) (why : Cause) : Type 0 where
   pub front : List Event
   pub rest : List ℕ
@@ -269,7 +269,7 @@ refuses (suc n) verbs limits w line bytes at why few is = ⊎_elim
     (sym (ap (rest_from verbs limits w line) c.whole) ∙ is)))
     (cut 10 bytes)
 
--- a cause that stands at the start of the rest is the answer there
+-- a cause at the start of the rest is the answer there
 pub rest_from-cause : (verbs : List Verb) (limits : Limits) (w : World) (line : ℕ) (rest : List ℕ) (why : Cause) → IsLineCause verbs limits w rest why → rest_from verbs limits w line rest ≡ Err (refused line why)
 rest_from-cause verbs limits w line rest why has = ⊎_elim
     (λ found. ap (rest_from verbs limits w line) found.1.1.1 ∙ rest_from-line verbs limits w line found.0 found.1.1.0 found.1.0 ∙ ap (λ r. or_refused line r (λ e. followed (e ∷ []) (rest_from verbs limits (after_event w e) (line + 1) found.1.1.0))) found.2)

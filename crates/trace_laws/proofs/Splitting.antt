@@ -5,7 +5,7 @@ use Rattle.std.proofs.lemmas.List.{length-append}
 use Rattle.psi_base.specs.Path.{parts_at}
 use Rattle.psi_base.proofs.PartLaws.{HasNone, parts_at-line}
 
--- the bytes up to the first `at`, and those behind it
+-- the bytes up to the first `at`, and those after it
 pub record Cut (at : ℕ) (bytes : List ℕ) : Type 0 where
   pub line : List ℕ
   pub behind : List ℕ

@@ -1,5 +1,5 @@
--- What stays of a trace without the tasks of a group: the events up to the moment, the groups, the
--- triggers and the end.
+-- The parts that a trace without the tasks of a group shares with the original: the events up to
+-- the time, the groups, the triggers and the end.
 use Rattle.std.proofs.Common.{◌≡◌, ℕ, ◌+◌, ◌≤◌, ◌<◌, List, [], ◌∷◌, ◌++◌, refl, ap, ◌∙◌, sym, subst, arith, append_assoc, cond, Bool, true, false, Option, None, Some, length}
 use Rattle.std.specs.Prelude.{if◌then◌else◌, nat_le, nat_lt, not}
 use Rattle.std.proofs.lemmas.Bool.Decides.{nat_tests}

@@ -1,4 +1,4 @@
--- Up to the moment of a kill each tick prints the same without the tasks of its victim.
+-- Up to the time of a kill each tick prints the same without the tasks of its victim.
 use Rattle.std.proofs.Common.{◌≡◌, ℕ, zero, suc, ◌+◌, ◌-◌, ◌/◌, ◌≤◌, ◌<◌, List, [], ◌∷◌, refl, ap, ◌∙◌, arith, cond, true, false, length, map}
 use Rattle.std.specs.Prelude.{if◌then◌else◌, take}
 use Rattle.std.specs.List.{flat_map, range_with_len}
@@ -35,7 +35,7 @@ map_same f g from (suc n) same = rw (same from (omega arith), map_same f g (from
 
 -- ---- ticks
 
--- a tick by the events up to its moment and by all groups
+-- a tick, from the events up to its moment and all groups
 abbrev tick_by : ℕ → List Event → List GroupLife → ℕ → Tick
 tick_by cpus front groups at = record {
   at = at;
@@ -66,7 +66,7 @@ same_fired trace events pace at i same low =
 
 -- ---- readings
 
--- a reading by the events up to its moment, by all groups and by the ticks up to it
+-- a reading, from the events up to its time, all groups and the ticks up to it
 abbrev reading_by : ℕ → List Event → List GroupLife → List Tick → ℕ → Reading
 reading_by cpus front groups ticks at = record {
   at = at;
@@ -105,7 +105,7 @@ same_kills trace events pace rules at i same low =
 
 -- ---- reports
 
--- the reports by the events up to the moment, by all groups and by the ticks up to it
+-- the reports, from the events up to the tick's time, all groups and the ticks up to it
 abbrev reports_by : Trace → Pace → ℕ → List Event → List GroupLife → List Tick → List ℕ
 reports_by trace pace i front groups ticks =
     flat_map (λ (group : List ℕ × ℕ). files_text trace.version (tick_moment pace.length i) group.0 group.1 (totals_after trace.cpus groups ticks group.1) (group_averages trace.cpus groups ticks group.1).averages) (live_groups (after front).groups)

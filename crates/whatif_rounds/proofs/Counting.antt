@@ -15,7 +15,7 @@ use Rattle.replay_ticks.specs.Replays.{IsReplay, Passes, ReplayView}
 
 -- ---- lists
 
--- what stands in the middle of a list
+-- the item in the middle of a list
 in_middle : {X : Type 0} (before here behind : List X) (left number : ℕ) (d : X) → left < length here → left + length before ≡ number
     → Some (get_or here left d) ≡ slice_get (before ++ (here ++ behind)) number
 in_middle {X = X} before here behind left number d inside counted =
@@ -38,11 +38,11 @@ by_more trace pace rules i =
     ∙ ap (λ k. kills_by trace pace rules i ++ (kills_in trace pace rules k ++ [])) next
     ∙ ap (λ kills. kills_by trace pace rules i ++ kills) (append-nil (kills_in trace pace rules (i + 1)))
 
--- the kills behind those of a tick
+-- the kills after those of a tick
 abbrev behind_tick : Trace → Pace → List Rule → ℕ → List Kill
 behind_tick trace pace rules i = flat_map (kills_in trace pace rules) (range_with_len (1 + (i + 1)) (tick_count trace pace - (i + 1)))
 
--- all kills are those before a tick, at it and behind it
+-- all kills are those before a tick, at it and after it
 three_parts : (trace : Trace) (pace : Pace) (rules : List Rule) (i : ℕ) → i < tick_count trace pace
     → all_kills trace pace rules ≡ kills_by trace pace rules i ++ (kills_in trace pace rules (i + 1) ++ behind_tick trace pace rules i)
 three_parts trace pace rules i left =
@@ -55,8 +55,8 @@ three_parts trace pace rules i left =
 
 -- ---- a replay that looks for a kill
 
--- A replay has made some ticks, and passed all kills at them: so many are still before the one with
--- a number.
+-- A replay has made some ticks, and passed all kills at them: n are still before the kill with this
+-- number.
 pub record HasSearched (replay : ReplayView) (trace : Trace) (pace : Pace) (rules : List Rule) (left number : ℕ) : Type 0 where
   pub is : IsReplay replay trace pace rules replay.made
   pub counted : left + length (kills_by trace pace rules replay.made) ≡ number

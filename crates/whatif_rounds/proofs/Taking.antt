@@ -27,7 +27,7 @@ use Rattle.whatif_rounds.specs.Rounds.{AreLastPlans, ArePlansOf, IsOutgrown, IsT
 
 -- ---- the plans of an accepted trace
 
--- what stands in legal events is legal there
+-- each of some legal events is legal after the previous ones
 legal_there : (limits : Limits) (w : World) (front : List Event) (event : Event) (behind : List Event) → AreLegal limits w (front ++ event ∷ behind) → cause_of limits (after_from w front) event ≡ None
 legal_there limits w [] event behind legal = legal.0
 legal_there limits w (first ∷ front) event behind legal = legal_there limits (after_event w first) front event behind legal.1
@@ -43,7 +43,7 @@ pub never_refused : (limits : Limits) (events : List Event) (refusal : Refusal) 
 never_refused limits events refusal accepted refused =
     ⊎_elim (λ at. no_cause limits events refusal.line refusal.cause accepted at) (λ lacks. lacks.open_ (ended_at_end events accepted.ends)) refused
 
--- plans that stand for an accepted trace are plans of it
+-- plans that represent an accepted trace are plans of it
 pub are_plans : (plans : PlansView) (options : Options) (trace : Trace) → MayReplay options → IsTraceAt options trace → StandFor plans trace.cpus trace.events → ArePlansOf plans options trace
 are_plans plans options trace may is stand = record {
   counted = is.counted;
@@ -82,11 +82,11 @@ large_if true trace events large is =
     ap (λ (l : TooLarge). let lost : Result Trace ℕ = Err l.events in lost) same
 large_if false trace events large is = absurd (let no : ⊥ = cc is in no)
 
--- what is left, where that isn't too large
+-- the remaining events, if they aren't too many
 kept_bounds : (trace : Trace) (events left : List Event) → bounded events ≡ Ok left → bounded_trace (record trace { events = events }) ≡ Ok (record trace { events = left })
 kept_bounds trace events left is = kept_if (nat_lt most_events (length events)) trace events left is
 
--- and where it is
+-- and if they are
 large_bounds : (trace : Trace) (events : List Event) (large : TooLarge) → bounded events ≡ Err large → bounded_trace (record trace { events = events }) ≡ Err large.events
 large_bounds trace events large is = large_if (nat_lt most_events (length events)) trace events large is
 
@@ -129,7 +129,7 @@ too_large options rules trace count events kill large low so found is =
     last_outgrown trace (pace_of options) rules (suc count) large.events (omega (arith, low))
     (round_by options rules trace count events kill so found ∙ large_bounds trace (without events kill.at kill.victim.0) large is)
 
--- of want of memory nothing is said
+-- out of memory states nothing
 pub outgrown_at : (options : Options) (rules : List Rule) (trace : Trace) (count : ℕ) (events : List Event) (kill : Kill) (found : Fault TooLarge) → count < most_rounds → HasLeft options rules trace count events
     → slice_get (all_kills (record trace { events = events }) (pace_of options) rules) count ≡ Some kill
     → FaultOf found (bounded (without events kill.at kill.victim.0)) → IsOutgrown options rules trace found
@@ -149,7 +149,7 @@ last_here options rules trace count events plans low so none are = (
   are,
 )
 
--- so it is behind the last round that there may be
+-- the same after the last possible round
 pub last_at_end : (options : Options) (rules : List Rule) (trace : Trace) (count : ℕ) (events : List Event) (plans : PlansView) → MayReplay options → IsTraceAt options trace → count ≡ most_rounds → HasLeft options rules trace count events
     → StandFor plans trace.cpus events → AreLastPlans options rules trace plans
 last_at_end options rules trace count events plans may is all so stand = (

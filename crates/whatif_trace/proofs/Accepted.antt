@@ -25,7 +25,7 @@ some_event : (rest : List Event) (at : ℕ) → EndsLast rest → Begins (at + 1
 some_event [] at ends begins fit = absurd (none_last ends.0 (end_at ends.1) ends.2)
 some_event (event ∷ rest) at ends begins fit = let early = fit.0.at in omega (arith, early, begins)
 
--- the first event behind a moment may be spelled, so a nanosecond behind the moment may
+-- the first event after a time may be spelled, so a nanosecond after that time may be too
 pub early_enough : (limits : Limits) (events : List Event) (at : ℕ) → IsCut limits events at → AllFit events → at + 1 < 2 ^ 64
 early_enough limits events at cut fit = some_event (behind events at) at cut.ends cut.begins (fit_rest (up_to events at) (behind events at) (subst AllFit cut.whole fit))
 

@@ -31,7 +31,7 @@ use Rattle.whatif_trace.proofs.Steps.{NoneAgainst}
 below : (cpus cpu : ℕ) → nat_le cpus cpu ≡ false → cpu < cpus
 below cpus cpu off = grind (arith, nat_tests)
 
--- who runs where a legal switch is
+-- who runs at a legal switch
 there : (limits : Limits) (w : World) (at : ℕ) (runners : List (Option Pid)) (cpu : Cpu) (next : Option Pid) (how : How) → AreRunners limits.cpus runners w.tasks → NoneAgainst limits w at (act.Switch cpu next how) → runner_at runners cpu.0 ≡ pid_part (running_on w.tasks cpu.0)
 there limits w at runners cpu next how are none =
     let may = may_switch limits.cpus cpu.0 next (next_task w.tasks next) how (running_on w.tasks cpu.0) none in
@@ -87,7 +87,7 @@ rest_is limits dead w runners (event ∷ events) are legal =
 
 -- ---- the exits
 
--- the tasks behind events come of the tasks and groups before them alone
+-- the tasks after events depend only on the tasks and groups before them
 same_behind : (v u : World) (events : List Event) → v.tasks ≡ u.tasks → v.groups ≡ u.groups → ((after_from v events).tasks ≡ (after_from u events).tasks) × ((after_from v events).groups ≡ (after_from u events).groups)
 same_behind v u [] tasks groups = (tasks, groups)
 same_behind v u (event ∷ events) tasks groups =
@@ -126,7 +126,7 @@ exit_few v pid (Some task) =
     few_acts (not (is_active task.mode)) (not (is_running task.mode)) task.stalled
     (act.Wake (record { 0 = pid }) task.cpu) (act.Switch task.cpu (Some (record { 0 = pid })) (making_room running)) (act.Unstall (record { 0 = pid })) (act.Switch task.cpu (cond (is_running task.mode) None running) Exit)
 
--- a legal world that goes on at a moment
+-- a legal world that continues at a time
 pub record IsOpen (limits : Limits) (at : ℕ) (v : World) : Type 0 where
   pub world : IsLegalWorld limits v
   pub going : v.ended ≡ false

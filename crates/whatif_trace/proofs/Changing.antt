@@ -64,7 +64,7 @@ not_false : (b : Bool) → not b ≡ false → b ≡ true
 not_false true h = refl
 not_false false h = absurd (let no : ⊥ = cc h in no)
 
--- one that isn't dead starts in both
+-- a task that isn't dead starts in both
 pub start_alive : (dead : List ℕ) (tasks fewer : Tasks) (next : Option Pid) → AreWithout dead tasks fewer → is_alive dead next ≡ true → AreWithout dead (start next tasks) (start next fewer)
 start_alive dead tasks fewer None are alive = are
 start_alive dead tasks fewer (Some pid) are alive = change_alive dead tasks fewer pid.0 _ are (not_true (is_pid_among dead pid.0) alive)
@@ -112,7 +112,7 @@ exits_dead dead tasks fewer k are gone pid =
     ∙ ap (λ b. cond b None (cond (pid == k) None (task_of tasks pid))) (sym (among_less dead k pid))
     ∙ ap (kept (filter (λ other. not (other == k)) dead) pid) (sym (task_placed tasks k None pid))
 
--- one that isn't dead exits: the same are dead
+-- a task that isn't dead exits: the dead tasks stay the same
 same_among : (b c : Bool) → (b ≡ true → c ≡ false) → (b && not c) ≡ b
 same_among true c off = rw (off refl) refl
 same_among false c off = refl

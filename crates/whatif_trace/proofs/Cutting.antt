@@ -1,4 +1,4 @@
--- A trace is cut at a moment, and its parts are put together again.
+-- A trace is split at a time, and its parts are joined again.
 use Rattle.std.proofs.Common.{◌≡◌, ℕ, zero, suc, ◌+◌, ◌-◌, ◌≤◌, ◌<◌, List, [], ◌∷◌, ◌++◌, refl, ap, ◌∙◌, sym, arith, cond, Bool, true, false, Option, None, Some, length, drop, take}
 use Rattle.std.specs.Prelude.{is_some, nat_le, nat_lt, replicate, slice_get}
 use Rattle.std.specs.List.{AllByRecursion}
@@ -90,12 +90,12 @@ is_there [] n room = absurd (no_room n (omega (arith, room)))
 is_there (x ∷ events) zero room = refl
 is_there (x ∷ events) (suc n) room = is_there events n (omega (arith, room))
 
--- a moment is before that of an event, if there is one
+-- a time is before that of an event, if there is one
 abbrev pub is_before : ℕ → Option Event → Bool
 is_before at None = false
 is_before at (Some event) = nat_lt at event.at
 
--- a moment is before the end where it is before the last event
+-- a time is before the end if it is before the last event
 pub before_told : (events : List Event) (at : ℕ) (o : Option Event) → slice_get events (length events - 1) ≡ o → is_before at o ≡ nat_lt at (after events).last
 before_told [] at None is = grind (arith, nat_tests)
 before_told [] at (Some event) is = absurd (let no : ⊥ = cc is in no)

@@ -1,4 +1,4 @@
--- Acts of one moment, one after the other, in a world that has room for them.
+-- Acts at one time, in order, in a world that has room for them.
 use Rattle.std.proofs.Common.{◌≡◌, ℕ, ◌+◌, ◌≤◌, ◌<◌, List, [], ◌∷◌, ◌++◌, refl, ◌∙◌, subst, sym, arith, Bool, true, false, None}
 use Rattle.std.specs.Prelude.{◌||◌, if◌then◌else◌}
 use Rattle.psi_base.specs.declared.event.Act.{Act}
@@ -9,7 +9,7 @@ use Rattle.psi_counts.proofs.LegalLaws.{legal_kept}
 use Rattle.task_table.proofs.CauseLaws.{first_of_act}
 use Rattle.whatif_trace.proofs.Steps.{IsOfTasks, NoneAgainst, event_at}
 
--- a legal world that goes on at a moment, with room for so many more events and the end
+-- a legal world that continues at a time, with room for `room` more events and the end
 pub record IsReady (limits : Limits) (at room : ℕ) (v : World) : Type 0 where
   pub world : IsLegalWorld limits v
   pub going : v.ended ≡ false
@@ -27,7 +27,7 @@ ready_for limits at room less v fewer ready = record {
   few = let few = ready.few in omega (arith, few, fewer);
 }
 
--- but for tasks, lines and the last moment a world is another
+-- a world equals another except for tasks, lines and the last time
 pub record IsAside (v u : World) : Type 0 where
   pub groups : u.groups ≡ v.groups
   pub irqs : u.irqs ≡ v.irqs
@@ -35,7 +35,7 @@ pub record IsAside (v u : World) : Type 0 where
   pub pressures : u.pressures ≡ v.pressures
   pub ended : u.ended ≡ v.ended
 
--- acts of a moment are legal, and the world behind them is ready and differs in tasks alone
+-- acts at one time are legal, and the world after them is ready and differs only in its tasks
 pub record Does (limits : Limits) (at room : ℕ) (v : World) (acts : List Act) : Type 0 where
   pub legal : AreLegal limits v (events_at at acts)
   pub ready : IsReady limits at room (after_from v (events_at at acts))
@@ -86,7 +86,7 @@ does_one limits at room v what ready of none =
       };
     }
 
--- worlds behind acts, and those behind them
+-- worlds after acts, and after further acts
 pub behind_both : (v : World) (at : ℕ) (xs ys : List Act) → after_from v (events_at at (xs ++ ys)) ≡ after_from (after_from v (events_at at xs)) (events_at at ys)
 behind_both v at [] ys = refl
 behind_both v at (x ∷ xs) ys = behind_both (after_event v (event_at at x)) at xs ys
@@ -95,7 +95,7 @@ legal_both : (limits : Limits) (at : ℕ) (v : World) (xs ys : List Act) → Are
 legal_both limits at v [] ys front rest = rest
 legal_both limits at v (x ∷ xs) ys front rest = (front.0, legal_both limits at (after_event v (event_at at x)) xs ys front.1 rest)
 
--- acts, and those behind them
+-- acts, and those after them
 pub does_then : (limits : Limits) (at mid room : ℕ) (v : World) (xs ys : List Act) → Does limits at mid v xs → Does limits at room (after_from v (events_at at xs)) ys → Does limits at room v (xs ++ ys)
 does_then limits at mid room v xs ys front rest =
     let same = sym (behind_both v at xs ys) in

@@ -56,7 +56,7 @@ no_more dead tasks fewer are =
 
 -- ---- one that is found
 
--- one that isn't dead is found as before
+-- a task that isn't dead is found as before
 pub found_kept : (dead : List ℕ) (tasks fewer : Tasks) → AreWithout dead tasks fewer → (pid : ℕ) → is_pid_among dead pid ≡ false → task_of fewer pid ≡ task_of tasks pid
 found_kept dead tasks fewer are pid alive = are pid ∙ ap (λ b. cond b None (task_of tasks pid)) alive
 
@@ -74,7 +74,7 @@ found_before dead tasks fewer are pid task is = if_found (is_pid_among dead pid)
 
 -- ---- members of a group
 
--- a task that passes a test and has a number is among those of which some passes
+-- if a task with a number passes a test, some task in the list passes it
 any_if : (test : Task → Bool) (es : List (ℕ × Task)) (pid : ℕ) (task : Task) → tasks_by.find nat_cmp pid es ≡ Some task → test task ≡ true → list_any test (map (λ e. e.1) es) ≡ true
 any_if test [] pid task is passes = absurd (let no : ⊥ = cc is in no)
 any_if test (e ∷ es) pid task is passes =
@@ -123,7 +123,7 @@ none_runs : (o other : Option (ℕ × Task)) → (is_some other ≡ true → is_
 none_runs o None some none = refl
 none_runs o (Some e) some none = absurd (let on = some refl in let no : ⊥ = cc (on, none) in no)
 
--- one that runs among fewer runs among all, and isn't dead
+-- a task that runs among fewer runs among all, and isn't dead
 runs_before : (dead : List ℕ) (tasks fewer : Tasks) → AreWithout dead tasks fewer → (cpu : ℕ) (x : ℕ × Task) → running_on fewer cpu ≡ Some x → (is_pid_among dead x.0 ≡ false) × (task_of tasks x.0 ≡ Some x.1) × (is_running_on cpu x.1 ≡ true)
 runs_before dead tasks fewer are cpu x is =
     let there = running_found fewer cpu x is in

@@ -9,11 +9,11 @@ use Rattle.psi_spec.specs.World.{events_at}
 pub none_kept : (old : List Event) → old ≡ old ++ []
 none_kept old = sym (append-nil old)
 
--- a part is kept, and what stays to be kept is behind it
+-- a part is stored, and the rest is still to be stored after it
 pub part_kept : (old new part rest : List Event) → new ≡ old ++ part → new ++ rest ≡ old ++ (part ++ rest)
 part_kept old new part rest is = ap (λ es. es ++ rest) is ∙ append_assoc old part rest
 
--- acts of one moment, and those behind them
+-- acts at one time, and those after them
 pub acts_kept : (old mid new : List Event) (at : ℕ) (xs ys : List Act) → mid ≡ old ++ events_at at xs → new ≡ mid ++ events_at at ys → new ≡ old ++ events_at at (xs ++ ys)
 acts_kept old mid new at xs ys first then =
     then ∙ ap (λ es. es ++ events_at at ys) first ∙ append_assoc old (events_at at xs) (events_at at ys) ∙ ap (λ es. old ++ es) (sym (map-append _ xs ys))

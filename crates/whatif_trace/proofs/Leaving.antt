@@ -47,7 +47,7 @@ runner_in tasks once cpu pid task is runs None none =
 runner_in tasks once cpu pid task is runs (Some e) found =
     ap Some (number_is tasks pid task e is (running_found tasks cpu e found).0 (only_runs tasks once cpu pid task e is runs found))
 
--- the task that is known to run is the one that is found
+-- the task that is known to run is the task that is found
 pub runner_is : (tasks : Tasks) → RunsOnce tasks → (cpu pid : ℕ) (task : Task) → task_of tasks pid ≡ Some task → is_running_on cpu task ≡ true → running_on tasks cpu ≡ Some (pid, task)
 runner_is tasks once cpu pid task is runs = runner_in tasks once cpu pid task is runs (running_on tasks cpu) refl
 
@@ -107,7 +107,7 @@ comes_in limits at room v pid task o ready there is can runs =
 
 -- ---- it leaves
 
--- the exit of a running task that is in no stall, where the next task, if there is one, is ready
+-- the exit of a running task that is in no stall, if the next task, if any, is ready
 abbrev pub IsNext : Tasks → ℕ → Option Pid → Type 0
 IsNext tasks cpu next = IfSome next (λ _. is_some_and (next_task tasks next) (is_ready_on cpu) ≡ true)
 
@@ -131,7 +131,7 @@ exits limits at room v pid task next ready there is runs free turn =
           ∙ ap (started next k) (get_remove v.tasks pid.0 k);
     }
 
--- one that is in a stall ends it first
+-- a task in a stall ends the stall first
 next_still : (tasks : Tasks) (cpu : ℕ) (pid : ℕ) (task other : Task) (next : Option Pid) → running_on tasks cpu ≡ Some (pid, task) → IsNext tasks cpu next → IsNext (put tasks pid other) cpu next
 next_still tasks cpu pid task other None runs turn = tt
 next_still tasks cpu pid task other (Some next) runs turn =

@@ -37,7 +37,7 @@ both_true true false is = (refl, refl)
 both_true true true is = absurd (let no : ⊥ = cc is in no)
 both_true false c is = absurd (let no : ⊥ = cc is in no)
 
--- one that exits is dead no more
+-- a task that exits isn't dead any more
 exit_live : (dead : List ℕ) (tasks : Tasks) (k : ℕ) → AreLive dead tasks → AreLive (filter (λ other. not (other == k)) dead) (placed tasks k None)
 exit_live dead tasks k live pid is =
     let parts = both_true (is_pid_among dead pid) (pid == k) (sym (among_less dead k pid) ∙ is) in
@@ -45,7 +45,7 @@ exit_live dead tasks k live pid is =
 
 -- ---- by acts
 
--- the tasks that are dead behind a switch, by the task that leaves, if one does
+-- the tasks that are dead after a switch, given the task that is switched out, if any
 abbrev pub dead_by : How → List ℕ → Option (ℕ × Task) → List ℕ
 dead_by Exit dead running = without_pid dead (pid_part running)
 dead_by Preempt dead running = dead

@@ -63,7 +63,7 @@ by_found tasks cpu place each (Some e) is =
     let there = running_found tasks cpu e is in
     some_found e place (sym (each e.0) ∙ ap (λ o. is_some_and o (is_running_on cpu)) there.0 ∙ there.1)
 
--- the list tells who runs
+-- the list has who runs
 pub runner_told : (cpus : ℕ) (runners : List (Option Pid)) (tasks : Tasks) (cpu : ℕ) → AreRunners cpus runners tasks → cpu < cpus → pid_part (running_on tasks cpu) ≡ runner_at runners cpu
 runner_told cpus runners tasks cpu are room = by_found tasks cpu (runner_at runners cpu) (λ q. are.each q cpu room) (running_on tasks cpu) refl
 
@@ -74,7 +74,7 @@ none_at n cpu room = get_or-replicate n cpu None None room
 
 -- ---- changes that let a task run as it did
 
--- a task's change tells no other that runs
+-- a change of a task doesn't change whether it runs on a processor
 abbrev Alike : ℕ → Option Task → Option Task → Type 0
 Alike cpu before now = is_some_and now (is_running_on cpu) ≡ is_some_and before (is_running_on cpu)
 
@@ -182,7 +182,7 @@ still_there tasks c cpu how (Some e) runs right other q =
     (λ apart. ap (λ b. is_some_and (cond b (left_by how e.1) (task_of tasks q)) (is_running_on c)) apart.0)
     (eqb_tells q e.0)
 
--- the next task, where it was ready on the processor
+-- the next task, if it was ready on the processor
 now_runs : (cpu : ℕ) (found : Option Task) → is_some_and found (is_ready_on cpu) ≡ true → is_some_and (changed running found) (is_running_on cpu) ≡ true
 now_runs cpu None ready = absurd (let no : ⊥ = cc ready in no)
 now_runs cpu (Some task) ready = rw (first_true (task.cpu.0 == cpu) (is_ready task.mode) ready) refl
@@ -317,7 +317,7 @@ none_here tasks less pid cpu place gone each is q =
       | false ↦ λ other. each q ∙ other_pid pid q place is other
     ] refl
 
--- and where it didn't, the same one does
+-- and if it didn't, the same task runs
 same_here : (tasks less : Tasks) (pid cpu : ℕ) (task : Task) (place : Option Pid) → Gone tasks pid less → task_of tasks pid ≡ Some task → is_running_on cpu task ≡ false → ((q : ℕ) → is_some_and (task_of tasks q) (is_running_on cpu) ≡ is_pid q place) → (q : ℕ) → is_some_and (task_of less q) (is_running_on cpu) ≡ is_pid q place
 same_here tasks less pid cpu task place gone is off each q =
     ap (λ o. is_some_and o (is_running_on cpu)) (gone q)

@@ -69,7 +69,7 @@ numbers_put tasks k task is numbers pid some =
       | false ↦ λ _ found. numbers pid found
     ] refl (ap is_some (sym (get_put tasks k.0 task pid)) ∙ some)
 
--- whatever happens they have, where what happens may be spelled
+-- any act preserves this, if the act may be spelled
 numbers_act : (w : World) (what : Act) → ActFits what → AreNumbers w.tasks → AreNumbers (tasks_after w.groups w.tasks what)
 numbers_act w (act.Fork pid path cpu) fits numbers = numbers_put w.tasks pid _ fits.0 numbers
 numbers_act w (act.Wake pid cpu) fits numbers = λ k some. numbers k (change_before w.tasks pid.0 _ k some)
@@ -111,7 +111,7 @@ fit_join (x ∷ xs) ys front rest = (front.0, fit_join xs ys front.1 rest)
 
 -- ---- the rest
 
--- acts of a moment may be spelled
+-- acts at one time may be spelled
 abbrev pub ActsFit : List Act → Type 0
 ActsFit [] = Unit {0}
 ActsFit (what ∷ acts) = ActFits what × ActsFit acts

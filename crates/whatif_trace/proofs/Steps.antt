@@ -1,5 +1,5 @@
--- One event of the rest: what is left of it is legal without the dead tasks, and the worlds stay
--- beside each other.
+-- One event of the rest: what remains of it is legal without the dead tasks, and the relation of
+-- the worlds is preserved.
 use Rattle.std.proofs.Common.{◌≡◌, ℕ, ◌+◌, ◌≤◌, ◌<◌, List, [], ◌∷◌, refl, ap, ◌∙◌, sym, arith, Bool, true, false, Option, None, Some}
 use Rattle.std.specs.Prelude.{◌||◌, is_some, not, nat_le, if◌then◌else◌}
 use Rattle.std.proofs.lemmas.Bool.Decides.{nat_tests}
@@ -24,14 +24,14 @@ use Rattle.whatif_trace.proofs.Fewer.{AreWithout, no_member}
 abbrev pub event_at : ℕ → Act → Event
 event_at at what = record { at = at; act = what }
 
--- a world has room for an event at a moment, whichever it is
+-- a world has room for any event at a time
 pub record HasRoom (limits : Limits) (v : World) (at : ℕ) : Type 0 where
   pub going : v.ended ≡ false
   pub forward : v.last ≤ at
   pub early : at ≤ limits.latest
   pub few : v.lines < 4000000
 
--- These acts are legal, and the world behind them is that of the trace behind its act, without the
+-- These acts are legal, and the world after them is the trace's world after its act, without the
 -- tasks that are dead then.
 pub record Goes (limits : Limits) (dead : List ℕ) (w v : World) (at : ℕ) (what : Act) (acts : List Act) : Type 0 where
   pub legal : AreLegal limits v (events_at at acts)
@@ -77,7 +77,7 @@ same_act limits dead later w v at what is room none tasks = record {
   };
 }
 
--- one that is left out
+-- an act that is left out
 pub left_out : (limits : Limits) (dead later : List ℕ) (w v : World) (at : ℕ) (what : Act) → IsWithout dead w v → IsOfTasks at what
     → AreWithout later (tasks_after w.groups w.tasks what) v.tasks → Goes limits later w v at what []
 left_out limits dead later w v at what is of tasks = record {
@@ -152,7 +152,7 @@ forked_still cpus groups live fewer task path cpu less none =
 
 -- ---- acts of tasks
 
--- an act of a task: one that isn't dead acts in both, and a dead one in the trace alone
+-- an act of a task: a task that isn't dead acts in both, and a dead task only in the original trace
 pub of_pid : (limits : Limits) (dead : List ℕ) (w v : World) (at : ℕ) (pid : Pid) (what : Act) → IsWithout dead w v → HasRoom limits v at → IsOfTasks at what
     → (is_pid_among dead pid.0 ≡ false → NoneAgainst limits v at what)
     → (is_pid_among dead pid.0 ≡ false → AreWithout dead (tasks_after w.groups w.tasks what) (tasks_after v.groups v.tasks what))

@@ -70,11 +70,11 @@ record IsSwitch (limits : Limits) (dead : List ℕ) (w v : World) (at : ℕ) (cp
   runs : running_on w.tasks cpu.0 ≡ running
   kept : running_on v.tasks cpu.0 ≡ if_kept dead running
 
--- the tasks behind it in the trace
+-- the tasks after it in the trace
 tasks_are : (w : World) (cpu : Cpu) (next : Option Pid) (how : How) (running : Option (ℕ × Task)) (dead : List ℕ) (fewer : Tasks) → running_on w.tasks cpu.0 ≡ running → AreWithout dead (start next (leave how w.tasks running)) fewer → AreWithout dead (start next (leave how w.tasks (running_on w.tasks cpu.0))) fewer
 tasks_are w cpu next how running dead fewer runs are = subst (λ o. AreWithout dead (start next (leave how w.tasks o)) fewer) (sym runs) are
 
--- a task that isn't dead comes where none leaves that isn't
+-- a task that isn't dead is switched in, and no task that isn't dead is switched out
 comes : (limits : Limits) (dead later : List ℕ) (w v : World) (at : ℕ) (cpu : Cpu) (next : Option Pid) (how : How) (running : Option (ℕ × Task)) → IsSwitch limits dead w v at cpu next how running → if_kept dead running ≡ None → is_alive dead next ≡ true
     → AreWithout later (start next (leave how w.tasks running)) (start next v.tasks) → Goes limits later w v at (act.Switch cpu next how) (act.Switch cpu next Idle ∷ [])
 comes limits dead later w v at cpu next how running so none alive are =
@@ -90,7 +90,7 @@ stays : (limits : Limits) (dead later : List ℕ) (w v : World) (at : ℕ) (cpu 
 stays limits dead later w v at cpu next how running so are =
     left_out limits dead later w v at (act.Switch cpu next how) so.is (of_switch at cpu next how) (tasks_are w cpu next how running later v.tasks so.runs are)
 
--- so where none leaves that isn't dead: by what is then without the dead tasks
+-- if no task that isn't dead is switched out: the result without the dead tasks
 none_leaves : (limits : Limits) (dead later : List ℕ) (w v : World) (at : ℕ) (cpu : Cpu) (next : Option Pid) (how : How) (running : Option (ℕ × Task)) → IsSwitch limits dead w v at cpu next how running → if_kept dead running ≡ None
     → AreWithout later (leave how w.tasks running) v.tasks → is_alive later next ≡ is_alive dead next
     → Goes limits later w v at (act.Switch cpu next how) (if is_alive dead next then act.Switch cpu next Idle ∷ [] else [])
@@ -148,7 +148,7 @@ led_dead dead tasks fewer Sleep e are gone = placed_dead dead tasks fewer e.0 (l
 led_dead dead tasks fewer IoWait e are gone = placed_dead dead tasks fewer e.0 (left_by IoWait e.1) are gone
 led_dead dead tasks fewer Idle e are gone = placed_dead dead tasks fewer e.0 (left_by Idle e.1) are gone
 
--- the next task isn't the one that runs
+-- the next task isn't the running one
 true_and : (b c : Bool) → c ≡ false → (b && not c) ≡ b
 true_and true c off = rw off refl
 true_and false c off = refl

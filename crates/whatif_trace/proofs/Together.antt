@@ -1,4 +1,4 @@
--- The front, the exits and the rest together.
+-- The prefix, the exits and the rest together.
 use Rattle.std.proofs.Common.{◌≡◌, ℕ, ◌+◌, ◌-◌, ◌≤◌, ◌<◌, List, [], ◌∷◌, ◌++◌, refl, ap, ◌∙◌, sym, subst, arith, append_assoc, Bool, true, false, length}
 use Rattle.std.specs.Prelude.{◌||◌, if◌then◌else◌, nat_lt}
 use Rattle.std.proofs.lemmas.Bool.Decides.{nat_tests}
@@ -34,7 +34,7 @@ one_left dead w front at =
     let many = length-append (rest_without dead w front) (end_at at ∷ []) in
     omega (arith, parts, many)
 
--- one event more in front of a rest that goes
+-- one more event before a rest that goes
 one_more : (limits : Limits) (dead : List ℕ) (w v : World) (event : Event) (events : List Event) → IsWithout dead w v → IsLegalWorld limits w → AreLive dead w.tasks → AreLegal limits w (event ∷ events) → v.last ≤ event.at → v.lines < 4000000
     → (IsWithout (dead_after dead w event.act) (after_event w event) (after_from v (events_at event.at (act_without dead w event.act))) → Begins (after_from v (events_at event.at (act_without dead w event.act))).last events
     → RestGoes limits (dead_after dead w event.act) (after_event w event) (after_from v (events_at event.at (act_without dead w event.act))) events)
@@ -79,14 +79,14 @@ pub ended_at_end : (events : List Event) → EndsLast events → (after events).
 ended_at_end events ends =
     ap (λ es. (after es).ended) ends.2 ∙ ap (λ (w : World). w.ended) (after_from-append first_world ends.0 (end_at ends.1 ∷ [])) ∙ or_true (after ends.0).ended
 
--- a world that goes on behind a moment hasn't ended
+-- a world that continues after a time hasn't ended
 going_on : (limits : Limits) (w : World) (at : ℕ) (rest : List Event) → AreLegal limits w rest → Begins (at + 1) rest → w.last ≤ at → at < (after_from w rest).last → (w.ended ≡ false) × (at + 1 ≤ limits.latest)
 going_on limits w at [] legal begins low high = absurd (omega (arith, low, high))
 going_on limits w at (event ∷ rest) legal begins low high =
     let early = (in_time limits w event legal.0).early in
     (open_of_legal limits w event legal.0, omega (arith, early, begins))
 
--- what is known of a trace that is parted at a moment before its end
+-- facts about a trace that is split at a time before its end
 pub record IsCut (limits : Limits) (events : List Event) (at : ℕ) : Type 0 where
   pub legal : AreLegal limits first_world (up_to events at)
   pub whole : events ≡ up_to events at ++ behind events at
@@ -144,7 +144,7 @@ pub three_parts : (events : List Event) (at victim : ℕ) → at < (after events
 unfolding without
 three_parts events at victim before = ap (λ b. if b then up_to events at ++ exits_of events at victim ++ rest_of events at victim else events) (is_below at (after events).last before)
 
--- for how many more events there is room behind the exits, the end not counted
+-- the number of further events that fit after the exits, not counting the end
 abbrev pub room_of : List Event → ℕ → ℕ → ℕ
 room_of events at victim = length (rest_of events at victim) - 1
 
@@ -213,7 +213,7 @@ begins_front : (last : ℕ) (front rest : List Event) → Begins last (front ++ 
 begins_front last [] rest begins = tt
 begins_front last (event ∷ front) rest begins = begins
 
--- the worlds behind a part of it that isn't the whole
+-- the worlds after a proper prefix of it
 pub part_goes : (limits : Limits) (events : List Event) (at victim : ℕ) → IsCut limits events at → Holds limits events at victim → (some : List Event) (event : Event) (more : List Event) → behind events at ≡ some ++ event ∷ more
     → RestGoes limits (dead_of events at victim) (cut_world events at) (after_from (cut_world events at) (exits_of events at victim)) some
 part_goes limits events at victim cut held some event more is =

@@ -19,7 +19,7 @@ use Rattle.whatif_trace.proofs.Resting.{Begins}
 
 -- ---- the front and what is behind it
 
--- what is behind the events up to a moment begins later
+-- the events after those up to a time begin later
 later_begins : (limits : Limits) (w : World) (events : List Event) (at : ℕ) → AreLegal limits w events → (rest : List Event) × (events ≡ up_to events at ++ rest) × Begins (at + 1) rest
 later_begins limits w [] at legal = ([], refl, tt)
 later_begins limits w (event ∷ events) at legal =

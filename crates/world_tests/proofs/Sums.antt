@@ -89,7 +89,7 @@ first_sums parents slots count slot =
       stalled_running = sym (none_counted parents slot count (λ n. n.stalled_running) refl);
     })
 
--- the first clocks stand for tasks of which none is alive
+-- the first clocks represent tasks, none of them live
 pub first_processor : (parents : List (Option ℕ)) (groups count : ℕ) (tasks : List (Option (Slot × Counts))) (clocks : ClocksView) → AreOlder parents → tasks ≡ replicate count None → count ≤ 1000 → groups ≤ most_groups → clocks ≡ first_clocks groups → IsProcessor parents groups tasks clocks 0
 first_processor parents groups count tasks clocks older none few few_groups first = rw (none, first) (record {
   older = older;

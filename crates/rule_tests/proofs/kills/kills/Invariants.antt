@@ -2,7 +2,7 @@ use Rattle.std.proofs.Common.{◌≡◌}
 use Rattle.kill_engine.specs.Killers.{IsStanding}
 use Rattle.rule_tests.proofs.kills.kills.Given as goal
 
--- the killer had the last reading, and stands for readings of its groups
+-- the killer had the last reading, and represents readings of its groups
 abbrev pub invariant-rows : goal.invariant-rows
 invariant-rows g l = record {
   last : l.killer.last ≡ l.rig.last;
