@@ -1,4 +1,4 @@
--- What the commands over generated traces come to as a run.
+-- The runs of the commands for generated traces.
 use Rattle.std.proofs.Common.{◌≡◌, ◌⊎◌, inl, inr, ℕ, ◌<◌, ◌-◌, List, [], ◌∷◌, ◌++◌, refl, sym, ap, ◌∙◌, subst, arith, true≢false}
 use Rattle.std.proofs.Common.{append_assoc, Option, None, Bool, true, false, ◌==◌, if◌then◌else◌}
 use Rattle.std.specs.Prelude.{IsSome}
@@ -34,7 +34,7 @@ use Rattle.run_outcomes.proofs.RunLaws.{counts_written, is_named, none_given, st
 
 -- ---- the events of a generated trace, one by one
 
--- what comes next can be spelled
+-- the next event can be spelled
 pub next_fits : (played : List Event) (event : Event) (left : List Event)
     → AllFit (played ++ event ∷ left) → Fits event
 next_fits [] event left fit = fit.0
@@ -156,7 +156,7 @@ stress_none trace pace none =
     ap (λ xs. xs ++ last_line trace pace (with_rules []))
     (if_none (tick_count trace pace) [] (group_report trace pace (tick_count trace pace) root_group) none)
 
--- where no tick is left, all were made
+-- if no tick remains, all were made
 pub all_passed : (old new : ReplayView) (trace : Trace) (pace : Pace) (ticked : Bool)
     → HasPassed old trace pace ticked → Passes trace pace [] old.made old new false
     → IsReplay new trace pace [] (tick_count trace pace) × (new.made ≡ tick_count trace pace)
@@ -166,7 +166,7 @@ all_passed old new trace pace ticked so given = (
   ap (λ (r : ReplayView). r.made) given.1 ∙ given.0,
 )
 
--- where none is left and there was one, all were made
+-- if none remains and there was one, all were made
 pub end_made : (old new : ReplayView) (trace : Trace) (pace : Pace) (ticked left : Bool)
     → HasPassed old trace pace ticked → ticked ≡ true → left ≡ false
     → Passes trace pace [] old.made old new left
@@ -177,7 +177,7 @@ end_made old new trace pace true false so some over given =
     let all = all_passed old new trace pace true so given in
     (all.0, omega (arith, so.some refl, given.0))
 
--- where none is left and there was none, the trace has none
+-- if none remains and there was none, the trace has none
 pub none_made : (old new : ReplayView) (trace : Trace) (pace : Pace) (ticked left : Bool)
     → HasPassed old trace pace ticked → ticked ≡ false → left ≡ false
     → Passes trace pace [] old.made old new left

@@ -61,7 +61,7 @@ rest_of : (parents : List (Option ℕ)) → AreOlder parents → (slot : ℕ) (o
 rest_of parents older slot o is k less =
     by_step parents slot k older ∙ ap (λ b. b || leads_to parents (slice_index_or parents slot None) k) (not_equal slot k less) ∙ ap (λ o. leads_to parents o k) is
 
--- the slots of a chain from a slot on, if there is one
+-- the slots of the chain from a slot, empty without one
 abbrev numbers_from : List (Option ℕ) → Option ℕ → List ℕ
 numbers_from parents None = []
 numbers_from parents (Some slot) = down_from (suc slot) (is_under parents slot)
@@ -87,7 +87,7 @@ chain_step groups slot next older is =
     ∙ ap (λ ks. slot ∷ map slot_at ks) (numbers_step (parents_of groups) older slot.0 (number_of_slot next) (sym is))
     ∙ ap (λ slots. slot ∷ slots) (sym (slots_of groups next))
 
--- the parent of a slot that was made was made
+-- the parent of an existing slot exists
 pub parent_made : (groups : List GroupLife) (slot : Slot) (next : Option Slot) → AreOlder (parents_of groups) → number_of_slot next ≡ slice_index_or (parents_of groups) slot.0 None → slot.0 < length groups → IfSome next (λ parent. parent.0 < length groups)
 parent_made groups slot None older is made = tt
 parent_made groups slot (Some parent) older is made = let less = older slot.0 parent.0 (sym is) in omega (arith, less, made)
@@ -99,11 +99,11 @@ parent_older groups slot (Some parent) older is = older slot parent.0 (sym is)
 
 -- ---- one slot under another
 
--- from above a slot one goes on to the parent
+-- from a newer slot the climb continues at the parent
 pub climb_on : (groups : List GroupLife) (at high : ℕ) (next : Option Slot) → AreOlder (parents_of groups) → high < at → number_of_slot next ≡ slice_index_or (parents_of groups) at None → is_under (parents_of groups) at high ≡ leads_to (parents_of groups) (number_of_slot next) high
 climb_on groups at high next older less is = rest_of (parents_of groups) older at (number_of_slot next) (sym is) high less
 
--- from a slot on one is there or past it
+-- from a slot that isn't newer, the climb is at its end
 pub climb_end : (groups : List GroupLife) (at high : ℕ) → AreOlder (parents_of groups) → at ≤ high → (at == high) ≡ is_under (parents_of groups) at high
 climb_end groups at high older past =
     let case : (high ≡ at) ⊎ (suc at ≤ high) = grind arith in

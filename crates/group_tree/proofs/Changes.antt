@@ -1,5 +1,5 @@
--- What a tree keeps, after a group was made, after one was removed, and after the account of one
--- was switched.
+-- The invariant of a tree after a group was created, after one was removed, and after the
+-- accounting of one was switched.
 use Rattle.std.proofs.Common.{◌≡◌, ◌≢◌, ℕ, zero, suc, ◌+◌, ◌<◌, ◌≤◌, List, [], ◌∷◌, ◌++◌, refl, ap, ◌∙◌, sym, subst, Bool, true, false, arith, Option, None, Some, ◌==◌, length, map, take, drop}
 use Rattle.std.specs.Prelude.{not, codes, nat_le, is_some, ◌&&◌, if◌then◌else◌, IfSome, slice_get, slice_set, slice_index_or}
 use Rattle.std.specs.Str.{bytes_eq}
@@ -33,7 +33,7 @@ first_alone : (o : Option ℕ) → first_of_two o None ≡ o
 first_alone None = refl
 first_alone (Some n) = refl
 
--- a path finds the new group, or what it found
+-- a path finds the new group, or the same as before
 found_more : (groups : List GroupLife) (group : GroupLife) (find : List ℕ → Option Slot) (slot : Slot) → ((path : List ℕ) → find path ≡ as_slot (slot_of groups path)) → IsOneLive (groups ++ group ∷ []) → is_live group ≡ true → slot.0 ≡ length groups → (path : List ℕ) → (if bytes_eq group.path path then Some slot else find path) ≡ as_slot (slot_of (groups ++ group ∷ []) path)
 found_more groups group find slot found one live number path =
     elim (bytes_eq group.path path) as (λ b. bytes_eq group.path path ≡ b → (if b then Some slot else find path) ≡ as_slot (slot_of (groups ++ group ∷ []) path)) [
@@ -51,7 +51,7 @@ found_more groups group find slot found one live number path =
 live_one : (slot : ℕ) (group : GroupLife) → is_live group ≡ true → one slot group ≡ (if is_slot (Some slot) group.parent then 1 else 0)
 live_one slot group live = ap (λ b. if b && is_slot (Some slot) group.parent then 1 else 0) live
 
--- what a tree keeps, after a group was made
+-- the invariant of a tree after a group was created
 pub tree_more : (groups : List GroupLife) (group : GroupLife) (find later : List ℕ → Option Slot) (slot : Slot) (children counts : List ℕ)
     → IsTree groups find children → AreGroups (groups ++ group ∷ []) → is_live group ≡ true → slot.0 ≡ length groups
     → ((path : List ℕ) → later path ≡ (if bytes_eq group.path path then Some slot else find path))
@@ -123,7 +123,7 @@ no_child : (slot : ℕ) → slice_index_or (0 ∷ []) slot 0 ≡ count_children 
 no_child zero = refl
 no_child (suc slot) = refl
 
--- what a tree keeps of the root alone
+-- the invariant of a tree with the root alone
 pub first_tree : (find : List ℕ → Option Slot) → ((path : List ℕ) → find path ≡ (if bytes_eq (codes "/") path then Some (slot_at 0) else None)) → IsTree (root ∷ []) find (0 ∷ [])
 first_tree find finds = record {
   legal = groups_first;
@@ -178,7 +178,7 @@ ended_is groups path at place group one found got =
     ap (λ b. if b then record g { gone = Some at } else g) test ∙ ap (λ (g : GroupLife). let ended : GroupLife = record g { gone = Some at } in ended) (sym same))
     (λ k g is differs. ap (λ b. if b then record g { gone = Some at } else g) (is_another groups path place k g one found is differs))
 
--- a path finds nothing, or what it found
+-- a path finds nothing, or the same as before
 found_less : (groups : List GroupLife) (path : List ℕ) (at : ℕ) (find : List ℕ → Option Slot) → ((path : List ℕ) → find path ≡ as_slot (slot_of groups path)) → (other : List ℕ) → (if bytes_eq path other then None else find other) ≡ as_slot (slot_of (map (marked_removed path at) groups) other)
 found_less groups path at find found other =
     elim (bytes_eq path other) as (λ b. (if b then None else find other) ≡ as_slot (if b then None else slot_of groups other)) [
@@ -190,7 +190,7 @@ found_less groups path at find found other =
 one_less : (a b c d k : ℕ) → c + k ≡ a → a ≡ b → d + k ≡ b + 0 → c ≡ d
 one_less a b c d k h i j = omega (arith, h, i, j)
 
--- what a tree keeps, after a group was removed
+-- the invariant of a tree after a group was removed
 pub tree_less : (groups : List GroupLife) (path : List ℕ) (at : ℕ) (slot : Slot) (group : GroupLife) (find later : List ℕ → Option Slot) (children counts : List ℕ)
     → IsTree groups find children → slot_of groups path ≡ Some slot.0 → is_root path ≡ false → slice_get groups slot.0 ≡ Some group
     → ((other : List ℕ) → later other ≡ (if bytes_eq path other then None else find other))
@@ -243,7 +243,7 @@ not_root groups path none =
       | false ↦ λ here. absurd (cc here)
     ] none
 
--- what is put into the found group's place is the switch
+-- storing the setting in the found group's place is the switch
 pub switched_is : (groups : List GroupLife) (path : List ℕ) (on : Bool) (place : ℕ) (group : GroupLife) → IsOneLive groups → slot_of groups path ≡ Some place → slice_get groups place ≡ Some group → slice_set groups place (record group { on = on }) ≡ map (marked_switched path on) groups
 switched_is groups path on place group one found got =
     set_is_map (marked_switched path on) groups place (record group { on = on })
@@ -262,7 +262,7 @@ count_switched path on (group ∷ groups) slot =
     let goal : count_children (map (marked_switched path on) groups) slot + one slot (marked_switched path on group) ≡ count_children groups slot + one slot group = omega (arith, rest, here) in
     goal
 
--- what a tree keeps, after an account was switched
+-- the invariant of a tree after accounting was switched
 pub tree_switched : (groups : List GroupLife) (path : List ℕ) (on : Bool) (find : List ℕ → Option Slot) (children : List ℕ)
     → IsTree groups find children → is_root path ≡ false → IsTree (map (marked_switched path on) groups) find children
 tree_switched groups path on find children tree other = record {

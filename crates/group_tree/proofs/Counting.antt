@@ -62,7 +62,7 @@ count_none (group ∷ groups) slot none =
     let goal : count_children groups slot + one slot group ≡ 0 = omega (arith, rest, here) in
     goal
 
--- another group in a slot
+-- a different group in a slot
 pub count_set : (groups : List GroupLife) (at : ℕ) (old new : GroupLife) (slot : ℕ) → slice_get groups at ≡ Some old → count_children (slice_set groups at new) slot + one slot old ≡ count_children groups slot + one slot new
 count_set [] at old new slot is = absurd (cc is)
 count_set (group ∷ groups) zero old new slot is =

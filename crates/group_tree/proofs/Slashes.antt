@@ -30,13 +30,13 @@ either false b h = h
 not_slash : (b : ℕ) → b ≢ 47 → is_slash b ≡ false
 not_slash b other = grind (arith, nat_tests)
 
--- where there is no slash, none is found
+-- if there is no slash, none is found
 none_found : (bytes : List ℕ) → HasNoSlash bytes 0 → list_any is_slash bytes ≡ false
 none_found [] none = refl
 none_found (byte ∷ bytes) none =
     neither (is_slash byte) (list_any is_slash bytes) (not_slash byte (none 0 (omega arith) (omega arith))) (none_found bytes (λ k low room. none (suc k) (omega arith) (omega (arith, room))))
 
--- where there is one, one is found
+-- if there is one, one is found
 some_found : (bytes : List ℕ) (at : ℕ) → at < length bytes → get_or bytes at 0 ≡ 47 → list_any is_slash bytes ≡ true
 some_found [] at room is = absurd (omega (arith, room))
 some_found (byte ∷ bytes) zero room is = ap (λ b. is_slash b || list_any is_slash bytes) is
@@ -78,7 +78,7 @@ cut_ascii (byte ∷ bytes) all =
       | false ↦ λ i. omega arith
     ]
 
--- so is the root's path in the place of none
+-- so is the root's path as a replacement for empty bytes
 root_or_ascii : (bytes : List ℕ) → IsAscii bytes → IsAscii (or_root bytes)
 root_or_ascii [] all = root_ascii
 root_or_ascii (byte ∷ bytes) all = all

@@ -1,4 +1,4 @@
--- What importing a text comes to as a run.
+-- The run of an import.
 use Rattle.std.proofs.Common.{◌≡◌, ℕ, ◌+◌, ◌-◌, List, [], arith, refl, sym, ap, subst, inl, Option, Some, None, Ok, Err}
 use Rattle.std.specs.Prelude.{IsErrOf, Result}
 use Rattle.outside.specs.Outside.{Files, Lacks, told}
@@ -59,7 +59,7 @@ not_imported name cpus files before now had (fault.NoMemory _) result refused la
 
 -- ---- where reading a text stops
 
--- the line that a text was refused at
+-- the line at which a text was rejected
 import_refused_at : (cpus : ℕ) (read : Result (List Event) Refused) (why : Status) → or_not_imported cpus read ≡ Err why → (refusal : Refused) × (read ≡ Err refusal) × (refused_line why ≡ refusal.line)
 import_refused_at cpus (Ok events) why is = absurd (let no : ⊥ = cc is in no)
 import_refused_at cpus (Err refusal) why is =

@@ -1,4 +1,4 @@
--- One evaluation: what is read is the reading of the trace at its tick.
+-- One evaluation: the reading taken is the reading of the trace at its tick.
 use Rattle.std.proofs.Common.{◌≡◌, ℕ, zero, suc, ◌+◌, ◌<◌, List, [], ◌∷◌, length, map, refl, sym}
 use Rattle.std.proofs.Common.{ap, subst, ◌∙◌, arith, Bool, true, false}
 use Rattle.std.specs.Prelude.{take, All, Option, None, Some, if◌then◌else◌}
@@ -48,7 +48,7 @@ range_below n = λ k d below.
     let inside : k < n = omega (arith, below, length-range_with_len 0 n) in
     omega (arith, inside, get_or-range_with_len 0 n k d inside)
 
--- an order of all slots by path has no slots but those that there are
+-- an order of all slots by path has only existing slots
 pub order_below : (lives : List GroupLife) (order : List ℕ) → IsPathOrder lives order →
     All (λ slot. slot < length lives) order
 order_below lives order is =
@@ -62,7 +62,7 @@ slots_below n slots all = λ k d below.
     subst (λ s. s < n) (get_or-map number slots k d 0 below)
     (all k 0 (omega (arith, below, length-map slots number)))
 
--- so it is of slots
+-- the same for slots
 pub order_made : (lives : List GroupLife) (slots : List Slot) →
     IsPathOrder lives (numbers_of slots) →
     All (λ (slot : Slot). slot.0 < length lives) slots
@@ -80,7 +80,7 @@ averages_are : (engine : EngineView) (trace : Trace) (pace : Pace) (i slot : ℕ
 averages_are engine trace pace i slot ticked room =
     ap (λ (g : Group). g.averages) (ticked.groups slot room)
 
--- so there are those of each pressure quantity
+-- so there are averages for each pressure quantity
 pub has_rows : (engine : EngineView) (trace : Trace) (pace : Pace) (i slot : ℕ) →
     HasTicked engine trace pace i → slot < length engine.groups → HasRows engine slot
 has_rows engine trace pace i slot ticked room =

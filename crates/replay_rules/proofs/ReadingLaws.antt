@@ -118,7 +118,7 @@ host_small events fit =
 
 -- ---- live groups
 
--- a path with a slot is that of a group that there is
+-- a path and a slot are those of an existing group
 abbrev StandsIn : List GroupLife → List ℕ × ℕ → Type 0
 StandsIn lives pair = (pair.1 < length lives) × (path_at lives pair.1 ≡ pair.0)
 

@@ -1,4 +1,4 @@
--- What is seen of groups in an order of slots.
+-- The readings of groups in an order of slots.
 use Rattle.std.proofs.Common.{◌≡◌, ℕ, ◌+◌, ◌<◌, List, [], ◌∷◌, ◌++◌, length, map, take, drop}
 use Rattle.std.proofs.Common.{get_or, refl, sym, ap, subst, ◌∙◌, arith, Bool, true, false, cond, T}
 use Rattle.std.specs.Prelude.{◌&&◌}
@@ -27,7 +27,7 @@ use Rattle.side_watch.specs.Watch.{SideView}
 use Rattle.group_tree.specs.Tree.{numbers_of}
 use Rattle.replay_rules.specs.Seen.{group_by, groups_by, slots_live_at}
 
--- the first six of seven rows, one by one
+-- the first six of seven rows, listed
 pub six_rows : (rows : List (List ℕ)) → length rows ≡ 7 →
     get_or rows 0 [] ∷ get_or rows 1 [] ∷ get_or rows 2 [] ∷ get_or rows 3 [] ∷ get_or rows 4
     [] ∷ get_or rows 5 [] ∷ [] ≡ take 6 rows

@@ -31,7 +31,7 @@ pub record TickedTo (replay : ReplayView) (trace : Trace) (pace : Pace) (rules :
   pub lines : AreTickTexts trace pace rules replay.made text
   pub sent : Appends had has text
 
--- before its first tick nothing was
+-- before its first tick nothing was written
 pub none_ticked : (replay : ReplayView) (trace : Trace) (pace : Pace) (rules : List Rule) (had : Option (List ℕ)) → IsReplay replay trace pace rules 0 → TickedTo replay trace pace rules had had
 none_ticked replay trace pace rules had is = record {
   is = subst (IsReplay replay trace pace rules) (sym is.made) is;
@@ -69,7 +69,7 @@ appends_kept (Some had) None has bytes sent kept = absurd sent
 appends_kept (Some had) (Some mid) None bytes sent kept = absurd kept
 appends_kept (Some had) (Some mid) (Some has) bytes sent kept = kept ∙ sent
 
--- where no tick is left, the last line ends the text
+-- if no tick remains, the last line ends the text
 pub last_ticked : {T E : Type 0} → (old new : ReplayView) (trace : Trace) (pace : Pace) (rules : List Rule) (had mid has now : Option (List ℕ)) (result : Result T E) → TickedTo old trace pace rules had mid → TickGives trace pace rules old.made old new mid has (Ok false)
     → PutsAll has now result (last_line trace pace (with_rules rules)) → PutsSome (IsReplayText trace pace rules) had now result
 last_ticked old new trace pace rules had mid has now result so given last = (

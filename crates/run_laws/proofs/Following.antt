@@ -136,7 +136,7 @@ slack place = if place == irq_place then longest_irq else 0
 no_slack : (place : ℕ) → place < irq_place → slack place ≡ 0
 no_slack place below = grind arith
 
--- a later tick comes next after the one before it
+-- a later tick follows the previous one
 later_follows : (limits : Limits) (cpus : ℕ) (events : List Event) (length i : ℕ) → AreLegal limits first_world events → limits.cpus ≤ most_cpus
     → 0 < length → length ≤ longest_tick → tick_moment length (i + 1) ≤ last_moment → IsNextTick (tick_of cpus events length i) (tick_of cpus events length (i + 1))
 later_follows limits cpus events length i legal few some short early =

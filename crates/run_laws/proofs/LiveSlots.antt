@@ -17,7 +17,7 @@ TellsLives some all at = (slot : ℕ) → is_some_and (slice_get some slot) is_l
 abbrev HasPaths : List GroupLife → List GroupLife → Type 0
 HasPaths some all = map (λ (life : GroupLife). life.path) some ≡ take (length some) (map (λ (life : GroupLife). life.path) all)
 
--- where no group is live, no path has a slot
+-- if no group is live, no path has a slot
 none_live : (slot : ℕ) (all : List GroupLife) (path : List ℕ) (at : ℕ) → TellsLives [] all at → None ≡ live_slot slot all path at
 none_live slot [] path at tells = refl
 none_live slot (life ∷ all) path at tells =

@@ -130,7 +130,7 @@ some_lines limits trace legal tick i asked low (Some slot) =
     let counts : ℕ → List ℕ = λ cpu. replicate asked (changes_until trace tick cpu i) in
     (live_lines trace slot (tick_moment tick i) counts, (counts, λ cpu _. counts_at_end limits trace legal tick i asked cpu low, refl))
 
--- and so of a tick
+-- and for a tick
 some_live : (limits : Limits) (trace : Trace) → AreLegal limits first_world trace.events → (tick : ℕ) (watch : Option LiveWatch) (i : ℕ) → 1 ≤ i → (live : List ℕ) × IsLiveText trace tick watch i live
 some_live limits trace legal tick None i low = ([], refl)
 some_live limits trace legal tick (Some watch) i low = some_lines limits trace legal tick i watch.count low (live_slot_at trace.events watch.path (tick_moment tick i))

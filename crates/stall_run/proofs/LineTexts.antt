@@ -97,7 +97,7 @@ slots_below : (groups : List GroupLife) (pairs : List (List ℕ × ℕ)) → Are
 slots_below groups [] each = λ k d below. absurd (omega (arith, below))
 slots_below groups (pair ∷ pairs) each = All-cons (λ (slot : Slot). slot.0 < length groups) (slot_at pair.1) (map (λ (p : List ℕ × ℕ). slot_at p.1) pairs) each.0 (slots_below groups pairs each.2)
 
--- the slots of live groups are of groups that there are
+-- the slots of live groups are those of existing groups
 pub live_below : (groups : List GroupLife) → All (λ (slot : Slot). slot.0 < length groups) (live_slots groups)
 live_below groups = slots_below groups (live_groups groups) (live_groups_of groups)
 

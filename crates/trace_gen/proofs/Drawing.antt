@@ -1,4 +1,4 @@
--- What the code draws and plays is what the definitions say.
+-- The code draws and plays what the definitions say.
 use Rattle.std.proofs.Common.{◌≡◌, ℕ, zero, suc, ◌+◌, ◌-◌, ◌^◌, ◌<◌, ◌≤◌, List, [], ◌∷◌, ◌++◌, refl, ap, ◌∙◌, sym, append_assoc, arith, Bool, false, true, Option, None, Some, map}
 use Rattle.std.specs.Prelude.{is_some}
 use Rattle.std.specs.List.{range_with_len}
@@ -62,12 +62,12 @@ not_late shape table left so =
     let last = so.world.last in
     omega (arith, all, few, last)
 
--- no fault comes of an event that is legal and takes no memory
+-- an event that is legal and doesn't allocate gives no fault
 no_fault : (why : Option Cause) (event : Event) → why ≡ None → takes_memory event.act ≡ false → (f : Fault Cause) → IsFault why event.act f → ⊥
 no_fault why event legal light (fault.Refused cause) is = cc (legal, is)
 no_fault why event legal light (fault.NoMemory _) is = let heavy = is.1 in cc (light, heavy)
 
--- no fault comes of the next one
+-- the next event gives no fault
 pub never_refused : (shape : Shape) (table : TableView) (left : ℕ) → 0 < left → IsGenerator shape table left → (state : ℕ) (event : Event) → event ≡ next_event shape table.world state → (f : Fault Cause) → IsFault (cause_of table.limits table.world event) event.act f → ⊥
 never_refused shape table left some so state event is f fails =
     let next = generator_next shape table left some so state in

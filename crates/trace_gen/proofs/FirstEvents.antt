@@ -33,8 +33,8 @@ use Rattle.trace_gen.proofs.Naming.{numbered_apart, numbered_is_path, numbered_p
 
 -- ---- numbered events in a row
 
--- an event may be spelled and is legal, and what holds of its number in the world before it holds
--- of the next one after
+-- an event may be spelled and is legal; if its number satisfies the invariant in the world before
+-- it, the next number does so after it
 record IsGood (limits : Limits) (Holds : ℕ → World → Type 0) (number : ℕ) (w : World) (event : Event) : Type 0 where
   fits : Fits event
   known : IsKnown first_verbs event
@@ -57,7 +57,7 @@ in_row limits Holds end make good (suc count) from all w so =
 
 -- ---- groups
 
--- the world in which the groups with the numbers below this one were made, and no task
+-- the world after the groups with numbers below this one were created, and no task
 record HasGroups (shape : Shape) (number : ℕ) (w : World) : Type 0 where
   root : is_some (slot_of w.groups (codes "/")) ≡ true
   made : (i : ℕ) → i < number → is_some (slot_of w.groups (numbered_path i)) ≡ true
@@ -73,7 +73,7 @@ chosen_first : (first other : Option ℕ) → is_some first ≡ true → is_some
 chosen_first (Some slot) other h = refl
 chosen_first None other h = cc h
 
--- where neither is there, none is chosen
+-- if neither exists, none is chosen
 neither : (first other : Option ℕ) → first ≡ None → other ≡ None → first_of_two first other ≡ None
 neither None other h k = k
 neither (Some slot) other h k = cc h
@@ -82,7 +82,7 @@ neither (Some slot) other h k = cc h
 still_found : (groups : List GroupLife) (group : GroupLife) (path : List ℕ) → is_some (slot_of groups path) ≡ true → is_some (slot_of (groups ++ group ∷ []) path) ≡ true
 still_found groups group path h = rw (found_behind 0 groups group path) (chosen_first (slot_of groups path) _ h)
 
--- the number before another, or that one
+-- a number below `number + 1` is below `number` or equal to it
 below_next : (i number : ℕ) → i < number + 1 → (i < number) ⊎ (i ≡ number)
 below_next i number h = grind arith
 
@@ -128,7 +128,7 @@ group_good shape shaped number w room so =
 
 -- ---- tasks
 
--- the world in which all groups were made, and the tasks with the numbers below this one
+-- the world after all groups were created, and the tasks with numbers below this one
 record HasTasks (shape : Shape) (number : ℕ) (w : World) : Type 0 where
   low : 1 ≤ number
   root : is_some (slot_of w.groups (codes "/")) ≡ true
@@ -164,7 +164,7 @@ lives_on : (tasks : Tasks) (pid : ℕ) (task : Task) (q : ℕ) → IsSome (task_
 lives_on tasks pid task q lived =
     rw (get_put tasks pid task q) (elim (q == pid) as (λ b. IsSome (cond b (Some task) (task_of tasks q))) [ true ↦ refl | false ↦ lived ])
 
--- each is on a processor that there is
+-- each is on an existing processor
 all_within : (cpus : ℕ) (tasks : Tasks) (pid : ℕ) (task : Task) → task.cpu.0 < cpus → ((q : ℕ) → IfSome (task_of tasks q) (λ task. task.cpu.0 < cpus)) → (q : ℕ) → IfSome (task_of (put tasks pid task) q) (λ task. task.cpu.0 < cpus)
 all_within cpus tasks pid task room within q =
     rw (get_put tasks pid task q) (elim (q == pid) as (λ b. IfSome (cond b (Some task) (task_of tasks q)) (λ task. task.cpu.0 < cpus)) [ true ↦ room | false ↦ within q ])

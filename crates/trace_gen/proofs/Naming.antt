@@ -58,7 +58,7 @@ numbered_is_path number fits = named_path (decimal number) (digits_of number fit
 pub numbered_parent : (number : ℕ) → number < 2 ^ 64 → parent_path (numbered_path number) ≡ codes "/"
 numbered_parent number fits = above_cut (numbered_path number) 0 (omega arith) refl (no_more (decimal number) (digits_of number fits))
 
--- the path of another number is another
+-- different numbers have different paths
 pub numbered_apart : (m n : ℕ) → m < 2 ^ 64 → n < 2 ^ 64 → m ≢ n → bytes_eq (numbered_path m) (numbered_path n) ≡ false
 numbered_apart m n fits_m fits_n apart =
     elim (bytes_eq (numbered_path m) (numbered_path n)) as (λ b. bytes_eq (numbered_path m) (numbered_path n) ≡ b → b ≡ false) [

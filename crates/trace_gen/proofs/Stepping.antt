@@ -1,4 +1,4 @@
--- What a task does next is legal, and all tasks live on.
+-- The next act of a task is legal, and all tasks stay live.
 use Rattle.std.proofs.Common.{◌≡◌, ℕ, zero, suc, ◌^◌, ◌<◌, ◌≤◌, List, [], ◌∷◌, refl, ap, arith, cond, true, false, Option, None, Some, ◌==◌}
 use Rattle.std.specs.Prelude.{find, is_some, nat_le, IfSome, IsSome, if◌then◌else◌}
 use Rattle.std.specs.FinMap as tasks_by
@@ -52,7 +52,7 @@ put_live shape tasks are pid task room = record {
   within = λ q. rw (get_put tasks pid task q) (elim (q == pid) as (λ b. IfSome (cond b (Some task) (task_of tasks q)) (λ task. task.cpu.0 < shape.cpus)) [ true ↦ room | false ↦ are.within q ]);
 }
 
--- a change leaves a task on a processor that there is
+-- a change leaves a task on an existing processor
 abbrev StaysWithin : Shape → (Task → Task) → Type 0
 StaysWithin shape f = (task : Task) → task.cpu.0 < shape.cpus → (f task).cpu.0 < shape.cpus
 
@@ -87,9 +87,9 @@ switch_live shape tasks are cpu room next how stays =
 
 -- ---- what a task does next
 
--- an act may be spelled, its verb is one of every version, and no cause of its own is against it,
--- whatever groups, `irq` lines, triggers and `pressure` lines there are and whenever it is; all
--- tasks live on after it, and it isn't the end and takes no memory
+-- an act may be spelled, its verb is in every version, and no cause is against it, for any groups,
+-- `irq` lines, triggers and `pressure` lines and at any time; all tasks stay live after it, it
+-- isn't the end and it doesn't allocate
 pub record IsStep (shape : Shape) (tasks : Tasks) (a : Act) : Type 0 where
   pub legal : (groups : List GroupLife) (irqs : List ℕ) (triggers pressures at : ℕ) → act_cause shape.cpus groups tasks irqs triggers pressures at a ≡ None
   pub fits : ActFits a
@@ -106,7 +106,7 @@ record IsTask (shape : Shape) (tasks : Tasks) (pid : ℕ) (task : Task) : Type 0
   high : pid ≤ task_count shape
   is : task_of tasks pid ≡ Some task
 
--- it is on a processor that there is
+-- it is on an existing processor
 place_of : (shape : Shape) (tasks : Tasks) (pid : ℕ) (task : Task) → IsTask shape tasks pid task → task.cpu.0 < shape.cpus
 place_of shape tasks pid task it = let here = it.are.within pid in rw it.is at here
 
@@ -118,11 +118,11 @@ number_fits shape tasks pid task it =
     let high = it.high in
     (omega (arith, low), omega (arith, few, high))
 
--- so may a processor that there is
+-- so may an existing processor
 processor_fits : (shape : Shape) → IsShape shape → (cpu : ℕ) → cpu < shape.cpus → cpu < 2 ^ 32
 processor_fits shape shaped cpu room = let few = shaped.cpus.1 in omega (arith, few, room)
 
--- there is no cause against a processor that there is
+-- there is no cause against an existing processor
 there_is : (cpus cpu : ℕ) → cpu < cpus → nat_le cpus cpu ≡ false
 there_is cpus cpu room = grind (arith, nat_tests)
 
@@ -241,13 +241,13 @@ mode_step shape tasks pid task it Waiting is state = wake_step shape tasks pid t
 mode_step shape tasks pid task it Ready is state = started_step shape tasks pid task it (ap is_ready is) state
 mode_step shape tasks pid task it Running is state = running_step shape tasks pid task it (ap is_running is) _
 
--- what the task with a number does next, which is there
+-- the next act of an existing task
 task_step : (shape : Shape) (tasks : Tasks) (pid : ℕ) → IsShape shape → AreLive shape tasks → 1 ≤ pid → pid ≤ task_count shape → (o : Option Task) → task_of tasks pid ≡ o → (state : ℕ) → IsStep shape tasks (next_if shape tasks state pid o).act
 task_step shape tasks pid shaped are low high None is state = let some = are.live pid low high in absurd (cc (some, ap is_some is))
 task_step shape tasks pid shaped are low high (Some task) is state =
     mode_step shape tasks pid task (record { shaped = shaped; are = are; low = low; high = high; is = is }) task.mode refl state
 
--- what happens next
+-- the next act
 pub next_step : (shape : Shape) (tasks : Tasks) → IsShape shape → AreLive shape tasks → (state : ℕ) → IsStep shape tasks (next_drawn shape tasks state).act
 unfolding next_drawn
 next_step shape tasks shaped are state =

@@ -37,8 +37,7 @@ chosen_first true found head is = absurd (cc is)
 chosen_first false None head is = absurd (cc is)
 chosen_first false (Some other) head is = let same : other ≡ head = cc is in ap (λ h. let o : Option Header = Some h in o) same
 
--- a header that was read: its line, its version is one of these, and it has a number of processors
--- that there may be
+-- a header that was read: its line, a version among these, and a number of processors in range
 record IsHead (versions : List Version) (part : List ℕ) (head : Header) : Type 0 where
   spelled : part ≡ header_line head
   known : IsAmong head.version versions

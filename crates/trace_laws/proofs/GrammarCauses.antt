@@ -1,4 +1,4 @@
--- A line that is refused is refused exactly for what is wrong first from the left.
+-- A line that is rejected is rejected exactly for the leftmost error.
 use Rattle.std.proofs.Common.{◌≡◌, ℕ, zero, suc, ◌+◌, ◌<◌, ◌⊎◌, inl, inr, List, [], ◌∷◌, refl, sym, ap, subst, ◌∙◌, arith}
 use Rattle.std.specs.Prelude.{Option, None, Some, Result, Ok, Err}
 use Rattle.std.specs.List.{slice_get}
@@ -50,7 +50,7 @@ good_then : (k : Kind) (value : Value k) (ks : List Kind) (words : List (List �
 good_then k value ks words at fits first zero below = (value, (fits, refl))
 good_then k value ks words at fits first (suc i) below = first.before i (omega arith)
 
--- what the reader of fields refuses: the number of the leftmost bad one
+-- the reader of fields rejects with the number of the leftmost bad field
 record IsRefused (i : ℕ) (ks : List Kind) (words : List (List ℕ)) (why : Cause) : Type 0 where
   pub at : ℕ
   pub is : why ≡ cause.BadField (i + at)
@@ -95,7 +95,7 @@ good_field i k text words spells = ap (λ read. or_bad i read words) (spells_val
 same_number : (i j : ℕ) (A : Type 0) → i ≡ j → (let r : Result A Cause = Err (cause.BadField i) in r) ≡ Err (cause.BadField j)
 same_number i j A is = ap (λ n. let r : Result A Cause = Err (cause.BadField n) in r) is
 
--- the leftmost bad field is refused by its number
+-- the leftmost bad field is rejected with its number
 bad_made : (i : ℕ) (ks : List Kind) (make : Maker ks) (words : List (List ℕ)) (at : ℕ) → IsFirstBad ks words at → made_from i ks make words ≡ Err (cause.BadField (i + at))
 bad_made i [] make [] at first = absurd first.here
 bad_made i [] make (text ∷ words) zero first = same_number i (i + 0) Act (omega arith)

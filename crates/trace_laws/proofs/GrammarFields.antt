@@ -1,5 +1,4 @@
--- Each kind of field: what is read is spelled so, what is spelled so is read, and what its words
--- look like.
+-- Each kind of field: reading and spelling are inverse to each other, and the form of its words.
 use Rattle.std.proofs.Common.{◌≡◌, ℕ, zero, suc, ◌^◌, ◌<◌, ◌⊎◌, inl, inr, ⊎_elim, List, [], ◌∷◌, refl, sym, ap, ◌∙◌, arith, true, false, Bool}
 use Rattle.std.specs.Prelude.{Option, None, Some, IfSome, option_map, decimal, nat_lt, ◌&&◌, if◌then◌else◌}
 use Rattle.std.specs.Str.{bytes_eq}

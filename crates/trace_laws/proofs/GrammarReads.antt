@@ -1,4 +1,4 @@
--- What is read is spelled so, and what is spelled so is read.
+-- Reading and spelling are inverse to each other.
 use Rattle.std.proofs.Common.{◌≡◌, ℕ, ◌+◌, ◌≤◌, List, [], ◌∷◌, length, refl, sym, ap, ◌∙◌, subst, arith, lit≤}
 use Rattle.std.specs.Prelude.{Option, None, Some, Result, Ok, Err, decimal}
 use Rattle.psi_base.specs.Number.{number_of}
@@ -17,7 +17,7 @@ use Rattle.trace_laws.proofs.GrammarFields.{named_again, named_among, named_spel
 use Rattle.trace_laws.proofs.GrammarParts.{joined-parts, parts-joined, AreWords, IsPrinted, joined-no_newline, behind, length-joined}
 use Rattle.trace_laws.proofs.GrammarWords.{decimal_printed, decimal_short, word_printed, word_short, longest}
 
--- the act that is made of values, all at once
+-- the act built from values, all at once
 abbrev pub made : (ks : List Kind) → Maker ks → Values ks → Act
 made [] what values = what
 made (k ∷ ks) make values = made ks (make values.0) values.1

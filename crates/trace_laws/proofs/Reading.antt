@@ -19,7 +19,7 @@ use Rattle.psi_spec.proofs.Following.{open_of_legal}
 abbrev pub Events : Type 0
 Events = Result (List Event) Refusal
 
--- the events of what is left of the input
+-- the events of the rest of the input
 abbrev pub rest_from : List Verb → Limits → World → ℕ → List ℕ → Events
 rest_from verbs limits w line bytes = events_from verbs limits w line (parts_at 10 bytes)
 

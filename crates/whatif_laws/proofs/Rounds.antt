@@ -1,4 +1,4 @@
--- What a round leaves prints the same up to the tick of the kill that it takes out.
+-- The result of a round prints the same up to the tick of the kill that it removes.
 use Rattle.std.proofs.Common.{◌≡◌, ℕ, zero, suc, ◌+◌, ◌≤◌, ◌<◌, List, refl, ap, ◌∙◌, sym, subst, arith, Bool, true, false, length, Some, nat_lt}
 use Rattle.std.specs.Prelude.{if◌then◌else◌, Option, Ok, Err, slice_get}
 use Rattle.std.specs.List.{flat_map, range_with_len}
@@ -28,7 +28,7 @@ left_by trace next false is found = record { few = grind (arith, nat_tests, is);
 left_in_bounds : (trace next : Trace) → bounded_trace trace ≡ Ok next → IsLeft trace next
 left_in_bounds trace next is = left_by trace next (nat_lt most_events (length trace.events)) refl is
 
--- what a round leaves that finds a kill with its number
+-- the result of a round that finds a kill with its number
 round_left : (trace left next : Trace) (pace : Pace) (rules : List Rule) (number : ℕ) (kill : Kill) → after_rounds trace pace rules number ≡ Ok left → slice_get (all_kills left pace rules) number ≡ Some kill
     → after_rounds trace pace rules (suc number) ≡ Ok next → IsLeft (trace_without left kill.at kill.victim.0) next
 round_left trace left next pace rules number kill so kills after =

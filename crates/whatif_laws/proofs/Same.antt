@@ -170,7 +170,7 @@ exits_groups at v (pid ∷ pids) =
     ap (λ (w : World). w.groups) (after_from-append v (events_at at acts) (exits_from at (after_from v (events_at at acts)) pids))
     ∙ exits_groups at (after_from v (events_at at acts)) pids ∙ same_groups v at acts (none_found v pid (task_of v.tasks pid))
 
--- what is left of an act sets the same triggers and changes groups in the same way
+-- the remaining acts set the same triggers and change groups in the same way
 record TellsSame (dead : List ℕ) (w v : World) (at : ℕ) (what : Act) (acts : List Act) : Type 0 where
   told : told_from tells v (events_at at acts) ≡ trigger_by at w.groups what
   groups : (after_from v (events_at at acts)).groups ≡ groups_after at w.groups what

@@ -102,7 +102,7 @@ pub fewer_to_search : (old new : ReplayView) (trace : Trace) (pace : Pace) (rule
     → new.pacing.last - new.made < old.pacing.last - old.made
 fewer_to_search old new trace pace rules left number so given = omega (arith, given.0, given.1.made, given.1.paced.last, so.is.paced.last)
 
--- where no tick is left there is no kill with the number
+-- if no tick remains there is no kill with the number
 pub none_found : (old new : ReplayView) (trace : Trace) (pace : Pace) (rules : List Rule) (left number : ℕ) → HasSearched old trace pace rules left number → Passes trace pace rules old.made old new false
     → None ≡ slice_get (all_kills trace pace rules) number
 none_found old new trace pace rules left number so given =

@@ -38,7 +38,7 @@ no_cause limits events line why accepted refused =
     let some = refused.cause in
     cc (none, some)
 
--- accepted events are never refused
+-- accepted events are never rejected
 pub never_refused : (limits : Limits) (events : List Event) (refusal : Refusal) → IsAccepted limits events → IsRefusal limits events (fault.Refused refusal) → ⊥
 never_refused limits events refusal accepted refused =
     ⊎_elim (λ at. no_cause limits events refusal.line refusal.cause accepted at) (λ lacks. lacks.open_ (ended_at_end events accepted.ends)) refused
@@ -90,7 +90,7 @@ kept_bounds trace events left is = kept_if (nat_lt most_events (length events)) 
 large_bounds : (trace : Trace) (events : List Event) (large : TooLarge) → bounded events ≡ Err large → bounded_trace (record trace { events = events }) ≡ Err large.events
 large_bounds trace events large is = large_if (nat_lt most_events (length events)) trace events large is
 
--- So many rounds have left these events of a trace.
+-- These events of a trace remain after `count` rounds.
 pub record HasLeft (options : Options) (rules : List Rule) (trace : Trace) (count : ℕ) (events : List Event) : Type 0 where
   pub so_far : after_rounds trace (pace_of options) rules count ≡ Ok (record trace { events = events })
   pub accepted : IsAccepted (limits_of (of_ms options.tick_ms) trace.cpus) events
@@ -100,7 +100,7 @@ pub none_taken : (options : Options) (rules : List Rule) (trace : Trace) → IsT
 unfolding after_rounds
 none_taken options rules trace is = record { so_far = refl; accepted = is.accepted }
 
--- what a round that finds a kill leaves
+-- the result of a round that finds a kill
 round_by : (options : Options) (rules : List Rule) (trace : Trace) (count : ℕ) (events : List Event) (kill : Kill) → HasLeft options rules trace count events
     → slice_get (all_kills (record trace { events = events }) (pace_of options) rules) count ≡ Some kill
     → after_rounds trace (pace_of options) rules (suc count) ≡ bounded_trace (record trace { events = without events kill.at kill.victim.0 })
@@ -108,7 +108,7 @@ round_by options rules trace count events kill so found =
     one_round trace (record trace { events = events }) (pace_of options) rules count so.so_far
     ∙ ap (λ k. bounded_trace (without_kill (record trace { events = events }) k)) found
 
--- one more has left what is left without the kill's victim
+-- after one more round, the events without those of the kill's victim remain
 pub one_taken : (options : Options) (rules : List Rule) (trace : Trace) (count : ℕ) (events left : List Event) (kill : Kill) → HasLeft options rules trace count events
     → slice_get (all_kills (record trace { events = events }) (pace_of options) rules) count ≡ Some kill
     → bounded (without events kill.at kill.victim.0) ≡ Ok left → IsAccepted (limits_of (of_ms options.tick_ms) trace.cpus) left
@@ -138,7 +138,7 @@ outgrown_at options rules trace count events kill (fault.NoMemory _) low so has 
 
 -- ---- the last round
 
--- where a round finds no kill, its plans are the last
+-- if a round finds no kill, its plans are the last
 pub last_here : (options : Options) (rules : List Rule) (trace : Trace) (count : ℕ) (events : List Event) (plans : PlansView) → count ≤ most_rounds → HasLeft options rules trace count events
     → slice_get (all_kills (record trace { events = events }) (pace_of options) rules) count ≡ None → ArePlansOf plans options (record trace { events = events })
     → AreLastPlans options rules trace plans

@@ -1,4 +1,4 @@
--- Numbers that are added to a set, one event after the other.
+-- Numbers that are added to a set, event by event.
 use Rattle.std.proofs.Common.{◌≡◌, ℕ, List, refl, ap, ◌∙◌, sym, cond, Bool, true, false, ◌==◌, ⊎_elim}
 use Rattle.std.specs.Prelude.{◌&&◌, ◌||◌}
 use Rattle.std.specs.List.{list_any}

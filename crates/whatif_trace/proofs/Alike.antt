@@ -1,4 +1,5 @@
--- What is left, by who runs on each processor, is what is left by the worlds of the trace.
+-- The events that remain according to who runs on each processor are those that remain according to
+-- the worlds of the trace.
 use Rattle.std.proofs.Common.{◌≡◌, ℕ, ◌+◌, ◌≤◌, ◌<◌, List, [], ◌∷◌, ◌++◌, refl, ap, ◌∙◌, sym, arith, cond, Bool, true, false, Option, None, Some, ◌==◌, length}
 use Rattle.std.specs.Prelude.{IfSome, nat_le, not}
 use Rattle.std.specs.List.{AllByRecursion}

@@ -74,7 +74,7 @@ pub start_dead : (dead : List ℕ) (tasks fewer : Tasks) (next : Option Pid) →
 start_dead dead tasks fewer None are gone = are
 start_dead dead tasks fewer (Some pid) are gone = change_dead dead tasks fewer pid.0 _ are (not_false (is_pid_among dead pid.0) gone)
 
--- so in both that starts which isn't dead
+-- so both start a task only if it isn't dead
 pub start_kept : (dead : List ℕ) (tasks fewer : Tasks) (next : Option Pid) → AreWithout dead tasks fewer → AreWithout dead (start next tasks) (start (if_alive dead next) fewer)
 start_kept dead tasks fewer next are =
     elim (is_alive dead next) as (λ b. is_alive dead next ≡ b → AreWithout dead (start next tasks) (start (cond b next None) fewer)) [

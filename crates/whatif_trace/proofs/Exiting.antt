@@ -28,7 +28,7 @@ use Rattle.whatif_trace.proofs.Doing.{Does, IsReady, does_none, does_one, does_t
 use Rattle.whatif_trace.proofs.Leaving.{IsNext, comes_in, leaves, preempted, put_aside, runner_is, running, started}
 use Rattle.whatif_trace.proofs.Resting.{legal_join}
 
--- a task exits by these acts: none is found under its number then, and the others are as before
+-- a task exits by these acts: none is found under its pid afterwards, and the others are as before
 pub record Exited (limits : Limits) (at room : ℕ) (v : World) (pid : ℕ) (acts : List Act) : Type 0 where
   pub does : Does limits at room v acts
   pub tasks : (k : ℕ) → task_of (after_from v (events_at at acts)).tasks k ≡ cond (k == pid) None (task_of v.tasks k)
@@ -41,7 +41,7 @@ mode_is Ready is = absurd (let no : ⊥ = cc is in no)
 mode_is Blocked is = absurd (let no : ⊥ = cc is in no)
 mode_is Waiting is = absurd (let no : ⊥ = cc is in no)
 
--- who made room runs on as before
+-- a task that was switched out for it runs again as before
 runs_again : (task : Task) → is_running task.mode ≡ true → running (preempted task) ≡ task
 runs_again task is = let same : record task { mode = Running } ≡ record task { mode = task.mode } = rw (mode_is task.mode is) refl in same
 
@@ -68,7 +68,7 @@ all_back tasks cpu pid task o runs k =
 apart_too : (a b : ℕ) → (a == b) ≡ false → (b == a) ≡ false
 apart_too a b off = grind (arith, nat_tests)
 
--- who made room is ready there
+-- a task that was switched out is ready there
 ready_next : (v u : Tasks) (cpu pid : ℕ) (task : Task) (o : Option (ℕ × Task)) → running_on v cpu ≡ o → is_some_and (task_of v pid) (is_ready_on cpu) ≡ true
     → ((k : ℕ) → task_of u k ≡ cond (k == pid) (Some task) (put_aside o k (task_of v k))) → IsNext u cpu (pid_part o)
 ready_next v u cpu pid task None runs ready are = tt

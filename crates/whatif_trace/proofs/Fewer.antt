@@ -15,13 +15,13 @@ use Rattle.task_table.proofs.Runners.{only_runs, runs_there}
 use Rattle.whatif_spec.specs.Without.{is_pid_among}
 use Rattle.whatif_trace.specs.Rest.{kept}
 
--- tasks among which these aren't found are the others
+-- `fewer` is the tasks without these
 abbrev pub AreWithout : List ℕ → Tasks → Tasks → Type 0
 AreWithout dead tasks fewer = (pid : ℕ) → task_of fewer pid ≡ kept dead pid (task_of tasks pid)
 
 -- ---- how many
 
--- the tasks, one dead one after the other taken away
+-- the tasks after removing the dead ones, in order
 abbrev taken : Tasks → List ℕ → Tasks
 taken tasks [] = tasks
 taken tasks (pid ∷ pids) = remove (taken tasks pids) pid
@@ -64,7 +64,7 @@ found_kept dead tasks fewer are pid alive = are pid ∙ ap (λ b. cond b None (t
 pub found_dead : (dead : List ℕ) (tasks fewer : Tasks) → AreWithout dead tasks fewer → (pid : ℕ) → is_pid_among dead pid ≡ true → task_of fewer pid ≡ None
 found_dead dead tasks fewer are pid is = are pid ∙ ap (λ b. cond b None (task_of tasks pid)) is
 
--- what is found among them is alive, and is found among all
+-- a task that is found among them isn't dead, and is found among all
 if_found : (b : Bool) (o : Option Task) (task : Task) → cond b None o ≡ Some task → (b ≡ false) × (o ≡ Some task)
 if_found true o task is = absurd (let no : ⊥ = cc is in no)
 if_found false o task is = (refl, is)
@@ -87,7 +87,7 @@ any_if test (e ∷ es) pid task is passes =
           ]
     ] (ap (λ b. cond b (Some e.1) (tasks_by.find nat_cmp pid es)) (sym (unsigned_tied pid e.0)) ∙ is)
 
--- where some passes, one with a number does
+-- if some task passes, one with a number does
 any_found : (test : Task → Bool) (tasks : Tasks) (es : List (ℕ × Task)) → AllByRecursion (λ e. task_of tasks e.0 ≡ Some e.1) es → list_any test (map (λ e. e.1) es) ≡ true
     → (pid : ℕ) × (task : Task) × (task_of tasks pid ≡ Some task) × (test task ≡ true)
 any_found test tasks [] each some = absurd (let no : ⊥ = cc some in no)

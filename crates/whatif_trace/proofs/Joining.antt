@@ -1,4 +1,4 @@
--- The parts that are kept make up what is left.
+-- The stored parts make up the remaining trace.
 use Rattle.std.proofs.Common.{◌≡◌, ℕ, ◌+◌, ◌<◌, List, ◌++◌, ◌∙◌, Option, None, drop, take}
 use Rattle.std.specs.Prelude.{replicate}
 use Rattle.psi_base.specs.declared.event.Event.{Event}

@@ -1,11 +1,11 @@
--- What is kept, part by part.
+-- The stored events, part by part.
 use Rattle.std.proofs.Common.{◌≡◌, ℕ, List, [], ◌++◌, ap, ◌∙◌, sym, append_assoc}
 use Rattle.std.proofs.lemmas.List.{append-nil, map-append}
 use Rattle.psi_base.specs.declared.event.Act.{Act}
 use Rattle.psi_base.specs.declared.event.Event.{Event}
 use Rattle.psi_spec.specs.World.{events_at}
 
--- nothing is kept
+-- nothing is stored
 pub none_kept : (old : List Event) → old ≡ old ++ []
 none_kept old = sym (append-nil old)
 

@@ -193,7 +193,7 @@ made_member made true if = rw (if refl) refl
 made_member true false if = refl
 made_member false false if = refl
 
--- numbers in a set of all that were made, and live in the group or below it
+-- pids in a set of all that were created, and live in the group or below it
 pub members_are : (w : World) (slot : ℕ) (events : List Event) (keys : List ℕ) → AreForked w.tasks events → IsStrictlySortedBy nat_cmp keys → ((pid : ℕ) → is_pid_among keys pid ≡ (is_made pid events && is_member w slot pid)) → keys ≡ members w slot
 members_are w slot events keys forked sorted are =
     same_numbers keys (members w slot) sorted (members_sorted w slot)

@@ -1,4 +1,4 @@
--- How a task that is killed comes to a processor and leaves it.
+-- How a killed task is switched in and out.
 use Rattle.std.proofs.Common.{◌≡◌, ℕ, ◌+◌, List, [], ◌∷◌, ◌++◌, refl, ap, ◌∙◌, sym, subst, arith, cond, Bool, true, false, Option, None, Some, ◌==◌, length, ⊎_elim}
 use Rattle.std.specs.Prelude.{IfSome, nat_le}
 use Rattle.std.proofs.lemmas.Bool.Decides.{eqb_tells}
@@ -83,7 +83,7 @@ may_make_room : (o : Option (ℕ × Task)) → how_cause (making_room (pid_part 
 may_make_room None = refl
 may_make_room (Some e) = refl
 
--- a ready task comes to its processor, and the running one makes room
+-- a ready task is switched in, and the running one is switched out
 pub record Comes (limits : Limits) (at room : ℕ) (v : World) (pid : Pid) (task : Task) (o : Option (ℕ × Task)) : Type 0 where
   pub does : Does limits at room v (act.Switch task.cpu (Some pid) (making_room (pid_part o)) ∷ [])
   pub tasks : (k : ℕ) → task_of (after_event v (event_at at (act.Switch task.cpu (Some pid) (making_room (pid_part o))))).tasks k ≡ cond (k == pid.0) (Some (running task)) (put_aside o k (task_of v.tasks k))

@@ -27,7 +27,7 @@ use Rattle.whatif_trace.proofs.Living.{AreLive, act_live}
 use Rattle.whatif_trace.proofs.Steps.{Goes, HasRoom, NoneAgainst, event_at, forked_still, may_fork, moved_still, of_pid, of_tasks, removed_still, same_act}
 use Rattle.whatif_trace.proofs.Switching.{switch_goes}
 
--- a number that no task has is of no dead one
+-- a pid without a task isn't a dead task's
 new_alive : (dead : List ℕ) (tasks : Tasks) (pid : ℕ) → AreLive dead tasks → task_of tasks pid ≡ None → is_pid_among dead pid ≡ false
 new_alive dead tasks pid live none = either (is_pid_among dead pid) (λ is. let some = live pid is in let no : ⊥ = cc (some, none) in no)
 

@@ -141,7 +141,7 @@ keeps_new tasks k task none off = record {
 
 -- ---- a switch
 
--- what is found when the running task has left
+-- the result of a look-up after the running task was switched out
 abbrev gone_by : How → Option (ℕ × Task) → ℕ → Option Task → Option Task
 gone_by how None q found = found
 gone_by how (Some e) q found = cond (q == e.0) (left_by how e.1) found
@@ -304,11 +304,11 @@ other_pid : (pid q : ℕ) (place : Option Pid) → is_pid pid place ≡ true →
 other_pid pid q None is other = refl
 other_pid pid q (Some p) is other = apart_from q pid p.0 is other
 
--- it is gone from the tasks
+-- it is removed from the tasks
 abbrev Gone : Tasks → ℕ → Tasks → Type 0
 Gone tasks pid less = (k : ℕ) → task_of less k ≡ cond (k == pid) None (task_of tasks k)
 
--- where it ran, none runs then
+-- no task runs then on the processor on which it ran
 none_here : (tasks less : Tasks) (pid cpu : ℕ) (place : Option Pid) → Gone tasks pid less → ((q : ℕ) → is_some_and (task_of tasks q) (is_running_on cpu) ≡ is_pid q place) → is_pid pid place ≡ true → (q : ℕ) → is_some_and (task_of less q) (is_running_on cpu) ≡ false
 none_here tasks less pid cpu place gone each is q =
     ap (λ o. is_some_and o (is_running_on cpu)) (gone q)
@@ -334,7 +334,7 @@ never tasks less pid none gone = record {
   each = λ q cpu. ap (λ o. is_some_and o (is_running_on cpu)) (gone q ∙ ⊎_elim (λ same. ap (λ b. cond b None (task_of tasks q)) same.0 ∙ sym (ap (task_of tasks) same.1 ∙ none)) (λ other. ap (λ b. cond b None (task_of tasks q)) other.0) (eqb_tells q pid));
 }
 
--- its place is free then, if it had one
+-- its processor is idle then, if it ran
 pub exit_runs : (cpus : ℕ) (runners : List (Option Pid)) (tasks less : Tasks) (pid : ℕ) (o : Option Task) → AreRunners cpus runners tasks → task_of tasks pid ≡ o → IfSome o (λ task. task.cpu.0 < cpus) → Gone tasks pid less → AreRunners cpus (exited runners o) less
 exit_runs cpus runners tasks less pid None are is inside gone = same_runners cpus runners tasks less are (never tasks less pid is gone)
 exit_runs cpus runners tasks less pid (Some task) are is inside gone =

@@ -1,4 +1,4 @@
--- What is left of a trace without the tasks of a group may be spelled.
+-- A trace without the tasks of a group may be spelled.
 use Rattle.std.proofs.Common.{◌≡◌, ℕ, ◌+◌, ◌^◌, ◌≤◌, ◌<◌, List, [], ◌∷◌, ◌++◌, refl, ap, ◌∙◌, sym, subst, arith, cond, Bool, true, false, Option, None, Some, ◌==◌, length, ⊎_elim}
 use Rattle.std.specs.Prelude.{IfSome, if◌then◌else◌, is_some, not}
 use Rattle.std.specs.FinMap as tasks_by
@@ -31,7 +31,7 @@ use Rattle.std.proofs.lemmas.List.{length-append, length-map}
 abbrev pub AreNumbers : Tasks → Type 0
 AreNumbers tasks = (pid : ℕ) → is_some (task_of tasks pid) ≡ true → IsPid (record { 0 = pid })
 
--- where fewer are found they have
+-- each task that is found later was found before
 abbrev AreBefore : Tasks → Tasks → Type 0
 AreBefore tasks later = (pid : ℕ) → is_some (task_of later pid) ≡ true → is_some (task_of tasks pid) ≡ true
 

@@ -92,7 +92,7 @@ left_out limits dead later w v at what is of tasks = record {
   };
 }
 
--- another in its place
+-- another act in its place
 pub in_place : (limits : Limits) (dead later : List ℕ) (w v : World) (at : ℕ) (what other : Act) → IsWithout dead w v → IsOfTasks at what → IsOfTasks at other → HasRoom limits v at → NoneAgainst limits v at other
     → AreWithout later (tasks_after w.groups w.tasks what) (tasks_after v.groups v.tasks other) → Goes limits later w v at what (other ∷ [])
 in_place limits dead later w v at what other is of of_other room none tasks = record {
@@ -128,7 +128,7 @@ no_task : (o : Option Task) → is_some o ≡ false → o ≡ None
 no_task None none = refl
 no_task (Some task) none = absurd (let no : ⊥ = cc none in no)
 
--- what a legal fork says
+-- the facts of a legal fork
 pub record MayFork (cpus : ℕ) (groups : List GroupLife) (live : ℕ) (task : Option Task) (path : List ℕ) (cpu : ℕ) : Type 0 where
   pub few : nat_le 65536 live ≡ false
   pub group : not (is_some (slot_of groups path)) ≡ false

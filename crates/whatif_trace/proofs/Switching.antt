@@ -34,7 +34,7 @@ ready_some : (o : Option Task) (cpu : ℕ) → is_some_and o (is_ready_on cpu) �
 ready_some None cpu ready = absurd (let no : ⊥ = cc ready in no)
 ready_some (Some task) cpu ready = refl
 
--- a task that is ready on a processor that there is may run next, and so may none
+-- a task that is ready on an existing processor may run next, and so may none
 pub next_may : (cpus cpu : ℕ) (next : Option Pid) (task : Option Task) → nat_le cpus cpu ≡ false → IfSome next (λ _. is_some_and task (is_ready_on cpu) ≡ true) → next_cause cpus cpu next task ≡ None
 next_may cpus cpu None task there ready = rw there refl
 next_may cpus cpu (Some pid) task there ready = rw (ready_some task cpu ready, there, ready) refl
@@ -59,7 +59,7 @@ may_be cpus cpu next task how running first second = rw (first, second) refl
 pub of_switch : (at : ℕ) (cpu : Cpu) (next : Option Pid) (how : How) → IsOfTasks at (act.Switch cpu next how)
 of_switch at cpu next how = record { groups = λ groups. refl; irqs = λ irqs. refl; plain = refl; on = refl; goes_on = refl }
 
--- what is known of the switch in the trace
+-- facts about the switch in the trace
 record IsSwitch (limits : Limits) (dead : List ℕ) (w v : World) (at : ℕ) (cpu : Cpu) (next : Option Pid) (how : How) (running : Option (ℕ × Task)) : Type 0 where
   is : IsWithout dead w v
   room : HasRoom limits v at
@@ -84,7 +84,7 @@ comes limits dead later w v at cpu next how running so none alive are =
     (may_be limits.cpus cpu.0 next (next_task v.tasks next) Idle (running_on v.tasks cpu.0) (next_may limits.cpus cpu.0 next (next_task v.tasks next) so.there ready) (rw idle refl))
     (subst (λ o. AreWithout later (start next (leave how w.tasks (running_on w.tasks cpu.0))) (start next (leave Idle v.tasks o))) (sym idle) (tasks_are w cpu next how running later (start next v.tasks) so.runs are))
 
--- none comes either
+-- no task is switched in or out
 stays : (limits : Limits) (dead later : List ℕ) (w v : World) (at : ℕ) (cpu : Cpu) (next : Option Pid) (how : How) (running : Option (ℕ × Task)) → IsSwitch limits dead w v at cpu next how running
     → AreWithout later (start next (leave how w.tasks running)) v.tasks → Goes limits later w v at (act.Switch cpu next how) []
 stays limits dead later w v at cpu next how running so are =
@@ -195,7 +195,7 @@ whoever_ran : (limits : Limits) (dead : List ℕ) (w v : World) (at : ℕ) (cpu 
 whoever_ran limits dead w v at cpu next how None so = none_ran limits dead w v at cpu next how so
 whoever_ran limits dead w v at cpu next how (Some e) so = some_ran limits dead w v at cpu next how e so
 
--- what is left of a legal switch is legal
+-- what remains of a legal switch is legal
 pub switch_goes : (limits : Limits) (dead : List ℕ) (w v : World) (at : ℕ) (cpu : Cpu) (next : Option Pid) (how : How) → IsWithout dead w v → RunsOnce w.tasks → HasRoom limits v at → NoneAgainst limits w at (act.Switch cpu next how)
     → Goes limits (dead_after dead w (act.Switch cpu next how)) w v at (act.Switch cpu next how) (switch_without dead cpu (pid_part (running_on w.tasks cpu.0)) next how)
 switch_goes limits dead w v at cpu next how is once room none =

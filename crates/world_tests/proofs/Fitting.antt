@@ -1,4 +1,4 @@
--- Events that a trace may speak of, one after the other.
+-- Events that a trace may contain, in order.
 use Rattle.std.proofs.Common.{List, [], ◌∷◌, ◌++◌}
 use Rattle.psi_base.specs.declared.event.Event.{Event}
 use Rattle.psi_spec.specs.Grammar.{Fits}
