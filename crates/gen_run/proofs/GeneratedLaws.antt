@@ -99,7 +99,7 @@ next_taken shape old new left rest event played split takes = record {
   split = one_more played.played left rest (generated shape).events event played.split split;
 }
 
--- ---- a replay of which the end alone is written
+-- ---- a replay that writes only its end
 
 -- A replay without rules has made some ticks, and it is known whether there was one.
 pub record HasPassed (replay : ReplayView) (trace : Trace) (pace : Pace) (ticked : Bool) : Type 0 where

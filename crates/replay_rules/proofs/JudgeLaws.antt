@@ -18,7 +18,7 @@ use Rattle.replay_rules.specs.Judged.{IsToJudge, JudgeView, Rests, judge_kills, 
 use Rattle.replay_rules.specs.Laws.{KillsAtReading, NoKillsBetween, NoneWithoutRules}
 use Rattle.replay_rules.specs.Laws.{OneReadingMore, ReadingsStay}
 
--- ---- moments
+-- ---- times
 
 -- each tick is a length later than the one before it
 pub tick_later : (length tick : ℕ) → 0 < tick →

@@ -167,7 +167,7 @@ reading_is engine watch plans order trace pace i planned ticked watching by_path
     (order_tells_live limits trace.events planned.accepted.legal order by_path at)) in
     rw (groups, watching.host) refl
 
--- ---- moments
+-- ---- times
 
 -- the last of the evaluations among the first ticks is before each time after these
 pub last_before : (trace : Trace) (pace : Pace) (i at : ℕ) → tick_moment pace.length i < at →

@@ -44,7 +44,7 @@ use Rattle.replay_rules.specs.Laws.{ReadingsAreReadings}
 use Rattle.replay_rules.proofs.SeenLaws.{in_order_sorted, keys_ascend}
 use Rattle.replay_rules.proofs.ReadLaws.{last_before}
 
--- ---- what events tell
+-- ---- values that events yield
 
 both_all : {A : Type 0} → (P : A → Type 0) (xs ys : List A) → AllByRecursion P xs →
     AllByRecursion P ys → AllByRecursion P (xs ++ ys)

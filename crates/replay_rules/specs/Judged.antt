@@ -58,7 +58,7 @@ abbrev pub given_rules : Option Rules → List Rule
 given_rules None = []
 given_rules (Some given) = given.rules
 
--- ---- what it stands for
+-- ---- the trace that it represents
 
 -- the reading of a trace at the tick with this number
 abbrev pub read_at : Trace → Pace → ℕ → Reading

@@ -40,7 +40,7 @@ abbrev pub groups_by :
     EngineView → SideView → List GroupLife → ℕ → List ℕ → List GroupReading
 groups_by engine watch lives at order = map (group_by engine watch) (slots_live_at lives at order)
 
--- the reading of these groups, with the watch's values for the host
+-- the reading of the groups, with the watch's values for the host
 abbrev pub reading_by : EngineView → SideView → List GroupLife → ℕ → List ℕ → Reading
 reading_by engine watch lives at order =
     seen_at at watch.host (groups_by engine watch lives at order)

@@ -13,8 +13,8 @@ use Rattle.trace_gen.specs.Generating.{IsGenerating, limits_in}
 abbrev pub drawn_act : Act → ℕ → Drawn
 drawn_act a state = record { act = a; state = state }
 
--- the events that remain: some of those that create groups and tasks, then, unless the end was
--- returned, `left` more from a world and a state, and the end
+-- the events that remain: some creations of groups and tasks, then, unless the end was returned,
+-- `left` more from a world and a state, and the end
 abbrev pub events_left : Shape → List Event → World → ℕ → ℕ → Bool → List Event
 events_left shape first w state left ended =
     first ++ (if ended then [] else drawn_events shape left w state)

@@ -20,7 +20,7 @@ use Rattle.trace_laws.proofs.Splitting.{Cut, cut}
 use Rattle.trace_laws.proofs.Reading.{Events, rest_from, reads_all, refuses_all, rest_from-lines, rest_from-cause, nothing_left, same_refusal}
 use Rattle.trace_laws.proofs.GrammarHeaders.{headers_spelled, header-no_newline, length-header-le}
 
--- ---- behind the last event
+-- ---- after the last event
 
 or_true : (a : Bool) → (a || true) ≡ true
 or_true true = refl

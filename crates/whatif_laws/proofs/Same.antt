@@ -24,7 +24,7 @@ use Rattle.whatif_trace.proofs.Resting.{Begins, in_time}
 use Rattle.whatif_trace.proofs.Together.{Holds, IsCut, cut_at, cut_world, dead_of, end_at, exits_of, holds, rest_of, three_parts}
 use Rattle.whatif_trace.proofs.Whole.{rest_both}
 
--- ---- the events up to a moment
+-- ---- the events up to a time
 
 up_to_both : (xs ys : List Event) (at : ℕ) → up_to (xs ++ ys) at ≡ up_to xs at ++ up_to ys at
 up_to_both [] ys at = refl

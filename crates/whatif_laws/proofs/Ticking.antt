@@ -22,7 +22,7 @@ use Rattle.whatif_spec.specs.Without.{without}
 use Rattle.whatif_laws.specs.Until.{SameUntilKill}
 use Rattle.whatif_laws.proofs.Same.{IsSame, is_same}
 
--- ---- moments
+-- ---- times
 
 -- an earlier tick isn't later
 pub tick_before : (length j i : ℕ) → j ≤ i → tick_moment length j ≤ tick_moment length i

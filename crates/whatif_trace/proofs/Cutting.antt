@@ -14,7 +14,7 @@ use Rattle.whatif_trace.proofs.Resting.{Begins}
 use Rattle.whatif_trace.proofs.Running.{none_first, turn_by_turn}
 use Rattle.whatif_trace.proofs.Together.{IsCut, cut_at, three_parts}
 
--- ---- the front
+-- ---- the prefix
 
 abbrev AllEarly : ℕ → List Event → Type 0
 AllEarly at events = AllByRecursion (λ (event : Event). nat_le event.at at ≡ true) events

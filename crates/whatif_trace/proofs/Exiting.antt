@@ -100,7 +100,7 @@ from_ready limits at room v pid task o ready there is can runs =
       tasks = λ k. last.tasks k ∙ ap (λ t. started (pid_part o) k (cond (k == pid.0) None t)) (come.tasks k) ∙ all_back v.tasks task.cpu.0 pid.0 (running task) o runs k;
     }
 
--- ---- one that sleeps
+-- ---- a task that sleeps
 
 other_still : (tasks : Tasks) (pid : ℕ) (other : Task) (k : ℕ) → (k == pid) ≡ false → task_of (put tasks pid other) k ≡ task_of tasks k
 other_still tasks pid other k apart = get_put tasks pid other k ∙ ap (λ b. cond b (Some other) (task_of tasks k)) apart

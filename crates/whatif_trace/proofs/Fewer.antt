@@ -54,7 +54,7 @@ no_more dead tasks fewer are =
     let few = taken_few tasks dead in
     subst (λ m. tasks_by.len m ≤ tasks_by.len tasks) (sym same) few
 
--- ---- one that is found
+-- ---- a task that is found
 
 -- a task that isn't dead is found as before
 pub found_kept : (dead : List ℕ) (tasks fewer : Tasks) → AreWithout dead tasks fewer → (pid : ℕ) → is_pid_among dead pid ≡ false → task_of fewer pid ≡ task_of tasks pid

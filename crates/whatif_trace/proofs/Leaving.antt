@@ -51,7 +51,7 @@ runner_in tasks once cpu pid task is runs (Some e) found =
 pub runner_is : (tasks : Tasks) → RunsOnce tasks → (cpu pid : ℕ) (task : Task) → task_of tasks pid ≡ Some task → is_running_on cpu task ≡ true → running_on tasks cpu ≡ Some (pid, task)
 runner_is tasks once cpu pid task is runs = runner_in tasks once cpu pid task is runs (running_on tasks cpu) refl
 
--- ---- what is found behind a change
+-- ---- look-ups after a change
 
 pub found_changed : (tasks : Tasks) (k : ℕ) (f : Task → Task) (o : Option Task) → task_of tasks k ≡ o → (pid : ℕ) → task_of (change_to tasks k f o) pid ≡ cond (pid == k) (changed f o) (task_of tasks pid)
 found_changed tasks k f None is pid = ⊎_elim (λ same. ap (task_of tasks) same.1 ∙ is ∙ sym (ap (λ b. cond b None (task_of tasks pid)) same.0)) (λ other. sym (ap (λ b. cond b None (task_of tasks pid)) other.0)) (eqb_tells pid k)

@@ -31,7 +31,7 @@ use Rattle.whatif_trace.specs.Left.{AreRunners, exited, is_pid, runner_at, turne
 use Rattle.whatif_trace.proofs.Leaving.{found_changed, found_started, running, started}
 use Rattle.whatif_trace.proofs.Steps.{NoneAgainst, may_fork}
 
--- ---- the one that is found
+-- ---- the task that is found
 
 same_number : (a b : ℕ) → (a == b) ≡ true → a ≡ b
 same_number a b is = grind (arith, nat_tests)

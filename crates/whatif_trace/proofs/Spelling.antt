@@ -95,7 +95,7 @@ numbers_from w (event ∷ events) fit numbers = numbers_from (after_event w even
 pub numbers_first : AreNumbers first_world.tasks
 numbers_first pid some = absurd (let none : task_of first_world.tasks pid ≡ None = tasks_by.get-empty nat_cmp pid in let no : ⊥ = cc (some, ap is_some none) in no)
 
--- ---- fronts and joins
+-- ---- prefixes and joins
 
 pub fit_front : (front rest : List Event) → AllFit (front ++ rest) → AllFit front
 fit_front [] rest fit = tt

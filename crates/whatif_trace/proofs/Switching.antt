@@ -114,7 +114,7 @@ none_ran limits dead w v at cpu next how so =
     subst (λ later. Goes limits later w v at (act.Switch cpu next how) (switch_without dead cpu None next how)) (sym (idled dead how so.right))
     (none_leaves limits dead dead w v at cpu next how None so refl so.is.tasks refl)
 
--- ---- one that isn't dead ran
+-- ---- a task that isn't dead ran
 
 led_alive : (dead : List ℕ) (tasks fewer : Tasks) (how : How) (e : ℕ × Task) → AreWithout dead tasks fewer → is_pid_among dead e.0 ≡ false → AreWithout dead (leave how tasks (Some e)) (leave how fewer (Some e))
 led_alive dead tasks fewer how e are alive = placed_alive dead tasks fewer e.0 (left_by how e.1) are alive

@@ -17,7 +17,7 @@ use Rattle.whatif_trace.specs.Rest.{dead_behind}
 use Rattle.whatif_trace.proofs.Living.{AreLive}
 use Rattle.whatif_trace.proofs.Resting.{Begins}
 
--- ---- the front and what is behind it
+-- ---- the prefix and the rest
 
 -- the events after those up to a time begin later
 later_begins : (limits : Limits) (w : World) (events : List Event) (at : ℕ) → AreLegal limits w events → (rest : List Event) × (events ≡ up_to events at ++ rest) × Begins (at + 1) rest

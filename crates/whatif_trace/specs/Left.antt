@@ -63,12 +63,12 @@ abbrev pub makes : ℕ → Act → Bool
 makes pid (act.Fork new path cpu) = pid == new.0
 makes pid what = false
 
--- one of these events does
+-- some event creates it
 abbrev pub is_made : ℕ → List Event → Bool
 is_made pid [] = false
 is_made pid (event ∷ events) = makes pid event.act || is_made pid events
 
--- each of these tasks was created by one of these events
+-- each of the tasks was created by one of the events
 abbrev pub AreForked : Tasks → List Event → Type 0
 AreForked tasks events = (pid : ℕ) → is_some (task_of tasks pid) ≡ true → is_made pid events ≡ true
 
