@@ -81,9 +81,9 @@ abbrev pub HasReadAll : Option EvaluatorView → Trace → List Rule → List Re
 HasReadAll None trace rules readings = rules ≡ []
 HasReadAll (Some evaluator) trace rules readings = HasRead evaluator trace rules readings
 
--- A judge with rules has decided at the first `i` ticks of a trace with these timings: it has their
--- interval, has taken the readings of all evaluations among these ticks, and has the kills of the
--- last one.
+-- A judge with rules has decided at the first `i` ticks of a trace at this `pace`: it has the
+-- pace's interval, has taken the readings of all evaluations among these ticks, and has the kills
+-- of the last one.
 pub record HasJudged (judge : JudgeView) (trace : Trace) (pace : Pace) (rules : List Rule) (i : ℕ)
     : Type 0 where
   pub interval : judge.interval ≡ pace.interval
@@ -97,8 +97,8 @@ pub record Rests (old new : JudgeView) : Type 0 where
 
 -- ---- one tick
 
--- The state before a replay: plans of a trace, which is replayed with this interval of evaluations
--- (ns).
+-- The state before a replay: plans of a trace, which is replayed at this `pace`, with its interval
+-- of evaluations (ns).
 pub record IsToBegin (plans : PlansView) (trace : Trace) (pace : Pace) (interval : ℕ)
     : Type 0 where
   pub planned : IsPlanned plans trace pace

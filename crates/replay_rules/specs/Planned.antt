@@ -8,7 +8,7 @@ use Rattle.run_spec.specs.Replay.{Pace, lives_of}
 use Rattle.proc_plan.specs.Plans.{PlansView, StandFor}
 use Rattle.tick_engine.specs.Engine.{EngineView, StandsFor}
 
--- plans represent an accepted trace, which may be replayed with these timings
+-- plans represent an accepted trace, which may be replayed at this `pace`
 pub record IsPlanned (plans : PlansView) (trace : Trace) (pace : Pace) : Type 0 where
   pub counted : IsCpuCount trace.cpus
   pub stand : StandFor plans trace.cpus trace.events

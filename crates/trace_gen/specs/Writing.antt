@@ -12,7 +12,7 @@ shape_by seed cpus groups events =
     record { seed = seed; cpus = cpus; groups = groups; events = events }
 
 -- A text that wasn't written completely. After a failed write a prefix of it was written, and the
--- count of failed writes has increased. After out of memory nothing was written, and the count is
+-- count of failed writes has increased. If memory ran out nothing was written, and the count is
 -- unchanged.
 abbrev pub Misses : {E : Type 0} → List ℕ → ℕ → ℕ → Option (List ℕ) → Option (List ℕ) → Fault E
     → Type 0
