@@ -119,7 +119,7 @@ fn one_output(rt: &impl Host, output: Vec<u8>) -> Vec<Vec<u8>> {
     vec![in rt.alloc(); output].expect(rt, "memory")
 }
 
-/// An output preceded by each possible live line.
+/// For each possible live line, the output preceded by it.
 fn with_live_lines(rt: &impl Host, plain: &[u8]) -> Vec<Vec<u8>> {
     let mut outputs = Vec::new(rt.alloc());
     for live in &LIVE_LINES {
