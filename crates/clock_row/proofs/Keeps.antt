@@ -37,7 +37,7 @@ even_rests : (changing : Bool) (count : ℕ) → (2 * count + open_bit changing)
 even_rests true count e = absurd (omega arith)
 even_rests false count e = refl
 
--- where the number grows, or is odd now, no open try begins with it
+-- if the number grows, or is odd now, no open try begins with it
 tries_stay : (n m : ℕ) (before after : List ℕ) → n ≤ m → (m % 2 ≡ 0 → n < m) → (a : Attempt) → KnowsLoaded n before a → KnowsLoaded m after a
 tries_stay n m before after more grows Closed k = tt
 tries_stay n m before after more grows (Open first loaded) k = let even : first % 2 ≡ 0 = k.0 in let below : first ≤ n = k.1 in (
@@ -187,8 +187,8 @@ ended_knows : (seat : ℕ) (now : WriterView) (id n first : ℕ) (q : ReaderView
 ended_knows seat now id n first q number k true is = let e : n ≡ first = eqb-true n first is in (k.0, omega arith, tt)
 ended_knows seat now id n first q number k false is = (k.0, k.1, tt)
 
--- where the number is the first of a try, no change is open, and the words as they stand are those
--- that were loaded
+-- if the number is the first of a try, no change is open, and the current words are those that were
+-- loaded
 stood_together : (seat : ℕ) (now : WriterView) (s : RowState) (n first : ℕ) (plan : PlanView) (loaded : List (ℕ × ℕ)) → IsWholeRow seat now s → n ≡ sequence now → plan ≡ now.plan → KnowsLoaded (sequence now) now.body (Open first loaded) → n ≡ first
     → StoodTogether plan (first / 2) loaded
 stood_together seat now s n first plan loaded row number same k e = let even : first % 2 ≡ 0 = k.0 in let whole : sequence now ≡ first = sym number ∙ e in

@@ -54,7 +54,7 @@ loaded_try new old f p x e is = let now : new ≡ Open f ((p, x) ∷ loaded_in o
 pub slot_was : (loaded : List (ℕ × ℕ)) (slot : ℕ) (words body : List ℕ) → WereLoaded loaded (9 * slot) 9 words → length words ≡ 9 → 9 * slot + 9 ≤ length body → Agrees body loaded → words ≡ words_at body slot
 slot_was loaded slot words body were wide room agrees = words_are 9 (9 * slot) words body wide room (were body agrees)
 
--- the slot's words are there in each list of words where they are a clock's
+-- the slot's words are in each list of words in which they are a clock's
 pub clock_was : (loaded : List (ℕ × ℕ)) (slot : ℕ) (words : List ℕ) (clock : ClockView) → WereLoaded loaded (9 * slot) 9 words → length words ≡ 9 → (AreWordsOfClock words → words_of clock ≡ words) → ClockWasLoaded loaded slot clock
 clock_was loaded slot words clock were wide is body agrees are =
     let nine = nine_words (words_at body slot) are in let taken = length-take 9 (drop (9 * slot) body) in let dropped = length-drop (9 * slot) body in
@@ -74,7 +74,7 @@ pub sample_words : (plan : PlanView) (slot k : ℕ) (loaded : List (ℕ × ℕ))
 sample_words plan slot k loaded words below stood were wide = let all = stood.1.wide in
     subst (AreClock plan slot k) (sym (slot_was loaded slot words stood.0 were wide (omega (arith, all, below)) stood.2)) (stood.1.each slot below)
 
--- a clock with the words of one that stands for a slot does so too
+-- a clock with the words of one that represents a slot represents it too
 pub same_words : (plan : PlanView) (slot k : ℕ) (words : List ℕ) (clock : ClockView) → AreClock plan slot k words → words_of clock ≡ words → IsClock clock plan slot k
 same_words plan slot k words clock are is = subst (λ (c : ClockView). IsClock c plan slot k) (sym (words_tell_clock clock are.0 (is ∙ are.1))) are.2
 

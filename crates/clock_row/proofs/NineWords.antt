@@ -26,7 +26,7 @@ put_elsewhere n from a xs before after p apart room = let same = p.wide in let w
 
 -- ---- a clock's words
 
--- the mask stands behind seven times
+-- the mask follows the seven times
 mask_behind : (times : List ℕ) (mask start : ℕ) → length times ≡ 7 → get_or (times ++ mask ∷ start ∷ []) 7 0 ≡ mask
 mask_behind (a ∷ b ∷ c ∷ d ∷ e ∷ f ∷ g ∷ []) mask start seven = refl
 mask_behind [] mask start seven = absurd (omega (arith, seven))
@@ -49,11 +49,11 @@ mask_is body slot clock are whole = mask_in body slot ∙ (ap (λ (words : List 
 pub masks_same : (one other : List ℕ) (slot : ℕ) → words_at one slot ≡ words_at other slot → mask_at one slot ≡ mask_at other slot
 masks_same one other slot same = mask_in one slot ∙ (ap (λ (words : List ℕ). get_or words 7 0) same ∙ sym (mask_in other slot))
 
--- clocks that stand for a slot after the same changes have the same mask
+-- clocks that represent a slot after the same changes have the same mask
 pub same_mask : (one other : ClockView) (plan : PlanView) (slot k : ℕ) → IsClock one plan slot k → IsClock other plan slot k → one.mask ≡ other.mask
 same_mask one other plan slot k a b = masks_are_their_states one.mask other.mask a.whole.mask b.whole.mask (λ state. a.mask state ∙ sym (b.mask state))
 
--- words of a clock that stands for a slot are words of a clock
+-- words of a clock that represents a slot are words of a clock
 pub clock_words : (plan : PlanView) (slot k : ℕ) (words : List ℕ) → AreClock plan slot k words → AreWordsOfClock words
 clock_words plan slot k words are = (are.0, are.1, are.2.whole)
 

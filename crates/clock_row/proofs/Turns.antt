@@ -34,7 +34,7 @@ use Rattle.clock_row.proofs.NineWords.{mask_is, masks_same, nine_of, put_elsewhe
 
 -- ---- one slot
 
--- where the mask is that after the change, the words of a slot on the way are a clock after it
+-- if the mask is that after the change, the words of a slot during the change are a clock after it
 pub stays_done : (plan : PlanView) (k slot : ℕ) (body : List ℕ) (clock : ClockView) → IsPlan plan → k < length plan.changes → slot < length plan.parents → AreOnTheWay plan k body → IsClock clock plan slot (k + 1) → mask_at body slot ≡ clock.mask
     → AreClock plan slot (k + 1) (words_at body slot)
 stays_done plan k slot body clock whole room below way is mask = ⊎_elim
@@ -109,7 +109,7 @@ goes_twice plan k a b c one two = record {
   done = λ slot below was. two.done slot below (one.done slot below was);
 }
 
--- where slots went on, those whose mask stayed kept their words
+-- after steps of a change, slots with the same mask have the same words
 pub stay_by_mask : (plan : PlanView) (k : ℕ) (before after : List ℕ) → GoesOn plan k before after → StayByMask plan before after
 stay_by_mask plan k before after goes slot below same = ⊎_elim
     (λ (words : words_at after slot ≡ words_at before slot). words)
@@ -208,7 +208,7 @@ all_four P a b c d of_a of_b of_c of_d (suc (suc zero)) x inside = of_c
 all_four P a b c d of_a of_b of_c of_d (suc (suc (suc zero))) x inside = of_d
 all_four P a b c d of_a of_b of_c of_d (suc (suc (suc (suc n)))) x inside = absurd (omega (arith, inside))
 
--- what holds of a list's first and of all behind it holds of all
+-- if P holds for a list's first element and for its rest, it holds for all
 all_more : (P : Option Slot → Type 0) (first : Option Slot) (rest : List (Option Slot)) → P first → All P rest → All P (first ∷ rest)
 all_more P first rest here behind zero x inside = here
 all_more P first rest here behind (suc i) x inside = behind i x (omega (arith, inside))

@@ -1,4 +1,4 @@
--- What callers see of the two ends of a row, the writer and its readers.
+-- What callers see of the two ends of a row: the writer and its readers.
 use Rattle.std.specs.Prelude.{◌≡◌, ◌⊎◌, ℕ, ◌+◌, ◌*◌, ◌%◌, ◌^◌, ◌<◌, List, [], ◌∷◌, ◌++◌, false, length, slice_index_or}
 use Rattle.atomic_table.specs.Seated.{TableId}
 use Rattle.psi_counts.specs.Clock.{ClockView, zero_clock}
@@ -10,19 +10,19 @@ use Rattle.clock_row.specs.declared.view.WriterView.{WriterView}
 use Rattle.clock_row.specs.declared.view.ReaderView.{ReaderView}
 use Rattle.clock_row.specs.declared.view.Attempt.TheVariants.{Closed}
 
--- the writer of a row: which row it is, and what it knows of it
+-- the writer of a row: its row, and what it knows of that row
 pub record WriterEnd : Type 0 where
   pub row : TableId
   pub knows : WriterView
 
--- a reader of a row: which row it is, and what it knows of it
+-- a reader of a row: its row, and what it knows of that row
 pub record ReaderEnd : Type 0 where
   pub row : TableId
   pub knows : ReaderView
 
--- A writer between two calls: the row has one word and nine for each slot of its plan, no change is
--- open, the words of each slot are a clock, and clocks of its own have made the same changes of the
--- same plan.
+-- A writer between two calls. The row has one word, and nine for each slot of its plan. No change
+-- is open, and the words of each slot are a clock. The writer's own clocks have made the same
+-- changes of the same plan.
 pub record IsWriterEnd (row : TableId) (seat : RowSeat) (plan : PlanView) (clocks : OnPlan) : Type 0 where
   pub on_row : seat.table_id ≡ row
   pub wide : row.words ≡ 9 * length plan.parents + 1
@@ -35,8 +35,8 @@ pub record IsWriterEnd (row : TableId) (seat : RowSeat) (plan : PlanView) (clock
   pub clocks_made : clocks.made ≡ (writer_on seat).count
   pub words : AreClockWords plan (writer_on seat).count (writer_on seat).body
 
--- A reader between two calls: the row has one word and nine for each slot of its plan, and no try
--- is open.
+-- A reader between two calls. The row has one word, and nine for each slot of its plan. No try is
+-- open.
 pub record IsReaderEnd (row : TableId) (seat : RowSeat) : Type 0 where
   pub on_row : seat.table_id ≡ row
   pub wide : row.words ≡ 9 * length (reader_on seat).plan.parents + 1
@@ -44,23 +44,24 @@ pub record IsReaderEnd (row : TableId) (seat : RowSeat) : Type 0 where
   pub reader : IsReader seat
   pub closed : (reader_on seat).attempt ≡ Closed
 
--- A try succeeded with so many changes: the number was loaded twice, both times as twice that, and
--- so many were seen.
+-- A try succeeded after this number of changes: the sequence number was loaded twice, both times as
+-- twice that number, which the reader has now seen.
 abbrev pub sample_taken : ℕ → ReaderView → ReaderView
 sample_taken count reader =
     record reader { seen = count; loads = reader.loads + 2; got = reader.got ++ count ∷ []; first = 2 * count; second = 2 * count }
 
--- A try met a change: the number was loaded so often, last as these two, and nothing more was seen.
+-- A try met a change: the sequence number was loaded `loads` times, and the last two loads returned
+-- these numbers. Nothing more was seen.
 abbrev pub met_change : ℕ → ℕ → ℕ → ReaderView → ReaderView
 met_change loads first second reader = record reader { loads = reader.loads + loads; met = reader.met + 1; first = first; second = second }
 
--- A try met a change by these two numbers: either one was loaded, which is odd, and stands for
--- both, or two were loaded, the first even and the second greater.
+-- A try met a change, as these two numbers show: either one number was loaded, which is odd and is
+-- given for both, or two were loaded, the first even and the second greater.
 abbrev pub IsBusy : ℕ → ℕ → ReaderView → ReaderView → Type 0
 IsBusy first second before after =
     ((first % 2 ≡ 1) × (second ≡ first) × (after ≡ met_change 1 before.second first before))
     ⊎ ((first % 2 ≡ 0) × (first < second) × (after ≡ met_change 2 first second before))
 
--- the clock of each slot, in the order of the slots, stands for it after the first k changes
+-- each slot's clock, in the order of the slots, represents it after the first k changes
 abbrev pub AllAreClocks : PlanView → ℕ → List ClockView → Type 0
 AllAreClocks plan k clocks = (slot : ℕ) → slot < length plan.parents → IsClock (slice_index_or clocks slot zero_clock) plan slot k

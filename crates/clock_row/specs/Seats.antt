@@ -1,4 +1,4 @@
--- What the seats of a row have for a view.
+-- The views of the seats of a row.
 use Rattle.std.specs.Prelude.{◌≡◌, ℕ, List, []}
 use Rattle.atomic_table.specs.declared.shared.Seat.{Seat}
 use Rattle.plan_laws.specs.Plan.{no_plan}
@@ -16,12 +16,12 @@ use Rattle.clock_row.specs.declared.view.View.TheVariants.{Noted, Writer, Reader
 abbrev pub RowSeat : Type 0
 RowSeat = Seat (Unit {0}) View
 
--- a view as the writer's; where it isn't one, a view of no plan stands in for it
+-- a view as the writer's; any other view gives a writer's view of no plan
 abbrev pub as_writer : View → WriterView
 as_writer (Writer writer) = writer
 as_writer view = writer_at_start no_plan []
 
--- a view as a reader's, likewise
+-- a view as a reader's; any other view gives a reader's view of no plan
 abbrev pub as_reader : View → ReaderView
 as_reader (Reader reader) = reader
 as_reader view = new_reader no_plan 0
@@ -46,19 +46,19 @@ IsReader seat = seat.me.0 ≡ Reader (reader_on seat)
 abbrev pub IsNote : RowSeat → Type 0
 IsNote seat = (note : Note) × (seat.me.0 ≡ Noted note)
 
--- it is the seat that it was, on the row that it was on
+-- the seat and its row are unchanged
 abbrev pub IsSameSeat : RowSeat → RowSeat → Type 0
 IsSameSeat before after = (after.table_id ≡ before.table_id) × (after.id ≡ before.id)
 
--- a writer's view with these words behind the number
+-- a writer's view with these words after the sequence number
 abbrev pub with_body : List ℕ → WriterView → WriterView
 with_body body writer = record writer { body = body }
 
--- the writer stored words behind the number, and did nothing else
+-- the writer stored words after the sequence number, and did nothing else
 abbrev pub HasStored : RowSeat → RowSeat → Type 0
 HasStored before after = after.me.0 ≡ Writer (with_body (writer_on after).body (writer_on before))
 
--- a writer's view after one change more, with these words
+-- a writer's view after one more change, with these words
 abbrev pub changed_to : List ℕ → WriterView → WriterView
 changed_to body writer = closed (with_body body writer)
 
@@ -66,15 +66,15 @@ changed_to body writer = closed (with_body body writer)
 abbrev pub with_attempt : Attempt → ReaderView → ReaderView
 with_attempt attempt reader = record reader { attempt = attempt }
 
--- what was loaded in a try
+-- the places and values loaded in a try
 abbrev pub loaded_in : Attempt → List (ℕ × ℕ)
 loaded_in (Open first loaded) = loaded
 loaded_in Closed = []
 
--- the try of a seat is open since the number was `first`
+-- the seat's try is open, and the sequence number was `first` when it began
 abbrev pub IsTrying : ℕ → RowSeat → Type 0
 IsTrying first seat = (reader_on seat).attempt ≡ Open first (loaded_in (reader_on seat).attempt)
 
--- the reader went on with its try, and did nothing else
+-- the reader continued its try, and did nothing else
 abbrev pub HasLoaded : RowSeat → RowSeat → Type 0
 HasLoaded before after = after.me.0 ≡ Reader (with_attempt (reader_on after).attempt (reader_on before))

@@ -1,5 +1,5 @@
--- The nine kinds of step on a row: what each makes of the view of its seat, what it tells, and that
--- it keeps the rule.
+-- The nine kinds of step on a row: how each changes its seat's view, what its result says, and that
+-- it preserves the invariant.
 use Rattle.std.specs.Prelude.{◌≡◌, ℕ, ◌+◌, ◌*◌, ◌-◌, ◌/◌, ◌%◌, ◌≤◌, max, Bool, true, false, ◌==◌, List, [], ◌∷◌, ◌++◌, slice_index, slice_set}
 use mathlib.Core.Option.{none}
 use Rattle.atomic_table.specs.Table.{Allows, Joins, Me, Splits, Step, opening, step}
@@ -14,7 +14,7 @@ use Rattle.clock_row.specs.declared.view.Attempt.TheVariants.{Closed, Open}
 use Rattle.clock_row.specs.declared.view.View.{View}
 use Rattle.clock_row.specs.declared.view.View.TheVariants.{Spent, Noted, Writer, Reader}
 
--- a seat's view, and what `atomic_table` calls its slots: on a row there are none
+-- a seat's view, and what `atomic_table` calls its slots: a row has none
 abbrev pub Sitter : Type 0
 Sitter = Me (Unit {0}) View
 
@@ -22,11 +22,11 @@ Sitter = Me (Unit {0}) View
 abbrev pub RowStep : Type 0
 RowStep = Step (Unit {0})
 
--- the writer's view becomes what `change` makes of it
+-- `change` is applied to the writer's view
 abbrev pub Writes : (WriterView → WriterView) → View → View → Type 0
 Writes change before after = (writer : WriterView) → before ≡ Writer writer → after ≡ Writer (change writer)
 
--- a reader's view becomes what `change` makes of it
+-- `change` is applied to a reader's view
 abbrev pub Reads : (ReaderView → ReaderView) → View → View → Type 0
 Reads change before after = (reader : ReaderView) → before ≡ Reader reader → after ≡ Reader (change reader)
 
@@ -40,24 +40,24 @@ change_opened writer = record writer { changing = true }
 abbrev pub put_at : ℕ → ℕ → WriterView → WriterView
 put_at place word writer = record writer { body = slice_set writer.body place word }
 
--- one change more is in the row, and none is open
+-- one more change is in the row, and none is open
 abbrev pub closed : WriterView → WriterView
 closed writer = record writer { count = writer.count + 1; changing = false }
 
--- 1: the store of the odd number opens a change.
+-- 1: The store of the odd number opens a change.
 abbrev pub Opens : RowStep → Sitter → ℕ → Sitter → Type 0
 Opens step before number after = Writes change_opened before.0 after.0
 
--- 2: the store of a word behind the number puts it there.
+-- 2: The store of a word after the sequence number puts it there.
 abbrev pub Puts : RowStep → Sitter → ℕ → Sitter → Type 0
 Puts step before word after = Writes (put_at (step.word - 1) step.first) before.0 after.0
 
--- 3: the store of the next even number closes the change.
+-- 3: The store of the next even number closes the change.
 abbrev pub Closes : RowStep → Sitter → ℕ → Sitter → Type 0
 Closes step before number after = Writes closed before.0 after.0
 
--- 4: a load by the writer finds the word that its view has, and tells that it was told of no more
--- than the number.
+-- 4: A load by the writer finds the word that its view has, and shows that twice the count it was
+-- told is at most the sequence number.
 abbrev pub Owns : RowStep → Sitter → ℕ → Sitter → Type 0
 Owns step before word after =
     (after.0 ≡ before.0)
@@ -66,18 +66,18 @@ Owns step before word after =
 
 -- ---- 5 to 7: a reader
 
--- The number was loaded for a try: it is open where the number is even, and where it is odd the try
--- met a change.
+-- The sequence number was loaded for a try: the try is open if the number is even, and met a change
+-- if it is odd.
 abbrev pub begun_by : Bool → ℕ → ReaderView → ReaderView
 begun_by true number reader = record reader { loads = reader.loads + 1; first = reader.second; second = number; attempt = Open number [] }
 begun_by false number reader =
     record reader { loads = reader.loads + 1; met = reader.met + 1; first = reader.second; second = number; attempt = Closed }
 
--- so it is after the first load of a try
+-- the reader's view after the first load of a try
 abbrev pub try_begun : ℕ → ReaderView → ReaderView
 try_begun number reader = begun_by (number % 2 == 0) number reader
 
--- a try with one value more
+-- a try with one more value
 abbrev pub loaded_too : ℕ → ℕ → Attempt → Attempt
 loaded_too place value Closed = Closed
 loaded_too place value (Open first loaded) = Open first ((place, value) ∷ loaded)
@@ -86,8 +86,8 @@ loaded_too place value (Open first loaded) = Open first ((place, value) ∷ load
 abbrev pub loaded_at : ℕ → ℕ → ReaderView → ReaderView
 loaded_at place value reader = record reader { attempt = loaded_too place value reader.attempt }
 
--- The number was loaded once more: where it is the first of the try, the try gave so many changes,
--- which are seen now; else it met a change.
+-- The sequence number was loaded again. If it is the first one of the try, the try gave a sample
+-- after this number of changes, which are now seen; otherwise it met a change.
 abbrev pub ended_by : Bool → ℕ → ℕ → ReaderView → ReaderView
 ended_by true first number reader =
     record reader {
@@ -101,22 +101,23 @@ ended_by true first number reader =
 ended_by false first number reader =
     record reader { loads = reader.loads + 1; met = reader.met + 1; first = reader.second; second = number; attempt = Closed }
 
--- so it is after the second load of a try that began with `first`
+-- the reader's view after the second load of a try that began with `first`
 abbrev pub ended : ℕ → ℕ → ReaderView → ReaderView
 ended first number reader = ended_by (number == first) first number reader
 
--- 5: the first load of the number begins a try. No fewer changes are in the row than the reader has
--- seen.
+-- 5: The first load of the sequence number begins a try. The row has at least the changes that the
+-- reader has seen.
 abbrev pub BeginsTry : RowStep → Sitter → ℕ → Sitter → Type 0
 BeginsTry step before number after =
     (reader : ReaderView) → before.0 ≡ Reader reader → (after.0 ≡ Reader (try_begun number reader)) × (2 * reader.seen ≤ number)
 
--- 6: the load of a word behind the number is kept in the try.
+-- 6: The load of a word after the sequence number is recorded in the try.
 abbrev pub Loads : RowStep → Sitter → ℕ → Sitter → Type 0
 Loads step before value after = Reads (loaded_at (step.word - 1) value) before.0 after.0
 
--- 7: The second load of the number ends a try. The number isn't below the first; and where it is
--- the first, what was loaded are words that stood together after so many changes.
+-- 7: The second load of the sequence number ends a try. It returns at least the first number. If it
+-- returns the first number, the loaded values are words that were in the row together, after this
+-- number of changes.
 abbrev pub EndsTry : RowStep → Sitter → ℕ → Sitter → Type 0
 EndsTry step before number after =
     (reader : ReaderView) (first : ℕ) (loaded : List (ℕ × ℕ)) → before.0 ≡ Reader reader → reader.attempt ≡ Open first loaded →
@@ -128,12 +129,12 @@ EndsTry step before number after =
 abbrev pub new_reader : PlanView → ℕ → ReaderView
 new_reader plan count = record { plan = plan; seen = count; loads = 0; met = 0; got = []; first = 0; second = 0; attempt = Closed }
 
--- the writer's seat gives a reader that has seen the writer's count
+-- the writer's seat creates a reader that has seen the writer's count
 abbrev pub reader_of : View → View
 reader_of (Writer writer) = Reader (new_reader writer.plan writer.count)
 reader_of view = Spent
 
--- the writer's seat gives a note of its count, and a reader's of what it has seen
+-- the writer's seat creates a note of its count, a reader's seat one of what it has seen
 abbrev pub note_of : View → View
 note_of (Writer writer) = Noted record { plan = writer.plan; number = writer.count }
 note_of (Reader reader) = Noted record { plan = reader.plan; number = reader.seen }
@@ -141,20 +142,20 @@ note_of view = Spent
 
 -- ---- 9: a note is taken
 
--- the number of a note
+-- the count in a note
 abbrev pub number_noted : View → ℕ
 number_noted (Noted note) = note.number
 number_noted view = 0
 
--- a reader that has seen at least so many changes now
+-- a reader that has now seen at least this many changes
 abbrev pub count_shown : ℕ → ReaderView → ReaderView
 count_shown number reader = record reader { seen = max reader.seen number }
 
--- a writer that was told of at least so many changes now
+-- a writer that was told of at least this many changes
 abbrev pub count_told : ℕ → WriterView → WriterView
 count_told number writer = record writer { told = max writer.told number }
 
--- a reader has then seen what the note says, and a writer was told of it
+-- after it takes a note, a reader has seen the note's count, or the writer was told of it
 abbrev pub with_note : View → View → View
 with_note (Writer writer) note = Writer (count_told (number_noted note) writer)
 with_note (Reader reader) note = Reader (count_shown (number_noted note) reader)
@@ -162,24 +163,25 @@ with_note view note = view
 
 -- ---- laws: each step keeps the rule, from whatever row that meets it
 
--- A row of zeros before the first change meets the rule, where zeros are clocks then.
+-- A row of zeros before the first change satisfies the invariant, if zeros are clocks then.
 abbrev pub StartHolds : Type 0
 StartHolds =
     (plan : PlanView) (body : List ℕ) → AreClockWords plan 0 body → HoldsRule (opening (0 ∷ body) [] (Writer (writer_at_start plan body)))
 
--- 1: where no change is open, the writer may store the next odd number.
+-- 1: If no change is open, the writer may store the next odd number.
 abbrev pub OpenKeeps : Type 0
 OpenKeeps =
     (slots id : ℕ) (me : Sitter) (writer : WriterView) (number : ℕ) → me.0 ≡ Writer writer → number ≡ 2 * writer.count + 1
     → writer.changing ≡ false →
     Allows HoldsRule slots id me 0 (λ _. number) (λ _. Opens (step slots 0 number 0 none) me number)
 
--- 2: in a change it may store any word at any place behind the number.
+-- 2: During a change the writer may store any word at any place after the sequence number.
 abbrev pub PutKeeps : Type 0
 PutKeeps = (slots id : ℕ) (me : Sitter) (writer : WriterView) (place word : ℕ) → me.0 ≡ Writer writer → writer.changing ≡ true →
     Allows HoldsRule slots id me (place + 1) (λ _. word) (λ _. Puts (step slots (place + 1) word 0 none) me word)
 
--- 3: once the words of each slot are a clock after the change, it may store the next even number.
+-- 3: Once the words of each slot are a clock after the change, the writer may store the next even
+-- number.
 abbrev pub CloseKeeps : Type 0
 CloseKeeps =
     (slots id : ℕ) (me : Sitter) (writer : WriterView) (number : ℕ) → me.0 ≡ Writer writer → number ≡ 2 * writer.count + 2
@@ -187,37 +189,37 @@ CloseKeeps =
     AreClockWords writer.plan (writer.count + 1) writer.body →
     Allows HoldsRule slots id me 0 (λ _. number) (λ _. Closes (step slots 0 number 0 none) me number)
 
--- 4: the writer may load any word at any time.
+-- 4: The writer may load any word at any time.
 abbrev pub OwnKeeps : Type 0
 OwnKeeps = (slots id word : ℕ) (me : Sitter) → Allows HoldsRule slots id me word (λ value. value) (Owns (step slots word 0 0 none) me)
 
--- 5: a reader may begin a try at any time.
+-- 5: A reader may begin a try at any time.
 abbrev pub BeginKeeps : Type 0
 BeginKeeps =
     (slots id : ℕ) (me : Sitter) (reader : ReaderView) → me.0 ≡ Reader reader
     → Allows HoldsRule slots id me 0 (λ number. number) (BeginsTry (step slots 0 0 0 none) me)
 
--- 6: it may load any word behind the number.
+-- 6: A reader may load any word after the sequence number.
 abbrev pub LoadKeeps : Type 0
 LoadKeeps = (slots id place : ℕ) (me : Sitter) (reader : ReaderView) → me.0 ≡ Reader reader →
     Allows HoldsRule slots id me (place + 1) (λ value. value) (Loads (step slots (place + 1) 0 0 none) me)
 
--- 7: it may end a try that is open.
+-- 7: A reader may end a try that is open.
 abbrev pub EndKeeps : Type 0
 EndKeeps = (slots id first : ℕ) (me : Sitter) (reader : ReaderView) (loaded : List (ℕ × ℕ)) → me.0 ≡ Reader reader
     → reader.attempt ≡ Open first loaded →
     Allows HoldsRule slots id me 0 (λ number. number) (EndsTry (step slots 0 0 0 none) me)
 
--- 8: a seat may give a reader, and a note.
+-- 8: A seat may create a reader, and a note.
 abbrev pub SplitKeeps : Type 0
 SplitKeeps = (id : ℕ) (view : View) → Splits HoldsRule id view view (reader_of view) × Splits HoldsRule id view view (note_of view)
 
--- 9: a reader may take a note, whose seat knows nothing more from then on.
+-- 9: A reader may take a note, whose seat knows nothing afterwards.
 abbrev pub ReaderTakesNote : Type 0
 ReaderTakesNote = (id other : ℕ) (view spent : View) (reader : ReaderView) (note : Note) → view ≡ Reader reader → spent ≡ Noted note →
     Joins HoldsRule id view other spent (with_note view spent) Spent
 
--- 9: the writer may take a note likewise.
+-- 9: The writer may take a note too.
 abbrev pub WriterTakesNote : Type 0
 WriterTakesNote = (id other : ℕ) (view spent : View) (writer : WriterView) (note : Note) → view ≡ Writer writer → spent ≡ Noted note →
     Joins HoldsRule id view other spent (with_note view spent) Spent

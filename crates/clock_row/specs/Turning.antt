@@ -1,4 +1,4 @@
--- A writer's seat in the course of a change.
+-- A writer's seat during a change.
 use Rattle.std.specs.Prelude.{◌≡◌, ℕ, ◌+◌, ◌*◌, ◌^◌, ◌<◌, true, List, length, Option, IfSome}
 use Rattle.std.specs.List.{All}
 use Rattle.atomic_table.specs.Seated.{TableId}
@@ -9,8 +9,8 @@ use Rattle.psi_spec.specs.Stall.{number_of_slot}
 use Rattle.clock_row.specs.Words.{AreClock, AreOnTheWay, GoesOn, words_at}
 use Rattle.clock_row.specs.Seats.{HasStored, IsSameSeat, IsWriter, RowSeat, writer_on}
 
--- A change is open at the writer's seat: the row has one word and nine for each slot of its plan,
--- the plan has a change to make, and the words of each slot are a clock before it or after it.
+-- A change is open at the writer's seat. The row has one word, and nine for each slot of its plan.
+-- The plan has another change, and the words of each slot are a clock before or after it.
 pub record IsTurning (row : TableId) (seat : RowSeat) : Type 0 where
   pub on_row : seat.table_id ≡ row
   pub wide : row.words ≡ 9 * length (writer_on seat).plan.parents + 1
@@ -21,8 +21,8 @@ pub record IsTurning (row : TableId) (seat : RowSeat) : Type 0 where
   pub next : (writer_on seat).count < length (writer_on seat).plan.changes
   pub way : AreOnTheWay (writer_on seat).plan (writer_on seat).count (writer_on seat).body
 
--- Slots were turned: words were stored, each slot stayed or turned, and those that were done stayed
--- done.
+-- Slots were updated: words were stored, each slot has its old words or a new clock, and slots that
+-- were done are still done.
 pub record HasTurned (before after : RowSeat) : Type 0 where
   pub seat : IsSameSeat before after
   pub stored : HasStored before after
@@ -32,16 +32,16 @@ pub record HasTurned (before after : RowSeat) : Type 0 where
 abbrev pub IsDone : RowSeat → ℕ → Type 0
 IsDone seat slot = AreClock (writer_on seat).plan slot ((writer_on seat).count + 1) (words_at (writer_on seat).body slot)
 
--- so are those of each slot on the chain from this one up, if there is one
+-- every slot on the chain from this slot up, if any, is done
 abbrev pub ChainIsDone : RowSeat → Option Slot → Type 0
 ChainIsDone seat start =
     (slot : ℕ) → slot < length (writer_on seat).plan.parents
     → leads_to (writer_on seat).plan.parents (number_of_slot start) slot ≡ true → IsDone seat slot
 
--- so they are on each of these chains
+-- every slot on each of these chains is done
 abbrev pub ChainsAreDone : RowSeat → List (Option Slot) → Type 0
 ChainsAreDone seat starts = All (ChainIsDone seat) starts
 
--- each of these, where it is a slot, is one of so many
+-- each of these slots, if any, is below the bound
 abbrev pub AreBelow : ℕ → List (Option Slot) → Type 0
 AreBelow slots starts = All (λ start. IfSome start (λ slot. slot.0 < slots)) starts

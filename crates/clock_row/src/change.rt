@@ -14,8 +14,8 @@ use cpu_clock::Clock;
 use proc_plan::{PlainClocks, Plan, ProcClocks};
 use psi_base::Slot;
 
-// Takes a slot through the change that is open, after which it has this clock. Where its mask stays
-// there is nothing to do: the words are a clock after the change too.
+// Writes a slot's clock as it is after the open change. If the mask doesn't change nothing is
+// stored: the words are a clock after the change too.
 fn turn_slot(board: &Board, seat: &mut RowSeat, slot: Slot, clock: &Clock)
     requires turning { IsTurning board.now.shared.table_id seat.old }
     requires slot { slot.0 < length (writer_on seat.old).plan.parents }
@@ -31,7 +31,7 @@ fn turn_slot(board: &Board, seat: &mut RowSeat, slot: Slot, clock: &Clock)
     }
 }
 
-// Takes the slots on a chain through the change that is open, which the clocks have made.
+// Writes the clocks of all slots on a chain, after the clocks have made the open change.
 fn turn_chain(
     board: &Board,
     seat: &mut RowSeat,
@@ -56,7 +56,6 @@ fn turn_chain(
     }
 }
 
-// Takes the slots on these chains through the change that is open, which the clocks have made.
 fn turn_chains(
     board: &Board,
     seat: &mut RowSeat,

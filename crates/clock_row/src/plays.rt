@@ -1,4 +1,4 @@
-//! What each kind of step on a row makes of a view, and what it tells.
+//! How each kind of step on a row changes a view, and what its result says.
 ghost use Rattle.clock_row.specs.Steps.{BeginsTry, Closes, EndsTry, Loads, Opens, Owns, Puts, note_of, reader_of, with_note};
 ghost use Rattle.clock_row.specs.declared.view.View.TheVariants.{Spent};
 
@@ -12,7 +12,7 @@ impl Play<(), View> for Opening {
     ghost then = { Opens };
 }
 
-/// The writer stores a word behind the number.
+/// The writer stores a word after the sequence number.
 pub(crate) struct Putting;
 
 impl Play<(), View> for Putting {
@@ -40,7 +40,7 @@ impl Play<(), View> for Beginning {
     ghost then = { BeginsTry };
 }
 
-/// A reader loads a word behind the number.
+/// A reader loads a word after the sequence number.
 pub(crate) struct Loading;
 
 impl Play<(), View> for Loading {
@@ -54,7 +54,7 @@ impl Play<(), View> for Ending {
     ghost then = { EndsTry };
 }
 
-/// The writer's seat gives a reader.
+/// The writer's seat creates a reader.
 pub(crate) struct NewReader;
 
 impl Split<View> for NewReader {
@@ -63,7 +63,7 @@ impl Split<View> for NewReader {
     ghost right = { reader_of };
 }
 
-/// A seat gives a note.
+/// A seat creates a note.
 pub(crate) struct NewNote;
 
 impl Split<View> for NewNote {

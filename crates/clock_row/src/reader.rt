@@ -14,9 +14,9 @@ use std::alloc::Global;
 use std::marker::Model;
 use std::sync::Arc;
 
-/// Takes the clocks out of a row while its writer may be at work, without a lock and without
-/// waiting. It may go to another thread. Contracts see which row it is, and what the reader knows
-/// of it.
+/// Samples the clocks of a row while its writer may be making changes, without a lock and without
+/// waiting. It may be sent to another thread. Contracts see its row, and what the reader knows of
+/// that row.
 #[derive(Drop)]
 pub struct ClockReader {
     pub(crate) board: Arc<Board, Global>,
@@ -38,36 +38,36 @@ impl Model for ClockReader {
         × (r.seen ≡ (reader_on r.seat).seen) };
 }
 
-/// A clock out of a row.
+/// A clock sampled from a row.
 #[derive(Clone, Copy, Debug)]
 pub struct Sample {
-    /// After how many changes it is the clock of its slot.
+    /// The number of changes that the clock includes.
     pub count: u64,
     pub clock: Clock,
 }
 
-/// A try met a change, by the sequence numbers that it loaded. The second is the first where only
-/// one was loaded.
+/// A try met a change: the sequence numbers that it loaded. If only one was loaded, both fields
+/// have it.
 #[derive(Clone, Copy, Debug, PartialEq, Eq)]
 pub struct Busy {
     pub first: u64,
     pub second: u64,
 }
 
-/// How often a sample is tried before the last one stands for it again.
+/// The number of tries after which the last sample is repeated.
 const TRIES: u64 = 8;
 
 impl ClockReader {
-    /// The greatest number of changes that it has seen in the row.
+    /// The greatest number of changes that the reader has seen in the row.
     pub fn seen(&self) -> u64
         ensures { result ≡ self.now.knows.seen }
     {
         self.seen
     }
 
-    /// Tries to take the clock of a slot: it stands for the slot after so many changes as are
-    /// answered with it, which aren't fewer than the reader has seen. Busy where a change was open
-    /// or came in between. Takes no memory.
+    /// Tries once to sample the clock of a slot. The sample's count is at least the number of
+    /// changes that the reader has seen. Returns `Busy` if a change was open or came in between.
+    /// Does not allocate.
     pub fn try_sample(&mut self, slot: Slot) -> Result<Sample, Busy>
         requires { slot.0 < length self.old.knows.plan.parents }
         ensures row { self.new.row ≡ self.old.row }
@@ -99,9 +99,9 @@ impl ClockReader {
         })
     }
 
-    /// The clock of a slot, after at least as many changes as the last sample of it: the first that
-    /// a try gives, or the last sample again, where eight tries met a change. Takes no memory, and
-    /// ends after at most eight tries.
+    /// Samples the clock of a slot, after at least as many changes as `last`, an earlier sample of
+    /// it. Returns the first sample that a try gives, or `last` if eight tries met a change. Does
+    /// not allocate.
     pub fn sample_or(&mut self, slot: Slot, last: &Sample) -> Sample
         requires slot { slot.0 < length self.old.knows.plan.parents }
         requires last { IsClock last.now.clock self.old.knows.plan slot.0 last.now.count }
@@ -123,9 +123,9 @@ impl ClockReader {
         *last
     }
 
-    /// Tries to take the clocks of all slots at one number of changes, which it answers. There must
-    /// be a place for each slot; where it answers Busy, there are some clocks in them. Takes no
-    /// memory.
+    /// Tries once to sample the clocks of all slots after one number of changes, which it returns.
+    /// `into` needs an entry for each slot; after `Busy` it contains arbitrary clocks. Does not
+    /// allocate.
     pub fn try_sample_all(&mut self, into: &mut [Clock]) -> Result<u64, Busy>
         requires { length into.old ≡ length self.old.knows.plan.parents }
         ensures row { self.new.row ≡ self.old.row }

@@ -11,7 +11,7 @@ use crate::plays::{
 };
 use crate::view::{Board, RowSeat};
 
-/// The writer opens the change after so many.
+/// The writer opens the next change after the first `count`.
 pub(crate) fn open_change(board: &Board, seat: &mut RowSeat, count: u64)
     requires board { seat.old.table_id ≡ board.now.shared.table_id }
     requires words { 0 < board.now.shared.table_id.words }
@@ -38,7 +38,7 @@ pub(crate) fn put_word(board: &Board, seat: &mut RowSeat, place: usize, word: u6
     board.shared.store::<Putting>(seat, place + 1, word);
 }
 
-/// The writer closes the change after so many.
+/// The writer closes the next change after the first `count`.
 pub(crate) fn close_change(board: &Board, seat: &mut RowSeat, count: u64)
     requires board { seat.old.table_id ≡ board.now.shared.table_id }
     requires words { 0 < board.now.shared.table_id.words }
@@ -67,7 +67,7 @@ pub(crate) fn own_word(board: &Board, seat: &mut RowSeat, place: usize) -> u64
     board.shared.load::<Owning>(seat, place + 1)
 }
 
-/// The writer loads the number, which is at least twice that of which it was told.
+/// The writer loads the sequence number, which is at least twice the count that it was told.
 pub(crate) fn own_number(board: &Board, seat: &mut RowSeat)
     requires board { seat.old.table_id ≡ board.now.shared.table_id }
     requires words { 0 < board.now.shared.table_id.words }

@@ -1,5 +1,5 @@
-//! What the seats of a row know, and the rule of the row. No value of these types is made: they are
-//! for contracts alone.
+//! What the seats of a row know, and the invariant of the row. These types exist for contracts
+//! only; no value of them is created.
 
 use atomic_table::{Seat, Table, TableRule};
 use proc_plan::Plan;
@@ -9,22 +9,22 @@ use std::alloc::Global;
 pub struct WriterView {
     /// The plan whose changes it makes.
     pub plan: Plan,
-    /// How many of them are in the row.
+    /// The number of its changes that are in the row.
     pub count: u64,
-    /// The words behind the sequence number, as they stand: nine for each slot.
+    /// The words after the sequence number: nine for each slot.
     pub body: [u64; 0],
     /// A change is open: words are being stored.
     pub changing: bool,
-    /// The greatest number of changes of which a reader told it.
+    /// The greatest number of changes that a reader reported to it.
     pub told: u64,
 }
 
-/// A try to read words that stood together.
+/// A try to read words that were in the row together.
 pub enum Attempt {
-    /// There is none.
+    /// No try is open.
     Closed,
-    /// The sequence number with which it began, and the places and values of the words loaded
-    /// since, the last one first.
+    /// The sequence number with which the try began, and the places and values of the words loaded
+    /// since, the last first.
     Open(u64, [(u64, u64); 0]),
 }
 
@@ -32,27 +32,27 @@ pub enum Attempt {
 pub struct ReaderView {
     /// The plan of the row.
     pub plan: Plan,
-    /// The greatest number of changes that it has seen in the row.
+    /// The greatest number of changes that the reader has seen in the row.
     pub seen: u64,
-    /// How often it loaded the sequence number.
+    /// The number of loads of the sequence number.
     pub loads: u64,
-    /// How many tries met a change.
+    /// The number of tries that met a change.
     pub met: u64,
-    /// The number of changes that each try that succeeded gave, in their order.
+    /// The number of changes of each successful try, in order.
     pub got: [u64; 0],
-    /// The sequence number loaded before the last one.
+    /// The second-last sequence number loaded.
     pub first: u64,
-    /// The sequence number loaded last.
+    /// The last sequence number loaded.
     pub second: u64,
-    /// The try that is open, if one is.
+    /// The current try.
     pub attempt: Attempt,
 }
 
-/// A number of changes, written down for another seat.
+/// A number of changes, recorded for another seat.
 pub struct Note {
     /// The plan of the row.
     pub plan: Plan,
-    /// So many changes were in the row.
+    /// At least this many changes were in the row.
     pub number: u64,
 }
 
@@ -68,7 +68,7 @@ pub enum View {
     Reader(ReaderView),
 }
 
-/// The rule of a row: what its words and the views of its seats tell of each other, between any two
+/// The invariant of a row: how its words and the views of its seats are related between any two
 /// steps.
 pub struct RowRule;
 
@@ -80,8 +80,8 @@ impl TableRule<(), View, Plan> for RowRule {
     ghost first = { first_view };
 }
 
-/// The shared words of a row. Of what `atomic_table` calls slots it has none.
+/// The shared words of a row. It has none of what `atomic_table` calls slots.
 pub(crate) type Board = Table<(), View, Plan, RowRule, Global>;
 
-/// Who steps on a row.
+/// A participant that makes steps on a row.
 pub(crate) type RowSeat = Seat<(), View>;

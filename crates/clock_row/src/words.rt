@@ -8,16 +8,16 @@ use crate::steps::{load_word, own_word, put_word};
 use crate::view::{Board, RowSeat};
 use cpu_clock::Clock;
 
-/// How many words a slot has: seven times, a mask and a start.
+/// The number of words of a slot: seven times, a mask and a start.
 pub(crate) const WORDS: usize = 9;
 
-/// Where the mask stands among them.
+/// The index of the mask among them.
 pub(crate) const MASK_WORD: usize = 7;
 
 /// The bits that a mask may have.
 const MASK_BITS: u64 = 0b111_1111;
 
-/// The words from a place on, as they stand.
+/// The nine words from a place, as the writer loads them.
 pub(crate) fn own_words(board: &Board, seat: &mut RowSeat, from: usize) -> [u64; 9]
     requires board { seat.old.table_id ≡ board.now.shared.table_id }
     requires words { from + 9 < board.now.shared.table_id.words }
@@ -35,7 +35,7 @@ pub(crate) fn own_words(board: &Board, seat: &mut RowSeat, from: usize) -> [u64;
     words
 }
 
-/// Puts these words from a place on. One that stands there already isn't stored: a store costs more
+/// Puts these words from a place. A word that is already there isn't stored: a store costs more
 /// than a load.
 pub(crate) fn put_words(board: &Board, seat: &mut RowSeat, from: usize, words: &[u64; 9])
     requires board { seat.old.table_id ≡ board.now.shared.table_id }
@@ -55,7 +55,7 @@ pub(crate) fn put_words(board: &Board, seat: &mut RowSeat, from: usize, words: &
     }
 }
 
-/// The words from a place on, loaded in a try.
+/// The nine words from a place, loaded in a try.
 pub(crate) fn load_words(board: &Board, seat: &mut RowSeat, from: usize, first: u64) -> [u64; 9]
     requires board { seat.old.table_id ≡ board.now.shared.table_id }
     requires words { from + 9 < board.now.shared.table_id.words }
@@ -76,7 +76,7 @@ pub(crate) fn load_words(board: &Board, seat: &mut RowSeat, from: usize, first: 
     words
 }
 
-/// The clock with these words, where they are a clock's, and else some clock.
+/// The clock with these words, if they are a clock's, and otherwise some clock.
 fn clock_like(mut words: [u64; 9]) -> Clock
     ensures { AreWordsOfClock words → words_of result ≡ words }
 {
@@ -84,7 +84,7 @@ fn clock_like(mut words: [u64; 9]) -> Clock
     Clock::from_words(words)
 }
 
-/// The clocks of all slots, in their order, loaded in a try.
+/// The clocks of all slots, in order, loaded in a try.
 pub(crate) fn load_clocks(board: &Board, seat: &mut RowSeat, into: &mut [Clock], first: u64)
     requires board { seat.old.table_id ≡ board.now.shared.table_id }
     requires words { 9 * length into.old + 1 ≡ board.now.shared.table_id.words }

@@ -20,16 +20,16 @@ use std::alloc::Global;
 use std::marker::Model;
 use std::sync::Arc;
 
-/// The clocks of a processor in a row of shared words: one writer, and any number of readers that
-/// never write.
+/// The clocks of a processor in a row of shared words (a seqlock): one writer, and any number of
+/// readers that never write.
 pub struct Row;
 
-/// Makes the changes of a plan in a row, while readers take clocks out of it. Contracts see which
-/// row it is, and what the writer knows of it.
+/// Makes the changes of a plan in a row, while readers sample its clocks. Contracts see its row,
+/// and what the writer knows of that row.
 ///
-/// It counts tasks, turns clocks and sums interrupt time in [`PlainClocks`] of its own, and brings
-/// into the row what a change turned there. Interrupt time stays beside the row, where no reader
-/// sees it.
+/// It counts tasks, advances clocks and sums interrupt time in its own [`PlainClocks`], and copies
+/// the clocks that a change advanced to the row. Interrupt time isn't in the row, so no reader sees
+/// it.
 #[derive(Drop)]
 pub struct ClockWriter<'a> {
     plan: &'a Plan,
@@ -51,7 +51,7 @@ impl<'a> Model for ClockWriter<'a> {
         IsWriterEnd (arc_value w.board).shared.table_id w.seat w.plan.now w.clocks };
 }
 
-// A plan is whole, as it tells with its length.
+// A plan is well-formed, as its length shows.
 fn see_whole(plan: &Plan)
     ensures { IsPlan plan.now }
 {
@@ -59,8 +59,8 @@ fn see_whole(plan: &Plan)
 }
 
 impl Row {
-    /// The row of a plan that knows the parents of so many slots, before the first change. The
-    /// writer takes all memory that it needs here; each reader takes some of its own.
+    /// The row of a plan with `slots` slots, before the first change. Allocates everything that the
+    /// writer needs; each reader allocates its own part.
     pub fn make(alloc: Global, plan: &Plan, slots: u32) -> Result<ClockWriter<'_>, NoMemory>
         requires { slots ≡ length plan.now.parents }
         ensures { IfOk result (λ writer.
@@ -94,7 +94,8 @@ impl<'a> ProcClocks for ClockWriter<'a> {
     }
 
     /// Makes the next change of the plan: afterwards the words of each slot are a clock after it. A
-    /// slot whose mask stays keeps its nine words. Takes no memory, and waits for no reader.
+    /// slot whose mask doesn't change keeps its nine words. Does not allocate, and waits for no
+    /// reader.
     fn apply(&mut self)
         requires { self.old.knows.count < length self.old.knows.plan.changes }
         ensures plan { self.new.knows.plan ≡ self.old.knows.plan }
@@ -107,7 +108,7 @@ impl<'a> ProcClocks for ClockWriter<'a> {
         make_change(&self.board, &mut self.seat, self.plan, &mut self.clocks);
     }
 
-    /// The clock of a slot, out of its words in the row. Takes no memory.
+    /// The clock of a slot, from its words in the row. Does not allocate.
     fn own(&mut self, slot: Slot) -> Clock
         requires { slot.0 < length self.old.knows.plan.parents }
         ensures same { self.new ≡ self.old }
@@ -119,8 +120,8 @@ impl<'a> ProcClocks for ClockWriter<'a> {
 }
 
 impl<'a> IrqClocks for ClockWriter<'a> {
-    /// The interrupt time (ns) of a slot, out of the writer's own clocks: the row has none. Takes
-    /// no memory.
+    /// The interrupt time (ns) of a slot, from the writer's own clocks: the row doesn't have it.
+    /// Does not allocate.
     fn own_irq(&mut self, slot: Slot) -> u64
         requires { slot.0 < length self.old.knows.plan.parents }
         ensures same { self.new ≡ self.old }
@@ -132,7 +133,7 @@ impl<'a> IrqClocks for ClockWriter<'a> {
 }
 
 impl<'a> ClockWriter<'a> {
-    /// A reader of the row, which has seen the changes that were made.
+    /// A new reader of the row, which has seen the changes made so far.
     pub fn reader(&mut self) -> Result<ClockReader, NoMemory>
         ensures same { self.new ≡ self.old }
         ensures row { IfOk result (λ reader. reader.row ≡ self.old.row) }
@@ -148,8 +149,8 @@ impl<'a> ClockWriter<'a> {
         })
     }
 
-    /// Tells a reader of the row how many changes were made: it has then seen at least so many, and
-    /// no fewer than before. It takes no memory, and always answers Ok.
+    /// Tells a reader of the row how many changes were made: the reader has then seen at least that
+    /// many. Does not allocate, and always returns Ok.
     pub fn meet(&mut self, reader: &mut ClockReader) -> Result<(), NoMemory>
         requires { reader.old.row ≡ self.old.row }
         ensures ok { result ≡ Ok tt }
@@ -163,8 +164,8 @@ impl<'a> ClockWriter<'a> {
         Ok(())
     }
 
-    /// Learns from a reader of the row what it has seen: that is at most the number of changes that
-    /// were made. It takes no memory, and always answers Ok.
+    /// Learns how many changes a reader of the row has seen, which is at most the number made. Does
+    /// not allocate, and always returns Ok.
     pub fn settle(&mut self, reader: &mut ClockReader) -> Result<(), NoMemory>
         requires { reader.old.row ≡ self.old.row }
         ensures ok { result ≡ Ok tt }
