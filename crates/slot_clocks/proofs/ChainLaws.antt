@@ -38,7 +38,7 @@ leads parents (Some place) high = refl
 
 -- ---- places on a chain
 
--- from a height that isn't above a slot's, the slot is reached only where the height is the slot's
+-- from a height that isn't above a slot's, the slot is reached only if the height is the slot's
 pub reaches_at : (parents : List (Option ℕ)) (place slot : ℕ) → AreOlder parents → place ≤ slot + 1 → reaches parents place slot ≡ (place == slot + 1)
 reaches_at parents zero slot older within = let apart : (0 == slot + 1) ≡ false = grind (arith, nat_tests) in sym apart
 reaches_at parents (suc p) slot older within =
@@ -71,11 +71,11 @@ parent_height : (parents : List (Option ℕ)) (parent : Option Slot) (slot : ℕ
 parent_height parents None slot older is = omega arith
 parent_height parents (Some p) slot older is = omega (arith, older slot p.0 (sym is))
 
--- a chain that has passed a slot stands below it
+-- a chain that has passed a slot is below it
 pub passed_height : (parents : List (Option ℕ)) (place : ℕ) (parent : Option Slot) (slot : ℕ) → AreOlder parents → number_of_slot parent ≡ parent_of parents slot → place ≤ slot + 1 → passed (slot + 1) (height parent) place ≤ slot
 passed_height parents place parent slot older is within = lower_by (place == slot + 1) place (height parent) slot (parent_height parents parent slot older is) within refl
 
--- a chain below a slot doesn't stand there
+-- a chain below a slot isn't at that slot
 pub not_at : (place slot : ℕ) → place ≤ slot → (place == slot + 1) ≡ false
 not_at place slot below = grind (arith, nat_tests, below)
 
@@ -83,6 +83,6 @@ not_at place slot below = grind (arith, nat_tests, below)
 pub stands : (parents : List (Option ℕ)) (place slot : ℕ) → AreOlder parents → place ≡ slot + 1 → reaches parents place slot ≡ true
 stands parents place slot older is = let at : place ≡ suc slot = omega (arith, is) in ap (λ n. reaches parents n slot) at ∙ under_itself parents slot older
 
--- behind the root nothing is reached
+-- after the root nothing is reached
 pub ended : (parents : List (Option ℕ)) (place slot : ℕ) → place ≡ 0 → reaches parents place slot ≡ false
 ended parents place slot is = ap (λ n. reaches parents n slot) is

@@ -1,4 +1,4 @@
--- The table of the counts that four bits stand for.
+-- The table of the counts that four bits represent.
 use Rattle.std.proofs.Common.{◌≡◌, ℕ, zero, suc, ◌+◌, ◌*◌, ◌<◌, List, [], ◌∷◌, refl, sym, ap, ◌∙◌, arith, Bool, true, false, ◌==◌, ◌⊎◌, ⊎_elim}
 use Rattle.std.specs.Prelude.{◌&&◌, slice_index_or}
 use Rattle.std.proofs.lemmas.Bool.Decides.{nat_tests}

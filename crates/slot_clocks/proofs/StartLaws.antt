@@ -1,4 +1,4 @@
--- Where the walks of a change may start.
+-- The heights at which the walks of a change may start.
 use Rattle.std.proofs.Common.{◌≡◌, ℕ, ◌≤◌, ◌<◌, refl, sym, ap, ◌∙◌, arith, Bool, true, false, ◌⊎◌, inl, inr, Option, None, Some}
 use Rattle.std.specs.Prelude.{IfSome, if◌then◌else◌}
 use Rattle.std.specs.Option.{option_or}
@@ -11,13 +11,12 @@ use Rattle.slot_clocks.specs.Walk.{MayStart, MayStartAt, chains_of, height, slot
 
 -- ---- each at its slot
 
--- a chain at the slot that is told
+-- a chain at the change's slot
 at_slot : {A : Type 0} (side : Option (Slot × A)) → MayStartAt side (height (slot_in side))
 at_slot None = tt
 at_slot (Some pair) = refl
 
--- the first chain, where it stands for a switched account, and where it stands for counts that are
--- taken
+-- the first chain, if it is for a switch of accounting, and if it is for counts that are subtracted
 at_account : (account : Option (Slot × Bool)) (minus : Option (Slot × Counts)) → MayStartAt account (height (option_or (slot_in account) (slot_in minus)))
 at_account None minus = tt
 at_account (Some switched) minus = refl
@@ -39,18 +38,18 @@ may_start current change alone = record {
 
 -- ---- together
 
--- a chain that stands nowhere may start with another
+-- a chain without a slot may start with another
 moved : {A : Type 0} (side : Option (Slot × A)) (place other : ℕ) → MayStartAt side place → (place ≡ 0) ⊎ (place ≡ other) → MayStartAt side other
 moved None place other at either = tt
 moved (Some pair) place other at (inl nowhere) = absurd (cc (at, nowhere))
 moved (Some pair) place other at (inr same) = sym same ∙ at
 
--- so may that of the task that ran, where what is told of the running task stays
+-- so may the chain of the task that ran, if the running task and its stall don't change
 moved_before : (current : Option (Slot × Bool)) (change : Change) (stays : Bool) (other : ℕ) → (stays ≡ true → current ≡ change.current) → ((if stays then 0 else height (slot_in current)) ≡ 0) ⊎ ((if stays then 0 else height (slot_in current)) ≡ other) → MayStartAt current other ⊎ (current ≡ change.current)
 moved_before current change true other same either = inr (same refl)
 moved_before current change false other same either = inl (moved current (height (slot_in current)) other (at_slot current) either)
 
--- the chains of a change may start at one height, where each stands there or nowhere
+-- the chains of a change may start at one height, if each is there or has no slot
 pub start_together : (current : Option (Slot × Bool)) (change : Change) (stays : Bool) (other : ℕ) → (stays ≡ true → current ≡ change.current) → IfSome change.account (λ _. change.minus ≡ None) → (chains : Chains) → chains ≡ chains_of current change
     → (chains.minus ≡ 0) ⊎ (chains.minus ≡ other) → (chains.plus ≡ 0) ⊎ (chains.plus ≡ other) → ((if stays then 0 else chains.before) ≡ 0) ⊎ ((if stays then 0 else chains.before) ≡ other)
     → MayStart current change (record { minus = other; plus = other; before = other; after = chains.after })
@@ -74,7 +73,7 @@ first_low : (account : Option (Slot × Bool)) (minus : Option (Slot × Counts)) 
 first_low None minus slots below part_below = side_low minus slots part_below
 first_low (Some switched) minus slots below part_below = omega (arith, below)
 
--- no chain of a change stands above all slots
+-- no chain of a change is above all slots
 pub starts_low : (current : Option (Slot × Bool)) (change : Change) (slots : ℕ) → HasSlotsBelow slots change → IfSome current (λ running. running.0.0 < slots) → top (chains_of current change) ≤ slots
 starts_low current change slots below running =
     let minus = first_low change.account change.minus slots below.account below.minus in

@@ -31,7 +31,7 @@ current_is parents slot (Some running) here reached = reached
 
 -- ---- a group that isn't reached
 
--- where the running task isn't in the group, it doesn't matter whether it is in a stall
+-- if the running task isn't in the group, it doesn't matter whether it is in a stall
 told_off : (state : State) (counts : Counts) (one other : Bool) → tells state counts false one ≡ tells state counts false other
 told_off IoSome counts one other = refl
 told_off IoFull counts one other = refl
@@ -49,7 +49,7 @@ not_in : (parents : List (Option ℕ)) (slot : ℕ) (current : Option (Slot × B
 not_in parents slot None place start reached = refl
 not_in parents slot (Some running) place start reached = ap (λ (h : ℕ). reaches parents h slot) (sym start) ∙ reached
 
--- no switched account is for a group that isn't reached from where the walk to it may start
+-- no switch of accounting is of a group that isn't reached from where the walk to it may start
 pub is_apart : (parents : List (Option ℕ)) (slot : ℕ) (account : Option (Slot × Bool)) (place : ℕ) → AreOlder parents → MayStartAt account place → reaches parents place slot ≡ false → IsApart account slot
 is_apart parents slot None place older start reached = tt
 is_apart parents slot (Some account) place older start reached = λ same. cc (reached, stands parents place slot older (place_is place account.0.0 slot start same))

@@ -34,7 +34,8 @@ pub record IsAhead (parents : List (Option ℕ)) (starts chains : Chains) (slot 
   pub before : reaches parents chains.before slot ≡ reaches parents starts.before slot
   pub after : reaches parents chains.after slot ≡ reaches parents starts.after slot
 
--- a group went through the change, or the walk is to come to it yet where a chain reaches it
+-- the change was applied to a group, or the group is unchanged, and the walk is yet to visit it if
+-- a chain reaches it
 abbrev pub IsWalked : List (Option ℕ) → Change → Chains → Chains → ℕ → Cell → Cell → Type 0
 IsWalked parents change starts chains slot old now = (IsTurned parents change slot old now × IsBehind parents chains slot) ⊎ ((now ≡ old) × IsAhead parents starts chains slot)
 
@@ -95,7 +96,7 @@ share_at_top parents current change starts chains here slot older start at is ah
 
 -- ---- one step
 
--- the highest slot is behind the walk once it was passed
+-- the walk has visited the highest slot once it passed it
 behind_passed : (parents : List (Option ℕ)) (chains : Chains) (parent : Option Slot) (slot : ℕ) → AreOlder parents → number_of_slot parent ≡ slice_index_or parents slot None → top chains ≡ slot + 1 → IsBehind parents (all_passed (slot + 1) (height parent) chains) slot
 behind_passed parents chains parent slot older up is =
     let within = within_top chains (slot + 1) is in
@@ -166,7 +167,7 @@ top_passed parents chains parent here slot older up at is =
 
 -- ---- the end
 
--- behind the roots each group went through the change
+-- after the roots the change was applied to each group
 pub all_walked : (parents : List (Option ℕ)) (current : Option (Slot × Bool)) (change : Change) (starts chains : Chains) (slot : ℕ) (old now : Cell) → AreOlder parents → MayStart current change starts → top chains ≡ 0 → (IsApart change.account slot → MaskTells parents current slot old) → IsUpTo change.at old.clock
     → IsWalked parents change starts chains slot old now → IsTurned parents change slot old now
 all_walked parents current change starts chains slot old now older start is told up_to (inl done) = done.0
@@ -189,13 +190,13 @@ together_passed here parent chains are = record { plus = ap (passed here parent)
 pub parent_number : (parents : List (Option Slot)) (slot : ℕ) → number_of_slot (slice_index_or parents slot None) ≡ slice_index_or (parent_numbers parents) slot None
 parent_number parents slot = sym (get_or-map number_of_slot parents slot None)
 
--- the cell of a slot that has one, whatever stands for others
+-- the cell of a slot that has one, whatever other slots give
 pub cell_here : (cells : List Cell) (slot : ℕ) (other : Cell) → slot < length cells → slice_index_or cells slot other ≡ cell_in cells slot
 cell_here cells slot other room = get_or_default cells slot other zero_cell room
 
 -- ---- a group that the walk comes to
 
--- what a turn tells, by what the change takes, adds and runs there
+-- the effect of a change on a group, from what it subtracts, adds and runs there
 pub turned_here : (parents : List (Option ℕ)) (change : Change) (chains : Chains) (here slot : ℕ) (old now new : Cell) → IsShare parents change chains here slot → now ≡ old
     → Follows now.counts (if chains.minus == here then counts_in change.minus else no_counts) (if chains.plus == here then counts_in change.plus else no_counts) new.counts
     → new.on ≡ now.on → ClockFollows now.clock change.at new.clock → StaysByMask now.clock new.clock → IsUpTo change.at new.clock → ((state : State) → mask_holds new.clock.mask state ≡ (new.on && tells state new.counts (chains.after == here) (is_current_stalled change.current))) → IsTurned parents change slot old new
@@ -218,7 +219,7 @@ can_turn parents change chains here slot old now share same fits =
     (subst (λ p. CanFollow old.counts (if chains.minus == here then counts_in change.minus else no_counts) p) share.plus
     (subst (λ m. CanFollow old.counts m (on_chain parents slot change.plus)) share.minus fits))
 
--- its mask tells what its counts do once the change was made, where the running task stays
+-- if the running task doesn't change, a group's mask has the states of its counts after the change
 pub told_here : (parents : List (Option ℕ)) (current : Option (Slot × Bool)) (change : Change) (chains : Chains) (here slot : ℕ) (old now : Cell) → IsShare parents change chains here slot → now ≡ old → (IsApart change.account slot → MaskTells parents current slot old) → current ≡ change.current → (chains.minus == here) ≡ false
     → (state : State) → mask_holds now.clock.mask state ≡ (now.on && tells state now.counts (chains.after == here) (is_current_stalled change.current))
 told_here parents current change chains here slot old now share same told stays off =

@@ -1,4 +1,4 @@
--- What the numbers of a packed change stand for: the counts of one task, and a running task.
+-- What the numbers in a packed change represent: the counts of one task, and a running task.
 use Rattle.std.specs.Prelude.{◌≡◌, ℕ, zero, suc, ◌/◌, ◌%◌, ◌==◌, Bool, Option, None, Some}
 use Rattle.psi_base.specs.declared.event.Slot.{Slot}
 use Rattle.psi_counts.specs.declared.changes.Counts.{Counts}
@@ -8,20 +8,20 @@ use Rattle.psi_counts.specs.Touch.{is_current_stalled}
 abbrev pub slot_by : ℕ → Slot
 slot_by number = record { 0 = number }
 
--- the counts that four bits stand for, one each: 1 where it is set, and 0 where it isn't
+-- the counts that four bits represent, one bit each: 1 if it is set, and 0 if it isn't
 abbrev pub counts_by : ℕ → Counts
 counts_by bits = record { io = bits % 2; stalled = bits / 2 % 2; running = bits / 4 % 2; stalled_running = bits / 8 % 2 }
 
--- the running task with its slot at a height, in a memory stall or not, and none at 0
+-- the running task whose slot is at a height, in a memory stall or not; `None` at height 0
 abbrev pub running_at : ℕ → Bool → Option (Slot × Bool)
 running_at zero stalled = None
 running_at (suc slot) stalled = Some (slot_by slot, stalled)
 
--- the running task that a number stands for: twice the height of its slot, and one more where it is
--- in a memory stall
+-- the running task that a number represents: twice the height of its slot, plus one if it is in a
+-- memory stall
 abbrev pub running_by : ℕ → Option (Slot × Bool)
 running_by number = running_at (number / 2) (number % 2 == 1)
 
--- an odd number stands for a task in a stall
+-- an odd number represents a task in a stall
 abbrev pub IsRunning : ℕ → Type 0
 IsRunning number = is_current_stalled (running_by number) ≡ (number % 2 == 1)

@@ -19,20 +19,20 @@ parent_numbers parents = map number_of_slot parents
 
 -- ---- clocks
 
--- a group that no change has reached: no task is counted, its account is on, and no state held for
--- any time
+-- a group before its first change: no task is counted, its accounting is on, and it was in no state
+-- for any time
 abbrev pub zero_cell : Cell
 zero_cell = record { counts = no_counts; on = true; clock = zero_clock }
 
--- The clocks of a processor: the counts and the clock of each group and whether its account is on,
--- by its slot; the slot of the task that runs there and whether it is in a memory stall; and the
--- moment (ns) of the last change. No change has reached a group beyond the list.
+-- The clocks of a processor: for each group, by slot, its counts, its clock and whether its
+-- accounting is on; the slot of the running task and whether it is in a memory stall; and the time
+-- (ns) of the last change. No change has reached a group beyond the list.
 pub record ClocksView : Type 0 where
   pub cells : List Cell
   pub current : Option (Slot × Bool)
   pub last : ℕ
 
--- the clocks of so many slots, before the first change
+-- the clocks of `slots` slots, before the first change
 abbrev pub first_clocks : ℕ → ClocksView
 first_clocks slots = record { cells = replicate slots zero_cell; current = None; last = 0 }
 
@@ -44,21 +44,21 @@ cell_in cells slot = slice_index_or cells slot zero_cell
 abbrev pub cell_at : ClocksView → ℕ → Cell
 cell_at clocks slot = cell_in clocks.cells slot
 
--- a cell's mask has the states that its counts tell, with the task that runs, and none where its
--- account is off
+-- a cell's mask has the states that follow from its counts and the running task, and none if its
+-- accounting is off
 abbrev pub MaskTells : List (Option ℕ) → Option (Slot × Bool) → ℕ → Cell → Type 0
 MaskTells parents current slot cell =
     (state : State) → mask_holds cell.clock.mask state ≡
     (cell.on && tells state cell.counts (is_current_in parents slot current) (is_current_stalled current))
 
--- so it is of each group
+-- each group's mask has these states
 abbrev pub AreTold : List (Option ℕ) → ClocksView → Type 0
 AreTold parents clocks = (slot : ℕ) → MaskTells parents clocks.current slot (cell_at clocks slot)
 
 -- ---- changes
 
--- counts can follow a change: what is taken is no more than what was there and what is added, and
--- that fits 32 bits
+-- counts can follow a change: what is subtracted is at most the count plus what is added, which
+-- fits in 32 bits
 pub record CanFollow (counts minus plus : Counts) : Type 0 where
   pub io : (minus.io ≤ counts.io + plus.io) × (counts.io + plus.io < 2 ^ 32)
   pub stalled : (minus.stalled ≤ counts.stalled + plus.stalled) × (counts.stalled + plus.stalled < 2 ^ 32)
@@ -66,53 +66,53 @@ pub record CanFollow (counts minus plus : Counts) : Type 0 where
   pub stalled_running : (minus.stalled_running ≤ counts.stalled_running + plus.stalled_running)
       × (counts.stalled_running + plus.stalled_running < 2 ^ 32)
 
--- the counts of each group can follow what a change takes and adds on its chains
+-- the counts of each group can follow what a change subtracts and adds on its chains
 abbrev pub AllCanFollow : List (Option ℕ) → Change → ClocksView → Type 0
 AllCanFollow parents change clocks =
     (slot : ℕ) → CanFollow (cell_at clocks slot).counts (on_chain parents slot change.minus) (on_chain parents slot change.plus)
 
--- the counts of each group followed what a change takes and adds on its chains
+-- the counts of each group followed what a change subtracts and adds on its chains
 abbrev pub AllFollow : List (Option ℕ) → Change → ClocksView → ClocksView → Type 0
 AllFollow parents change old new =
     (slot : ℕ) → Follows (cell_at old slot).counts (on_chain parents slot change.minus) (on_chain parents slot change.plus)
     (cell_at new slot).counts
 
--- which accounts are on follows the one that a change switches
+-- each group's accounting is on or off as before, except in the group that a change switches
 abbrev pub AllOnWith : Change → ClocksView → ClocksView → Type 0
 AllOnWith change old new = (slot : ℕ) → (cell_at new slot).on ≡ on_with slot (cell_at old slot).on change.account
 
--- the clock of each group followed over a change at a moment
+-- the clock of each group followed a change at a time (ns)
 abbrev pub AllClocksFollow : ℕ → ClocksView → ClocksView → Type 0
 AllClocksFollow at old new = (slot : ℕ) → ClockFollows (cell_at old slot).clock at (cell_at new slot).clock
 
--- a clock whose mask stayed is the same clock
+-- a clock with an unchanged mask is unchanged
 abbrev pub StaysByMask : ClockView → ClockView → Type 0
 StaysByMask old new = new.mask ≡ old.mask → new ≡ old
 
--- the clock of each group whose states stayed is the same clock
+-- the clock of each group with an unchanged mask is unchanged
 abbrev pub AllStayByMask : ClocksView → ClocksView → Type 0
 AllStayByMask old new = (slot : ℕ) → StaysByMask (cell_at old slot).clock (cell_at new slot).clock
 
--- the clock of each group is whole
+-- the clock of each group is well-formed
 abbrev pub AreWhole : ClocksView → Type 0
 AreWhole clocks = (slot : ℕ) → IsWholeClock (cell_at clocks slot).clock
 
 -- ---- what is kept of each clock
 
--- a whole clock started at a moment (ns) or before it, and no state held for longer than up to the
--- moment
+-- a well-formed clock started at or before a time (ns), and no state lasted for longer than that
+-- time
 pub record IsUpTo (at : ℕ) (clock : ClockView) : Type 0 where
   pub whole : IsWholeClock clock
   pub start : clock.start ≤ at
   pub times : (state : State) → opened_time clock at state ≤ at
 
--- the clocks of a processor are up to its last change, which a trace may reach
+-- the clocks of a processor are up to its last change, which is within a trace's limit
 pub record AreUpTo (cells : List Cell) (last : ℕ) : Type 0 where
   pub each : (slot : ℕ) → IsUpTo last (cell_in cells slot).clock
   pub early : last ≤ last_moment
 
 -- ---- laws
 
--- At first each mask tells that nothing holds, whatever the groups.
+-- Before the first change each mask has no state, whatever the groups are.
 abbrev pub FirstAreTold : Type 0
 FirstAreTold = (parents : List (Option ℕ)) (slots : ℕ) → AreTold parents (first_clocks slots)

@@ -1,4 +1,4 @@
-//! What is kept of one group.
+//! The state of one group on a processor.
 
 ghost use Rattle.std.specs.Prelude.{◌≡◌, ◌&&◌, ◌+◌, ◌<◌, ◌≤◌, ◌^◌};
 ghost use Rattle.psi_base.specs.declared.event.State.{State};
@@ -12,7 +12,7 @@ use cpu_clock::Clock;
 use psi_base::Ns;
 use state_mask::{Counts, Mask, mask_of};
 
-/// No task is counted.
+/// Counts of no task.
 pub(crate) const NO_COUNTS: Counts = Counts {
     io: 0,
     stalled: 0,
@@ -20,17 +20,16 @@ pub(crate) const NO_COUNTS: Counts = Counts {
     stalled_running: 0,
 };
 
-/// The counts and the clock of a group on a processor. They go on while its account is off, but
-/// then no state holds.
+/// The counts and the clock of a group on a processor. They are updated while its accounting is off
+/// too, but then it is in no state.
 #[derive(Clone, Copy, Debug)]
 pub(crate) struct Cell {
     pub(crate) counts: Counts,
-    /// Its account is on.
+    /// Its accounting is on.
     pub(crate) on: bool,
     pub(crate) clock: Clock,
 }
 
-/// A count to which some are added, and from which some are then taken.
 fn moved(count: u32, minus: u32, plus: u32) -> u32
     requires taken { minus ≤ count + plus }
     requires fits { count + plus < 2 ^ 32 }
@@ -39,7 +38,7 @@ fn moved(count: u32, minus: u32, plus: u32) -> u32
     count + plus - minus
 }
 
-/// Counts to which some are added, and from which some are then taken.
+/// The counts after a change that adds some and subtracts others.
 fn follow(counts: &Counts, minus: &Counts, plus: &Counts) -> Counts
     requires { CanFollow counts.now minus.now plus.now }
     ensures { Follows counts.now minus.now plus.now result }
@@ -57,7 +56,7 @@ fn follow(counts: &Counts, minus: &Counts, plus: &Counts) -> Counts
 }
 
 impl Cell {
-    /// A group that no change has reached.
+    /// A group before its first change.
     pub(crate) fn zero() -> Cell
         ensures { result ≡ zero_cell }
     {
@@ -68,7 +67,7 @@ impl Cell {
         }
     }
 
-    // The states that hold: none where the account is off.
+    // The states of the group: none if its accounting is off.
     #[inline(always)]
     fn mask(&self, on_cpu: bool, current_stalled: bool) -> Mask
         ensures few { IsMask result }
@@ -83,8 +82,8 @@ impl Cell {
         }
     }
 
-    /// Follows a change at a moment (ns), by what it takes and adds for this group. The clock stays
-    /// where no state changes.
+    /// Applies a change at a time (ns), which subtracts and adds these counts for this group. The
+    /// clock is unchanged if no state changes.
     #[inline(always)]
     pub(crate) fn turn(
         &mut self,

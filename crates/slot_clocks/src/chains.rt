@@ -1,4 +1,4 @@
-//! The walk up the chains of groups that a change concerns.
+//! The walk up the chains of groups that a change affects.
 
 ghost use Rattle.std.specs.Prelude.{◌≡◌, ◌&&◌, ◌⊎◌, ◌+◌, ◌==◌, ◌<◌, ◌≤◌, length, true, false, if◌then◌else◌, None, IfSome};
 ghost use Rattle.psi_base.specs.declared.event.State.{State};
@@ -15,38 +15,35 @@ use crate::part::Part;
 use crate::running::Running;
 use psi_base::{Ns, Slot};
 
-/// How high the walks up the chains of the four slots stand that a change concerns. A height is one
-/// more than the slot, so that one comparison tells both whether a chain stands somewhere and
-/// where; it is 0 behind the root.
+/// The current heights on the four chains of a change. A height is one more than the slot, and 0
+/// after the root, so that one comparison shows both whether a chain goes on and at which slot.
 #[derive(Clone, Copy)]
 pub(crate) struct Chains {
-    /// Of the counts that are taken.
+    /// The chain of the counts that are subtracted.
     minus: u64,
-    /// Of the counts that are added.
+    /// The chain of the counts that are added.
     plus: u64,
-    /// Of the task that ran up to the change.
+    /// The chain of the task that ran up to the change.
     before: u64,
-    /// Of the task that runs from the change on.
+    /// The chain of the task that runs after the change.
     after: u64,
 }
 
-/// What a change means to each group on its chains.
+/// The effect of a change on each group on its chains.
 #[derive(Drop)]
 pub(crate) struct Parts {
-    /// When it is (ns).
+    /// Its time (ns).
     at: Ns,
-    /// The counts that are taken.
+    /// The counts that are subtracted.
     minus: Part,
     /// The counts that are added.
     plus: Part,
-    /// The running task is in a memory stall from the change on.
+    /// The task that runs after the change is in a memory stall.
     stalled: bool,
-    /// What is told of the running task stays: its group, and whether it is in a memory stall; or
-    /// none runs before and after.
+    /// The running task's group and stall don't change, or no task runs before and after.
     stays: bool,
 }
 
-// The height at which a walk up from a slot begins.
 fn height(slot: Option<Slot>) -> u64
     ensures { result ≡ height slot }
 {
@@ -56,14 +53,15 @@ fn height(slot: Option<Slot>) -> u64
     }
 }
 
-// The height on a chain once the walk has passed one, behind which the parent is.
+// The next height on a chain: the parent's if the chain is at the height that the walk passes.
 fn pass(place: u64, here: u64, parent: u64) -> u64
     ensures { result ≡ passed here parent place }
 {
     if place == here { parent } else { place }
 }
 
-// A chain at a height may go with one that is at another: they are the same, or it stands nowhere.
+// Whether a chain at height `place` can be merged with one at height `other`: both are at the same
+// height, or `place` is no slot.
 fn fits(place: u64, other: u64) -> bool
     ensures { result ≡ true → (place ≡ 0) ⊎ (place ≡ other) }
 {
@@ -71,9 +69,9 @@ fn fits(place: u64, other: u64) -> bool
 }
 
 impl Chains {
-    /// The chains of a change, at their slots. The current task is the one that ran up to it. A
-    /// change with a switched account takes no counts, and the chain of those begins at the slot of
-    /// the switched account: the walk has to come there.
+    /// The chains of a change, at their slots, if `current` ran up to it. A change that switches
+    /// accounting subtracts no counts, so the chain `minus` begins at the switched slot, which the
+    /// walk has to visit.
     fn of(current: &Running, change: &PackedChange) -> Chains
         ensures { result ≡ chains_of current.now change.now }
     {
@@ -86,7 +84,7 @@ impl Chains {
         }
     }
 
-    /// The greatest height at which a chain stands.
+    /// The greatest height of the four chains.
     pub(crate) fn top(&self) -> u64
         ensures { result ≡ top self.now }
     {
@@ -95,8 +93,8 @@ impl Chains {
         counted.max(running)
     }
 
-    // Takes the chains that stand at a height to that of the parent. Where those of the counts and
-    // of the task that ran go together, they are one.
+    // Moves the chains at height `here` up to that of the parent. If the chains of the counts and
+    // of the task that ran are together, they are handled as one.
     fn pass(&mut self, here: u64, parent: u64, together: bool)
         requires together { together ≡ true → AreTogether self.old }
         ensures { self.new ≡ all_passed here parent self.old }
@@ -112,10 +110,9 @@ impl Chains {
         }
     }
 
-    // The chains of a change of a task with those of the counts and of the task that ran together,
-    // where these stand at one slot. One that stands nowhere may go with the others, and so may
-    // that of the task that ran where what is told of the running task stays: it has nothing to
-    // tell then.
+    // The chains of a change of a task, if those of the counts and of the task that ran can start
+    // together, at one slot. A chain without a slot can join the others. So can the chain of the
+    // task that ran if the running task and its stall don't change: nothing changes on it then.
     #[tactic(auto, using(crate::proofs::StartLaws::start_together))]
     #[inline(always)]
     fn together(current: &Running, change: &PackedChange, stays: bool) -> Option<Chains>
@@ -142,7 +139,6 @@ impl Chains {
 }
 
 impl Parts {
-    // What a change means, where this task ran up to it.
     #[inline(always)]
     fn of(current: &Running, change: &PackedChange) -> Parts
         ensures { AreParts current.now change.now result }
@@ -157,9 +153,8 @@ impl Parts {
     }
 }
 
-// Takes the group at a height through a change. Where the change takes and adds nothing there, and
-// what is told of the running task stays, there is nothing to do: it is on the chain of that task
-// alone.
+// Applies a change to the group at a height. If no counts change there and the running task and its
+// stall don't change, there is nothing to do: the group is only on that task's chain.
 #[inline(always)]
 fn turn_at(cell: &mut Cell, parts: &Parts, chains: &Chains, here: u64)
     requires fits { CanFollow cell.old.counts
@@ -198,10 +193,10 @@ fn turn_at(cell: &mut Cell, parts: &Parts, chains: &Chains, here: u64)
     );
 }
 
-// Takes the groups on the chains of a change through it, from where the chains may start. A parent
-// has a smaller number, so they are climbed side by side, always from the greatest slot on, and
-// each group is come to once. Where it is known from the start that they go together, the compiler
-// makes two chains of the four.
+// Applies a change to the groups on its chains, from where the chains start. A parent has a smaller
+// number than its child, so the chains are climbed side by side, always from the greatest slot, and
+// each group is visited once. If `together` is known at compile time, the compiler merges three of
+// the four chains into one.
 #[inline(always)]
 fn climb(
     cells: &mut [Cell],
@@ -230,7 +225,7 @@ fn climb(
     }
 }
 
-// Climbs each of the four chains by itself. That is rare, so it stands aside.
+// Climbs each of the four chains by itself. This is rare, so it isn't inlined.
 #[inline(never)]
 fn climb_each(
     cells: &mut [Cell],
@@ -248,8 +243,8 @@ fn climb_each(
     climb(cells, parents, current, change, &parts, starts, false);
 }
 
-/// Takes the account that a change switches, if it switches one. Counts and clocks stay until the
-/// walk comes there.
+/// Applies a switch of accounting, if any. Counts and clocks don't change until the walk visits the
+/// group.
 pub(crate) fn switch(cells: &mut [Cell], account: Option<(Slot, bool)>)
     requires made { IfSome account (λ g. g.0.0 < length cells.old) }
     ensures on_with { AreOnWith account cells.old cells.new }
@@ -260,9 +255,8 @@ pub(crate) fn switch(cells: &mut [Cell], account: Option<(Slot, bool)>)
     }
 }
 
-/// Takes the groups on the chains of a change through it. For most changes two chains are enough,
-/// where there could be four: the one of the task that runs from then on, and one for the counts
-/// and the task that ran.
+/// Applies a change to the groups on its chains. For most changes two chains are enough instead of
+/// four: one for the task that runs afterwards, and one for the counts and the task that ran.
 #[inline(always)]
 pub(crate) fn walk(
     cells: &mut [Cell],

@@ -16,16 +16,16 @@ use psi_base::{NoMemory, Ns, Slot};
 use std::alloc::Global;
 use std::marker::Model;
 
-/// The clocks of all groups on one processor, as the changes of that processor so far left them. A
-/// contract sees the counts and the clock of each slot, the processor's running task, and the
-/// moment of the last change.
+/// The clocks of all groups on one processor, after the changes made so far. A contract sees the
+/// counts and the clock of each slot, the processor's running task, and the time of the last
+/// change.
 #[derive(Drop)]
 pub struct SlotClocks {
-    /// By slot, as many as were made at first.
+    /// One cell for each slot.
     cells: Vec<Cell>,
     /// The running task.
     current: Running,
-    /// The moment of the last change, 0 before the first.
+    /// The time (ns) of the last change, 0 before the first.
     last: Ns,
 }
 
@@ -41,7 +41,7 @@ impl Model for SlotClocks {
 }
 
 impl SlotClocks {
-    /// The clocks of so many slots, before the first change. Takes all memory that they will need.
+    /// The clocks of `slots` slots, before the first change. Allocates everything up front.
     pub fn make(alloc: Global, slots: u32) -> Result<SlotClocks, NoMemory>
         ensures { IfOk result (λ clocks. clocks ≡ first_clocks slots) }
     {
@@ -52,13 +52,13 @@ impl SlotClocks {
         })
     }
 
-    /// Makes a change of the processor: the counts of the groups on the chains of the change follow
-    /// it, and so do their clocks. Where the change switches an account, it is that of its group,
-    /// and it has to take no counts. `parents` has the parent of each slot, None for the root;
-    /// there must be clocks for all of them. Takes no memory.
+    /// Applies a change of the processor to the counts and clocks of the groups on its chains. A
+    /// change that switches a group's accounting must subtract no counts. `parents` has the parent
+    /// of each slot, `None` for the root; there must be a clock for each of them. Does not
+    /// allocate.
     ///
-    /// It takes time for each group on the chains of four slots: of the counts that are taken, of
-    /// those that are added, of the task that ran and of the task that runs.
+    /// The time is proportional to the number of groups on the chains of four slots: of the counts
+    /// that are subtracted and added, and of the tasks that run before and after.
     #[tactic(auto, using(crate::proofs::AccountLaws::turned_since))]
     pub fn apply(&mut self, parents: &[Option<Slot>], change: &PackedChange)
         requires older { AreOlder (parent_numbers parents.now) }
@@ -71,7 +71,7 @@ impl SlotClocks {
         requires later { self.old.last ≤ change.now.at }
         requires early { change.now.at ≤ last_moment }
 
-        // Each group follows the change, whether it is on a chain of it or not.
+        // Each group's counts follow the change, whether it is on a chain of it or not.
         ensures counts { AllFollow (parent_numbers parents.now) change.now self.old self.new }
         ensures accounts { AllOnWith change.now self.old self.new }
         ensures clocks { AllClocksFollow change.now.at self.old self.new }
@@ -89,7 +89,7 @@ impl SlotClocks {
         self.last = change.at();
     }
 
-    /// The account of a group is on, by the changes that were made; it is for a slot beyond the
+    /// Whether a group's accounting is on after the changes made so far; true for a slot beyond the
     /// last.
     pub fn is_on(&self, slot: Slot) -> bool
         ensures { result ≡ (cell_at self.now slot.0).on }
@@ -100,8 +100,8 @@ impl SlotClocks {
         }
     }
 
-    /// The clock of a group, and the zero clock for a slot beyond the last. It may be opened to any
-    /// moment from the last change on.
+    /// The clock of a group, and the zero clock for a slot beyond the last. It may be opened at any
+    /// time from the last change on.
     pub fn clock(&self, slot: Slot) -> Clock
         ensures value { result ≡ (cell_at self.now slot.0).clock }
         ensures in_time { (at : ℕ) → self.now.last ≤ at → at ≤ last_moment →

@@ -2,7 +2,7 @@
 
 ghost use Rattle.slot_clocks.specs.Clocks.{FirstAreTold};
 
-/// Before the first change each mask tells that nothing holds, whatever the groups are.
+/// Before the first change each mask has no state, whatever the groups are.
 pub fn law_first_clocks()
     ensures { FirstAreTold }
 {}

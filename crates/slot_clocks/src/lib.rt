@@ -1,8 +1,10 @@
 //! The clocks of all groups on one processor, which follow the changes of that processor.
 //!
-//! [`SlotClocks`] stands for the kernel's `psi_group_cpu` of each group on a processor: a change
-//! walks up the chains of groups that it concerns, as `psi_group_change` is called for each group
-//! above a task.
+//! [`SlotClocks`] corresponds to the kernel's `psi_group_cpu` of each group on a processor: a
+//! change walks up the chains of the groups that it affects, as the kernel calls `psi_group_change`
+//! for each group above a task.
+//!
+//! It doesn't know how a trace becomes changes: proc_plan derives them.
 #![tactic(auto)]
 
 mod cell;

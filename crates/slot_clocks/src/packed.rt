@@ -13,35 +13,36 @@ use psi_base::{Ns, Slot};
 use psi_counts::{Change, Counts};
 use std::marker::Model;
 
-/// What a change tells beside its moment and the running task.
+/// What a change contains besides its time and the running task.
 #[derive(Clone, Copy)]
 enum Kind {
-    /// The counts of one task that are taken and added.
+    /// The counts that one task subtracts and adds.
     Task,
-    /// How long interrupts took.
+    /// The time that interrupts took.
     Irq,
-    /// The account of a group is switched on.
+    /// The accounting of a group is switched on.
     SwitchedOn,
-    /// The account of a group is switched off.
+    /// The accounting of a group is switched off.
     SwitchedOff,
 }
 
-/// A change in 16 bytes, which can only be one of a single task, or tell of interrupts or of a
-/// switched account alone. Contracts see the change.
+/// A change in 16 bytes: of a single task, of interrupt time alone, or of a switch of accounting
+/// alone. Contracts see the change.
 ///
-/// In a plan of 4,000,000 changes each byte counts: a page of memory that is touched for the first
-/// time costs more than what is written there. So a slot stands as its height, the counts of a task
-/// as four bits, and what a change of a task has no use for stands where it has its slots.
+/// In a plan of 4,000,000 changes each byte counts: touching a page of memory for the first time
+/// costs more than writing to it. So a slot is stored as its height and a task's counts as four
+/// bits, and interrupt time and switches use the fields of a task's slots.
 #[derive(Drop)]
 pub struct PackedChange {
     at: Ns,
-    /// The height of the slot whose counts are taken. Or the slot of a switched account, or the
-    /// lower half of the time of interrupts.
+    /// The height of the slot whose counts are subtracted; or the slot whose accounting is
+    /// switched, or the lower half of the interrupt time.
     first: u16,
-    /// The height of the slot whose counts are added. Or the upper half of the time of interrupts.
+    /// The height of the slot whose counts are added; or the upper half of the interrupt time.
     second: u16,
     current: Running,
-    /// Sixteen times the bits of what is taken, and the bits of what is added.
+    /// Sixteen times the bits of the counts that are subtracted, plus those of the counts that are
+    /// added.
     bits: u8,
     kind: Kind,
 }
@@ -66,7 +67,7 @@ impl Model for PackedChange {
         IsPart p.kind p.first (p.bits / 16) × IsPart p.kind p.second (p.bits % 16) };
 }
 
-// The height and the bits of what a change takes or adds. Its slot has to fit.
+// The height and the bits of the counts that a change subtracts or adds. Its slot has to fit.
 #[inline(always)]
 fn pack_part(part: Option<(Slot, Counts)>) -> (u16, u8)
     requires low { IfSome part (λ part. part.0.0 < most_groups) }
@@ -81,7 +82,6 @@ fn pack_part(part: Option<(Slot, Counts)>) -> (u16, u8)
     }
 }
 
-// What a change takes or adds, by its height and its bits.
 fn unpack_part(height: u16, bits: u8) -> Option<(Slot, Counts)>
     requires { bits < 16 }
     ensures { result ≡ part_by height bits }
@@ -93,7 +93,7 @@ fn unpack_part(height: u16, bits: u8) -> Option<(Slot, Counts)>
 }
 
 impl PackedChange {
-    /// A change, packed. It must be of one task, or tell of interrupts or of a switched account
+    /// Packs a change. It must be of one task, of interrupt time alone or of a switch of accounting
     /// alone, and its slots have to fit.
     #[inline(always)]
     pub fn new(change: Change) -> PackedChange
@@ -140,8 +140,7 @@ impl PackedChange {
         }
     }
 
-    // A change that tells of interrupts alone. That is rare, so it stands aside, and so does the
-    // next.
+    // A change of interrupt time alone. This is rare, so it isn't inlined; neither is `of_account`.
     #[inline(never)]
     fn of_irq(at: Ns, current: Option<(Slot, bool)>, irq: u64) -> PackedChange
         requires running { IfSome current (λ current. current.0.0 < most_groups) }
@@ -165,7 +164,7 @@ impl PackedChange {
         }
     }
 
-    // A change with a switched account alone.
+    // A change that only switches accounting.
     #[inline(never)]
     fn of_account(at: Ns, current: Option<(Slot, bool)>, account: (Slot, bool)) -> PackedChange
         requires running { IfSome current (λ current. current.0.0 < most_groups) }
@@ -194,7 +193,7 @@ impl PackedChange {
         }
     }
 
-    /// When it comes, in ns.
+    /// Its time, in ns.
     #[inline(always)]
     pub fn at(&self) -> Ns
         ensures { result ≡ self.now.at }
@@ -202,7 +201,7 @@ impl PackedChange {
         self.at
     }
 
-    /// The counts that it takes, and their slot.
+    /// The counts that it subtracts, and their slot.
     pub fn minus(&self) -> Option<(Slot, Counts)>
         ensures { result ≡ self.now.minus }
     {
@@ -222,14 +221,14 @@ impl PackedChange {
         }
     }
 
-    /// The task that runs from it on: its slot, and whether it is in a memory stall.
+    /// The task that runs after it: its slot, and whether it is in a memory stall.
     pub fn current(&self) -> Option<(Slot, bool)>
         ensures { result ≡ self.now.current }
     {
         self.current.get()
     }
 
-    /// For how long interrupts took, in ns.
+    /// The time that interrupts took, in ns.
     #[inline(always)]
     pub fn irq(&self) -> u64
         ensures { result ≡ self.now.irq }
@@ -240,7 +239,8 @@ impl PackedChange {
         }
     }
 
-    /// The account that it switches, if it switches one.
+    /// The slot whose accounting it switches, and whether it is on afterwards. `None` if it
+    /// switches none.
     #[inline(always)]
     pub fn account(&self) -> Option<(Slot, bool)>
         ensures { result ≡ self.now.account }
@@ -252,7 +252,7 @@ impl PackedChange {
         }
     }
 
-    /// The change itself.
+    /// The unpacked change.
     pub fn change(&self) -> Change
         ensures { result ≡ self.now }
     {
@@ -266,7 +266,8 @@ impl PackedChange {
         }
     }
 
-    /// The heights of the slots whose counts a change of a task takes and adds. None for another.
+    /// The heights of the slots whose counts a change of a task subtracts and adds. `None` for
+    /// other changes.
     #[inline(always)]
     pub(crate) fn heights(&self) -> Option<(u64, u64)>
         ensures task { IfSome result (λ _. self.now.account ≡ None) }
@@ -279,7 +280,7 @@ impl PackedChange {
         }
     }
 
-    /// What it takes.
+    /// The counts that it subtracts.
     #[inline(always)]
     pub(crate) fn taken(&self) -> Part
         ensures { result ≡ counts_in self.now.minus }
@@ -287,7 +288,7 @@ impl PackedChange {
         Part::of(self.bits / 16)
     }
 
-    /// What it adds.
+    /// The counts that it adds.
     #[inline(always)]
     pub(crate) fn added(&self) -> Part
         ensures { result ≡ counts_in self.now.plus }
@@ -295,7 +296,7 @@ impl PackedChange {
         Part::of(self.bits % 16)
     }
 
-    /// The running task as it is kept.
+    /// The running task in its packed form.
     #[inline(always)]
     pub(crate) fn running(&self) -> &Running
         ensures { result.now ≡ self.now.current }

@@ -1,4 +1,4 @@
-//! The counts that a change takes or adds, for groups on their chain and for others.
+//! The counts that a change subtracts or adds, for groups on its chain and for others.
 
 ghost use Rattle.std.specs.Prelude.{◌≡◌, ◌<◌, if◌then◌else◌};
 ghost use Rattle.psi_counts.specs.Touch.{AreAtMost, no_counts};
@@ -7,8 +7,8 @@ ghost use Rattle.slot_clocks.specs.Bits.{counts_by};
 use psi_counts::Counts;
 use std::marker::Model;
 
-// The counts that four bits stand for, in the order of their fields. They are numbers alone: a
-// table of a struct is built anew at each use.
+// The counts that four bits represent, in the order of their fields. A table of structs would be
+// built anew at each use, so these are plain numbers.
 const COUNTS: [u32; 64] = [
     0, 0, 0, 0, 1, 0, 0, 0, 0, 1, 0, 0, 1, 1, 0, 0, 0, 0, 1, 0, 1, 0, 1, 0, 0, 1, 1, 0, 1, 1, 1, 0,
     0, 0, 0, 1, 1, 0, 0, 1, 0, 1, 0, 1, 1, 1, 0, 1, 0, 0, 1, 1, 1, 0, 1, 1, 0, 1, 1, 1, 1, 1, 1, 1,
@@ -39,10 +39,10 @@ pub(crate) fn counts_at(bits: u8) -> Counts
     }
 }
 
-/// The counts of one part of a change, taken or added. A contract sees these.
+/// The counts of one part of a change, subtracted or added. A contract sees these.
 ///
-/// A group finds its own by whether their chain stands there, and nothing else at place 0: a
-/// look-up, with no branch, since where four chains go is hard to foresee.
+/// A group looks up its counts by whether the chain is at the group, and zeros otherwise at index
+/// 0. There is no branch, since the order of four chains is hard to predict.
 #[derive(Drop)]
 pub(crate) struct Part(u8);
 
@@ -68,7 +68,7 @@ impl Part {
         Part(bits)
     }
 
-    /// The counts for a group, on whose slot their chain stands or doesn't.
+    /// The counts for a group: those of the part if the chain is at its slot, and otherwise zeros.
     #[inline(always)]
     pub(crate) fn at(&self, here: bool) -> Counts
         ensures { result ≡ (if here then self.now else no_counts) }

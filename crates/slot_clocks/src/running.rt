@@ -8,10 +8,10 @@ ghost use Rattle.slot_clocks.specs.Walk.{height, slot_in};
 use psi_base::Slot;
 use std::marker::Model;
 
-/// The slot of the running task, and whether it is in a memory stall, or that none runs. Contracts
-/// see that.
+/// The slot of the running task and whether it is in a memory stall, or that no task runs.
+/// Contracts see that.
 ///
-/// It is twice the height of the slot, and one more where the task is in a stall.
+/// The number is twice the height of the slot, plus one if the task is in a stall.
 #[derive(Drop)]
 pub(crate) struct Running(u16);
 
@@ -28,14 +28,14 @@ impl Model for Running {
 }
 
 impl Running {
-    /// No task runs.
+    /// No running task.
     pub(crate) fn none() -> Running
         ensures { result ≡ None }
     {
         Running(0)
     }
 
-    /// The task that runs, if one does, whose slot has to fit.
+    /// The running task, if any. Its slot has to fit.
     #[inline(always)]
     pub(crate) fn of(current: Option<(Slot, bool)>) -> Running
         requires { IfSome current (λ running. running.0.0 < most_groups) }
@@ -47,7 +47,7 @@ impl Running {
         }
     }
 
-    /// The same once more.
+    /// A copy.
     #[inline(always)]
     pub(crate) fn again(&self) -> Running
         ensures { result ≡ self.now }
@@ -55,7 +55,7 @@ impl Running {
         Running(self.0)
     }
 
-    /// The task that runs, if one does.
+    /// The running task, if any.
     pub(crate) fn get(&self) -> Option<(Slot, bool)>
         ensures { result ≡ self.now }
     {
@@ -66,7 +66,7 @@ impl Running {
         Some((Slot(u32::from(height) - 1), self.0 % 2 == 1))
     }
 
-    /// The height at which a walk up from its slot begins.
+    /// The height of its slot, at which a walk up begins.
     #[inline(always)]
     pub(crate) fn height(&self) -> u64
         ensures { result ≡ height (slot_in self.now) }
@@ -82,7 +82,7 @@ impl Running {
         self.0 % 2 == 1
     }
 
-    /// What is told of it is the same.
+    /// Whether both have the same slot and stall.
     #[inline(always)]
     pub(crate) fn is_same(&self, other: &Running) -> bool
         ensures { result ≡ true → self.now ≡ other.now }

@@ -4,8 +4,8 @@ use Rattle.slot_clocks.specs.Walk.{AreTogether, top}
 use Rattle.slot_clocks.proofs.WalkLaws.{IsWalked}
 use Rattle.slot_clocks.proofs.chains.climb.Given as goal
 
--- the chains stand at slots that there are, and still go together where they did; each group went
--- through the change, or the walk is to come to it yet
+-- The chains are at existing slots, and are still together if they were. The change was applied to
+-- each group, or the walk is yet to visit it.
 abbrev pub invariant-up : goal.invariant-up
 invariant-up l = record {
   slots : top l.chains ≤ length l.parents;
