@@ -19,7 +19,7 @@ use Rattle.replay_workers.proofs.Steps.{places_end}
 
 -- ---- places
 
--- a number is told by what its division leaves
+-- a number is determined by its quotient and remainder
 place_is : (cpu n : ℕ) → cpu / n * n + cpu % n ≡ cpu
 place_is cpu n =
     let both = mod-add-div' cpu n in
@@ -37,7 +37,7 @@ place_few workers place worker cpu below is few =
     let some : place * 1 ≤ place * workers = mul-le-mul_left place (let one : 1 ≤ workers = omega (arith, below) in one) in
     omega (arith, some, is, few)
 
--- the lane that is kept for a processor stands at its place
+-- the lane at a processor's place stores the processor's times
 pub place_there : (plans : PlansView) (batches : List (List LaneView)) (tick at worker place cpu : ℕ) → AreKept plans batches tick at → cpu < length plans.plans → worker < length batches → place * length batches + worker ≡ cpu → place < length (batch_at batches worker)
 place_there plans batches tick at worker place cpu kept below inside is =
     let lane = kept cpu below in
@@ -56,7 +56,7 @@ lane_is plans batches ticks out room cpu is below =
     subst (λ c. IsLaneOf plans ticks room c (lane_of batches cpu)) (place_is cpu (length batches))
     ((is.each (cpu % length batches) (mod-lt cpu is.some)).each (cpu / length batches) (lane_there plans batches ticks out room cpu is below))
 
--- what stands at a processor's places is its batch
+-- the batch found for a processor is the batch at its place
 pub batch_found : (batches : List (List LaneView)) (workers cpu : ℕ) (batch : List LaneView) → workers ≡ length batches → 0 < length batches → batch ≡ get_or batches (cpu % workers) batch → batch ≡ batch_at batches (cpu % length batches)
 batch_found batches workers cpu batch many some there =
     there ∙ ap (λ n. get_or batches (cpu % n) batch) many ∙ get_or_default batches (cpu % length batches) batch [] (mod-lt cpu some)
@@ -134,7 +134,7 @@ batch_may_go plans batches old ticks out room is within behind worker below = λ
       behind = subst (λ (plan : PlanView). lane.on.made ≤ changes_up_to plan ticks.first) (sym own.plan) (subst (λ (on : OnPlan). on.made ≤ changes_up_to (plan_at plans cpu) ticks.first) here made);
     }
 
--- each lane of a crew may go over ticks, where no clock is ahead of the first
+-- each lane of a crew can advance by ticks, if no clock is ahead of the first
 pub may_go : (plans : PlansView) (batches : List (List LaneView)) (old ticks : Ticks) (out room : ℕ) → AreLanes plans batches old out room → ticks.count ≤ room → AreBehind plans (clocks_of batches (length plans.plans)) ticks.first
     → All (MayAllGo ticks) batches
 may_go plans batches old ticks out room is within behind = λ worker d below.
@@ -224,7 +224,7 @@ some_inside : (moments : List ℕ) (at : ℕ) → slice_get moments 0 ≡ Some a
 some_inside [] at is = absurd (let no : ⊥ = cc in no)
 some_inside (moment ∷ moments) at is = omega arith
 
--- the first moment that is ready is that of the tick behind those that were handed out
+-- the first ready moment is that of the first tick whose table wasn't returned yet
 pub first_ready : (ticks : Ticks) (out at : ℕ) → slice_get (drop out (moments_of ticks)) 0 ≡ Some at → (out < ticks.count) × (at ≡ moment_in ticks out)
 first_ready ticks out at is =
     let all = moments_of ticks in
@@ -241,14 +241,14 @@ ready_less (suc out) (x ∷ xs) =
     let next : suc out + 1 ≡ suc (out + 1) = omega arith in
     ap (λ n. drop n (x ∷ xs)) next ∙ ready_less out xs
 
--- a crew of which one table more was handed out, as contracts see it
+-- a crew after it returned one more table, as contracts see it
 pub crew_less : (plans : PlansView) (batches : List (List LaneView)) (ticks : Ticks) (out room asked : ℕ) (watchers : List WatcherView) (old : CrewView) → crew_of plans batches ticks out room asked watchers ≡ old
     → crew_of plans batches ticks (out + 1) room asked watchers ≡ record old { ready = drop 1 old.ready }
 crew_less plans batches ticks out room asked watchers old same =
     ap (λ ready. let crew : CrewView = record (crew_of plans batches ticks out room asked watchers) { ready = ready } in crew) (ready_less out (moments_of ticks))
     ∙ ap (λ (view : CrewView). let crew : CrewView = record view { ready = drop 1 view.ready } in crew) same
 
--- a crew of which one table more was handed out is one
+-- a crew is still a crew after it returned one more table
 pub handed_out : (plans : PlansView) (batches : List (List LaneView)) (ticks : Ticks) (out room : ℕ) → AreLanes plans batches ticks out room → out < ticks.count → AreLanes plans batches ticks (out + 1) room
 handed_out plans batches ticks out room is left = record {
   some = is.some;
@@ -280,7 +280,7 @@ clocks_new plans batches in_rows workers room new some roomy countable cpu below
     let mine : cpu % length batches < workers = omega (arith, mod-lt cpu is.some, new.many) in
     ap (λ (on : OnPlan). on.made) (clocks_are batches (length plans.plans) cpu below) ∙ (new.each (cpu % length batches) mine).fresh (cpu / length batches) there
 
--- each of them is in a row where that is wanted, and else plain
+-- each of them is in a row if `in_rows`, and plain otherwise
 pub rows_new : (plans : PlansView) (batches : List (List LaneView)) (in_rows : Bool) (workers room : ℕ) → AreNewBatches plans room in_rows workers batches → 0 < workers → 1 ≤ room → room < 2 ^ 32 → (cpu : ℕ) → cpu < length plans.plans → is_some (lane_of batches cpu).row ≡ in_rows
 rows_new plans batches in_rows workers room new some roomy countable cpu below =
     let is = crew_new plans batches in_rows workers room new some roomy countable in
@@ -293,7 +293,7 @@ pub all_in_rows : (plans : PlansView) (batches : List (List LaneView)) (in_rows 
 all_in_rows plans batches in_rows workers room new some roomy countable wanted cpu below =
     ap is_some (rows_are batches (length plans.plans) cpu below) ∙ rows_new plans batches in_rows workers room new some roomy countable cpu below ∙ wanted
 
--- the lane of a processor that was made of plans is one of theirs
+-- a new lane of a processor is one of the crew's
 pub new_lane : (plans : PlansView) (room cpu number : ℕ) (lane : LaneView) → number ≡ cpu → number < length plans.plans → lane.cpu ≡ number → lane.on ≡ record { plan = plan_at plans number; made = 0 } → length lane.kept ≡ room * length plans.lives → IsPlan lane.on.plan
     → length lane.on.plan.parents ≡ length plans.lives → IsLaneOf plans no_ticks room cpu lane
 new_lane plans room cpu number lane same below own on size whole slots =

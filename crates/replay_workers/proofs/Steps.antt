@@ -10,7 +10,8 @@ use Rattle.replay_workers.specs.declared.ticks.Ticks.{Ticks}
 use Rattle.replay_workers.specs.Crew.{moment_in, times_by}
 use Rattle.replay_workers.specs.Lanes.{FillsRow, KeepsTick, KeepsTicks, kept_at}
 
--- what holds of each of a list at its place, and of one behind it
+-- if P holds for each element of a list at its index, and for one more, it holds for each of the
+-- longer list
 pub each_more : {X : Type 0} → (P : ℕ → X → Type 0) (xs : List X) (x d : X) → ((k : ℕ) → k < length xs → P k (get_or xs k d)) → P (length xs) x → (k : ℕ) → k < length (xs ++ x ∷ []) → P k (get_or (xs ++ x ∷ []) k d)
 each_more P xs x d before here k below =
     let many = length-append xs (x ∷ []) in
@@ -30,7 +31,7 @@ each_changed R start now place x d inside before here k below =
     (λ new. subst (λ n. R n (get_or start n d) (get_or (set now place x) n d)) (sym new) (subst (R place (get_or start place d)) (sym (get_or-set_same now place x d inside)) here))
     case
 
--- what stands behind the place is as it was
+-- elements after the place are unchanged
 pub left_changed : {X : Type 0} → (start now : List X) (place : ℕ) (x d : X) → ((k : ℕ) → place ≤ k → get_or now k d ≡ get_or start k d) → (k : ℕ) → place + 1 ≤ k → get_or (set now place x) k d ≡ get_or start k d
 left_changed start now place x d left k behind = get_or-set_other now place k x d (λ same. omega (arith, same, behind)) ∙ left k (omega (arith, behind))
 
@@ -63,7 +64,7 @@ keeps_more old new plan ticks j at before tick moment = λ k slot early below.
 
 -- ---- one group more
 
--- places in which the times of the first so many groups are kept for a tick
+-- entries in which the times of the first `slot` groups are stored for a tick
 pub record KeptTo (old new : List (List ℕ)) (slots j slot : ℕ) (plan : PlanView) (at : ℕ) : Type 0 where
   pub size : length new ≡ length old
   pub here : (s : ℕ) → s < slot → kept_at new slots j s ≡ times_by plan s at

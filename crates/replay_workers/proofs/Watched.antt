@@ -124,7 +124,7 @@ none_sampled old new cleared = no_samples new (λ k below. (cleared.each k (omeg
 pub new_unsampled : (lanes : List (List LaneView)) (cpus asked : ℕ) (watchers : List WatcherView) → AreNewWatchers lanes cpus asked watchers → (cpu : ℕ) → (watch_at (map watch_seen watchers) cpu).samples ≡ []
 new_unsampled lanes cpus asked watchers new = no_samples watchers (λ k below. (new.each k below).none)
 
--- where no sample is asked for, none was taken
+-- if `asked` is 0, no sample was taken
 nothing_asked : (plan : PlanView) (slot asked before now : ℕ) (watch : WatchView) → asked ≡ 0 → watch.samples ≡ [] → before ≤ now → IsSampled plan slot asked before now watch watch
 nothing_asked plan slot asked before now watch zero none forward = record {
   many = ap length none ∙ sym zero;
@@ -184,7 +184,7 @@ are_sampled plans lanes_old lanes_new before ticks out room asked slot old new r
 pub new_there : (plans : PlansView) (lanes : List (List LaneView)) (room cpu : ℕ) → AreLanes plans lanes no_ticks 0 room → cpu < length plans.plans → IsLaneThere lanes cpu
 new_there plans lanes room cpu is below = record { some = is.some; place = lane_there plans lanes no_ticks 0 room cpu is below }
 
--- new watchers of all processors, or of none where no sample is asked for, are those of a crew
+-- new watchers of all processors, or of none if `asked` is 0, are those of a crew
 pub watchers_new : (plans : PlansView) (lanes : List (List LaneView)) (room cpus asked : ℕ) (watchers : List WatcherView) → AreLanes plans lanes no_ticks 0 room → (asked ≡ 0 → cpus ≡ 0) → (0 < asked → cpus ≡ length plans.plans) → AreNewWatchers lanes cpus asked watchers
     → AreWatchers plans lanes asked watchers
 watchers_new plans lanes room cpus asked watchers is none all new = record {

@@ -1,5 +1,4 @@
--- The clocks of all processors, how far they came, and the table of times that they give at a
--- moment.
+-- The clocks of all processors, how far they have advanced, and the table of times at a tick.
 use Rattle.std.specs.Prelude.{◌≡◌, ◌⊎◌, ℕ, ◌+◌, ◌-◌, ◌*◌, ◌/◌, ◌<◌, ◌≤◌, List, [], length, map, max, min, slice_index_or, Option, None, Some, is_some, true}
 use Rattle.std.specs.List.{All, range_with_len}
 use Rattle.atomic_table.specs.Seated.{TableId}
@@ -21,30 +20,29 @@ use Rattle.replay_workers.specs.declared.ticks.Ticks.{Ticks}
 
 -- ---- ticks
 
--- the moment (ns) of a tick with a number from 0
+-- the moment (ns) of tick `j`, numbered from 0
 abbrev pub moment_in : Ticks → ℕ → ℕ
 moment_in ticks j = ticks.first + j * ticks.length
 
--- the moments (ns) of all of them
+-- the moments (ns) of all ticks
 abbrev pub moments_of : Ticks → List ℕ
 moments_of ticks = map (moment_in ticks) (range_with_len 0 ticks.count)
 
--- the last of the moments (ns)
+-- the last tick's moment (ns)
 abbrev pub last_of : Ticks → ℕ
 last_of ticks = moment_in ticks (ticks.count - 1)
 
 -- ---- crews
 
--- what is watched of a processor: the live samples of the last interval, and what the reader that
--- takes them knows
+-- the live samples of a processor in the last interval, and what the reader that takes them knows
 pub record WatchView : Type 0 where
   pub samples : List Sample
   pub reader : ReaderView
 
--- A crew: the plans of a trace, the clocks of each processor and the row that they are in, if they
--- are in one, the moments (ns) whose tables are ready to be handed out, over how many ticks it may
--- go at once, how many live samples it takes of a processor in an interval, and what is watched of
--- each processor, where it takes any.
+-- A crew: the plans of a trace; the clocks of each processor, and their row if they are in one; the
+-- moments (ns) whose tables are ready; `room`, the most ticks that it advances by at once; `asked`,
+-- the number of live samples that it takes of a processor in an interval; and each processor's
+-- samples, if it takes any.
 pub record CrewView : Type 0 where
   pub plans : PlansView
   pub clocks : List OnPlan
@@ -54,18 +52,18 @@ pub record CrewView : Type 0 where
   pub asked : ℕ
   pub watches : List WatchView
 
--- the most bytes that the times take that are kept for ticks ahead, where they can be so few: 64 MB
+-- the most bytes for the times of ticks ahead, unless one tick needs more: 64 MB
 abbrev pub most_kept : ℕ
 most_kept = 64000000
 
--- the most ticks that a crew goes over at once: over more of them the start of its threads no
--- longer shows
+-- the most ticks that a crew advances by at once: with more, the cost of starting threads is no
+-- longer noticeable
 abbrev pub most_ahead : ℕ
 most_ahead = 256
 
--- Over how many ticks a crew of so many processors and groups goes at once, where a trace is taken
--- to so many moments: over as many as can be kept in 64 bytes a tick, group and processor, and no
--- more than 256 or than there are, but over one at least.
+-- The most ticks that a crew advances by at once, for these numbers of processors, groups and
+-- moments: as many as fit into `most_kept` with 64 bytes for each tick, group and processor, but at
+-- most 256, at most `moments` and at least one.
 abbrev pub room_of : ℕ → ℕ → ℕ → ℕ
 room_of cpus slots moments = max (min (min (most_kept / max (64 * (slots * cpus)) 1) moments) most_ahead) 1
 
@@ -81,47 +79,48 @@ row_at rows cpu = slice_index_or rows cpu None
 abbrev pub AreInRows : PlansView → List (Option TableId) → Type 0
 AreInRows plans rows = (cpu : ℕ) → cpu < length plans.plans → is_some (row_at rows cpu) ≡ true
 
--- Each processor's clocks are on its plan, which is whole and has a parent or none for each group.
+-- Each processor's clocks are on its plan, which is well-formed and has an entry for the parent of
+-- each group.
 pub record AreOnPlans (plans : PlansView) (clocks : List OnPlan) : Type 0 where
   pub each : length clocks ≡ length plans.plans
   pub on : (cpu : ℕ) → cpu < length clocks → (clocks_at clocks cpu).plan ≡ plan_at plans cpu
   pub whole : (cpu : ℕ) → cpu < length clocks → IsPlan (plan_at plans cpu)
   pub slots : (cpu : ℕ) → cpu < length clocks → length (plan_at plans cpu).parents ≡ length plans.lives
 
--- no processor's clocks made a change that is later than a moment (ns)
+-- no processor's clocks made a change that is later than a time (ns)
 pub record AreBehind (plans : PlansView) (clocks : List OnPlan) (at : ℕ) : Type 0 where
   pub on_plans : AreOnPlans plans clocks
   pub behind : (cpu : ℕ) → cpu < length clocks → (clocks_at clocks cpu).made ≤ changes_up_to (plan_at plans cpu) at
 
--- each processor's clocks made its changes up to a moment (ns), and no others
+-- each processor's clocks made its changes up to a time (ns), and no others
 pub record AreAt (plans : PlansView) (clocks : List OnPlan) (at : ℕ) : Type 0 where
   pub on_plans : AreOnPlans plans clocks
   pub there : (cpu : ℕ) → cpu < length clocks → (clocks_at clocks cpu).made ≡ changes_up_to (plan_at plans cpu) at
   pub past : (cpu : ℕ) → cpu < length clocks → last_change (plan_at plans cpu) (changes_up_to (plan_at plans cpu) at) ≤ at
 
--- the times (ns) of a slot at a moment by the first k changes of a plan: those in the states, and
--- behind them the interrupt time
+-- the times (ns) of a slot at `at` (ns) by the first k changes of a plan: the time in each state,
+-- followed by the interrupt time
 abbrev pub planned_with_irq : PlanView → ℕ → ℕ → ℕ → List ℕ
 planned_with_irq plan slot k at = times_with (λ state. planned_time state plan slot k at) (planned_irq plan slot k)
 
--- these times by the changes up to the moment
+-- these times after all changes up to `at`
 abbrev pub times_by : PlanView → ℕ → ℕ → List ℕ
 times_by plan slot at = planned_with_irq plan slot (changes_up_to plan at) at
 
 -- ---- live samples
 
--- what is watched of a processor, by its number; of one without a reader nothing is
+-- the samples of a processor, by its number; none for a processor without a reader
 abbrev pub watch_at : List WatchView → ℕ → WatchView
 watch_at watches cpu = slice_index_or watches cpu (record { samples = []; reader = new_reader no_plan 0 })
 
--- after how many changes samples were taken
+-- the numbers of changes that samples include
 abbrev pub counts_sampled : List Sample → List ℕ
 counts_sampled samples = map (λ (sample : Sample). sample.count) samples
 
--- A reader took so many samples of a slot's clocks on a processor, beside the changes from one
--- number to another: each is the clock after its number of changes, these numbers never fall and
--- lie between the two, and the reader took them by its own tries, the first of them after the
--- writer's own clock, and eight at most for each.
+-- A reader took `asked` samples of a slot's clock on a processor, while the writer went from
+-- `before` changes to `now`. Each sample is the clock after its number of changes. These numbers
+-- never decrease, and are from `before` to `now`. The reader took the samples with its own tries,
+-- at most eight for each; the first sample came after the writer's own clock.
 pub record IsSampled (plan : PlanView) (slot asked before now : ℕ) (old new : WatchView) : Type 0 where
   pub many : length new.samples ≡ asked
   pub clocks : All (λ (sample : Sample). IsClock sample.clock plan slot sample.count) new.samples
@@ -129,8 +128,8 @@ pub record IsSampled (plan : PlanView) (slot asked before now : ℕ) (old new : 
   pub tried : IsTried (counts_sampled new.samples) before old.reader new.reader
   pub few : tries_of new.reader ≤ tries_of old.reader + 8 * asked
 
--- Where a slot is watched, so many samples of it were taken on each processor, beside the changes
--- that were made; else there is none.
+-- If a slot is watched, `asked` samples of it were taken on each processor, while the changes were
+-- made; otherwise there are no samples.
 abbrev pub AreSampled : Option Slot → CrewView → CrewView → Type 0
 AreSampled None old new = (cpu : ℕ) → (watch_at new.watches cpu).samples ≡ []
 AreSampled (Some slot) old new = (cpu : ℕ) → cpu < length old.plans.plans →
@@ -139,7 +138,7 @@ AreSampled (Some slot) old new = (cpu : ℕ) → cpu < length old.plans.plans �
 
 -- ---- tables
 
--- A table of so many processors and slots has the times of each processor at a moment, by its plan.
+-- A table for all processors and slots has the times of each processor at a time (ns), by its plan.
 pub record IsTableAt (table : List (List (List ℕ))) (plans : PlansView) (at : ℕ) : Type 0 where
   pub sizes : HasSizes (length plans.plans) (length plans.lives) table
   pub times : (slot cpu : ℕ) → slot < length plans.lives → cpu < length plans.plans
@@ -147,14 +146,14 @@ pub record IsTableAt (table : List (List (List ℕ))) (plans : PlansView) (at : 
 
 -- ---- laws
 
--- What a crew keeps takes at most 64 MB, or is that of one tick; and it goes over one tick at
--- least, and over no more than there are.
+-- A crew stores times of at most 64 MB, or those of one tick. It advances by at least one tick at
+-- once, and by at most `moments`.
 abbrev pub RoomIsSmall : Type 0
 RoomIsSmall = (cpus slots moments : ℕ) →
     (1 ≤ room_of cpus slots moments) × (room_of cpus slots moments ≤ max moments 1)
     × ((64 * (room_of cpus slots moments * slots * cpus) ≤ most_kept) ⊎ (room_of cpus slots moments ≡ 1))
 
--- The table at a moment by the plans of legal events is the table of their stall times and
+-- The table at a time (ns) by the plans of legal events is the table of their stall times and
 -- interrupt times.
 abbrev pub TableIsOfEvents : Type 0
 TableIsOfEvents = (limits : Limits) (cpus : ℕ) (events : List Event) (plans : PlansView) (table : List (List (List ℕ))) (at : ℕ) →

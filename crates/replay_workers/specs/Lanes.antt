@@ -1,5 +1,5 @@
 -- The lanes of a crew, one for each processor, and how they are dealt to batches, one for each
--- worker that has a lane.
+-- worker.
 use Rattle.std.specs.Prelude.{◌≡◌, ◌≢◌, ℕ, ◌+◌, ◌*◌, ◌/◌, ◌%◌, ◌^◌, ◌<◌, ◌≤◌, Bool, List, [], length, map, slice_index_or, Option, None, Some, is_some}
 use Rattle.std.specs.List.{range_with_len}
 use Rattle.plan_laws.specs.Plan.{IsPlan, PlanView, changes_up_to, last_change, no_plan}
@@ -19,18 +19,18 @@ use Rattle.replay_workers.specs.Crew.{last_of, moment_in, times_by}
 abbrev pub on_of : WriterEnd → OnPlan
 on_of writer = record { plan = writer.knows.plan; made = writer.knows.count }
 
--- the clocks of a lane, as plain ones or as those of the writer of a row
+-- the clocks of a lane, whether they are plain or in a row
 abbrev pub clocks_in : LaneClocks → OnPlan
 clocks_in (Plain clocks) = clocks
 clocks_in (Row writer) = on_of writer
 
--- the row that they are in, if they are in one
+-- the row of the clocks, if they are in one
 abbrev pub row_of_clocks : LaneClocks → Option TableId
 row_of_clocks (Plain clocks) = None
 row_of_clocks (Row writer) = Some writer.row
 
--- A lane: a processor's number, the row that its clocks are in, if they are in one, these, and the
--- times (ns) that it keeps, tick by tick and slot by slot.
+-- A lane: a processor's number, the row of its clocks if they are in one, the clocks, and the times
+-- (ns) that it stores, ordered by tick and then by slot.
 pub record LaneView : Type 0 where
   pub cpu : ℕ
   pub row : Option TableId
@@ -41,37 +41,37 @@ pub record LaneView : Type 0 where
 abbrev pub no_lane : LaneView
 no_lane = record { cpu = 0; row = None; on = record { plan = no_plan; made = 0 }; kept = [] }
 
--- the times (ns) of a slot that are kept for a tick with a number from 0
+-- the times (ns) of a slot that are stored for tick `j`, numbered from 0
 abbrev pub kept_at : List (List ℕ) → ℕ → ℕ → ℕ → List ℕ
 kept_at kept slots j slot = slice_index_or kept (j * slots + slot) []
 
--- the times of all slots at each of the first so many ticks are kept
+-- the times of all slots are stored for each of the first `n` ticks
 abbrev pub KeepsTicks : List (List ℕ) → PlanView → Ticks → ℕ → Type 0
 KeepsTicks kept plan ticks n = (j slot : ℕ) → j < n → slot < length plan.parents →
     kept_at kept (length plan.parents) j slot ≡ times_by plan slot (moment_in ticks j)
 
--- The times of all slots at a moment (ns) are kept for a tick with a number from 0, and those for
--- the ticks before it stay.
+-- The times of all slots at `at` (ns) are stored for tick `j`, numbered from 0, and those for
+-- earlier ticks are unchanged.
 pub record KeepsTick (old new : List (List ℕ)) (j : ℕ) (plan : PlanView) (at : ℕ) : Type 0 where
   pub size : length new ≡ length old
   pub here : (slot : ℕ) → slot < length plan.parents → kept_at new (length plan.parents) j slot ≡ times_by plan slot at
   pub before : (place : ℕ) → place < j * length plan.parents → slice_index_or new place [] ≡ slice_index_or old place []
 
--- A lane's clocks are on its own plan, which is whole and has a parent or none for each of so many
--- slots.
+-- A lane's clocks are on its own plan, which is well-formed and has an entry for the parent of each
+-- of `slots` slots.
 pub record IsLane (plan : PlanView) (slots : ℕ) (on : OnPlan) : Type 0 where
   pub on_plan : on.plan ≡ plan
   pub whole : IsPlan plan
   pub slots_are : slots ≡ length plan.parents
 
--- a lane may go over ticks: there is a place for all times, and no change was made that is later
--- than the first tick
+-- a lane can advance by ticks: there is an entry for each time, and no change was made that is
+-- later than the first tick
 pub record MayGo (ticks : Ticks) (lane : LaneView) : Type 0 where
   pub room : ticks.count * length lane.on.plan.parents ≤ length lane.kept
   pub behind : lane.on.made ≤ changes_up_to lane.on.plan ticks.first
 
--- A lane went over ticks: its clocks made the changes up to the last, and no others, and the times
--- at each are kept.
+-- A lane advanced by ticks: its clocks made the changes up to the last tick, and no others, and the
+-- times at each tick are stored.
 pub record HasGone (ticks : Ticks) (old new : LaneView) : Type 0 where
   pub cpu : new.cpu ≡ old.cpu
   pub row : new.row ≡ old.row
@@ -91,27 +91,26 @@ lane_at lanes k = slice_index_or lanes k no_lane
 abbrev pub batch_at : List (List LaneView) → ℕ → List LaneView
 batch_at batches worker = slice_index_or batches worker []
 
--- each lane of a batch may go over ticks
+-- each lane of a batch can advance by ticks
 abbrev pub MayAllGo : Ticks → List LaneView → Type 0
 MayAllGo ticks lanes = (k : ℕ) → k < length lanes → MayGo ticks (lane_at lanes k)
 
--- each lane of a batch went over ticks, as it does alone
+-- each lane of a batch advanced by ticks
 pub record HaveGone (ticks : Ticks) (old new : List LaneView) : Type 0 where
   pub many : length new ≡ length old
   pub each : (k : ℕ) → k < length old → HasGone ticks (lane_at old k) (lane_at new k)
 
--- so did each batch
+-- each batch advanced by ticks
 pub record HaveAllGone (ticks : Ticks) (old new : List (List LaneView)) : Type 0 where
   pub many : length new ≡ length old
   pub each : (worker : ℕ) → worker < length old → HaveGone ticks (batch_at old worker) (batch_at new worker)
 
--- The lane of a processor is the one at the place of its number over that of the workers, in the
--- batch of the rest.
+-- The lane of a processor: lane cpu / workers of batch cpu % workers.
 abbrev pub lane_of : List (List LaneView) → ℕ → LaneView
 lane_of batches cpu = lane_at (batch_at batches (cpu % length batches)) (cpu / length batches)
 
--- The lane of a processor is there, and keeps the times of all groups at a moment (ns) for a tick
--- with a number from 0.
+-- The lane of a processor exists, and stores the times of all groups at `at` (ns) for tick `tick`,
+-- numbered from 0.
 pub record IsKept (plans : PlansView) (batches : List (List LaneView)) (cpu tick at : ℕ) : Type 0 where
   pub some : 0 < length batches
   pub place : cpu / length batches < length (batch_at batches (cpu % length batches))
@@ -119,28 +118,28 @@ pub record IsKept (plans : PlansView) (batches : List (List LaneView)) (cpu tick
   pub times : (slot : ℕ) → slot < length plans.lives
       → kept_at (lane_of batches cpu).kept (length plans.lives) tick slot ≡ times_by (plan_at plans cpu) slot at
 
--- so it is for each processor
+-- the same for each processor
 abbrev pub AreKept : PlansView → List (List LaneView) → ℕ → ℕ → Type 0
 AreKept plans batches tick at = (cpu : ℕ) → cpu < length plans.plans → IsKept plans batches cpu tick at
 
--- A table has the times of a group on the first so many processors at a moment (ns), by their
--- plans, and those of the other groups as they were.
+-- A table has the times of a group on the first `cpus` processors at a time (ns), by their plans;
+-- the other groups' times are unchanged.
 pub record FillsRow (old new : List (List (List ℕ))) (plans : PlansView) (slot cpus at : ℕ) : Type 0 where
   pub here : (cpu : ℕ) → cpu < cpus → times_at new slot cpu ≡ times_by (plan_at plans cpu) slot at
   pub others : (other cpu : ℕ) → other ≢ slot → times_at new other cpu ≡ times_at old other cpu
 
--- the clocks of so many processors
+-- the clocks of the first `cpus` processors
 abbrev pub clocks_of : List (List LaneView) → ℕ → List OnPlan
 clocks_of batches cpus = map (λ cpu. (lane_of batches cpu).on) (range_with_len 0 cpus)
 
--- the rows that these are in
+-- the rows of these clocks
 abbrev pub rows_of : List (List LaneView) → ℕ → List (Option TableId)
 rows_of batches cpus = map (λ cpu. (lane_of batches cpu).row) (range_with_len 0 cpus)
 
 -- ---- crews
 
--- A lane of a crew is that of a processor: its clocks are on the processor's plan, there is room
--- for so many ticks, and the times at ticks are kept.
+-- A lane of a crew is that of a processor: its clocks are on the processor's plan, it has room for
+-- the times of `room` ticks, and the times at `ticks` are stored.
 pub record IsLaneOf (plans : PlansView) (ticks : Ticks) (room cpu : ℕ) (lane : LaneView) : Type 0 where
   pub cpu_is : lane.cpu ≡ cpu
   pub below : cpu < length plans.plans
@@ -150,8 +149,7 @@ pub record IsLaneOf (plans : PlansView) (ticks : Ticks) (room cpu : ℕ) (lane :
   pub size : length lane.kept ≡ room * length plans.lives
   pub keeps : KeepsTicks lane.kept (plan_at plans cpu) ticks ticks.count
 
--- A batch has the lanes of its worker, which has each processor whose number over that of the
--- workers leaves the worker's own.
+-- A batch has the lanes of its worker: lane k is that of processor k * workers + worker.
 pub record IsBatchOf (plans : PlansView) (ticks : Ticks) (room workers worker : ℕ) (lanes : List LaneView) : Type 0 where
   pub all : (k : ℕ) → k * workers + worker < length plans.plans → k < length lanes
   pub each : (k : ℕ) → k < length lanes → IsLaneOf plans ticks room (k * workers + worker) (lane_at lanes k)
@@ -160,20 +158,20 @@ pub record IsBatchOf (plans : PlansView) (ticks : Ticks) (room workers worker : 
 abbrev pub no_ticks : Ticks
 no_ticks = record { first = 0; length = 0; count = 0 }
 
--- A batch has the lanes of its worker, no lane made a change yet, and their clocks are in rows or
--- plain, as is wanted.
+-- A batch has the lanes of its worker, none of which made a change yet, with clocks in rows if
+-- `in_rows`, and plain ones otherwise.
 pub record IsNewBatch (plans : PlansView) (room : ℕ) (in_rows : Bool) (workers worker : ℕ) (lanes : List LaneView) : Type 0 where
   pub batch : IsBatchOf plans no_ticks room workers worker lanes
   pub fresh : (k : ℕ) → k < length lanes → (lane_at lanes k).on.made ≡ 0
   pub rows : (k : ℕ) → k < length lanes → is_some (lane_at lanes k).row ≡ in_rows
 
--- the batches of workers, none of which made a change yet
+-- the batches of all workers, none of which made a change yet
 pub record AreNewBatches (plans : PlansView) (room : ℕ) (in_rows : Bool) (workers : ℕ) (batches : List (List LaneView)) : Type 0 where
   pub many : length batches ≡ workers
   pub each : (worker : ℕ) → worker < workers → IsNewBatch plans room in_rows workers worker (batch_at batches worker)
 
--- The lanes of a crew: there is a batch for each of some workers, and so many of the ticks that its
--- lanes went over were handed out.
+-- The lanes of a crew: there is a batch for each worker, and the tables of the first `out` ticks
+-- were returned.
 pub record AreLanes (plans : PlansView) (batches : List (List LaneView)) (ticks : Ticks) (out room : ℕ) : Type 0 where
   pub some : 0 < length batches
   pub roomy : 1 ≤ room

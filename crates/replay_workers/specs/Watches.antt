@@ -1,4 +1,4 @@
--- Watchers, which take samples of the lanes of a crew, and the crew with its watchers.
+-- Watchers, which sample the lanes of a crew, and the crew with its watchers.
 use Rattle.std.specs.Prelude.{◌≡◌, ℕ, ◌+◌, ◌*◌, ◌/◌, ◌%◌, ◌<◌, ◌≤◌, true, List, [], drop, length, map, slice_index_or, Option, Some, is_some}
 use Rattle.std.specs.List.{All}
 use Rattle.atomic_table.specs.Seated.{TableId}
@@ -17,8 +17,9 @@ use Rattle.replay_workers.specs.Lanes.{AreLanes, LaneView, batch_at, clocks_of, 
 
 -- ---- one watcher
 
--- A watcher: a processor's number, the row of its clocks and what is known of it, the writer's own
--- clock when they met, the samples of the last interval, and how many it takes in one.
+-- A watcher: a processor's number, the row of its clocks and what is known of that row, the
+-- writer's own clock when they last met, the samples of the last interval, and the number of
+-- samples in an interval.
 pub record WatcherView : Type 0 where
   pub cpu : ℕ
   pub row : TableId
@@ -51,8 +52,7 @@ watcher_at watchers k = slice_index_or watchers k no_watcher
 abbrev pub watch_seen : WatcherView → WatchView
 watch_seen watcher = record { samples = watcher.samples; reader = watcher.knows }
 
--- it is the same watcher: of the same processor and row, with the same plan, and takes as many
--- samples
+-- it is the same watcher: its processor, row, plan and number of samples are unchanged
 pub record IsSameWatcher (old new : WatcherView) : Type 0 where
   pub cpu : new.cpu ≡ old.cpu
   pub row : new.row ≡ old.row
@@ -67,15 +67,15 @@ pub record IsNewWatcher (cpu asked : ℕ) (row : Option TableId) (plan : PlanVie
   pub asked_is : watcher.asked ≡ asked
   pub none : watcher.samples ≡ []
 
--- A watcher may take samples of a slot: its last one is the slot's clock after as many changes as
--- it has seen.
+-- A watcher may sample a slot: its last sample is the slot's clock after as many changes as it has
+-- seen.
 pub record MaySample (slot : ℕ) (watcher : WatcherView) : Type 0 where
   pub slot_is : slot < length watcher.knows.plan.parents
   pub clock : IsClock watcher.last.clock watcher.knows.plan slot watcher.last.count
   pub seen : watcher.last.count ≡ watcher.knows.seen
 
--- A watcher met the writer, whose clocks these are: it has seen its changes, and has its clock of a
--- slot as the last sample. It tried nothing.
+-- A watcher met the writer, whose clocks these are: it has seen the writer's changes, and has the
+-- writer's clock of a slot as the last sample. It made no try.
 pub record HasMet (slot : ℕ) (on : OnPlan) (old new : WatcherView) : Type 0 where
   pub same : IsSameWatcher old new
   pub got : new.knows.got ≡ old.knows.got
@@ -84,8 +84,8 @@ pub record HasMet (slot : ℕ) (on : OnPlan) (old new : WatcherView) : Type 0 wh
   pub count : new.last.count ≡ on.made
   pub clock : IsClock new.last.clock on.plan slot on.made
 
--- A watcher took its samples of a slot after its last one, by its own tries, eight at most for
--- each, up to what it has seen now.
+-- A watcher took its samples of a slot after its last sample, with its own tries, at most eight for
+-- each, up to the changes that it has seen now.
 pub record HasSampled (slot : ℕ) (old new : WatcherView) : Type 0 where
   pub same : IsSameWatcher old new
   pub many : length new.samples ≡ old.asked
@@ -94,12 +94,12 @@ pub record HasSampled (slot : ℕ) (old new : WatcherView) : Type 0 where
   pub tried : IsTried (counts_sampled new.samples) old.last.count old.knows new.knows
   pub few : tries_of new.knows ≤ tries_of old.knows + 8 * old.asked
 
--- A watcher took its samples of a slot beside the changes of a lane.
+-- A watcher sampled a slot while a lane made its changes.
 pub record HasWatched (slot : ℕ) (lane_old lane_new : LaneView) (old new : WatcherView) : Type 0 where
   pub same : IsSameWatcher old new
   pub sampled : IsSampled old.knows.plan slot old.asked lane_old.on.made lane_new.on.made (watch_seen old) (watch_seen new)
 
--- A watcher put its samples away.
+-- A watcher discarded its samples.
 pub record HasCleared (old new : WatcherView) : Type 0 where
   pub same : IsSameWatcher old new
   pub none : new.samples ≡ []
@@ -110,56 +110,56 @@ pub record HasCleared (old new : WatcherView) : Type 0 where
 abbrev pub IsInRow : LaneView → Type 0
 IsInRow lane = is_some lane.row ≡ true
 
--- the lane of a processor is there
+-- the lane of a processor exists
 pub record IsLaneThere (batches : List (List LaneView)) (cpu : ℕ) : Type 0 where
   pub some : 0 < length batches
   pub place : cpu / length batches < length (batch_at batches (cpu % length batches))
 
--- A watcher is that of a processor whose lane is there: it has its row, and its plan.
+-- A watcher is that of a processor whose lane exists: it has the lane's row and plan.
 pub record IsWatcherThere (batches : List (List LaneView)) (cpu : ℕ) (watcher : WatcherView) : Type 0 where
   pub there : IsLaneThere batches cpu
   pub cpu_is : watcher.cpu ≡ cpu
   pub row : Some watcher.row ≡ (lane_of batches cpu).row
   pub plan : watcher.knows.plan ≡ (lane_of batches cpu).on.plan
 
--- so is each of them
+-- each watcher has a lane
 abbrev pub AreWatching : List (List LaneView) → List WatcherView → Type 0
 AreWatching batches watchers = (k : ℕ) → k < length watchers → IsWatcherThere batches k (watcher_at watchers k)
 
--- the plan of each has this slot
+-- the plan of each watcher has this slot
 abbrev pub HaveSlot : ℕ → List WatcherView → Type 0
 HaveSlot slot watchers = (k : ℕ) → k < length watchers → slot < length (watcher_at watchers k).knows.plan.parents
 
--- each may take samples of a slot
+-- each watcher may sample a slot
 abbrev pub MayAllSample : ℕ → List WatcherView → Type 0
 MayAllSample slot watchers = (k : ℕ) → k < length watchers → MaySample slot (watcher_at watchers k)
 
--- each met the lane of its processor
+-- each watcher met the lane of its processor
 pub record HaveMet (slot : ℕ) (batches : List (List LaneView)) (old new : List WatcherView) : Type 0 where
   pub many : length new ≡ length old
   pub each : (k : ℕ) → k < length old → HasMet slot (lane_of batches k).on (watcher_at old k) (watcher_at new k)
 
--- each took its samples of a slot
+-- each watcher sampled a slot
 pub record HaveSampled (slot : ℕ) (old new : List WatcherView) : Type 0 where
   pub many : length new ≡ length old
   pub each : (k : ℕ) → k < length old → HasSampled slot (watcher_at old k) (watcher_at new k)
 
--- none has seen more changes than the lane of its processor made
+-- no watcher has seen more changes than the lane of its processor made
 abbrev pub AreSettled : List (List LaneView) → List WatcherView → Type 0
 AreSettled batches watchers = (k : ℕ) → k < length watchers → (watcher_at watchers k).knows.seen ≤ (lane_of batches k).on.made
 
--- each took its samples of a slot beside the changes of its lane
+-- each watcher sampled a slot while its lane made changes
 pub record HaveWatched (slot : ℕ) (batches_old batches_new : List (List LaneView)) (old new : List WatcherView) : Type 0 where
   pub many : length new ≡ length old
   pub each : (k : ℕ) → k < length old → HasWatched slot (lane_of batches_old k) (lane_of batches_new k) (watcher_at old k)
       (watcher_at new k)
 
--- each put its samples away
+-- each watcher discarded its samples
 pub record HaveCleared (old new : List WatcherView) : Type 0 where
   pub many : length new ≡ length old
   pub each : (k : ℕ) → k < length old → HasCleared (watcher_at old k) (watcher_at new k)
 
--- New watchers of so many processors, which take so many samples.
+-- New watchers of `cpus` processors, which take `asked` samples in an interval.
 pub record AreNewWatchers (batches : List (List LaneView)) (cpus asked : ℕ) (watchers : List WatcherView) : Type 0 where
   pub many : length watchers ≡ cpus
   pub each : (cpu : ℕ) → cpu < length watchers → IsNewWatcher cpu asked (lane_of batches cpu).row (lane_of batches cpu).on.plan
@@ -167,21 +167,21 @@ pub record AreNewWatchers (batches : List (List LaneView)) (cpus asked : ℕ) (w
 
 -- ---- crews
 
--- A watcher of a crew is that of a processor: it has the row of its lane, and its plan, and takes
--- so many samples.
+-- A watcher of a crew is that of a processor: it has its lane's row and plan, and takes `asked`
+-- samples in an interval.
 pub record IsWatcherOf (plans : PlansView) (batches : List (List LaneView)) (asked cpu : ℕ) (watcher : WatcherView) : Type 0 where
   pub cpu_is : watcher.cpu ≡ cpu
   pub row : Some watcher.row ≡ (lane_of batches cpu).row
   pub plan : watcher.knows.plan ≡ plan_at plans cpu
   pub asked_is : watcher.asked ≡ asked
 
--- The watchers of a crew are those of all processors, where it takes samples.
+-- The watchers of a crew: one for each processor, if it takes samples.
 pub record AreWatchers (plans : PlansView) (batches : List (List LaneView)) (asked : ℕ) (watchers : List WatcherView) : Type 0 where
   pub none : asked ≡ 0 → length watchers ≡ 0
   pub all : 0 < asked → length watchers ≡ length plans.plans
   pub each : (cpu : ℕ) → cpu < length watchers → IsWatcherOf plans batches asked cpu (watcher_at watchers cpu)
 
--- A crew has lanes, and watchers of these.
+-- A crew has lanes, and watchers of these lanes.
 pub record IsCrew (plans : PlansView) (batches : List (List LaneView)) (ticks : Ticks) (out room asked : ℕ)
     (watchers : List WatcherView) : Type 0 where
   pub lanes : AreLanes plans batches ticks out room

@@ -29,7 +29,7 @@ impl<'a> Model for Batch<'a> {
 }
 
 impl<'a> Batch<'a> {
-    /// Makes the changes of all lanes up to each tick, and keeps the times of all groups there.
+    /// Makes the changes of all lanes up to each tick, and stores the times of all groups there.
     pub(crate) fn go_over<G: Gate>(&mut self, ticks: Ticks, gate: &G)
         requires some { 0 < ticks.count }
         requires early { last_of ticks ≤ last_moment }
@@ -41,7 +41,7 @@ impl<'a> Batch<'a> {
         }
     }
 
-    /// How many changes the processors have left up to a moment (ns).
+    /// The number of changes of all lanes that remain up to a time (ns).
     fn changes_left(&self, until: Ns) -> u64 {
         let mut left = 0u64;
         'lanes: for lane in &self.lanes {
@@ -51,9 +51,8 @@ impl<'a> Batch<'a> {
     }
 }
 
-// In how many threads to work: in one for each so many changes that the batches have up to a moment
-// (ns), and in no more than there are batches; in the caller's alone, where no more than one of
-// them has a change.
+// The number of threads: one for each `worth` changes up to a time (ns), but at most one for each
+// batch, and only the caller's if at most one batch has a change.
 fn threads_for(batches: &[Batch<'_>], until: Ns, worth: u64) -> usize
     requires { 0 < worth }
     ensures { 0 < result }
@@ -71,9 +70,9 @@ fn threads_for(batches: &[Batch<'_>], until: Ns, worth: u64) -> usize
     batches.len().min((changes / worth) as usize).max(1)
 }
 
-/// Makes the changes of all batches up to each tick, and keeps the times of all groups there, each
-/// batch in a thread of its own where one can be started, but in no more threads than one for each
-/// so many changes: they tell nothing of one another.
+/// Makes the changes of all batches up to each tick, and stores the times of all groups there. Each
+/// batch runs in its own thread if one can be started, but there is at most one thread for each
+/// `worth` changes. Batches don't depend on each other.
 pub(crate) fn go_all<R: Threads + Sync, G: Gate>(
     rt: &R,
     batches: &mut [Batch<'_>],

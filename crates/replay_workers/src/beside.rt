@@ -1,4 +1,4 @@
-//! Samples of all processors, beside their changes.
+//! Samples of all processors, taken while their changes are made.
 ghost use Rattle.std.specs.Prelude.{◌≡◌, ◌<◌, ◌≤◌, ℕ, length, IfOk};
 ghost use Rattle.std.specs.List.{All};
 ghost use Rattle.std.specs.Thread.{IsSync};
@@ -15,7 +15,6 @@ use psi_base::{Cpu, NoMemory, Slot};
 use std::alloc::Global;
 use std::thread::{Threads, join};
 
-// A watcher of a processor's lane.
 fn watcher_of(
     alloc: Global,
     batches: &mut [Batch<'_>],
@@ -33,12 +32,12 @@ fn watcher_of(
     batch.lanes[cpu.0 as usize / workers].watcher(alloc, asked)
 }
 
-/// How many changes are worth a thread, where a crew goes interval by interval: it takes about as
-/// long to start one as to make so many changes.
+/// The number of changes that are worth a thread, if a crew advances one interval at a time: they
+/// take about as long as starting a thread.
 pub(crate) const WORTH_THREAD: u64 = 2_000;
 
-/// Watchers of the lanes of so many processors, whose clocks are in rows. Each is to take so many
-/// samples in an interval. They take all the memory that they need.
+/// Watchers of the lanes of `cpus` processors, whose clocks are in rows. Each takes `asked` samples
+/// in an interval. Allocates everything that they need.
 pub(crate) fn watch(
     alloc: Global,
     batches: &mut [Batch<'_>],
@@ -59,7 +58,7 @@ pub(crate) fn watch(
     Ok(watchers)
 }
 
-/// All watchers put their samples away.
+/// Discards the samples of all watchers.
 pub(crate) fn clear(watchers: &mut [Watcher])
     ensures { HaveCleared watchers.old watchers.new }
 {
@@ -68,7 +67,6 @@ pub(crate) fn clear(watchers: &mut [Watcher])
     }
 }
 
-// The lane of a watcher's processor meets it.
 fn meet(batches: &mut [Batch<'_>], watcher: &mut Watcher, slot: Slot)
     requires pair { IsWatcherThere batches.old watcher.old.cpu watcher.old }
     requires slot { slot.0 < length watcher.old.knows.plan.parents }
@@ -82,7 +80,6 @@ fn meet(batches: &mut [Batch<'_>], watcher: &mut Watcher, slot: Slot)
     batch.lanes[cpu / workers].meet_watcher(watcher, slot);
 }
 
-// Each lane meets the watcher of its processor.
 fn meet_all(batches: &mut [Batch<'_>], watchers: &mut [Watcher], slot: Slot)
     requires pairs { AreWatching batches.old watchers.old }
     requires slot { HaveSlot slot.0 watchers.old }
@@ -94,7 +91,6 @@ fn meet_all(batches: &mut [Batch<'_>], watchers: &mut [Watcher], slot: Slot)
     }
 }
 
-// The lane of a watcher's processor settles with it.
 fn settle(batches: &mut [Batch<'_>], watcher: &mut Watcher)
     requires { IsWatcherThere batches.old watcher.old.cpu watcher.old }
     ensures lanes { batches.new ≡ batches.old }
@@ -108,7 +104,6 @@ fn settle(batches: &mut [Batch<'_>], watcher: &mut Watcher)
     batch.lanes[cpu / workers].settle_watcher(watcher);
 }
 
-// Each lane settles with the watcher of its processor.
 fn settle_all(batches: &mut [Batch<'_>], watchers: &mut [Watcher])
     requires { AreWatching batches.old watchers.old }
     ensures lanes { batches.new ≡ batches.old }
@@ -120,7 +115,6 @@ fn settle_all(batches: &mut [Batch<'_>], watchers: &mut [Watcher])
     }
 }
 
-// The batches, after the changes up to each tick.
 fn gone<'a, R: Threads + Sync, G: Gate>(
     rt: &R,
     mut batches: Vec<Batch<'a>>,
@@ -137,7 +131,7 @@ fn gone<'a, R: Threads + Sync, G: Gate>(
     batches
 }
 
-// The watchers, after all their samples, one watcher after the other.
+// The watchers, after each took all its samples, in order of processors.
 fn sampled<G: Gate>(mut watchers: Vec<Watcher>, slot: Slot, gate: &G) -> Vec<Watcher>
     requires { MayAllSample slot.0 watchers.items }
     ensures { HaveSampled slot.0 watchers.items result.items }
@@ -148,10 +142,10 @@ fn sampled<G: Gate>(mut watchers: Vec<Watcher>, slot: Slot, gate: &G) -> Vec<Wat
     watchers
 }
 
-/// Makes the changes of all batches up to each tick, as [`go_all`] does, in threads where they are
-/// worth them. In a thread beside them all watchers take their samples of a slot, each after it met
-/// its lane and before it settles with it. Where there is no watcher, no thread of theirs is
-/// started.
+/// Makes the changes of all batches up to each tick, like [`go_all`], in as many threads as they
+/// are worth. Meanwhile one more thread takes the samples of a slot for all watchers; each meets
+/// its lane before that, and settles with it afterwards. If there are no watchers, that thread
+/// isn't started.
 pub(crate) fn go_beside<'a, R: Threads + Sync, G: Gate>(
     rt: &R,
     batches: Vec<Batch<'a>>,

@@ -1,4 +1,4 @@
-//! The clocks of processors before any change and up to one, and the times that they tell.
+//! The clocks of processors before any change and after some changes, and their times.
 ghost use Rattle.std.specs.Prelude.{◌≡◌, ◌<◌, ◌≤◌, ℕ, length, IfOk};
 ghost use Rattle.plan_laws.specs.Plan.{IsPlan, last_change};
 ghost use Rattle.psi_spec.specs.Within.{last_moment};
@@ -11,8 +11,8 @@ use proc_plan::{IrqClocks, PlainClocks, Plans, ProcClocks};
 use psi_base::{Cpu, NoMemory, Ns, Slot};
 use std::alloc::Global;
 
-/// The clocks of all processors before the first change. They take all the memory that their
-/// changes need.
+/// The clocks of all processors before the first change. Allocates everything that their changes
+/// need.
 pub fn first_clocks(alloc: Global, plans: &Plans) -> Result<Vec<PlainClocks<'_>>, NoMemory>
     ensures on { IfOk result (λ clocks. AreOnPlans plans.now clocks.items) }
     ensures fresh { IfOk result (λ clocks. (cpu : ℕ) → cpu < length clocks.items →
@@ -26,7 +26,8 @@ pub fn first_clocks(alloc: Global, plans: &Plans) -> Result<Vec<PlainClocks<'_>>
     Ok(clocks)
 }
 
-/// Makes the changes of a processor's plan that are left up to so many, and tells the gate of each.
+/// Makes the next changes of a processor's plan, until `changes` were made, and reports each to the
+/// gate.
 pub fn make_until<C: ProcClocks, G: Gate>(clocks: &mut C, cpu: Cpu, changes: u64, gate: &G)
     requires all { changes ≤ length (C.plan clocks.old).changes }
     requires within { C.made clocks.old ≤ changes }
@@ -40,11 +41,11 @@ pub fn make_until<C: ProcClocks, G: Gate>(clocks: &mut C, cpu: Cpu, changes: u64
     }
 }
 
-/// Where the interrupt time stands, behind the times in the seven states.
+/// The index of the interrupt time, after the times in the seven states.
 const IRQ_PLACE: usize = 7;
 
-/// The times (ns) of a slot at a moment, after the changes that were made: those in the seven
-/// states, in their order, and the interrupt time behind them.
+/// The times (ns) of a slot at `at` (ns), after the changes made so far: the time in each of the
+/// seven states, in their order, followed by the interrupt time.
 pub fn own_times<C: IrqClocks>(clocks: &mut C, slot: Slot, at: Ns) -> Times
     requires slot { slot.0 < length (C.plan clocks.old).parents }
     requires whole { IsPlan (C.plan clocks.old) }

@@ -1,4 +1,4 @@
-//! The clocks of all processors of a trace, which go over ticks in the threads of workers.
+//! The clocks of all processors of a trace, which advance by ticks in the threads of workers.
 ghost use Rattle.std.specs.Prelude.{◌≡◌, ◌<◌, ◌≤◌, ℕ, ◌∷◌, [], drop, length, slice_get, IfOk, IfSome, None, Ok, Some, is_some, true};
 ghost use Rattle.plan_laws.specs.Plan.{IsClock};
 ghost use Rattle.psi_spec.specs.Within.{last_moment};
@@ -24,31 +24,31 @@ use std::marker::Model;
 use std::mem;
 use std::thread::Threads;
 
-/// The clocks of all processors, which make the changes of a trace over some ticks at a time, each
-/// worker those of its own processors. They keep the times of all groups at each of these ticks,
-/// until [`Crew::fill`] hands them out. Beside the changes of an interval live samples of one group
-/// can be taken. Contracts see the plans, how many changes each processor's clocks made and in
-/// which row they are, the moments whose times are ready, over how many ticks the crew goes at
-/// once, and what is watched.
+/// The clocks of all processors. They make the changes of a trace for several ticks at a time, and
+/// each worker makes those of its own processors. They store the times of all groups at each tick,
+/// until [`Crew::fill`] returns them. During an interval one group's clocks can be sampled live.
+/// Contracts see the plans, how many changes each processor's clocks made and their row, the
+/// moments whose times are ready, the most ticks that the crew advances by at once, and the
+/// samples.
 ///
-/// A crew that takes live samples has its clocks in rows. One that was made for them and watches
-/// nothing still has: who wants to take samples by readers of its own asks it for these, and
-/// settles and meets each with it between two intervals.
+/// A crew that takes live samples has its clocks in rows, even if it watches nothing. To take
+/// samples with readers of its own, a caller gets them from the crew, and lets each settle and meet
+/// with the crew between two intervals.
 #[derive(Drop)]
 pub struct Crew<'a> {
     alloc: Global,
     plans: &'a Plans,
-    /// By worker: processor `c` is that of worker `c mod workers`.
+    /// One batch for each worker: processor `c` belongs to worker `c % workers`.
     batches: Vec<Batch<'a>>,
-    /// Those that the lanes went over last.
+    /// The ticks by which the lanes advanced last.
     ticks: Ticks,
-    /// How many of them were handed out.
+    /// The number of these ticks whose tables were returned.
     out: u32,
-    /// Over how many the lanes can go.
+    /// The most ticks that the lanes can advance by at once.
     room: u32,
-    /// How many live samples of a processor are taken in an interval.
+    /// The number of live samples of a processor in an interval.
     asked: u32,
-    /// By processor, where samples are taken.
+    /// One watcher for each processor, if samples are taken.
     watchers: Vec<Watcher>,
 }
 
@@ -66,9 +66,9 @@ impl<'a> Model for Crew<'a> {
 }
 
 impl<'a> Crew<'a> {
-    /// The clocks of all processors before the first change, for 1 to 64 workers. A trace is to be
-    /// taken to so many moments; they bound what is kept. So many live samples of a processor are
-    /// taken in an interval in which a group is watched. It takes all the memory that a crew needs.
+    /// The clocks of all processors before the first change, for 1 to 64 workers. `moments` is the
+    /// trace's number of ticks; it bounds the look-ahead. `asked` live samples of a processor are
+    /// taken in an interval in which a group is watched. Allocates everything up front.
     pub fn make(
         alloc: Global,
         plans: &'a Plans,
@@ -113,7 +113,7 @@ impl<'a> Crew<'a> {
         })
     }
 
-    /// Over how many ticks the crew can go at once.
+    /// The most ticks that the crew can advance by at once.
     pub fn room(&self) -> u32
         ensures room { result ≡ self.now.room }
         ensures some { 1 ≤ result }
@@ -121,16 +121,16 @@ impl<'a> Crew<'a> {
         self.room
     }
 
-    /// How many moments are ready.
+    /// The number of moments that are ready.
     pub fn ready(&self) -> u32
         ensures { result ≡ length self.now.ready }
     {
         self.ticks.count - self.out
     }
 
-    /// Goes over ticks: each worker makes the changes of its processors up to each tick, those at
-    /// the tick among them, and keeps the times of all groups there. What was ready before isn't
-    /// any more. Nothing is watched, and the samples of before are gone. Takes no memory.
+    /// Advances by ticks: each worker makes the changes of its processors up to and at each tick,
+    /// and stores the times of all groups there. Discards ready ticks and earlier samples; nothing
+    /// is watched. Does not allocate.
     pub fn intervals<R: Threads + Sync, G: Gate>(&mut self, rt: &R, ticks: Ticks, gate: &G)
         requires some { 0 < ticks.count }
         requires within { ticks.count ≤ self.old.room }
@@ -144,7 +144,7 @@ impl<'a> Crew<'a> {
         ensures ready { self.new.ready ≡ moments_of ticks }
         ensures live { AreSampled None self.old self.new }
     {
-        // A crew that takes samples goes interval by interval, also where nothing is watched.
+        // A crew that takes samples advances one interval at a time, even if nothing is watched.
         let worth = if self.asked > 0 { WORTH_THREAD } else { 1 };
         go_all(rt, &mut self.batches, ticks, worth, gate);
         clear(&mut self.watchers);
@@ -152,8 +152,7 @@ impl<'a> Crew<'a> {
         self.out = 0;
     }
 
-    // Goes over ticks as `intervals` does, while beside the changes live samples of a slot are
-    // taken.
+    // Like `intervals`, but takes live samples of a slot while the changes are made.
     fn intervals_beside<R: Threads + Sync, G: Gate>(
         &mut self,
         rt: &R,
@@ -183,10 +182,10 @@ impl<'a> Crew<'a> {
         self.out = 0;
     }
 
-    /// Makes the changes of all processors up to a moment (ns), those at the moment among them, and
-    /// keeps the times of all groups there. Where a slot is watched and the crew takes samples, so
-    /// many of its clock are taken on each processor beside the changes; the samples of before are
-    /// gone. Takes no memory.
+    /// Makes the changes of all processors up to and at a tick's moment `at` (ns), and stores the
+    /// times of all groups there. If a slot is watched and the crew takes samples, its clock is
+    /// sampled `asked` times on each processor meanwhile. Discards earlier samples. Does not
+    /// allocate.
     pub fn interval<R: Threads + Sync, G: Gate>(
         &mut self,
         rt: &R,
@@ -217,7 +216,7 @@ impl<'a> Crew<'a> {
         }
     }
 
-    /// The live samples of a processor in the last interval, in the order in which they were taken.
+    /// The live samples of a processor in the last interval, in the order they were taken.
     pub fn live(&self, cpu: Cpu) -> &[Sample]
         ensures { result.now ≡ (watch_at self.now.watches cpu.0).samples }
     {
@@ -227,8 +226,8 @@ impl<'a> Crew<'a> {
         }
     }
 
-    /// Puts the times (ns) of all groups on all processors into a table, at the first moment that
-    /// is ready. Takes no memory.
+    /// Copies the times (ns) of all groups on all processors at the first ready moment to a table.
+    /// Does not allocate.
     pub fn fill(&mut self, at: Ns, rows: &mut Rows)
         requires first { slice_get self.old.ready 0 ≡ Some at }
         requires sizes { HasSizes (length self.old.plans.plans)
@@ -240,7 +239,7 @@ impl<'a> Crew<'a> {
         self.out += 1;
     }
 
-    /// How many changes of a processor were made.
+    /// The number of changes of a processor that were made.
     pub fn count(&self, cpu: Cpu) -> u64
         requires { cpu.0 < length self.now.plans.plans }
         ensures { result ≡ (clocks_at self.now.clocks cpu.0).made }
@@ -248,7 +247,7 @@ impl<'a> Crew<'a> {
         lane_in(&self.batches, cpu).count()
     }
 
-    /// The clock of a slot on a processor, after the changes of the processor that were made.
+    /// The clock of a slot on a processor, after the processor's changes made so far.
     pub fn own(&mut self, cpu: Cpu, slot: Slot) -> Clock
         requires cpu { cpu.0 < length self.old.plans.plans }
         requires slot { slot.0 < length self.old.plans.lives }
@@ -261,7 +260,7 @@ impl<'a> Crew<'a> {
         batch.lanes[cpu.0 as usize / workers].own(slot)
     }
 
-    /// A reader of a processor's row, which has seen the changes that were made. It may go to
+    /// A reader of a processor's row, which has seen the changes made so far. It may be sent to
     /// another thread.
     pub fn reader(&mut self, cpu: Cpu) -> Result<ClockReader, NoMemory>
         requires cpu { cpu.0 < length self.old.plans.plans }
@@ -276,8 +275,8 @@ impl<'a> Crew<'a> {
         batch.lanes[cpu.0 as usize / workers].reader()
     }
 
-    /// Tells a reader of a processor's row how many changes were made: it has then seen at least so
-    /// many, and no fewer than before. It takes no memory, and always answers Ok.
+    /// Tells a reader of a processor's row how many changes were made: the reader has then seen at
+    /// least that many. Does not allocate, and always returns Ok.
     pub fn meet(&mut self, cpu: Cpu, reader: &mut ClockReader) -> Result<(), NoMemory>
         requires cpu { cpu.0 < length self.old.plans.plans }
         requires own { Some reader.old.row ≡ row_at self.old.rows cpu.0 }
@@ -292,8 +291,8 @@ impl<'a> Crew<'a> {
         batch.lanes[cpu.0 as usize / workers].meet(reader)
     }
 
-    /// Learns from a reader of a processor's row what it has seen: that is at most the number of
-    /// changes that were made. It takes no memory, and always answers Ok.
+    /// Learns how many changes a reader of a processor's row has seen, which is at most the number
+    /// made. Does not allocate, and always returns Ok.
     pub fn settle(&mut self, cpu: Cpu, reader: &mut ClockReader) -> Result<(), NoMemory>
         requires cpu { cpu.0 < length self.old.plans.plans }
         requires own { Some reader.old.row ≡ row_at self.old.rows cpu.0 }

@@ -9,17 +9,17 @@ use proc_plan::Plans;
 use psi_base::{Cpu, NoMemory};
 use std::alloc::Global;
 
-/// How many bytes the times take at most that are kept for ticks ahead.
+/// The most bytes for the times of ticks ahead.
 const MOST_KEPT: u64 = 64_000_000;
 
-/// Over how many ticks a crew goes at once at most.
+/// The most ticks that a crew advances by at once.
 const MOST_AHEAD: u64 = 256;
 
-/// How many bytes the eight times of a group on a processor take.
+/// The size of the eight times of a group on a processor, in bytes.
 const TIMES_BYTES: u64 = 64;
 
-/// Over how many ticks a crew goes at once, where a trace is taken to so many moments: over as many
-/// as can be kept, no more than 256, and over one at least.
+/// The most ticks that a crew advances by at once, for a trace with `moments` ticks: as many as fit
+/// into `MOST_KEPT`, at most `MOST_AHEAD`, and at least one.
 pub(crate) fn room_for(cpus: u32, slots: u32, moments: u64) -> u32
     requires { cpus ≤ 64 }
     ensures room { result ≡ room_of cpus slots moments }
@@ -30,8 +30,8 @@ pub(crate) fn room_for(cpus: u32, slots: u32, moments: u64) -> u32
     fits.min(moments).min(MOST_AHEAD).max(1) as u32
 }
 
-// The lanes of a worker, before any change: each processor whose number over that of the workers
-// leaves the worker's own. Their clocks are in rows or plain.
+// The lanes of a worker before any change: lane k is that of processor k * workers + worker. The
+// clocks are in rows or plain.
 fn deal_batch<'a>(
     alloc: Global,
     plans: &'a Plans,
@@ -55,8 +55,8 @@ fn deal_batch<'a>(
     Ok(Batch { lanes })
 }
 
-/// All processors, dealt to so many workers, before any change, with clocks in rows where they are
-/// to be watched.
+/// All processors, dealt to `workers` workers, before any change. Clocks are in rows if they are to
+/// be sampled.
 pub(crate) fn deal<'a>(
     alloc: Global,
     plans: &'a Plans,

@@ -1,4 +1,4 @@
-//! The times of all groups that are kept for a tick, into a table.
+//! Copies the stored times of all groups at a tick to a table.
 ghost use Rattle.std.specs.Prelude.{◌≡◌, ◌+◌, ◌*◌, ◌<◌, ◌/◌, ◌%◌, ℕ, length};
 ghost use Rattle.aggregate.specs.Table.{HasSizes};
 ghost use Rattle.replay_workers.specs.Crew.{IsTableAt};
@@ -10,7 +10,7 @@ use aggregate::Rows;
 use proc_plan::Plans;
 use psi_base::{Cpu, Slot};
 
-/// Where the lane of a processor stands: in which worker's batch, and at which place there.
+/// The place of a processor's lane: its worker's batch, and the index there.
 #[derive(Clone, Copy, Debug)]
 struct LanePlace {
     worker: usize,
@@ -18,7 +18,7 @@ struct LanePlace {
 }
 
 impl LanePlace {
-    /// Where the lane of the next processor stands, among those of so many workers.
+    /// The place of the next processor's lane.
     fn next(self, workers: usize) -> LanePlace
         requires worker { self.worker < workers }
         requires few { self.place < 64 }
@@ -38,7 +38,7 @@ impl LanePlace {
         }
     }
 
-    /// The lane that stands there.
+    /// The lane at this place.
     fn lane<'b, 'a>(self, batches: &'b [Batch<'a>]) -> &'b Lane<'a>
         requires worker { self.worker < length batches.now }
         requires place { self.place < length (batch_at batches.now self.worker) }
@@ -61,8 +61,7 @@ pub(crate) fn lane_in<'b, 'a>(batches: &'b [Batch<'a>], cpu: Cpu) -> &'b Lane<'a
     &batch.lanes[cpu.0 as usize / workers]
 }
 
-// Puts the times (ns) of a group on all processors into its row, those that are kept for the tick
-// with a number from 0.
+// Copies the times (ns) of a group on all processors, stored for tick `tick`, to its row.
 fn fill_row(plans: &Plans, batches: &[Batch<'_>], tick: u32, slot: Slot, rows: &mut Rows)
     requires sizes { HasSizes (length plans.now.plans) (length plans.now.lives) rows.old }
     requires slot { slot.0 < length plans.now.lives }
@@ -84,8 +83,8 @@ fn fill_row(plans: &Plans, batches: &[Batch<'_>], tick: u32, slot: Slot, rows: &
     }
 }
 
-/// Puts the times (ns) of all groups on all processors at a moment into a table, those that are
-/// kept for the tick with a number from 0: row by row, as the table has them.
+/// Copies the times (ns) of all groups on all processors, stored for tick `tick` (numbered from 0),
+/// to a table: row by row, in the table's order.
 pub(crate) fn fill(plans: &Plans, batches: &[Batch<'_>], tick: u32, rows: &mut Rows)
     requires sizes { HasSizes (length plans.now.plans) (length plans.now.lives) rows.old }
     requires kept { (at : ℕ) × AreKept plans.now batches.now tick at }

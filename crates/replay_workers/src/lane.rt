@@ -1,4 +1,4 @@
-//! One processor, which goes tick by tick and keeps the times at each.
+//! One processor, which advances tick by tick and stores the times at each.
 ghost use Rattle.std.specs.Prelude.{◌≡◌, ◌*◌, ◌<◌, ◌≤◌, length, IfOk, Ok, Some, is_some};
 ghost use Rattle.plan_laws.specs.Plan.{IsClock, IsPlan};
 ghost use Rattle.psi_spec.specs.Within.{last_moment};
@@ -20,16 +20,16 @@ use psi_base::{Cpu, NoMemory, Ns, Slot};
 use std::alloc::Global;
 use std::marker::Model;
 
-/// The clocks of one processor, and the times of all groups there at the ticks that they went over
-/// last. Contracts see the processor, the row if the clocks are in one, how many changes of which
-/// plan were made, and what is kept.
+/// The clocks of one processor, and the times of all its groups at the ticks by which it advanced
+/// last. Contracts see the processor, the row if the clocks are in one, the plan and how many of
+/// its changes were made, and the stored times.
 #[derive(Drop)]
 pub(crate) struct Lane<'a> {
     cpu: Cpu,
     plan: &'a Plan,
     slots: u32,
     clocks: LaneClocks<'a>,
-    /// Tick by tick, `slots` a tick.
+    /// The stored times: `slots` entries for each tick, in order of ticks.
     kept: Vec<Times>,
 }
 
@@ -48,7 +48,7 @@ impl<'a> Model for Lane<'a> {
     ghost invariant = { λ l. IsLane l.plan.now l.slots (clocks_in l.clocks) };
 }
 
-// So many places for times.
+// `count` zeroed entries.
 fn places(alloc: Global, count: usize) -> Result<Vec<Times>, NoMemory>
     ensures { IfOk result (λ times. length times.items ≡ count) }
 {
@@ -56,8 +56,8 @@ fn places(alloc: Global, count: usize) -> Result<Vec<Times>, NoMemory>
 }
 
 impl<'a> Lane<'a> {
-    /// A processor before its first change, with room for the times of so many ticks, and with
-    /// clocks in a row where they are to be watched. It takes all the memory that its changes need.
+    /// A processor before its first change, with room for the times of `room` ticks, and with
+    /// clocks in a row if they are to be sampled. Allocates everything that its changes need.
     pub(crate) fn make(
         alloc: Global,
         plans: &'a Plans,
@@ -86,19 +86,19 @@ impl<'a> Lane<'a> {
         })
     }
 
-    /// How many changes were made.
+    /// The number of changes made.
     pub(crate) fn count(&self) -> u64
         ensures { result ≡ self.now.on.made }
     {
         self.clocks.count()
     }
 
-    /// How many changes are left up to a moment (ns).
+    /// The number of changes that remain up to a time (ns).
     pub(crate) fn changes_left(&self, until: Ns) -> u64 {
         self.plan.until(until).saturating_sub(self.clocks.count())
     }
 
-    /// The clock of a slot, after the changes that were made.
+    /// The clock of a slot, after the changes made so far.
     pub(crate) fn own(&mut self, slot: Slot) -> Clock
         requires { slot.0 < length self.old.on.plan.parents }
         ensures kept { self.new ≡ self.old }
@@ -107,14 +107,14 @@ impl<'a> Lane<'a> {
         self.clocks.own(slot)
     }
 
-    /// The times (ns) of all groups, by slot, that are kept for a tick with a number from 0.
+    /// The stored times (ns): `slots` entries for each tick, in order of ticks.
     pub(crate) fn kept(&self) -> &[Times]
         ensures { result.now ≡ self.now.kept }
     {
         &self.kept
     }
 
-    /// A reader of the processor's row: its clocks are in one.
+    /// A reader of the processor's row, in which its clocks are.
     pub(crate) fn reader(&mut self) -> Result<ClockReader, NoMemory>
         requires { IsInRow self.old }
         ensures same { self.new ≡ self.old }
@@ -128,8 +128,8 @@ impl<'a> Lane<'a> {
         writer.reader()
     }
 
-    /// Tells a reader of the processor's row how many changes were made. It takes no memory, and
-    /// always answers Ok.
+    /// Tells a reader of the processor's row how many changes were made. Does not allocate, and
+    /// always returns Ok.
     pub(crate) fn meet(&mut self, reader: &mut ClockReader) -> Result<(), NoMemory>
         requires { Some reader.old.row ≡ self.old.row }
         ensures ok { result ≡ Ok tt }
@@ -143,8 +143,8 @@ impl<'a> Lane<'a> {
         writer.meet(reader)
     }
 
-    /// Learns from a reader of the processor's row what it has seen: no more changes than were
-    /// made. It takes no memory, and always answers Ok.
+    /// Learns how many changes a reader of the processor's row has seen, which is at most the
+    /// number made. Does not allocate, and always returns Ok.
     pub(crate) fn settle(&mut self, reader: &mut ClockReader) -> Result<(), NoMemory>
         requires { Some reader.old.row ≡ self.old.row }
         ensures ok { result ≡ Ok tt }
@@ -158,8 +158,8 @@ impl<'a> Lane<'a> {
         writer.settle(reader)
     }
 
-    /// A watcher of the processor, whose clocks are in a row. It is to take so many samples in an
-    /// interval, and takes all the memory that it needs.
+    /// A watcher of the processor, whose clocks are in a row. It takes `asked` samples in an
+    /// interval. Allocates everything that it needs.
     pub(crate) fn watcher(&mut self, alloc: Global, asked: u32) -> Result<Watcher, NoMemory>
         requires { IsInRow self.old }
         ensures same { self.new ≡ self.old }
@@ -172,8 +172,7 @@ impl<'a> Lane<'a> {
         Watcher::make(alloc, self.cpu, writer, asked)
     }
 
-    /// Meets the processor's watcher: it learns how many changes were made, and what the clock of a
-    /// slot is after them.
+    /// Tells the processor's watcher how many changes were made, and a slot's clock after them.
     pub(crate) fn meet_watcher(&mut self, watcher: &mut Watcher, slot: Slot)
         requires row { Some watcher.old.row ≡ self.old.row }
         requires plan { watcher.old.knows.plan ≡ self.old.on.plan }
@@ -187,7 +186,7 @@ impl<'a> Lane<'a> {
         watcher.meet(writer, slot);
     }
 
-    /// Settles with the processor's watcher: it has seen no more changes than were made.
+    /// Learns from the processor's watcher what it has seen: at most the changes made so far.
     pub(crate) fn settle_watcher(&mut self, watcher: &mut Watcher)
         requires { Some watcher.old.row ≡ self.old.row }
         ensures lane { self.new ≡ self.old }
@@ -200,7 +199,7 @@ impl<'a> Lane<'a> {
         watcher.settle(writer);
     }
 
-    /// Makes the changes up to each tick, and keeps the times of all groups there.
+    /// Makes the changes up to each tick, and stores the times of all groups there.
     pub(crate) fn go_over<G: Gate>(&mut self, ticks: Ticks, gate: &G)
         requires some { 0 < ticks.count }
         requires early { last_of ticks ≤ last_moment }

@@ -1,4 +1,4 @@
-//! The clocks of one processor, in a row only where they are to be watched.
+//! The clocks of one processor, in a row only if they are to be sampled.
 ghost use Rattle.std.specs.Prelude.{◌≡◌, ◌+◌, ◌*◌, ◌<◌, ◌≤◌, length, IfOk, is_some};
 ghost use Rattle.plan_laws.specs.Plan.{IsClock, IsPlan, changes_up_to, last_change};
 ghost use Rattle.psi_spec.specs.Within.{last_moment};
@@ -15,17 +15,17 @@ use proc_plan::{IrqClocks, PlainClocks, Plan, ProcClocks};
 use psi_base::{Cpu, NoMemory, Ns, Slot};
 use std::alloc::Global;
 
-/// The clocks of a processor. A change costs about twice as much where they are in a row.
+/// The clocks of a processor. A change costs about twice as much if they are in a row.
 #[derive(Drop)]
 pub(crate) enum LaneClocks<'a> {
-    /// Nothing reads them beside their changes.
+    /// Plain clocks: no other thread reads them.
     Plain(PlainClocks<'a>),
-    /// Watchers may read them beside their changes.
+    /// Clocks in a row: watchers may read them while changes are made.
     Row(ClockWriter<'a>),
 }
 
-// Keeps the times (ns) of all groups at the tick with a number from 0, whose moment this is. The
-// clocks made all changes up to the moment.
+// Stores the times (ns) of all groups at tick `tick`, whose moment is `at`. The clocks must have
+// made all changes up to `at`.
 fn keep_tick<C: IrqClocks>(clocks: &mut C, slots: u32, tick: u32, at: Ns, kept: &mut [Times])
     requires known { slots ≡ length (C.plan clocks.old).parents }
     requires whole { IsPlan (C.plan clocks.old) }
@@ -44,7 +44,7 @@ fn keep_tick<C: IrqClocks>(clocks: &mut C, slots: u32, tick: u32, at: Ns, kept: 
     }
 }
 
-// Makes the changes of a plan tick by tick, and keeps the times of all groups at each tick.
+// Makes the changes of a plan tick by tick, and stores the times of all groups at each tick.
 fn go_over<C: IrqClocks, G: Gate>(
     plan: &Plan,
     clocks: &mut C,
@@ -76,8 +76,8 @@ fn go_over<C: IrqClocks, G: Gate>(
 }
 
 impl<'a> LaneClocks<'a> {
-    /// The clocks before the first change of a plan that knows the parents of so many slots, in a
-    /// row or plain. They take all the memory that their changes need.
+    /// The clocks before the first change of a plan with `slots` slots, in a row or plain.
+    /// Allocates everything that their changes need.
     pub(crate) fn make(
         alloc: Global,
         plan: &'a Plan,
@@ -95,7 +95,7 @@ impl<'a> LaneClocks<'a> {
         Ok(LaneClocks::Plain(PlainClocks::make(alloc, plan, slots)?))
     }
 
-    /// How many changes were made.
+    /// The number of changes made.
     pub(crate) fn count(&self) -> u64
         ensures { result ≡ (clocks_in self.now).made }
     {
@@ -105,7 +105,7 @@ impl<'a> LaneClocks<'a> {
         }
     }
 
-    /// The clock of a slot, after the changes that were made.
+    /// The clock of a slot, after the changes made so far.
     pub(crate) fn own(&mut self, slot: Slot) -> Clock
         requires { slot.0 < length (clocks_in self.old).plan.parents }
         ensures kept { clocks_in self.new ≡ clocks_in self.old }
@@ -119,7 +119,7 @@ impl<'a> LaneClocks<'a> {
         }
     }
 
-    /// Makes the changes of a plan tick by tick, and keeps the times of all groups at each tick.
+    /// Makes the changes of a plan tick by tick, and stores the times of all groups at each tick.
     pub(crate) fn go_over<G: Gate>(
         &mut self,
         plan: &Plan,

@@ -1,14 +1,13 @@
-//! Laws of tables, and of the room for them. Each function has an empty body: its contract is the
-//! law.
+//! Laws of tables and of their room. Each function has an empty body: its contract is the law.
 ghost use Rattle.replay_workers.specs.Crew.{RoomIsSmall, TableIsOfEvents};
 
-/// The table that a crew fills at a moment is that of the stall times of the trace's events up to
-/// it, and of their interrupt times.
+/// The table that a crew fills at a tick has the stall times and interrupt times of the trace's
+/// events up to it.
 pub fn law_tables()
     ensures { TableIsOfEvents }
 {}
 
-/// What a crew keeps for ticks ahead is small, or that of one tick.
+/// A crew stores times of at most 64 MB for ticks ahead, or those of one tick.
 pub fn law_room()
     ensures { RoomIsSmall }
 {}

@@ -1,22 +1,22 @@
-//! Ticks that a crew goes over at once.
+//! The ticks by which a crew advances at once.
 ghost use Rattle.std.specs.Prelude.{◌≡◌, ◌<◌, ◌^◌};
 ghost use Rattle.replay_workers.specs.Crew.{last_of, moment_in};
 
 use psi_base::Ns;
 
-/// Moments that are one length apart.
+/// Evenly spaced moments.
 #[derive(Clone, Copy, Debug)]
 pub struct Ticks {
     /// The first moment, in ns.
     pub first: Ns,
-    /// From each moment to the next, in ns.
+    /// The time from each moment to the next, in ns.
     pub length: Ns,
-    /// How many there are.
+    /// The number of moments.
     pub count: u32,
 }
 
 impl Ticks {
-    /// The moment (ns) of the tick with a number from 0.
+    /// The moment (ns) of tick `number`, counted from 0.
     pub(crate) fn moment(self, number: u32) -> Ns
         requires { moment_in self number < 2 ^ 64 }
         ensures { result ≡ moment_in self number }

@@ -1,4 +1,4 @@
-//! A watcher, which takes live samples of one processor.
+//! A watcher, which samples one processor live.
 ghost use Rattle.std.specs.Prelude.{◌≡◌, ◌+◌, ◌*◌, ◌<◌, ◌≤◌, [], length, vec_capacity, vec_len, IfOk, Some};
 ghost use Rattle.std.specs.List.{All};
 ghost use Rattle.plan_laws.specs.Plan.{IsClock};
@@ -23,10 +23,10 @@ use std::marker::Model;
 pub(crate) struct Watcher {
     cpu: Cpu,
     reader: ClockReader,
-    /// The one before the first of an interval: the writer's own clock.
+    /// The sample before the first of an interval: the writer's own clock.
     last: Sample,
     samples: Vec<Sample>,
-    /// How many it takes in an interval.
+    /// The number of samples in an interval.
     asked: u32,
 }
 
@@ -48,8 +48,8 @@ impl Model for Watcher {
     ghost invariant = { λ w. w.asked ≤ vec_capacity w.samples };
 }
 
-// Takes so many samples of a slot after the last one, and tells the gate of each. There is room for
-// them.
+// Takes `asked` samples of a slot after the last one, and reports each to the gate. `samples` has
+// the capacity for them.
 fn sample_on<G: Gate>(
     reader: &mut ClockReader,
     samples: &mut Vec<Sample>,
@@ -88,8 +88,8 @@ fn sample_on<G: Gate>(
 }
 
 impl Watcher {
-    /// A watcher of a writer's row, which is to take so many samples of it in an interval. It takes
-    /// all the memory that it needs.
+    /// A watcher of a writer's row, which takes `asked` samples in an interval. Allocates
+    /// everything that it needs.
     pub(crate) fn make(
         alloc: Global,
         cpu: Cpu,
@@ -127,14 +127,14 @@ impl Watcher {
         &self.samples
     }
 
-    /// Puts the samples away.
+    /// Discards the samples.
     pub(crate) fn clear(&mut self)
         ensures { HasCleared self.old self.new }
     {
         self.samples.clear();
     }
 
-    /// Learns from the writer how many changes it made, and what its clock of a slot is then.
+    /// Learns from the writer how many changes it made, and its clock of a slot after them.
     pub(crate) fn meet(&mut self, writer: &mut ClockWriter<'_>, slot: Slot)
         requires row { self.old.row ≡ writer.old.row }
         requires plan { self.old.knows.plan ≡ writer.old.knows.plan }
@@ -152,7 +152,7 @@ impl Watcher {
         };
     }
 
-    /// Tells the writer what it has seen: no more than the writer made.
+    /// Tells the writer how many changes it has seen: at most those that the writer made.
     pub(crate) fn settle(&mut self, writer: &mut ClockWriter<'_>)
         requires { self.old.row ≡ writer.old.row }
         ensures same { self.new ≡ self.old }
@@ -164,8 +164,8 @@ impl Watcher {
         let _told = writer.settle(&mut self.reader);
     }
 
-    /// Takes its samples of a slot, and tells the gate of each. Takes no memory, and at most eight
-    /// tries for each.
+    /// Takes its samples of a slot, and reports each to the gate. Makes at most eight tries for
+    /// each sample. Does not allocate.
     pub(crate) fn sample<G: Gate>(&mut self, slot: Slot, gate: &G)
         requires { MaySample slot.0 self.old }
         ensures { HasSampled slot.0 self.old self.new }
