@@ -1,4 +1,4 @@
--- What a legal event tells of accounts that are switched.
+-- What follows from a legal event that switches accounting.
 use Rattle.std.proofs.Common.{◌≡◌, ℕ, List, refl, ap, ◌∙◌, sym, Bool, true, false, Option, None, Some, ◌==◌}
 use Rattle.std.specs.Prelude.{not, is_some, unwrap_or, IfSome, if◌then◌else◌}
 use Rattle.psi_base.specs.declared.event.Act.{Act}
@@ -16,12 +16,12 @@ use Rattle.psi_spec.proofs.RefusalLaws.{none_stands}
 use Rattle.psi_counts.specs.declared.changes.Change.{Change}
 use Rattle.psi_counts.specs.Touch.{change_of, change_on, account_change, account_of, on_with, part, shown, task_after, OnByAccount}
 
--- an act that switches an account changes no task's counts, and tells of no interrupts
+-- an act that switches accounting changes no task's counts, and has no interrupt time
 pub account_alone : (groups : List GroupLife) (tasks : Tasks) (a : Act) (cpu : ℕ) → IfSome (account_of groups a) (λ account. ((part cpu (before tasks a) ≡ None) × (part cpu (task_after groups tasks a) ≡ None)) × (irq_told cpu a ≡ 0))
 account_alone groups tasks (act.Pressure path on) cpu = ((refl, refl), refl)
 account_alone groups tasks _ cpu = tt
 
--- one that doesn't touch some processor has none
+-- an act that doesn't touch some processor switches no accounting
 pub no_account : (groups : List GroupLife) (tasks : Tasks) (a : Act) (cpu : ℕ) → touched a (before tasks a) cpu ≡ false → account_of groups a ≡ None
 no_account groups tasks (act.Pressure path on) cpu off = absurd (cc off)
 no_account groups tasks _ cpu off = refl
@@ -31,7 +31,7 @@ the_slot : (o : Option ℕ) → not (is_some o) ≡ false → (n : ℕ) × (o �
 the_slot None h = absurd (cc h)
 the_slot (Some n) h = (n, refl)
 
--- the account that a legal act switches tells which are on after it
+-- the switch of a legal act determines the accounting that is on afterwards
 on_act : (limits : Limits) (w : World) (at : ℕ) (a : Act) → cause_of limits w (record { at = at; act = a }) ≡ None → AreGroups w.groups → (slot : ℕ) →
     is_on (groups_after at w.groups a) slot ≡ on_with slot (is_on w.groups slot) (account_of w.groups a)
 on_act limits w at (act.Group path) legal are slot = made_on w.groups (new_group w.groups path at) slot refl
@@ -52,14 +52,14 @@ made_then : (b : Bool) (made other : Change) → (if b then Some made else None)
 made_then true made other is = cc is
 made_then false made other is = absurd (cc is)
 
--- the switched account of a change is that of its event
+-- the switch of accounting in a change is that of its event
 pub change_account : (w : World) (event : Event) (cpu : ℕ) (change : Change) → change_of w event cpu ≡ Some change → change.account ≡ account_of w.groups event.act
 unfolding change_of
 change_account w event cpu change is =
     ap (λ (c : Change). c.account)
     (sym (made_then (touched event.act (before w.tasks event.act) cpu) (change_on w.groups event (before w.tasks event.act) (task_after w.groups w.tasks event.act) (tasks_after w.groups w.tasks event.act) cpu) change is))
 
--- a switched account alone is the change of every processor
+-- a switch of accounting alone is the change of every processor
 account_act : (w : World) (at : ℕ) (a : Act) (cpu : ℕ) (account : Slot × Bool) → account_of w.groups a ≡ Some account →
     change_of w (record { at = at; act = a }) cpu ≡ Some (account_change at (shown (running_on (tasks_after w.groups w.tasks a) cpu)) account)
 unfolding change_of

@@ -1,4 +1,4 @@
--- Clocks tell how long states held.
+-- The times that clocks give for each state.
 use Rattle.std.proofs.Common.{◌≡◌, ℕ, ◌+◌, ◌-◌, ◌≤◌, List, [], ◌∷◌, ◌++◌, map, refl, ◌∙◌, Bool, true, false, arith}
 use Rattle.std.specs.Prelude.{if◌then◌else◌, slice_index}
 use Rattle.psi_base.specs.declared.event.State.{State}
@@ -7,7 +7,7 @@ use Rattle.psi_spec.specs.Stall.{state_number, states}
 use Rattle.psi_counts.specs.Counts.{mask_holds}
 use Rattle.psi_counts.specs.Clock.{ClockFollows, ClockView, zero_clock, opened_time, opened, advanced, SameMaskIsNoChange, SameAfterChange, WordsTellClock, NoLongerThanClock}
 
--- a time stands at its state's number
+-- a time is at its state's index
 pub opened_at : (clock : ClockView) (at : ℕ) (state : State) → slice_index (opened clock at) (state_number state) ≡ opened_time clock at state
 opened_at clock at IoSome = refl
 opened_at clock at IoFull = refl
@@ -17,8 +17,8 @@ opened_at clock at CpuSome = refl
 opened_at clock at CpuFull = refl
 opened_at clock at Nonidle = refl
 
--- the time of a state after a change: what was before it, and the open time where the state is in
--- the new mask
+-- the time in a state after a change: the time before it, plus the open time if the state is in the
+-- new mask
 pub advanced_time : (clock : ClockView) (at mask later : ℕ) (state : State) → opened_time (advanced clock at mask) later state ≡ opened_time clock at state + (if mask_holds mask state then later - at else 0)
 advanced_time clock at mask later state = rw (opened_at clock at state) refl
 

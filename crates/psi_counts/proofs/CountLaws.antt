@@ -10,7 +10,7 @@ use Rattle.psi_spec.specs.declared.machine.Task.{Task}
 use Rattle.psi_spec.specs.declared.machine.Mode.{Mode}
 use Rattle.psi_spec.specs.declared.machine.Mode.TheVariants.{Blocked, Waiting, Ready, Running}
 
--- one where a test passes, else none
+-- 1 if a test passes, otherwise 0
 abbrev pub one : Bool → ℕ
 one test = if test then 1 else 0
 
@@ -22,7 +22,7 @@ how_many-cons test task tasks =
       | false ↦ omega arith
     ]
 
--- some task passes exactly where the number of those that pass isn't 0
+-- some task passes if and only if the number of those that pass isn't 0
 pub any_counted : (test : Task → Bool) (tasks : List Task) → list_any test tasks ≡ nat_lt 0 (how_many test tasks)
 any_counted test [] = refl
 any_counted test (task ∷ tasks) =
@@ -44,7 +44,7 @@ stalled_of_up (task ∷ tasks) =
       | false ↦ omega (arith, rest)
     ])
 
--- all that are up are stalled exactly where as many are up as are up and stalled
+-- all tasks that are up are stalled if and only if as many are up as are up and stalled
 pub all_counted : (tasks : List Task) → list_all (λ task. not (is_up task) || stalls task) tasks ≡ (how_many is_up tasks == how_many is_up_stalled tasks)
 all_counted [] = refl
 all_counted (task ∷ tasks) =
@@ -76,7 +76,7 @@ up_counted (task ∷ tasks) =
     let running = how_many-cons runs task tasks in
     omega (arith, rest, here, up, ready, running)
 
--- some task passes one of two tests exactly where some passes the one or some the other
+-- some task passes one of two tests if and only if some passes the first or some the second
 pub any_either : (one_test other_test : Task → Bool) (tasks : List Task) → list_any (λ task. one_test task || other_test task) tasks ≡ (list_any one_test tasks || list_any other_test tasks)
 any_either p q [] = refl
 any_either p q (t ∷ ts) =

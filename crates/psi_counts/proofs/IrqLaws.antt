@@ -1,4 +1,4 @@
--- What a legal event tells of interrupts, and where.
+-- The interrupt time of a legal event, and the processor that it is on.
 use Rattle.std.proofs.Common.{◌≡◌, ℕ, ◌-◌, ◌≤◌, ◌<◌, List, refl, ap, Bool, true, false, arith, None, ◌==◌, nat_lt}
 use Rattle.std.specs.Prelude.{◌||◌, if◌then◌else◌, slice_index_or}
 use Rattle.std.proofs.lemmas.Bool.Decides.{nat_tests}
@@ -14,12 +14,12 @@ use Rattle.psi_spec.specs.Changes.{before, touched}
 use Rattle.psi_spec.proofs.RefusalLaws.{passed}
 use Rattle.psi_counts.specs.Touch.{part, task_after}
 
--- an act that doesn't touch a processor tells of no interrupts there
+-- an act that doesn't touch a processor has no interrupt time there
 pub untold : (tasks : Tasks) (a : Act) (cpu : ℕ) → touched a (before tasks a) cpu ≡ false → irq_told cpu a ≡ 0
 untold tasks (act.Irq named ns) cpu off = ap (λ b. if b then ns else 0) off
 untold tasks _ cpu off = refl
 
--- one that tells of interrupts there changes no task's counts
+-- an act with interrupt time there changes no task's counts
 pub told_alone : (groups : List GroupLife) (tasks : Tasks) (a : Act) (cpu : ℕ) → 0 < irq_told cpu a → (part cpu (before tasks a) ≡ None) × (part cpu (task_after groups tasks a) ≡ None)
 told_alone groups tasks (act.Irq named ns) cpu some = (refl, refl)
 told_alone groups tasks _ cpu some = absurd (omega (arith, some))
@@ -47,6 +47,6 @@ pub not_too_long : (limits : Limits) (w : World) (event : Event) → cause_of li
 unfolding cause_of
 not_too_long limits w event legal = passed (λ why. applies why limits w event) cause_order 23 cause.IrqTooLong legal refl
 
--- a legal event tells of a second of interrupts at most
+-- the interrupt time of a legal event is at most a second
 pub told_few : (limits : Limits) (w : World) (event : Event) → cause_of limits w event ≡ None → (cpu : ℕ) → irq_told cpu event.act ≤ longest_irq
 told_few limits w event legal cpu = few_told w.irqs event.at event.act cpu (not_too_long limits w event legal)

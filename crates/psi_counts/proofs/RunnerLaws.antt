@@ -1,4 +1,4 @@
--- Which tasks run: at most one on each processor, and what the running one tells.
+-- Which tasks run: at most one on each processor, and what the running task determines.
 use Rattle.std.proofs.Common.{◌≡◌, ℕ, ◌+◌, ◌≤◌, List, [], ◌∷◌, refl, ap, ◌∙◌, sym, Bool, true, false, arith, cond, Option, None, Some, nat_lt, ◌==◌, ⊎_elim}
 use Rattle.std.specs.Prelude.{map, find, ◌&&◌}
 use Rattle.std.specs.List.{list_any}
@@ -37,7 +37,7 @@ once_of tasks once cpu = rw (← tallied (is_running_on cpu) (fin.values tasks))
 of_once : (tasks : Tasks) → ((cpu : ℕ) → Once tasks cpu) → RunsOnce tasks
 of_once tasks once cpu = rw (tallied (is_running_on cpu) (fin.values tasks)) (once cpu)
 
--- where a search finds none, none counts
+-- if a search finds no task, the count is 0
 none_count : (p : Task → Bool) (es : List (ℕ × Task)) → find (λ e. p e.1) es ≡ None → tally p (map (λ e. e.1) es) ≡ 0
 none_count p [] h = refl
 none_count p (e ∷ es) h =
@@ -139,7 +139,7 @@ tally_fewer p q (t ∷ tasks) =
       | false ↦ omega (arith, rest)
     ]
 
--- of the only one that passes a test, a search finds it and tells whether it passes another
+-- if only one task passes a test, a search finds it and shows whether it passes another
 only_one : (p f : Task → Bool) (es : List (ℕ × Task)) → tally p (map (λ e. e.1) es) ≤ 1 → tally (λ t. p t && f t) (map (λ e. e.1) es) ≡ one (is_some_and (task_part (find (λ e. p e.1) es)) f)
 only_one p f [] few = refl
 only_one p f (e ∷ es) few =
@@ -200,7 +200,7 @@ current_stalled parents slot (Some e) = refl
 tally_alike : (p q : Task → Bool) → ((t : Task) → p t ≡ q t) → (tasks : List Task) → how_many p tasks ≡ how_many q tasks
 tally_alike p q same tasks = tallied p tasks ∙ tally_same p q same tasks ∙ sym (tallied q tasks)
 
--- what is shown tells what runs
+-- the running task in a change determines which task runs
 pub current_tells : CurrentTells
 current_tells tasks once parents cpu slot =
     let list = tasks_in parents cpu slot tasks in

@@ -29,7 +29,7 @@ use Rattle.psi_spec.proofs.RefusalLaws.{first_true, is_none, none_stands, not_fa
 use Rattle.psi_spec.proofs.TaskLaws.{task_placed}
 use Rattle.psi_counts.proofs.TouchCounts.{tally, tallied_both, counted, counted_put, counted_changed, counted_leave, running_found}
 
--- two tests of which none holds
+-- two tests, neither of which passes
 or_false : (a b : Bool) → (a || b) ≡ false → (a ≡ false) × (b ≡ false)
 or_false false b h = (refl, h)
 or_false true b h = cc h
@@ -60,7 +60,7 @@ ready_left tasks cpu how q ready (Some e) is =
 
 -- ---- what an act does to a count
 
--- a test that doesn't tell ready from running
+-- a test that doesn't distinguish ready from running
 abbrev pub Blind : (Task → Bool) → Type 0
 Blind p = (t : Task) → is_ready t.mode ≡ true → p (record t { mode = Running }) ≡ p t
 
@@ -77,7 +77,7 @@ counted_started p blind tasks pid (Some t) is ready =
     let more = rw is at (counted_put p tasks pid (record t { mode = Running })) in
     omega (arith, same, more)
 
--- so it is where the running one leaves before
+-- the same if the running task leaves first
 counted_start : (p : Task → Bool) → Blind p → (tasks : Tasks) (cpu : ℕ) (how : How) (next : Option Pid) → isnt_ready tasks cpu next ≡ false → counted p (start next (leave how tasks (running_on tasks cpu))) ≡ counted p (leave how tasks (running_on tasks cpu))
 counted_start p blind tasks cpu how None h = refl
 counted_start p blind tasks cpu how (Some pid) h =
@@ -240,7 +240,7 @@ quiet_readied g tasks pid cpu c h =
 quiet_there : (g : Task → Bool) (tasks : Tasks) (pid c : ℕ) (f : Task → Task) → ((t : Task) → (f t).cpu ≡ t.cpu) → is_some_and (task_of tasks pid) (is_at c) ≡ false → counted (at_cpu c g) (change_to tasks pid f (task_of tasks pid)) ≡ counted (at_cpu c g) tasks
 quiet_there g tasks pid c f same h = quiet_changed g tasks pid c f (task_of tasks pid) refl h (same_cpu f same (task_of tasks pid) c h)
 
--- each count of tasks on a processor stays where an act doesn't touch it
+-- an act that doesn't touch a processor leaves each count of tasks there unchanged
 pub quiet_act : (g : Task → Bool) (limits : Limits) (w : World) (at : ℕ) (a : Act) (c : ℕ) → cause_of limits w (record { at = at; act = a }) ≡ None → touched a (before w.tasks a) c ≡ false → counted (at_cpu c g) (tasks_after w.groups w.tasks a) ≡ counted (at_cpu c g) w.tasks
 quiet_act g limits w at (act.Fork pid path cpu) c legal h =
     let new : task_of w.tasks pid.0 ≡ None = is_none _ (none_stands limits w _ legal).task_exists in
@@ -275,7 +275,7 @@ many_in parents cpu slot kind tasks =
     tallied_both (is_in parents cpu slot) kind (fin.values tasks)
     ∙ tally_same (λ t. is_in parents cpu slot t && kind t) (at_cpu cpu (λ t. is_under parents t.slot.0 slot && kind t)) (λ t. and_shift (t.cpu.0 == cpu) (is_under parents t.slot.0 slot) (kind t)) (fin.values tasks)
 
--- where nothing is let through, the test fails
+-- if nothing passes the filter, the test fails
 not_then : (b : Bool) (change : Change) → (if b then Some change else None) ≡ None → b ≡ false
 not_then true change h = cc h
 not_then false change h = refl

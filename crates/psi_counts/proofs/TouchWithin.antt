@@ -1,4 +1,4 @@
--- What changes tell, and that their processors and slots are ones that there are.
+-- The processors and slots in changes exist.
 use Rattle.std.proofs.Common.{◌≡◌, ℕ, ◌+◌, ◌<◌, ◌≤◌, List, [], ◌∷◌, refl, ap, ◌∙◌, sym, subst, Bool, true, false, arith, cond, Option, None, Some, ◌==◌, length, ⊎_elim}
 use Rattle.std.specs.Prelude.{◌≢◌, nat_le, ◌||◌, not, if◌then◌else◌, is_some, unwrap_or, IfSome}
 use Rattle.std.specs.List.{list_any}
@@ -37,7 +37,7 @@ use Rattle.psi_spec.proofs.RefusalLaws.{first_true, none_stands}
 use Rattle.psi_counts.proofs.TouchLaws.{counts_follow}
 use Rattle.psi_counts.proofs.RunnerLaws.{current_tells, runs_once_kept}
 
--- a task, if there is one, is on one of so many processors and in one of so many slots
+-- the task, if any, is on one of `cpus` processors and in one of `slots` slots
 abbrev pub Fits : ℕ → ℕ → Option Task → Type 0
 Fits cpus slots o = IfSome o (λ task. (task.cpu.0 < cpus) × (task.slot.0 < slots))
 
@@ -136,7 +136,7 @@ fits_after limits w at _ h within = tt
 
 -- ---- the tasks after an act
 
--- all tasks after an act, by the one that it changes
+-- all tasks after an act, given the one that it changes
 within_act : (limits : Limits) (w : World) (at : ℕ) (a : Act) → AreWithin limits.cpus (length w.groups) w.tasks → Fits limits.cpus (length w.groups) (task_after w.groups w.tasks a) → AreWithin limits.cpus (length w.groups) (tasks_after w.groups w.tasks a)
 within_act limits w at (act.Fork pid path cpu) within fits = fits_placed limits.cpus (length w.groups) w.tasks within pid.0 (Some (new_task w.groups path cpu.0)) fits
 within_act limits w at (act.Wake pid cpu) within fits = fits_changed limits.cpus (length w.groups) w.tasks within pid.0 _ (task_of w.tasks pid.0) fits
@@ -148,7 +148,7 @@ within_act limits w at (act.Migrate pid cpu) within fits = fits_changed limits.c
 within_act limits w at (act.Move pid path) within fits = fits_changed limits.cpus (length w.groups) w.tasks within pid.0 _ (task_of w.tasks pid.0) fits
 within_act limits w at _ within fits = within
 
--- legal events keep tasks where they may be
+-- legal events keep tasks within the bounds
 pub within_kept : WithinKept
 within_kept limits w event legal within = within_act limits w event.at event.act within (fits_after limits w event.at event.act legal within)
 
@@ -163,7 +163,7 @@ task_cpu : (cpus slots cpu : ℕ) (o : Option Task) → Fits cpus slots o → is
 task_cpu cpus slots cpu None fits at = cc at
 task_cpu cpus slots cpu (Some t) fits at = same_cpu t.cpu.0 cpu cpus at fits.0
 
--- the processor that a task comes to, or the one that it was on
+-- the processor that a task comes to, or its previous one
 either_cpu : (cpus slots named cpu : ℕ) (o : Option Task) → Fits cpus slots o → named < cpus → (named == cpu || is_some_and o (is_at cpu)) ≡ true → cpu < cpus
 either_cpu cpus slots named cpu o fits room either =
     elim (named == cpu) as (λ b. (named == cpu) ≡ b → (b || is_some_and o (is_at cpu)) ≡ true → cpu < cpus) [
@@ -171,7 +171,7 @@ either_cpu cpus slots named cpu o fits room either =
       | false ↦ λ _ at. task_cpu cpus slots cpu o fits at
     ] refl either
 
--- a processor that a legal act touches, and not all of them, is one that there is
+-- a processor exists if a legal act touches it, but not all
 touched_room : (limits : Limits) (w : World) (at : ℕ) (a : Act) → cause_of limits w (record { at = at; act = a }) ≡ None → AreWithin limits.cpus (length w.groups) w.tasks → (cpu : ℕ) → touched a (before w.tasks a) cpu ≡ true → account_of w.groups a ≡ None → cpu < limits.cpus
 touched_room limits w at (act.Fork pid path named) h within cpu on plain = same_cpu named.0 cpu limits.cpus on (room_of limits.cpus named.0 (none_stands limits w _ h).bad_cpu)
 touched_room limits w at (act.Wake pid named) h within cpu on plain = either_cpu limits.cpus (length w.groups) named.0 cpu (task_of w.tasks pid.0) (within pid.0) (room_of limits.cpus named.0 (none_stands limits w _ h).bad_cpu) on
@@ -184,12 +184,12 @@ touched_room limits w at (act.Irq named ns) h within cpu on plain = same_cpu nam
 touched_room limits w at (act.Pressure path switched) h within cpu on plain = absurd (cc plain)
 touched_room limits w at _ h within cpu on plain = absurd (cc on)
 
--- a part's slot is one that there is
+-- a part's slot exists
 part_slot : (cpus slots cpu : ℕ) (o : Option Task) → Fits cpus slots o → IfSome (part cpu o) (λ p. p.0.0 < slots)
 part_slot cpus slots cpu None fits = tt
 part_slot cpus slots cpu (Some t) fits = elim (is_at cpu t) as (λ b. IfSome {T = Slot × Counts} (if b then Some (t.slot, counts_among (t ∷ [])) else None) (λ p. p.0.0 < slots)) [ true ↦ fits.1 | false ↦ tt ]
 
--- the running task's slot is one that there is
+-- the running task's slot exists
 shown_slot : (cpus slots : ℕ) (o : Option (ℕ × Task)) → Fits cpus slots (task_part o) → IfSome (shown o) (λ c. c.0.0 < slots)
 shown_slot cpus slots None fits = tt
 shown_slot cpus slots (Some e) fits = fits.1
@@ -213,7 +213,7 @@ is_then : (b : Bool) (change other : Change) → (if b then Some change else Non
 is_then true change other h = (refl, cc h)
 is_then false change other h = absurd (cc h)
 
--- a switched account's slot is one that there is
+-- the slot whose accounting is switched exists
 account_slot : (limits : Limits) (w : World) (at : ℕ) (a : Act) → cause_of limits w (record { at = at; act = a }) ≡ None → IfSome (account_of w.groups a) (λ account. account.0.0 < length w.groups)
 account_slot limits w at (act.Pressure path on) h = slot_room w.groups path (none_stands limits w _ h).unknown_group
 account_slot limits w at _ h = tt

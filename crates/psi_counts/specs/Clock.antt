@@ -1,36 +1,36 @@
--- The clock of a group on a processor: for how long it was in each state.
+-- The clock of a group on a processor: the time that it was in each state.
 use Rattle.std.specs.Prelude.{◌≡◌, ℕ, ◌+◌, ◌-◌, ◌≤◌, List, [], ◌∷◌, ◌++◌, length, map, slice_index, if◌then◌else◌}
 use Rattle.psi_base.specs.declared.event.State.{State}
 use Rattle.psi_spec.specs.Within.{last_moment}
 use Rattle.psi_spec.specs.Stall.{state_number, states}
 use Rattle.psi_counts.specs.Counts.{mask_holds, IsMask}
 
--- A clock: the times (ns) in the order of the states, as they stood at its start, and the mask of
--- the states that hold from its start on.
+-- A clock: the times (ns) in each state up to its start, ordered by state, and the mask of the
+-- states since its start.
 pub record ClockView : Type 0 where
   pub times : List ℕ
   pub mask : ℕ
   pub start : ℕ
 
--- no time passed, and no state holds
+-- no time passed, and the mask has no state
 abbrev pub zero_clock : ClockView
 zero_clock = record { times = map (λ _. 0) states; mask = 0; start = 0 }
 
--- the time (ns) of a state at a moment: the time at the start, and the open time since then where
--- the state holds
+-- the time (ns) in a state up to `at` (ns): the time up to the start, plus the time since then if
+-- the mask has the state
 abbrev pub opened_time : ClockView → ℕ → State → ℕ
 opened_time clock at state = slice_index clock.times (state_number state) + (if mask_holds clock.mask state then at - clock.start else 0)
 
--- the times (ns) at a moment, in the order of the states
+-- the times (ns) up to `at`, ordered by state
 abbrev pub opened : ClockView → ℕ → List ℕ
 opened clock at = map (opened_time clock at) states
 
--- the clock after a change at a moment, from which on the states of a mask hold
+-- the clock after a change at `at` (ns), since which the states of a mask apply
 abbrev pub advanced : ClockView → ℕ → ℕ → ClockView
 advanced clock at mask = record { times = opened clock at; mask = mask; start = at }
 
--- a clock that may be taken to a moment (ns): the moment isn't before its start, and neither the
--- moment nor a time is above 60,000,000 s, the longest trace
+-- A clock can be advanced to `at` (ns): that is at or after its start, and neither it nor a time in
+-- a state is above 60,000,000 s, the longest trace.
 pub record IsInTime (clock : ClockView) (at : ℕ) : Type 0 where
   pub started : clock.start ≤ at
   pub moment : at ≤ last_moment
@@ -38,32 +38,32 @@ pub record IsInTime (clock : ClockView) (at : ℕ) : Type 0 where
 
 -- ---- words
 
--- a clock as words: the times in the order of the states, the mask and the start
+-- a clock as words: the times ordered by state, the mask and the start
 abbrev pub words_of : ClockView → List ℕ
 words_of clock = clock.times ++ clock.mask ∷ clock.start ∷ []
 
--- a clock is whole: it has a time for each state, and its mask has bits of states alone
+-- a clock is well-formed: it has a time for each state, and its mask has only bits of states
 pub record IsWholeClock (clock : ClockView) : Type 0 where
   pub times : length clock.times ≡ length states
   pub mask : IsMask clock.mask
 
--- words are those of some clock
+-- the words are those of some clock
 abbrev pub AreWordsOfClock : List ℕ → Type 0
 AreWordsOfClock words = (clock : ClockView) × (words ≡ words_of clock) × IsWholeClock clock
 
 -- ---- equal clocks
 
--- clocks that tell the same: their masks are equal, and they open to the same times at every moment
--- from the later start on
+-- Clocks are equivalent: their masks are equal, and they open to the same times at every time from
+-- the later start on.
 pub record SameClock (one other : ClockView) : Type 0 where
   pub mask : one.mask ≡ other.mask
   pub opened : (at : ℕ) → one.start ≤ at → other.start ≤ at → opened one at ≡ opened other at
 
 -- ---- changes
 
--- A clock follows another over a change at a moment (ns): it tells for each state, at each moment
--- from the change on, what the other told at the change, and the time since then where its own mask
--- has the state. It may be advanced to the change, or be the same clock where the mask stays.
+-- A clock follows another over a change at `at` (ns): at each later time, its time in a state is
+-- that of the other at the change, plus the time since then if its own mask has the state. It may
+-- be the other clock advanced to the change, or the same clock if the mask is unchanged.
 pub record ClockFollows (old : ClockView) (at : ℕ) (new : ClockView) : Type 0 where
   pub start : new.start ≤ at
   pub times : (state : State) (later : ℕ) → at ≤ later
@@ -71,17 +71,18 @@ pub record ClockFollows (old : ClockView) (at : ℕ) (new : ClockView) : Type 0 
 
 -- ---- laws
 
--- No state holds for longer than the clock runs, if none did up to its start.
+-- If no time in a state exceeds a clock's start, none exceeds the time up to which the clock is
+-- opened.
 abbrev pub NoLongerThanClock : Type 0
 NoLongerThanClock =
     (clock : ClockView) (at : ℕ) (state : State) → clock.start ≤ at → slice_index clock.times (state_number state) ≤ clock.start
     → opened_time clock at state ≤ at
 
--- Advancing with the mask that a clock has changes nothing of what it tells.
+-- A clock advanced with its own mask is equivalent to the clock.
 abbrev pub SameMaskIsNoChange : Type 0
 SameMaskIsNoChange = (clock : ClockView) (at : ℕ) → clock.start ≤ at → SameClock (advanced clock at clock.mask) clock
 
--- Clocks that tell the same are equal after a change.
+-- Equivalent clocks are equal after a change.
 abbrev pub SameAfterChange : Type 0
 SameAfterChange =
     (one other : ClockView) (at mask : ℕ) → one.start ≤ at → other.start ≤ at → SameClock one other

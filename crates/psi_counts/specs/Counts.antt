@@ -1,4 +1,4 @@
--- What counts of tasks tell of the states, and masks of states.
+-- The states that follow from counts of tasks, and masks of states.
 use Rattle.std.specs.Prelude.{◌≡◌, ℕ, ◌≤◌, ◌<◌, List, length, filter, nat_lt, ◌==◌, ◌&&◌, ◌||◌, not, Bool, if◌then◌else◌}
 use Rattle.std.specs.List.{list_any}
 use Rattle.std.specs.Int.{bit_at}
@@ -10,7 +10,7 @@ use Rattle.psi_spec.specs.Stall.{holds_of, waits, runs, is_up, stalls, state_num
 
 -- ---- counts
 
--- how many of a list of tasks pass a test
+-- the number of tasks in a list that pass a test
 abbrev pub how_many : (Task → Bool) → List Task → ℕ
 how_many test tasks = length (filter test tasks)
 
@@ -22,9 +22,9 @@ is_up_stalled task = is_up task && stalls task
 abbrev pub runs_stalled : Task → Bool
 runs_stalled task = runs task && stalls task
 
--- The counts of a list of tasks: how many wait for IO, are in a memory stall, are ready or run, and
--- are ready or run in a memory stall. The kernel has them as tasks[NR_IOWAIT], tasks[NR_MEMSTALL],
--- tasks[NR_RUNNING], tasks[NR_MEMSTALL_RUNNING].
+-- The counts of a list of tasks: the numbers of tasks that wait for IO, are in a memory stall, are
+-- ready or running, and are ready or running in a memory stall. The kernel has them as
+-- tasks[NR_IOWAIT], tasks[NR_MEMSTALL], tasks[NR_RUNNING], tasks[NR_MEMSTALL_RUNNING].
 abbrev pub counts_among : List Task → Counts
 counts_among tasks =
     record {
@@ -34,9 +34,9 @@ counts_among tasks =
       stalled_running = how_many is_up_stalled tasks;
     }
 
--- The states by counts, after the kernel's test_states, and for a running task in a stall after its
--- psi_group_change. `on_cpu` says that the processor's running task is among the counted ones
--- (PSI_ONCPU), and `current_stalled` that the running task is in a memory stall.
+-- The states that follow from counts, as in the kernel's test_states, and for a running task in a
+-- stall as in its psi_group_change. `on_cpu` is whether the processor's running task is among the
+-- counted ones (PSI_ONCPU), and `current_stalled` whether the running task is in a memory stall.
 abbrev pub tells : State → Counts → Bool → Bool → Bool
 tells IoSome counts on_cpu current_stalled = nat_lt 0 counts.io
 tells IoFull counts on_cpu current_stalled = nat_lt 0 counts.io && counts.running == 0
@@ -47,21 +47,21 @@ tells CpuSome counts on_cpu current_stalled = if on_cpu then nat_lt 1 counts.run
 tells CpuFull counts on_cpu current_stalled = nat_lt 0 counts.running && not on_cpu
 tells Nonidle counts on_cpu current_stalled = nat_lt 0 counts.io || nat_lt 0 counts.stalled || nat_lt 0 counts.running
 
--- At most one of the tasks runs. `on_cpu` says whether one does, and where one does,
--- `current_stalled` says whether it is in a memory stall.
+-- At most one of the tasks runs. `on_cpu` is whether one does; if so, `current_stalled` is whether
+-- it is in a memory stall.
 pub record IsRunningTold (tasks : List Task) (on_cpu current_stalled : Bool) : Type 0 where
   pub at_most_one : how_many runs tasks ≤ 1
   pub one_runs : on_cpu ≡ list_any runs tasks
   pub it_is_stalled : (on_cpu && current_stalled) ≡ list_any runs_stalled tasks
 
--- The states of a list of tasks are those that its counts and its running task tell.
+-- The states of a list of tasks follow from its counts and its running task.
 abbrev pub CountsTell : Type 0
 CountsTell = (tasks : List Task) (on_cpu current_stalled : Bool) → IsRunningTold tasks on_cpu current_stalled → (state : State) →
     holds_of state tasks ≡ tells state (counts_among tasks) on_cpu current_stalled
 
 -- ---- masks
 
--- a number with bits of states alone: there are seven
+-- a number with only bits of states: there are seven
 abbrev pub IsMask : ℕ → Type 0
 IsMask mask = mask < 128
 

@@ -1,4 +1,4 @@
--- What holds of the world after legal events, and what follows of states.
+-- Invariants of the world after legal events, and what follows for the states.
 use Rattle.std.specs.Prelude.{◌≡◌, ℕ, ◌≤◌, List, ◌++◌, length, Option, None, ◌+◌, [], ◌∷◌, Some}
 use Rattle.std.specs.FinMap as tasks_by
 use Rattle.psi_base.specs.declared.event.Event.{Event}
@@ -11,9 +11,9 @@ use Rattle.psi_counts.specs.Touch.{AreAtMost, AreWithin, Follows, RunsOnce, chan
 use Rattle.psi_counts.specs.declared.changes.Change.{Change}
 use Rattle.psi_counts.specs.declared.changes.Counts.{Counts}
 
--- What holds of each legal world: its groups are so; each task is on a processor and in a slot that
--- there is; at most one runs on a processor; tasks, triggers, `pressure` lines and all lines are
--- few, and the last moment isn't too late.
+-- The invariant of legal worlds. The groups satisfy theirs. Each task is on an existing processor
+-- and in an existing slot. At most one task runs on a processor. The numbers of tasks, triggers,
+-- `pressure` lines and lines, and the last time, are within their limits.
 pub record IsLegalWorld (limits : Limits) (w : World) : Type 0 where
   pub groups : AreGroups w.groups
   pub within : AreWithin limits.cpus (length w.groups) w.tasks
@@ -26,17 +26,17 @@ pub record IsLegalWorld (limits : Limits) (w : World) : Type 0 where
 
 -- ---- counts over a trace
 
--- a change, if there is one, and those after it
+-- a change, if any, followed by others
 abbrev pub with_change : Option Change → List Change → List Change
 with_change None changes = changes
 with_change (Some change) changes = change ∷ changes
 
--- the changes of a processor by events from a world on, in their order
+-- the changes of a processor by events, starting from a world, in order
 abbrev pub changes_from : ℕ → World → List Event → List Change
 changes_from cpu w [] = []
 changes_from cpu w (event ∷ events) = with_change (change_of w event cpu) (changes_from cpu (after_event w event) events)
 
--- two counts together
+-- the sum of two counts
 abbrev pub both_counts : Counts → Counts → Counts
 both_counts one other =
     record {
@@ -51,37 +51,38 @@ abbrev pub added : List (Option ℕ) → ℕ → List Change → Counts
 added parents slot [] = no_counts
 added parents slot (change ∷ changes) = both_counts (on_chain parents slot change.plus) (added parents slot changes)
 
--- all counts that changes take there
+-- all counts that changes subtract there
 abbrev pub taken : List (Option ℕ) → ℕ → List Change → Counts
 taken parents slot [] = no_counts
 taken parents slot (change ∷ changes) = both_counts (on_chain parents slot change.minus) (taken parents slot changes)
 
 -- ---- laws
 
--- The first world is one.
+-- The first world is legal.
 abbrev pub LegalFirst : Type 0
 LegalFirst = (limits : Limits) → IsLegalWorld limits first_world
 
--- So is each after a legal event.
+-- A legal world is legal after a legal event.
 abbrev pub LegalKept : Type 0
 LegalKept =
     (limits : Limits) (w : World) (event : Event) → cause_of limits w event ≡ None → IsLegalWorld limits w
     → IsLegalWorld limits (after_event w event)
 
--- Groups that are made later change no tasks that count for a group, so that a whole trace may be
--- told by its last parents.
+-- Groups created later don't change which tasks count for a group. So the parents at the end of a
+-- trace can be used for the whole trace.
 abbrev pub SameTasksLater : Type 0
 SameTasksLater = (limits : Limits) (w : World) → IsLegalWorld limits w → (more : List (Option ℕ)) (cpu slot : ℕ) →
     tasks_in (parents_of w.groups ++ more) cpu slot w.tasks ≡ tasks_in (parents_of w.groups) cpu slot w.tasks
 
--- No group counts more tasks than may live.
+-- No group counts more tasks than the limit of live tasks.
 abbrev pub CountsAreFew : Type 0
 CountsAreFew =
     (limits : Limits) (w : World) → IsLegalWorld limits w → (parents : List (Option ℕ)) (cpu slot : ℕ)
     → AreAtMost most_tasks (counts_among (tasks_in parents cpu slot w.tasks))
 
--- After legal events, what the changes of a processor added on a group's chain and took there are
--- the numbers of the tasks that count for the group on the processor.
+-- After legal events, the counts that a processor's changes added on a group's chain, minus those
+-- that they subtracted there, are the numbers of the tasks that count for the group on the
+-- processor.
 abbrev pub CountsAreSums : Type 0
 CountsAreSums = (limits : Limits) (events : List Event) → AreLegal limits first_world events → (parents : List (Option ℕ)) (cpu slot : ℕ) →
     Follows no_counts (taken parents slot (changes_from cpu first_world events))

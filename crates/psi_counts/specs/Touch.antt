@@ -1,5 +1,5 @@
--- What an event changes on the processors that it touches, and how counts of tasks follow such
--- changes.
+-- The changes that an event makes on the processors that it touches, and how counts of tasks follow
+-- such changes.
 use Rattle.std.specs.Prelude.{◌≡◌, ◌≢◌, ℕ, ◌+◌, ◌≤◌, ◌<◌, List, [], ◌∷◌, length, ◌==◌, Bool, true, false, if◌then◌else◌, unwrap_or, Option, None, Some, IfSome}
 use Rattle.std.specs.List.{list_any}
 use Rattle.std.specs.FinMap as tasks_by
@@ -26,17 +26,17 @@ use Rattle.psi_counts.specs.Counts.{how_many, counts_among, IsRunningTold}
 
 -- ---- the task whose counts an act changes
 
--- a task after a change, if there is one
+-- a task after a change; `None` if there is no task
 abbrev pub changed : (Task → Task) → Option Task → Option Task
 changed f None = None
 changed f (Some task) = Some (f task)
 
--- a running task after it left its processor, if there is one
+-- a running task after it left its processor; `None` if there is no task
 abbrev pub left_if : How → Option Task → Option Task
 left_if how None = None
 left_if how (Some task) = left_by how task
 
--- the task whose counts an effect changes, after it
+-- the task whose counts an effect changes, after the effect
 abbrev pub after_effect : List GroupLife → Tasks → Effect → Option Task
 after_effect groups tasks none = None
 after_effect groups tasks (forks pid path cpu) = Some (new_task groups path cpu.0)
@@ -48,30 +48,30 @@ after_effect groups tasks (switches cpu next how) = left_if how (task_part (runn
 after_effect groups tasks (interrupts cpu) = None
 after_effect groups tasks switches_account = None
 
--- the task whose counts an act changes, after it
+-- the task whose counts an act changes, after the act
 abbrev pub task_after : List GroupLife → Tasks → Act → Option Task
 task_after groups tasks act = after_effect groups tasks (effect_of act)
 
 -- ---- accounts
 
--- A switched account is the slot of its group, and whether it is on from then on. This is that of a
--- path and of whether on, if there are these.
+-- The slot of a group whose accounting is switched, and whether it is on afterwards; `None` if no
+-- path is given.
 abbrev pub account_named : List GroupLife → Option (List ℕ × Bool) → Option (Slot × Bool)
 account_named groups None = None
 account_named groups (Some switched) = Some (slot_named groups switched.0, switched.1)
 
--- the account that an act switches, if it switches one
+-- the group whose accounting an act switches, if any
 abbrev pub account_of : List GroupLife → Act → Option (Slot × Bool)
 account_of groups what = account_named groups (names what).switched
 
--- the account of a slot is on after one is switched, if one is, where it is on before that or isn't
+-- whether a slot's accounting is on after a switch, if any; `on` is whether it was on before
 abbrev pub on_with : ℕ → Bool → Option (Slot × Bool) → Bool
 on_with slot on None = on
 on_with slot on (Some account) = if account.0.0 == slot then account.1 else on
 
 -- ---- changes
 
--- a task's slot, and what it counts as by itself, if it is on this processor
+-- a task's slot, and the counts of this task alone, if it is on this processor
 abbrev pub part : ℕ → Option Task → Option (Slot × Counts)
 part cpu None = None
 part cpu (Some task) = if is_at cpu task then Some (task.slot, counts_among (task ∷ [])) else None
@@ -81,10 +81,11 @@ abbrev pub shown : Option (ℕ × Task) → Option (Slot × Bool)
 shown None = None
 shown (Some running) = Some (running.1.slot, running.1.stalled)
 
--- The change of a processor by an event, at its moment: the task's counts before are taken from the
--- chain of its slot, those after are added to the chain of its slot, and then some task runs there,
--- or none. With it goes the time (ns) that interrupts took there, if the event tells of any, and
--- the account, if it switches one: then the same task runs as before.
+-- The change of a processor by an event, at the event's time. It subtracts the task's counts before
+-- the event from the chain of its slot, and adds those after the event to the chain of its slot. It
+-- also has the processor's running task afterwards, the time (ns) that interrupts took there, and
+-- the group whose accounting the event switches, if any: then the running task is the same as
+-- before.
 abbrev pub change_on : List GroupLife → Event → Option Task → Option Task → Tasks → ℕ → Change
 change_on groups event old new tasks cpu = record {
   at = event.at;
@@ -105,36 +106,36 @@ change_of w event cpu =
 
 -- ---- touches
 
--- the change of a processor, if it is of this one, else another
+-- the change if it is of this processor, otherwise another
 abbrev pub told_first : ℕ → Option (Cpu × Change) → Option Change → Option Change
 told_first cpu None other = other
 told_first cpu (Some touched) other = if touched.0.0 == cpu then Some touched.1 else other
 
--- the change that a touch tells of a processor
+-- the change of a processor in a touch
 abbrev pub told_of : Touch → ℕ → Option Change
 told_of touch cpu = told_first cpu touch.first (told_first cpu touch.second None)
 
--- the change of a processor at a moment (ns) by a switched account, where this task runs
+-- the change of a processor at `at` (ns) that switches a group's accounting, while this task runs
 abbrev pub account_change : ℕ → Option (Slot × Bool) → Slot × Bool → Change
 account_change at current account = record { at = at; minus = None; plus = None; current = current; irq = 0; account = Some account }
 
--- the change that is made of a switched account, if there is one, else another
+-- the change that switches a group's accounting, if any, otherwise another
 abbrev pub account_first : ℕ → Option (Slot × Bool) → Option (Slot × Bool) → Option Change → Option Change
 account_first at current None other = other
 account_first at current (Some account) other = Some (account_change at current account)
 
--- the change that a touch at a moment (ns) tells of a processor on which this task runs after it
+-- the change of a processor by a touch at `at` (ns), if this task runs there afterwards
 abbrev pub change_told : ℕ → Option (Slot × Bool) → Touch → ℕ → Option Change
 change_told at current touch cpu = account_first at current touch.account (told_of touch cpu)
 
--- a second is there only beside a first on another processor
+-- a second change exists only if there is a first, on another processor
 abbrev pub IsBeside : Option (Cpu × Change) → Option (Cpu × Change) → Type 0
 IsBeside first None = Unit {0}
 IsBeside None (Some second) = ⊥
 IsBeside (Some first) (Some second) = first.0 ≢ second.0
 
--- a touch tells of each of so many processors the change by the event, and of none two; its
--- switched account is the event's, and where it has one, that tells of all
+-- A touch has the event's change for each of `cpus` processors, at most one for each. Its switch of
+-- accounting is the event's. If it has one, it has no other change.
 pub record IsTouch (cpus : ℕ) (w : World) (event : Event) (touch : Touch) : Type 0 where
   pub told : (cpu : ℕ) → cpu < cpus → change_told event.at (shown (running_on (after_event w event).tasks cpu)) touch cpu
       ≡ change_of w event cpu
@@ -142,31 +143,31 @@ pub record IsTouch (cpus : ℕ) (w : World) (event : Event) (touch : Touch) : Ty
   pub on_with : touch.account ≡ account_of w.groups event.act
   pub alone : IfSome touch.account (λ account. (touch.first ≡ None) × (touch.second ≡ None))
 
--- each change in a touch is so, with its processor
+-- each change in a touch satisfies `IsSo` with its processor
 abbrev pub AllTouched : (ℕ → Change → Type 0) → Touch → Type 0
 AllTouched IsSo touch = IfSome touch.first (λ first. IsSo first.0.0 first.1) × IfSome touch.second (λ second. IsSo second.0.0 second.1)
 
--- a change names slots below a bound alone
+-- a change names only slots below a bound
 pub record HasSlotsBelow (slots : ℕ) (change : Change) : Type 0 where
   pub minus : IfSome change.minus (λ part. part.0.0 < slots)
   pub plus : IfSome change.plus (λ part. part.0.0 < slots)
   pub current : IfSome change.current (λ current. current.0.0 < slots)
   pub account : IfSome change.account (λ account. account.0.0 < slots)
 
--- each count is at most so much
+-- each count is at most `most`
 pub record AreAtMost (most : ℕ) (counts : Counts) : Type 0 where
   pub io : counts.io ≤ most
   pub stalled : counts.stalled ≤ most
   pub running : counts.running ≤ most
   pub stalled_running : counts.stalled_running ≤ most
 
--- a change takes and adds no counts
+-- a change subtracts and adds no counts
 abbrev pub HasNoCounts : Change → Type 0
 HasNoCounts change = (change.minus ≡ None) × (change.plus ≡ None)
 
--- A change takes and adds the counts of one task each. Where it tells that interrupts took time,
--- which is a second at most, it takes and adds no counts; nor does it where it switches an account,
--- and then it tells of no interrupts.
+-- A change subtracts and adds the counts of at most one task each. Its interrupt time is at most a
+-- second. If it has interrupt time or switches a group's accounting, it subtracts and adds no
+-- counts; it never has both.
 pub record IsOfOne (change : Change) : Type 0 where
   pub minus : IfSome change.minus (λ part. AreAtMost 1 part.1)
   pub plus : IfSome change.plus (λ part. AreAtMost 1 part.1)
@@ -180,19 +181,20 @@ pub record IsOfOne (change : Change) : Type 0 where
 abbrev pub no_counts : Counts
 no_counts = record { io = 0; stalled = 0; running = 0; stalled_running = 0 }
 
--- what counts on the chain of a slot are for another: themselves, if that is the slot or above it
+-- the part of some counts that applies to a group: all of them if the group is their slot or above
+-- it, otherwise none
 abbrev pub on_chain : List (Option ℕ) → ℕ → Option (Slot × Counts) → Counts
 on_chain parents slot None = no_counts
 on_chain parents slot (Some part) = if is_under parents part.0.0 slot then part.1 else no_counts
 
--- the new counts and what was taken are the old counts and what was added
+-- the new counts plus what was subtracted are the old counts plus what was added
 pub record Follows (old minus plus new : Counts) : Type 0 where
   pub io : new.io + minus.io ≡ old.io + plus.io
   pub stalled : new.stalled + minus.stalled ≡ old.stalled + plus.stalled
   pub running : new.running + minus.running ≡ old.running + plus.running
   pub stalled_running : new.stalled_running + minus.stalled_running ≡ old.stalled_running + plus.stalled_running
 
--- on each processor one task runs, or none
+-- at most one task runs on each processor
 abbrev pub RunsOnce : Tasks → Type 0
 RunsOnce tasks = (cpu : ℕ) → how_many (is_running_on cpu) (tasks_by.values tasks) ≤ 1
 
@@ -206,18 +208,18 @@ abbrev pub is_current_stalled : Option (Slot × Bool) → Bool
 is_current_stalled None = false
 is_current_stalled (Some current) = current.1
 
--- the time (ns) that interrupts took from a group by a change: all that it tells of, where the
--- running task is in the group or below it
+-- the interrupt time (ns) of a group by a change: the change's, if the running task is in the group
+-- or below it
 abbrev pub irq_in : List (Option ℕ) → ℕ → Change → ℕ
 irq_in parents slot change = if is_current_in parents slot change.current then change.irq else 0
 
--- the processor of each task is one of so many, and so is its slot
+-- the processor of each task is below `cpus`, and its slot below `slots`
 abbrev pub AreWithin : ℕ → ℕ → Tasks → Type 0
 AreWithin cpus slots tasks = (pid : ℕ) → IfSome (task_of tasks pid) (λ task. (task.cpu.0 < cpus) × (task.slot.0 < slots))
 
 -- ---- laws
 
--- A legal event changes the counts of each group on each processor by what its change takes and
+-- A legal event changes the counts of each group on each processor by what its change subtracts and
 -- adds there.
 abbrev pub CountsFollow : Type 0
 CountsFollow = (limits : Limits) (w : World) (event : Event) → cause_of limits w event ≡ None → (parents : List (Option ℕ)) (cpu slot : ℕ) →
@@ -225,26 +227,25 @@ CountsFollow = (limits : Limits) (w : World) (event : Event) → cause_of limits
     (on_chain parents slot (part cpu (task_after w.groups w.tasks event.act)))
     (counts_among (tasks_in parents cpu slot (after_event w event).tasks))
 
--- At most one task runs on each processor, from the first on.
+-- At the start at most one task runs on each processor.
 abbrev pub RunsOnceFirst : Type 0
 RunsOnceFirst = RunsOnce no_tasks
 
--- It stays so by legal events.
+-- Legal events preserve this.
 abbrev pub RunsOnceKept : Type 0
 RunsOnceKept =
     (limits : Limits) (w : World) (event : Event) → cause_of limits w event ≡ None → RunsOnce w.tasks → RunsOnce (after_event w event).tasks
 
--- What a change shows of a processor's running task tells which task runs among those of each group
--- there.
+-- The running task in a change determines which task runs among those of each group there.
 abbrev pub CurrentTells : Type 0
 CurrentTells = (tasks : Tasks) → RunsOnce tasks → (parents : List (Option ℕ)) (cpu slot : ℕ) →
     IsRunningTold (tasks_in parents cpu slot tasks) (is_current_in parents slot (shown (running_on tasks cpu)))
     (is_current_stalled (shown (running_on tasks cpu)))
 
--- A processor's change by a legal event tells all that sums of times need there: the counts of each
--- group follow what it takes and adds on the chains, it shows which task of each group runs
--- afterwards, the time of interrupts is that of the groups that have a running task in the world
--- before the event, and its account is the event's.
+-- A processor's change by a legal event determines everything that sums of times need there. The
+-- counts of each group follow what it subtracts and adds on the chains. It has the task of each
+-- group that runs afterwards. Its interrupt time applies to the groups that have a running task in
+-- the world before the event. Its switch of accounting is the event's.
 abbrev pub ChangeTells : Type 0
 ChangeTells =
     (limits : Limits) (w : World) (event : Event) → cause_of limits w event ≡ None → RunsOnce w.tasks → (cpu : ℕ) (change : Change)
@@ -256,16 +257,16 @@ ChangeTells =
     × (irq_in parents slot change ≡ (if list_any runs (tasks_in parents cpu slot w.tasks) then irq_told cpu event.act else 0))
     × (change.account ≡ account_of w.groups event.act)
 
--- An act touches the processor that it names, and the one on which the task that it changes is,
--- before it and after it.
+-- An act touches the processor that it names, and the processor of the task that it changes, both
+-- before and after the act.
 abbrev pub TouchesItsOwn : Type 0
 TouchesItsOwn = (w : World) (event : Event) (cpu : ℕ) →
     ((names event.act).cpu ≡ Some cpu → touched event.act (before w.tasks event.act) cpu ≡ true)
     × (is_some_and (before w.tasks event.act) (is_at cpu) ≡ true → touched event.act (before w.tasks event.act) cpu ≡ true)
     × (is_some_and (task_after w.groups w.tasks event.act) (is_at cpu) ≡ true → touched event.act (before w.tasks event.act) cpu ≡ true)
 
--- A legal event leaves the counts of each group on a processor that it doesn't touch, and which
--- task runs there; and it tells of no interrupts there, and switches no account.
+-- On a processor that it doesn't touch, a legal event changes neither the counts of a group nor the
+-- running task. It has no interrupt time there, and switches no group's accounting.
 abbrev pub StaysUntouched : Type 0
 StaysUntouched =
     (limits : Limits) (w : World) (event : Event) → cause_of limits w event ≡ None → (cpu : ℕ) → change_of w event cpu ≡ None
@@ -276,25 +277,25 @@ StaysUntouched =
     × (irq_told cpu event.act ≡ 0)
     × (account_of w.groups event.act ≡ None)
 
--- The account that a legal event switches tells which are on after it.
+-- The accounting that is on after a legal event follows from the event's switch of accounting.
 abbrev pub OnByAccount : Type 0
 OnByAccount = (limits : Limits) (w : World) (event : Event) → cause_of limits w event ≡ None → AreGroups w.groups → (slot : ℕ) →
     is_on (after_event w event).groups slot ≡ on_with slot (is_on w.groups slot) (account_of w.groups event.act)
 
--- No task is anywhere at first.
+-- At the start there are no tasks.
 abbrev pub WithinFirst : Type 0
 WithinFirst = (cpus slots : ℕ) → AreWithin cpus slots no_tasks
 
--- Processors and slots of tasks stay below the number of processors and the number of groups by
--- legal events.
+-- Legal events preserve that the processors and slots of tasks are below the numbers of processors
+-- and groups.
 abbrev pub WithinKept : Type 0
 WithinKept =
     (limits : Limits) (w : World) (event : Event) → cause_of limits w event ≡ None → AreWithin limits.cpus (length w.groups) w.tasks
     → AreWithin limits.cpus (length w.groups) (after_event w event).tasks
 
--- So do those of changes, but that an account is switched on every processor; and a change takes
--- and adds the counts of one task, or tells of interrupts or switches an account, at the event's
--- moment.
+-- The processors and slots of changes are below these numbers too, except that accounting is
+-- switched on every processor. A change subtracts and adds the counts of one task, or has interrupt
+-- time, or switches accounting, at the event's time.
 abbrev pub ChangesAreWithin : Type 0
 ChangesAreWithin =
     (limits : Limits) (w : World) (event : Event) → cause_of limits w event ≡ None → AreWithin limits.cpus (length w.groups) w.tasks

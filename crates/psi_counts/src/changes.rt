@@ -1,8 +1,8 @@
-//! What an event changes on a processor: counts of tasks, and who runs.
+//! The change that an event makes on a processor: counts of tasks, and the running task.
 
 use psi_base::{Cpu, Ns, Slot};
 
-/// Numbers of tasks, as the kernel counts them for each group and processor.
+/// Numbers of tasks, which the kernel too counts for each group and processor.
 #[derive(Clone, Copy, Debug, PartialEq, Eq)]
 pub struct Counts {
     /// Waiting for IO.
@@ -15,32 +15,30 @@ pub struct Counts {
     pub stalled_running: u32,
 }
 
-/// What an event changes on a processor: counts taken from the chain of a slot, counts added to the
-/// chain of a slot, and afterwards the slot of the processor's running task and whether that task
-/// is in a stall. Where interrupts took the processor, it changes nothing but that: no counts, and
-/// the task that runs, if one does, is the one that they held up. Where the account of a group is
-/// switched, which every processor has as a change, no counts change either, and the same task
-/// runs.
+/// The change that an event makes on a processor: counts subtracted from the chain of a slot,
+/// counts added to the chain of a slot, and afterwards the slot of the processor's running task and
+/// whether that task is in a stall. If interrupts took the processor, no counts change, and the
+/// running task is the one that they interrupted, if any. If a group's accounting is switched,
+/// every processor has that as a change, no counts change, and the same task runs.
 #[derive(Clone, Copy, Debug, PartialEq, Eq)]
 pub struct Change {
     pub at: Ns,
     pub minus: Option<(Slot, Counts)>,
     pub plus: Option<(Slot, Counts)>,
     pub current: Option<(Slot, bool)>,
-    /// For how long interrupts took the processor, in ns: a second at most, and 0 where the event
-    /// tells of none.
+    /// The interrupt time on the processor, in ns: at most a second, 0 if the event has none.
     pub irq: u64,
-    /// The slot of the group whose account is switched, and whether it is on from then on.
+    /// The slot of the group whose accounting is switched, and whether it is on afterwards.
     pub account: Option<(Slot, bool)>,
 }
 
-/// The processors that an event touches, each with its change. There is a second one only beside a
-/// first one on another processor. Where the account of a group is switched there is that alone,
-/// and every processor has the change that is made of it.
+/// The processors that an event touches, each with its change. A second change exists only together
+/// with a first on another processor. If a group's accounting is switched, there are no such
+/// changes, and every processor has the change that switches it.
 #[derive(Clone, Copy, Debug, PartialEq, Eq)]
 pub struct Touch {
     pub first: Option<(Cpu, Change)>,
     pub second: Option<(Cpu, Change)>,
-    /// The slot of the group whose account is switched, and whether it is on from then on.
+    /// The slot of the group whose accounting is switched, and whether it is on afterwards.
     pub account: Option<(Slot, bool)>,
 }

@@ -1,11 +1,11 @@
-//! Laws of states by counts, of masks and of clocks. Each function has an empty body: its contract
-//! is the law.
+//! Laws of states from counts, of masks and of clocks. Each function has an empty body: its
+//! contract is the law.
 
 ghost use Rattle.psi_counts.specs.Clock.{NoLongerThanClock, SameAfterChange, SameMaskIsNoChange, WordsTellClock};
 ghost use Rattle.psi_counts.specs.Counts.{CountsTell, MasksAreTheirStates};
 
-/// The table over counts, made after the kernel's, tells the states that are defined by tasks,
-/// where at most one of these runs.
+/// The kernel's rules over counts give the states that are defined over tasks, if at most one of
+/// these runs.
 pub fn law_states_by_counts()
     ensures { CountsTell }
 {}
@@ -15,13 +15,13 @@ pub fn law_masks()
     ensures { MasksAreTheirStates }
 {}
 
-/// No state holds for longer than the clock runs.
+/// No time in a state is longer than the clock's own time.
 pub fn law_clock_times()
     ensures { NoLongerThanClock }
 {}
 
-/// Clocks that tell the same: a change that leaves the mask as it was changes nothing of what a
-/// clock tells, and clocks that tell the same are equal after a change.
+/// Equivalent clocks: a change that leaves the mask as it was gives an equivalent clock, and
+/// equivalent clocks are equal after a change.
 pub fn law_same_clocks()
     ensures no_change { SameMaskIsNoChange }
     ensures same_after { SameAfterChange }

@@ -7,9 +7,9 @@ pub fn law_legal_worlds()
     ensures kept { LegalKept }
 {}
 
-/// In a legal world new groups change no tasks that count for a group, and none counts more than
-/// may live. What changes added and took on chains since the first event are the numbers of those
-/// tasks.
+/// In a legal world new groups don't change which tasks count for a group, and no group counts more
+/// tasks than the limit. These counts are the sums of what changes added and subtracted on chains
+/// since the first event.
 pub fn law_legal_counts()
     ensures later { SameTasksLater }
     ensures few { CountsAreFew }

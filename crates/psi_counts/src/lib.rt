@@ -1,8 +1,11 @@
-//! Ways to compute the same, at one moment: how the states that psi_spec defines over the tasks of
-//! a world come out of counts of tasks, and how a clock keeps for how long they held.
+//! Counting instead of looking at all tasks, at one time: the states that psi_spec defines over the
+//! tasks of a world follow from counts of tasks, and a clock adds up the time in each state.
 //!
-//! In `specs/`: `Counts` (states by counts of tasks, masks), `Clock`, `Touch` (what an event
-//! changes on a processor), `Legal` (what holds of each legal world).
+//! In `specs/`: `Counts` (states from counts of tasks, masks), `Clock`, `Touch` (the changes of an
+//! event on a processor), `Legal` (the invariant of legal worlds).
+//!
+//! These are types, definitions and laws, without code that runs; plan_laws has the laws over a
+//! whole trace, and cpu_clock and slot_clocks the code.
 #![tactic(auto)]
 
 mod changes;
