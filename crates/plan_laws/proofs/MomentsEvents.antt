@@ -1,4 +1,4 @@
--- The events of a trace up to a moment, event by event.
+-- The events of a trace up to a time, in order.
 use Rattle.std.proofs.Common.{◌≡◌, ℕ, ◌≤◌, ◌<◌, List, [], ◌∷◌, ◌++◌, refl, ap, ◌∙◌, arith, true, false, cond, ◌⊎◌, inl, inr}
 use Rattle.std.specs.Prelude.{nat_le}
 use Rattle.std.proofs.lemmas.Bool.Decides.{nat_tests}
@@ -13,13 +13,12 @@ use Rattle.plan_laws.proofs.PlanStalls.{in_turn}
 
 -- ---- legal events, one by one
 
--- what holds of no events, and of legal events with each that is legal behind them, holds of all
--- legal ones
+-- induction over legal events: from no events, and from legal events to one more legal event
 pub by_legal : (limits : Limits) (P : List Event → Type 0) → P [] → ((es : List Event) (event : Event) → AreLegal limits first_world (es ++ event ∷ []) → P es → P (es ++ event ∷ [])) → (events : List Event) → AreLegal limits first_world events → P events
 by_legal limits P none step events =
     by_last (λ es. AreLegal limits first_world es → P es) (λ _. none) (λ es event before legal. step es event legal (before (legal_front limits first_world es (event ∷ []) legal))) events
 
--- the last moment is that of the last event
+-- the last time is that of the last event
 pub last-push : (events : List Event) (event : Event) → (after (events ++ event ∷ [])).last ≡ event.at
 last-push events event = ap (λ (w : World). w.last) (after-push events event)
 
@@ -38,11 +37,11 @@ is_to_come at moment off = grind (arith, nat_tests)
 come : (at moment : ℕ) → moment ≤ at → nat_le moment at ≡ true
 come at moment low = grind (arith, nat_tests)
 
--- those of events with one behind
+-- the events up to a time, after one more event
 up_to-push : (events : List Event) (event : Event) (at : ℕ) → up_to (events ++ event ∷ []) at ≡ up_to events at ++ cond (nat_le event.at at) (event ∷ []) []
 up_to-push events event at = filter-append (λ (e : Event). nat_le e.at at) events (event ∷ [])
 
--- up to the last moment and after it, all have come
+-- from the last event's time on, all events have come
 pub up_to_all : (limits : Limits) (events : List Event) → AreLegal limits first_world events → (at : ℕ) → (after events).last ≤ at → up_to events at ≡ events
 up_to_all limits events legal = by_legal limits (λ es. (at : ℕ) → (after es).last ≤ at → up_to es at ≡ es) (λ at low. refl)
     (λ es event turn before at low.
@@ -51,8 +50,8 @@ up_to_all limits events legal = by_legal limits (λ es. (at : ℕ) → (after es
     up_to-push es event at ∙ rw (come at event.at here, others) refl)
     events legal
 
--- the last event has come by a moment, and so have all, or it hasn't, and those that have are among
--- the others
+-- either the last event has come by a time, and so have all, or it hasn't, and those that have are
+-- among the others
 pub record HaveAllCome (events : List Event) (event : Event) (at : ℕ) : Type 0 where
   pub early : event.at ≤ at
   pub all : up_to (events ++ event ∷ []) at ≡ events ++ event ∷ []

@@ -1,4 +1,4 @@
--- How interrupt time grows from one moment to the next.
+-- How interrupt time grows from one time to the next.
 use Rattle.std.proofs.Common.{◌≡◌, ℕ, zero, suc, ◌+◌, ◌-◌, ◌≤◌, ◌<◌, List, [], ◌∷◌, ◌++◌, length, map, refl, sym, ap, ◌∙◌, arith, subst, true, false, cond, None, ◌==◌, ◌⊎◌, inl, inr, ⊎_elim, length-set}
 use Rattle.std.specs.Prelude.{◌&&◌, if◌then◌else◌, nat_le, replicate, slice_index_or, sum}
 use Rattle.std.proofs.lemmas.Bool.Decides.{nat_tests, eqb_tells}
@@ -25,7 +25,7 @@ use Rattle.plan_laws.proofs.PlanUpTo.{ends_by, past_it, up_to_front}
 
 -- ---- the last moments of interrupts
 
--- the moment of a processor's last `irq` line, or 0
+-- the time of a processor's last `irq` line, or 0
 abbrev last_irq : World → ℕ → ℕ
 last_irq w cpu = slice_index_or w.irqs cpu 0
 
@@ -33,7 +33,7 @@ as_many_after : (at : ℕ) (irqs : List ℕ) (a : Act) → length (irqs_after at
 as_many_after at irqs (act.Irq named ns) = length-set irqs named.0 at
 as_many_after at irqs _ = refl
 
--- the world has one for each processor that there may be
+-- the world has such a time for each possible processor
 many_irqs : (events : List Event) → length (after events).irqs ≡ most_cpus
 many_irqs events =
     by_last (λ es. length (after es).irqs ≡ most_cpus) (length-replicate {A = ℕ} most_cpus 0)
@@ -42,12 +42,12 @@ many_irqs events =
 
 -- ---- one event
 
--- an event tells of no interrupts of a processor
+-- either an event has no interrupt time of a processor
 record IsQuiet (w : World) (at : ℕ) (a : Act) (cpu : ℕ) : Type 0 where
   none : irq_told cpu a ≡ 0
   last : slice_index_or (irqs_after at w.irqs a) cpu 0 ≡ last_irq w cpu
 
--- or it tells of some since the last that did
+-- or it has interrupt time since the processor's previous `irq` line
 record Tells (w : World) (at : ℕ) (a : Act) (cpu : ℕ) : Type 0 where
   second : irq_told cpu a ≤ longest_irq
   since : irq_told cpu a ≤ at - last_irq w cpu
@@ -71,23 +71,23 @@ quiet_or_tells limits w at (act.Irq named ns) legal many cpu =
     (eqb_tells named.0 cpu)
 quiet_or_tells limits w at _ legal many cpu = inl (record { none = refl; last = refl })
 
--- behind legal events
+-- after legal events
 event_tells : (limits : Limits) (events : List Event) (event : Event) → AreLegal limits first_world (events ++ event ∷ []) → limits.cpus ≤ most_cpus → (cpu : ℕ) → IsQuiet (after events) event.at event.act cpu ⊎ Tells (after events) event.at event.act cpu
 event_tells limits events event legal few cpu =
     quiet_or_tells limits (after events) event.at event.act (legal_last limits first_world events event legal) (omega (arith, few, many_irqs events)) cpu
 
--- the last moment of interrupts after one event more
+-- the time of the last interrupts after one more event
 last_irq-push : (events : List Event) (event : Event) (cpu : ℕ) → last_irq (after (events ++ event ∷ [])) cpu ≡ slice_index_or (irqs_after event.at (after events).irqs event.act) cpu 0
 last_irq-push events event cpu = ap (λ w. last_irq w cpu) (after-push events event)
 
 -- ---- from the first moment on
 
--- a time is no longer than that to the last interrupts, and these were no later than the last event
+-- a total is at most the time of the last interrupts, and these were no later than the last event
 record EndsBy (time : ℕ) (w : World) (cpu : ℕ) : Type 0 where
   sum : time ≤ last_irq w cpu
   last : last_irq w cpu ≤ w.last
 
--- times that grow from none by no more than each event tells end so
+-- totals that start at 0 and grow by at most each event's interrupt time satisfy this
 all_end : (limits : Limits) → limits.cpus ≤ most_cpus → (cpu : ℕ) (time : List Event → ℕ) → time [] ≡ 0
     → ((es : List Event) (event : Event) → AreLegal limits first_world (es ++ event ∷ []) → time (es ++ event ∷ []) ≤ time es + irq_told cpu event.act)
     → (events : List Event) → AreLegal limits first_world events → EndsBy (time events) (after events) cpu
@@ -121,7 +121,7 @@ all_end limits few cpu time none grows = by_legal limits (λ es. EndsBy (time es
         })
         (event_tells limits es event legal few cpu)
 
--- an event adds to interrupt time no more than it tells of
+-- an event adds at most its own interrupt time
 grows_by : (cpu slot : ℕ) (events : List Event) (event : Event) → irq_time cpu slot (events ++ event ∷ []) ≤ irq_time cpu slot events + irq_told cpu event.act
 grows_by cpu slot events event =
     let part = at_most (is_on (after events).groups slot && has_running cpu slot (after events)) (irq_told cpu event.act) (irq_told cpu event.act) (omega arith) in
@@ -146,7 +146,7 @@ no_irq_at_first limits events legal few cpu slot = omega (arith, irq_is_within l
 
 -- ---- all that a plan tells of
 
--- the time (ns) that interrupts took on a processor
+-- the interrupt time (ns) of a processor
 abbrev told_all : ℕ → List Event → ℕ
 told_all cpu events = sum (map (λ (change : Change). change.irq) (changes_from cpu first_world events))
 
@@ -168,8 +168,8 @@ plan_irqs_fit limits events legal few cpu k low =
 
 -- ---- from a moment to a later one
 
--- A time grew since a moment: not at all, or by what interrupts took until they ended last, and a
--- second.
+-- A total grew since `at`: not at all, or by at most the time from `at` to the last interrupts plus
+-- a second.
 record Grew (before now at last : ℕ) : Type 0 where
   least : before ≤ now
   most : (now ≡ before) ⊎ ((at ≤ last) × (now ≤ before + longest_irq + (last - at)))
@@ -177,11 +177,11 @@ record Grew (before now at last : ℕ) : Type 0 where
 grew_not : (now at last : ℕ) → Grew now now at last
 grew_not now at last = record { least = omega arith; most = inl refl }
 
--- by an event that tells of no interrupts
+-- by an event without interrupt time
 grew_quietly : (before now next at last later : ℕ) → next ≡ now → later ≡ last → Grew before now at last → Grew before next at later
 grew_quietly before now next at last later same still grew = rw (same, still) grew
 
--- by one that tells of some
+-- by an event with interrupt time
 grew_more : (before now next told at last moment : ℕ) → Grew before now at last → now ≤ next → next ≤ now + told → told ≤ longest_irq → told ≤ moment - last → last ≤ moment → at ≤ moment → Grew before next at moment
 grew_more before now next told at last moment grew rises most second since turn past = record {
   least = omega (arith, grew.least, rises);
@@ -217,7 +217,7 @@ grew-push limits few cpu slot at events event legal before =
     (event_tells limits events event legal few cpu)))
     (come_or_not limits events event legal at)
 
--- the events up to a moment are among those up to a later one
+-- the events up to a time are among those up to a later one
 up_to_both : (events : List Event) (at later : ℕ) → at ≤ later → up_to (up_to events later) at ≡ up_to events at
 up_to_both [] at later from = refl
 up_to_both (event ∷ events) at later from =

@@ -1,4 +1,4 @@
--- The lives of groups, and which are live at a moment.
+-- When groups were created and removed, and which are live at a time.
 use Rattle.std.proofs.Common.{◌≡◌, ℕ, zero, suc, ◌-◌, ◌≤◌, ◌<◌, List, [], ◌∷◌, ◌++◌, refl, sym, ap, ◌∙◌, subst, append_assoc, arith, Bool, true, false, Option, None, Some, length, map, take, ⊎_elim}
 use Rattle.std.specs.Prelude.{nat_le, not, ◌&&◌, is_some, slice_get, slice_index_or, IfSome, All, unwrap_or, if◌then◌else◌}
 use Rattle.std.specs.Str.{bytes_eq}
@@ -31,7 +31,7 @@ use Rattle.plan_laws.proofs.MomentsEvents.{by_legal, last-push, after_others, co
 
 -- ---- what an act does to groups, seen by some part of them
 
--- a part that stays where a group is removed
+-- a field that doesn't change when a group is removed
 abbrev Stays : {X : Type 0} → (GroupLife → X) → Type 0
 Stays {X} part = (path : List ℕ) (at : ℕ) (life : GroupLife) → part (marked_removed path at life) ≡ part life
 
@@ -42,18 +42,18 @@ stays_all part stays path at (life ∷ groups) =
     let rest = stays_all part stays path at groups in
     cc (here, rest)
 
--- the parts of all groups, with those of others behind them
+-- a list is a prefix of another
 abbrev Front : {X : Type 0} → List X → List X → Type 0
 Front {X} some all = (more : List X) × (all ≡ some ++ more)
 
 front_same : {X : Type 0} (some all : List X) → all ≡ some → Front some all
 front_same some all same = ([], same ∙ sym (append-nil some))
 
--- a part that doesn't tell whether an account is on
+-- a field that doesn't depend on whether the accounting is on
 abbrev Unswitched : {X : Type 0} → (GroupLife → X) → Type 0
 Unswitched {X} part = (life : GroupLife) (on : Bool) → part (record life { on = on }) ≡ part life
 
--- an act leaves that part of the groups that there are
+-- an act doesn't change this field of existing groups
 front_act : {X : Type 0} (part : GroupLife → X) → Stays part → Unswitched part → (at : ℕ) (groups : List GroupLife) (a : Act) → Front (map part groups) (map part (groups_after at groups a))
 front_act part stays left at groups (act.Group path) = (part (new_group groups path at) ∷ [], map-append part groups (new_group groups path at ∷ []))
 front_act part stays left at groups (act.Remove path) = front_same _ _ (stays_all part stays path at groups)
@@ -70,7 +70,7 @@ front_from part stays left w (event ∷ events) = front_more _ _ _ (front_act pa
 
 -- ---- a group that may be removed
 
--- what holds of a group as it is and where it went holds of it where one was removed
+-- P holds for a group after a removal, if it holds for the group as it is and for the removed group
 pub without_is : (P : GroupLife → Type 0) (path : List ℕ) (at : ℕ) (life : GroupLife) → P life → P (record life { gone = Some at }) → P (marked_removed path at life)
 without_is P path at life same ended = elim (is_live life && bytes_eq life.path path) as (λ b. P (if b then record life { gone = Some at } else life)) [ true ↦ ended | false ↦ same ]
 
@@ -85,7 +85,7 @@ made_stays path at life = without_is (λ l. l.made ≡ life.made) path at life r
 
 -- ---- the groups made by a moment are the first
 
--- a part of the first groups, of as many as there are
+-- a field of the first groups, for as many as there are
 first_parts : {X : Type 0} (part : GroupLife → X) (some all : List GroupLife) → Front (map part some) (map part all) → map part some ≡ take (length some) (map part all)
 first_parts part some all front =
     sym (take-append_seam (map part some) front.0) ∙ ap (λ n. take n (map part some ++ front.0)) (length-map some part) ∙ ap (take (length some)) (sym front.1)
@@ -122,7 +122,7 @@ life_without last at low path life is =
     let made : life.made ≤ at = omega (arith, is.made, low) in
     without_is (IsLife at) path at life (life_later last at low life is) (record { made = made; gone = (made, omega arith) })
 
--- the groups were made one after the other, and lived by the last moment
+-- the groups were created in order, and lived by the last time
 pub record InTurn (last : ℕ) (groups : List GroupLife) : Type 0 where
   pub order : IsNonDecreasingBy (λ (life : GroupLife). life.made) groups
   pub each : All (IsLife last) groups
@@ -151,7 +151,8 @@ turn_without last at low path groups are =
       each = All-map (IsLife at) (marked_removed path at) groups (All-weaker (IsLife last) (λ life. IsLife at (marked_removed path at life)) (life_without last at low path) groups are.each);
     }
 
--- what holds of a group whether its account is on or not holds of it where one was switched
+-- P holds for a group after a switch of accounting, if it holds for the group as it is and for the
+-- switched group
 pub switched_is : (P : GroupLife → Type 0) (path : List ℕ) (on : Bool) (life : GroupLife) → P life → P (record life { on = on }) → P (marked_switched path on life)
 switched_is P path on life same other = elim (is_live life && bytes_eq life.path path) as (λ b. P (if b then record life { on = on } else life)) [ true ↦ other | false ↦ same ]
 
@@ -187,7 +188,7 @@ turn_first = record {
   each = All-cons (IsLife 0) root [] (record { made = omega arith; gone = tt }) (All-nil (IsLife 0));
 }
 
--- so it is after legal events
+-- legal events preserve this
 pub turn_after : (limits : Limits) (events : List Event) → AreLegal limits first_world events → InTurn (after events).last (after events).groups
 turn_after limits events legal = by_legal limits (λ es. InTurn (after es).last (after es).groups) turn_first
     (λ es event turn before. subst (λ (w : World). InTurn w.last w.groups) (sym (after-push es event)) (turn_act (after es).last event.at (after_others limits es event turn) (after es).groups before event.act))
@@ -204,7 +205,7 @@ lives_are_in_order limits events legal =
 
 -- ---- which are live
 
--- a moment has come, or not
+-- a time has come, or not
 come : (at moment : ℕ) → moment ≤ at → nat_le moment at ≡ true
 come at moment low = grind (arith, nat_tests)
 
@@ -215,11 +216,11 @@ gone_now : (made last at : ℕ) → last ≤ at → (o : Option ℕ) → IfSome 
 gone_now made last at low None is = refl
 gone_now made last at low (Some gone) is = ap not (sym (come at gone (omega (arith, is.1, low))))
 
--- from the last moment on, a group that didn't go is live
+-- from the last time on, a group that wasn't removed is live
 live_now : (last at : ℕ) → last ≤ at → (life : GroupLife) → IsLife last life → is_live life ≡ is_live_at life at
 live_now last at low life is = gone_now life.made last at low life.gone is.gone ∙ ap (λ b. b && not (is_gone_by life.gone at)) (sym (come at life.made (omega (arith, is.made, low))))
 
--- what holds of each group holds of that in a slot
+-- a property of every group holds for the group in a slot
 each_got : (P : GroupLife → Type 0) (groups : List GroupLife) → All P groups → (slot : ℕ) (life : GroupLife) → slice_get groups slot ≡ Some life → P life
 each_got P groups each slot life is = subst P (sym (unwrap_or-slice_get groups slot life) ∙ ap (λ o. unwrap_or o life) is) (each slot life (slice_get_within groups slot life is))
 
@@ -227,14 +228,14 @@ live_in_now : (last at : ℕ) → last ≤ at → (groups : List GroupLife) → 
 live_in_now last at low groups each slot None is = refl
 live_in_now last at low groups each slot (Some life) is = live_now last at low life (each_got (IsLife last) groups each slot life is)
 
--- a group that is made later isn't live yet
+-- a group that is created later isn't live yet
 behind_not_yet : (at : ℕ) (groups : List GroupLife) (life : GroupLife) (slot : ℕ) → is_live_at life at ≡ false → is_some_and (slice_get (groups ++ life ∷ []) slot) (λ l. is_live_at l at) ≡ is_some_and (slice_get groups slot) (λ l. is_live_at l at)
 behind_not_yet at [] life zero off = off
 behind_not_yet at [] life (suc slot) off = refl
 behind_not_yet at (first ∷ groups) life zero off = refl
 behind_not_yet at (first ∷ groups) life (suc slot) off = behind_not_yet at groups life slot off
 
--- a group that goes later is still there
+-- a group that is removed later still exists
 still_there : (at moment : ℕ) → at < moment → (o : Option ℕ) → not (is_some o) ≡ true → not (nat_le moment at) ≡ not (is_gone_by o at)
 still_there at moment past None live = ap not (to_come at moment past)
 still_there at moment past (Some gone) live = absurd (cc live)
@@ -250,19 +251,19 @@ removed_or_none : (at moment : ℕ) → at < moment → (path : List ℕ) (o : O
 removed_or_none at moment past path None = refl
 removed_or_none at moment past path (Some life) = removed_not_yet at moment past path life
 
--- switching an account leaves which groups are live
+-- switching accounting doesn't change which groups are live
 switched_or_none : (at : ℕ) (path : List ℕ) (on : Bool) (o : Option GroupLife) → is_some_and (option_map (marked_switched path on) o) (λ l. is_live_at l at) ≡ is_some_and o (λ l. is_live_at l at)
 switched_or_none at path on None = refl
 switched_or_none at path on (Some life) = switched_leaves (λ l. is_live_at l at) (λ _ _. refl) path on life
 
--- an act changes nothing of what was live before it
+-- an act doesn't change which groups were live before it
 live_before : (at moment : ℕ) → at < moment → (groups : List GroupLife) (slot : ℕ) (a : Act) → is_some_and (slice_get (groups_after moment groups a) slot) (λ l. is_live_at l at) ≡ is_some_and (slice_get groups slot) (λ l. is_live_at l at)
 live_before at moment past groups slot (act.Group path) = behind_not_yet at groups (new_group groups path moment) slot (ap (λ b. b && not (is_gone_by None at)) (to_come at moment past))
 live_before at moment past groups slot (act.Remove path) = ap (λ o. is_some_and o (λ l. is_live_at l at)) (slice_get-map (marked_removed path moment) groups slot) ∙ removed_or_none at moment past path (slice_get groups slot)
 live_before at moment past groups slot (act.Pressure path on) = ap (λ o. is_some_and o (λ l. is_live_at l at)) (slice_get-map (marked_switched path on) groups slot) ∙ switched_or_none at path on (slice_get groups slot)
 live_before at moment past groups slot _ = refl
 
--- the groups of a trace tell which are live in a slot at a moment
+-- the groups of a trace show which slots are live at a time
 abbrev TellsLive : List Event → Type 0
 TellsLive events = (at slot : ℕ) → is_live_in (after (up_to events at)).groups slot ≡ is_some_and (slice_get (after events).groups slot) (λ life. is_live_at life at)
 

@@ -1,4 +1,4 @@
--- Live groups in the order of their paths, by one order of all slots.
+-- Live groups sorted by path, by one order of all slots.
 use Rattle.std.proofs.Common.{◌≡◌, ◌≢◌, ℕ, zero, suc, ◌+◌, ◌<◌, List, [], ◌∷◌, refl, sym, ap, ◌∙◌, subst, arith, Bool, true, false, cond, T, Option, None, Some, length, map}
 use Rattle.std.specs.Prelude.{◌&&◌, ◌==◌, slice_get, slice_index_or, filter, unwrap_or, All, if◌then◌else◌}
 use Rattle.std.specs.Str.{bytes_eq}
@@ -40,7 +40,7 @@ use Rattle.plan_laws.proofs.MomentsLives.{groups_keep_slots, lives_tell_live}
 abbrev by_bytes : List ℕ → List ℕ → Ordering
 by_bytes x y = slice_cmp nat_cmp x y
 
--- paths tie only where they are equal
+-- paths compare as equal only if they are equal
 tied_only : (x y : List ℕ) → by_bytes x y ≡ Equal → x ≡ y
 tied_only x y is = fin.slice_cmp-IsAntisymmetric fin.nat_cmp-IsAntisymmetric x y is
 
@@ -104,7 +104,7 @@ passes_first : (path other : List ℕ) (slot : ℕ) (rest : Option ℕ) (b : Boo
 passes_first path other slot rest true on is = absurd (cc is)
 passes_first path other slot rest false off is = (λ same. absurd (cc (off, ties path other (sym same))), is)
 
--- where it finds none, none of those that pass has the path
+-- if it finds none, no slot that passes has the path
 none_has : (groups : List GroupLife) (test : ℕ → Bool) (path : List ℕ) (slots : List ℕ) → fin.find (slice_cmp nat_cmp) path (map (with_path groups) (filter test slots)) ≡ None → AllByRecursion (λ slot. test slot ≡ true → path_at groups slot ≢ path) slots
 none_has groups test path [] is = tt
 none_has groups test path (first ∷ slots) is =
@@ -117,12 +117,12 @@ none_has groups test path (first ∷ slots) is =
 
 -- ---- what an order of all slots has
 
--- each slot that there is stands in it
+-- each existing slot is in the order
 has_each : (groups : List GroupLife) (order : List ℕ) → IsPathOrder groups order → (slot : ℕ) → slot < length groups → Contains order slot
 has_each groups order is slot room =
     Contains-permutation (range_with_len 0 (length groups)) order slot is.each (slot, omega (arith, length-range_with_len 0 (length groups), room), get_or-range_with_len 0 (length groups) slot slot room ∙ (let same : 0 + slot ≡ slot = omega arith in same))
 
--- and no other
+-- and no other slot
 has_no_other : (groups : List GroupLife) (order : List ℕ) → IsPathOrder groups order → All (λ slot. slot < length groups) order
 has_no_other groups order is =
     All-permutation (λ slot. slot < length groups) (range_with_len 0 (length groups)) order is.each (λ k d room.
@@ -132,7 +132,7 @@ has_no_other groups order is =
 symmetric : (x y : ℕ) → (x == y) ≡ (y == x)
 symmetric x y = grind (arith, nat_tests)
 
--- none stands in it twice
+-- no slot is in the order twice
 has_once : (groups : List GroupLife) (order : List ℕ) → IsPathOrder groups order → AllPairs (λ x y. x ≢ y) order
 has_once groups order is =
     let n : ℕ = length groups in
@@ -182,7 +182,7 @@ are_a_map groups (first ∷ slots) all =
 
 -- ---- the groups at a moment, by all groups
 
--- the group in a slot that there is
+-- the group in an existing slot
 pub got_there : (groups : List GroupLife) (slot : ℕ) → slot < length groups → slice_get groups slot ≡ Some (slice_index_or groups slot root)
 got_there [] slot room = absurd (omega (arith, room))
 got_there (first ∷ groups) zero room = refl
@@ -199,8 +199,8 @@ passing : (o : Option GroupLife) → is_some_and o is_live ≡ true → (life : 
 passing None on = absurd (cc on)
 passing (Some life) on = (life, refl, on)
 
--- What the groups of legal events tell of those at a moment: a live slot's path finds it, and what
--- a path finds is a live slot that has it.
+-- How the groups after legal events and those at a time are related: the path of a live slot leads
+-- to it, and a path leads only to a live slot that has it.
 record TellsOf (now all : List GroupLife) (test : ℕ → Bool) : Type 0 where
   finds : (slot : ℕ) → slot < length all → test slot ≡ true → slot_of now (path_at all slot) ≡ Some slot
   found : (path : List ℕ) (slot : ℕ) → slot_of now path ≡ Some slot → (slot < length all) × (test slot ≡ true) × (path_at all slot ≡ path)

@@ -1,4 +1,4 @@
--- How stall time grows from one moment to the next.
+-- How stall time grows from one time to the next.
 use Rattle.std.proofs.Common.{◌≡◌, ℕ, ◌+◌, ◌-◌, ◌≤◌, List, [], ◌∷◌, ◌++◌, ap, subst, arith, Bool, true, false, ⊎_elim}
 use Rattle.std.specs.Prelude.{if◌then◌else◌}
 use Rattle.psi_base.specs.declared.event.State.{State}
@@ -15,7 +15,7 @@ use Rattle.plan_laws.proofs.MomentsEvents.{by_legal, last-push, up_to_all, after
 
 -- ---- the time that is added
 
--- time that counts or doesn't is no longer than it is
+-- time that is counted or not is at most the time itself
 at_most_all : (b : Bool) (n : ℕ) → (if b then n else 0) ≤ n
 at_most_all true n = omega arith
 at_most_all false n = omega arith
@@ -30,14 +30,14 @@ grew_by b before now room is = let part = at_most_all b room in record { least =
 
 -- ---- from a moment to a later one
 
--- up to both moments, in a group's state on a processor
+-- up to both times, in a group's state on a processor
 abbrev Grows : State → ℕ → ℕ → List Event → Type 0
 Grows state cpu slot events = (at later : ℕ) → at ≤ later → Grew (stall state cpu slot (up_to events at) at) (stall state cpu slot (up_to events later) later) (later - at)
 
 grows-none : (state : State) (cpu slot : ℕ) → Grows state cpu slot []
 grows-none state cpu slot at later from = let none = no_time state cpu slot at in let still = no_time state cpu slot later in record { least = omega (arith, none, still); most = omega (arith, still) }
 
--- an event that comes between the moments
+-- an event between the two times
 grows_between : (limits : Limits) (state : State) (cpu slot : ℕ) (events : List Event) (event : Event) (at later : ℕ) → up_to events event.at ≡ events → Grows state cpu slot events → at ≤ event.at → event.at ≤ later
     → Grew (stall state cpu slot (up_to events at) at) (stall state cpu slot (events ++ event ∷ []) later) (later - at)
 grows_between limits state cpu slot events event at later all before low high =
@@ -68,7 +68,7 @@ stall_grows limits events legal state cpu slot at later from =
 
 -- ---- from the first moment on
 
--- the stall time of all events up to a moment is no longer than the time to it
+-- the stall time of all events up to a time is at most the time
 all_within : (limits : Limits) (state : State) (cpu slot : ℕ) (events : List Event) → AreLegal limits first_world events → (at : ℕ) → (after events).last ≤ at → stall state cpu slot events at ≤ at
 all_within limits state cpu slot events legal = by_legal limits (λ es. (at : ℕ) → (after es).last ≤ at → stall state cpu slot es at ≤ at)
     (λ at low. omega (arith, no_time state cpu slot at))

@@ -1,4 +1,4 @@
--- What events tell one by one, in the order of its moments and up to a moment.
+-- Values that events contribute one by one, in order of time and up to a time.
 use Rattle.std.proofs.Common.{◌≡◌, ℕ, ◌-◌, ◌≤◌, List, [], ◌∷◌, ◌++◌, refl, sym, ap, ◌∙◌, subst, append_assoc, arith, true, false, cond, length}
 use Rattle.std.specs.Prelude.{filter, nat_le, All}
 use Rattle.std.specs.List.{AllByRecursion}
@@ -13,12 +13,12 @@ use Rattle.psi_spec.specs.Told.{told_from}
 use Rattle.plan_laws.proofs.PlanUpTo.{none_later, past_it}
 use Rattle.plan_laws.proofs.MomentsEvents.{by_legal, last-push, after_others}
 
--- what an event tells comes last
+-- an event's value comes last
 pub told-push : {A : Type 0} (tells : World → Event → List A) (w : World) (events : List Event) (event : Event) → told_from tells w (events ++ event ∷ []) ≡ told_from tells w events ++ tells (after_from w events) event
 told-push tells w [] event = append-nil (tells w event)
 told-push tells w (first ∷ events) event = ap (λ rest. tells w first ++ rest) (told-push tells (after_event w first) events event) ∙ sym (append_assoc (tells w first) (told_from tells (after_event w first) events) (tells (after_from (after_event w first) events) event))
 
--- what each event tells has the event's moment
+-- each event's value has the event's time
 abbrev pub TellsAtOnce : {A : Type 0} → (World → Event → List A) → (A → ℕ) → Type 0
 TellsAtOnce tells moment = (w : World) (event : Event) → AllByRecursion (λ x. moment x ≡ event.at) (tells w event)
 
@@ -32,7 +32,7 @@ none_early : {A : Type 0} (moment : A → ℕ) (at now : ℕ) (xs : List A) → 
 none_early moment at now [] all off = refl
 none_early moment at now (x ∷ xs) all off = rw (all.0, off) (none_early moment at now xs all.1 off)
 
--- what the events up to a moment tell is what all tell up to it
+-- the values of the events up to a time are the values of all events up to it
 pub told_until : {A : Type 0} (tells : World → Event → List A) (moment : A → ℕ) → TellsAtOnce tells moment → (limits : Limits) (w : World) (events : List Event) (at : ℕ) → AreLegal limits w events → told_from tells w (up_to events at) ≡ filter (λ x. nat_le (moment x) at) (told_from tells w events)
 told_until tells moment once limits w [] at legal = refl
 told_until tells moment once limits w (event ∷ events) at legal =
@@ -48,7 +48,7 @@ told_until tells moment once limits w (event ∷ events) at legal =
 
 -- ---- in order
 
--- what comes at one moment behind what came before it is in order
+-- values of one time after those of earlier times are in order
 in_order_behind : {A : Type 0} (moment : A → ℕ) (now : ℕ) (xs ys : List A) → IsNonDecreasingBy moment xs → All (λ x. moment x ≤ now) xs → AllByRecursion (λ x. moment x ≡ now) ys → IsNonDecreasingBy moment (xs ++ ys)
 in_order_behind moment now xs [] order early all = subst (IsNonDecreasingBy moment) (sym (append-nil xs)) order
 in_order_behind moment now xs (y ∷ ys) order early all =
@@ -62,7 +62,7 @@ at_most moment now x same = omega (arith, same)
 later : {A : Type 0} (moment : A → ℕ) (last now : ℕ) → last ≤ now → (x : A) → moment x ≤ last → moment x ≤ now
 later moment last now low x early = omega (arith, low, early)
 
--- what events tell stands in the order of its moments, none after the last event
+-- the values of events are in order of time, none after the last event
 pub record IsToldInOrder {A : Type 0} (moment : A → ℕ) (last : ℕ) (told : List A) : Type 0 where
   pub order : IsNonDecreasingBy moment told
   pub early : All (λ x. moment x ≤ last) told

@@ -51,7 +51,7 @@ triggers_up_to limits events legal at = told_until by_event (λ (trigger : Trigg
 stays_there : (at moment : ℕ) → at ≤ moment → (path : List ℕ) (life : GroupLife) → IsThere life at → IsThere (marked_removed path moment life) at
 stays_there at moment low path life is = without_is (λ l. IsThere l at) path moment life is (record { made = is.made; gone = low })
 
--- a group that was there stays so by a later act
+-- a group that existed still exists after a later act
 still_there : (at moment : ℕ) → at ≤ moment → (groups : List GroupLife) (slot : ℕ) → slot < length groups → IsThere (slice_index_or groups slot root) at → (a : Act) → IsThere (slice_index_or (groups_after moment groups a) slot root) at
 still_there at moment low groups slot room is (act.Group path) = subst (λ l. IsThere l at) (sym (get_or_append_left groups (new_group groups path moment ∷ []) root slot room)) is
 still_there at moment low groups slot room is (act.Remove path) = subst (λ l. IsThere l at) (sym (get_or-map (marked_removed path moment) groups slot root root room)) (stays_there at moment low path (slice_index_or groups slot root) is)
@@ -59,20 +59,20 @@ still_there at moment low groups slot room is (act.Pressure path on) =
     subst (λ l. IsThere l at) (sym (get_or-map (marked_switched path on) groups slot root root room)) (switched_is (λ l. IsThere l at) path on (slice_index_or groups slot root) is (record { made = is.made; gone = is.gone }))
 still_there at moment low groups slot room is _ = is
 
--- a live group is there from when it was made
+-- a live group exists from its creation on
 live_gone : (at : ℕ) (o : Option ℕ) → not (is_some o) ≡ true → IfSome o (λ gone. at ≤ gone)
 live_gone at None live = tt
 live_gone at (Some gone) live = absurd (cc live)
 
 -- ---- one trigger more
 
--- a trigger is in its range, set by a moment, and on a group that was there
+-- a trigger is in its range, was set by a time, and is on a group that existed
 record IsSet (latest last : ℕ) (groups : List GroupLife) (trigger : TriggerSpec) : Type 0 where
   within : IsTriggerWithin latest (length groups) trigger
   early : trigger.at ≤ last
   there : IsThere (slice_index_or groups trigger.slot.0 root) trigger.at
 
--- later acts leave it so
+-- later acts preserve this
 set_later : (latest last at : ℕ) → last ≤ at → (groups : List GroupLife) (a : Act) → length groups ≤ length (groups_after at groups a) → (trigger : TriggerSpec) → IsSet latest last groups trigger → IsSet latest at (groups_after at groups a) trigger
 set_later latest last at low groups a more trigger is =
     let slot = is.within.slot in
@@ -83,7 +83,7 @@ set_later latest last at low groups a more trigger is =
       there = still_there trigger.at at (omega (arith, early, low)) groups trigger.slot.0 slot is.there a;
     }
 
--- no cause against a trigger stands
+-- no cause rejects a trigger
 the_slot : (o : Option ℕ) → not (is_some o) ≡ false → o ≡ Some (unwrap_or o 0)
 the_slot None h = absurd (cc h)
 the_slot (Some n) h = refl

@@ -1,4 +1,4 @@
--- Clocks that stand for a slot of a plan.
+-- Clocks that represent a slot of a plan.
 use Rattle.std.proofs.Common.{◌≡◌, ℕ, ◌+◌, ◌-◌, ◌≤◌, refl, sym, ap, ◌∙◌, arith, Bool, true, false, zero, suc, length}
 use Rattle.std.specs.Prelude.{if◌then◌else◌, slice_index}
 use Rattle.psi_base.specs.declared.event.State.{State}
@@ -72,7 +72,7 @@ planned_within state plan slot (suc k) at order room from =
     let same : planned_time state plan slot (suc k) at ≡ planned_time state plan slot (k + 1) at = ap (λ n. planned_time state plan slot n at) next in
     omega (arith, same, step, all)
 
--- the time at the start is part of the time at a moment
+-- the time at the start is part of the time at any later time
 start_time : (clock : ClockView) (at : ℕ) (state : State) → slice_index clock.times (state_number state) ≤ opened_time clock at state
 start_time clock at state = omega arith
 

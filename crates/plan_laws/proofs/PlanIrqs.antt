@@ -41,7 +41,7 @@ over-push parents slot on (first ∷ changes) change =
     let rest = over-push parents slot (on_with slot on first.account) changes change in
     omega (arith, rest)
 
--- what was taken from a group is no more than what all changes tell of
+-- a group's interrupt time is at most that of all changes
 over_most : (parents : List (Option ℕ)) (slot : ℕ) (on : Bool) (changes : List Change) → irq_over parents slot on changes ≤ sum (map (λ (change : Change). change.irq) changes)
 over_most parents slot on [] = omega arith
 over_most parents slot on (change ∷ changes) =
@@ -79,12 +79,12 @@ both_tests : (a b : Bool) (n : ℕ) → (if a then (if b then n else 0) else 0) 
 both_tests true b n = refl
 both_tests false b n = refl
 
--- a group has a running task by later parents where it has one by those of the world
+-- a group has a running task by the parents of later groups if it has one by those of the world
 running_later : (limits : Limits) (w : World) → IsLegalWorld limits w → (parents : List (Option ℕ)) → Prolongs (parents_of w.groups) parents → (cpu slot : ℕ) → list_any runs (tasks_in parents cpu slot w.tasks) ≡ has_running cpu slot w
 unfolding has_running
 running_later limits w world parents more cpu slot = ap (λ ps. list_any runs (tasks_in ps cpu slot w.tasks)) more.1 ∙ ap (list_any runs) (same_tasks_later limits w world more.0 cpu slot)
 
--- all changes of some events tell the interrupt time of these events
+-- all changes of some events give the interrupt time of these events
 abbrev TellsIrq : Limits → ℕ → ℕ → List Event → Type 0
 TellsIrq limits cpu slot events = AreLegal limits first_world events → (parents : List (Option ℕ)) → Prolongs (parents_of (after events).groups) parents →
     irq_over parents slot true (changes_from cpu first_world events) ≡ irq_time cpu slot events

@@ -18,7 +18,7 @@ use Rattle.psi_spec.proofs.StallLaws.{get_left, get_seam}
 
 -- ---- lists from their ends
 
--- what holds of a front, and of each front with an element more, holds of all
+-- induction over prefixes: from the empty prefix, and from each prefix to one more element
 by_last_from : {A : Type 0} (P : List A → Type 0) → ((xs : List A) (x : A) → P xs → P (xs ++ x ∷ [])) → (front rest : List A) → P front → P (front ++ rest)
 by_last_from P step front [] is = subst P (sym (append-nil front)) is
 by_last_from P step front (x ∷ rest) is = subst P (append_assoc front (x ∷ []) rest) (by_last_from P step (front ++ x ∷ []) rest (step front x is))
@@ -79,7 +79,7 @@ is_change-last cpu events event =
     let place : 1 + length events - 1 ≡ length events = omega arith in
     rw (place, take-append_seam events (event ∷ []), get_seam events event) refl
 
--- an event's number, where it touches the processor
+-- an event's number, if it touches the processor
 pub changes_of-push : (cpu : ℕ) (events : List Event) (event : Event) → changes_of cpu (events ++ event ∷ []) ≡ changes_of cpu events ++ cond (touches (after events) (Some event) cpu) ((1 + length events) ∷ []) []
 unfolding changes_of
 changes_of-push cpu events event =
@@ -125,7 +125,7 @@ touched_or_not w event cpu =
 pub changes_same : (cpu : ℕ) (events : List Event) (event : Event) → Untouched (after events) event cpu → changes_from cpu first_world (events ++ event ∷ []) ≡ changes_from cpu first_world events
 changes_same cpu events event off = changes_from-push cpu first_world events event ∙ rw off.none (append-nil (changes_from cpu first_world events))
 
--- one that touches it is a change more
+-- an event that touches it is one more change
 pub changes_grow : (cpu : ℕ) (events : List Event) (event : Event) (on : TouchedBy (after events) event cpu) → changes_from cpu first_world (events ++ event ∷ []) ≡ changes_from cpu first_world events ++ on.change ∷ []
 changes_grow cpu events event on = changes_from-push cpu first_world events event ∙ rw on.one refl
 
@@ -210,7 +210,7 @@ changes_are_numbered cpu events = ((numbered cpu events).contents, (numbered cpu
 
 -- ---- the events up to a change
 
--- a list of numbers behind a 0, without those behind them
+-- a prefix of a list of numbers that follow a 0
 pub get-front : (xs ys : List ℕ) (k : ℕ) → k ≤ length xs → slice_index_or (0 ∷ (xs ++ ys)) k 0 ≡ slice_index_or (0 ∷ xs) k 0
 get-front xs ys zero low = refl
 get-front xs ys (suc k) low = get_or_append_left xs ys 0 k (omega (arith, low))

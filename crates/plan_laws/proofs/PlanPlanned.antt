@@ -1,4 +1,4 @@
--- The planned times up to a moment and after some changes, as stall times.
+-- The planned times up to a time and after some changes, as stall times.
 use Rattle.std.proofs.Common.{◌≡◌, ℕ, List, [], ◌∷◌, map, refl, sym, ap, ◌∙◌}
 use Rattle.psi_base.specs.declared.event.State.{State}
 use Rattle.psi_spec.specs.World.{up_to}

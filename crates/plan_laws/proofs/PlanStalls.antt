@@ -75,7 +75,7 @@ pub no_time : (state : State) (cpu slot at : ℕ) → stall state cpu slot [] at
 unfolding stall
 no_time state cpu slot at = refl
 
--- stall time grows with time alone where the state holds after the last event
+-- stall time grows with time alone if the state applies after the last event
 abbrev pub GrowsLater : State → ℕ → ℕ → List Event → Type 0
 GrowsLater state cpu slot events = (later : ℕ) → (after events).last ≤ later →
     stall state cpu slot events later ≡ stall state cpu slot events (after events).last + (if holds state cpu slot (after events) then later - (after events).last else 0)
@@ -127,7 +127,7 @@ front_after state parents changes slot k at j room low =
     let all : take k (take k changes) ≡ take k changes = taken_twice changes k k (omega arith) in
     rw (held, all) refl
 
--- planned time looks at no change behind the first k
+-- planned time doesn't depend on changes after the first k
 pub planned_front : (state : State) (parents : List (Option ℕ)) (changes : List Change) (slot k at : ℕ) → k ≤ length changes → planned_time state (plan_with changes parents) slot k at ≡ planned_time state (plan_with (take k changes) parents) slot k at
 unfolding planned_time
 planned_front state parents changes slot k at room =
@@ -135,7 +135,7 @@ planned_front state parents changes slot k at room =
 
 -- ---- planned time is stall time
 
--- all changes of some events tell the stall time of these events
+-- all changes of some events give the stall time of these events
 abbrev TellsStall : Limits → State → ℕ → ℕ → List Event → Type 0
 TellsStall limits state cpu slot events = AreLegal limits first_world events → (parents : List (Option ℕ)) → Prolongs (parents_of (after events).groups) parents → (at : ℕ) → (after events).last ≤ at →
     planned_time state (plan_with (changes_from cpu first_world events) parents) slot (length (changes_from cpu first_world events)) at ≡ stall state cpu slot events at
@@ -236,7 +236,7 @@ stall_by_own_changes limits events legal state cpu slot at from =
 abbrev pub moment_at : List Change → ℕ → ℕ
 moment_at changes k = slice_index_or (0 ∷ moments changes) k 0
 
--- the moments of changes stand in order, and none is after the last event
+-- the times of changes are in order, and none is after the last event
 pub record EndsInOrder (changes : List Change) (last : ℕ) : Type 0 where
   pub order : (k : ℕ) → k < length changes → moment_at changes k ≤ moment_at changes (k + 1)
   pub end : moment_at changes (length changes) ≤ last

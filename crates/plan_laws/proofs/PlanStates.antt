@@ -1,4 +1,4 @@
--- What a processor's changes tell of the states of groups there.
+-- The states of groups on a processor that follow from its changes.
 use Rattle.std.proofs.Common.{◌≡◌, ℕ, zero, suc, ◌+◌, ◌-◌, ◌≤◌, List, [], ◌∷◌, ◌++◌, length, map, take, drop, refl, sym, ap, ◌∙◌, arith, subst, Bool, false, Option, None, true, append_assoc, ⊎_elim}
 use Rattle.std.specs.Prelude.{filter, slice_index_or, ◌&&◌}
 use Rattle.std.proofs.lemmas.List.{append-nil, length-append, length-map, map-append, length-take-le, take-append-drop, take-map, get_or-take}
@@ -47,7 +47,7 @@ legal_from limits w (event ∷ events) world legal = legal_from limits (after_ev
 pub legal_after : (limits : Limits) (events : List Event) → AreLegal limits first_world events → IsLegalWorld limits (after events)
 legal_after limits events legal = legal_from limits first_world events (legal_first limits) legal
 
--- parents with those of later groups behind them
+-- parents followed by those of later groups
 abbrev pub Prolongs : List (Option ℕ) → List (Option ℕ) → Type 0
 Prolongs few many = (more : List (Option ℕ)) × (many ≡ few ++ more)
 
@@ -77,7 +77,7 @@ shown-push changes change =
     ∙ ap (λ is. slice_index_or is (length (currents changes)) None) (map-append (λ (c : Change). c.current) changes (change ∷ []))
     ∙ get_or-append_seam (currents changes) change.current [] None
 
--- what some changes show of the running task is told by them
+-- the running task in some changes follows from them
 abbrev RunsAsTold : List (Option ℕ) → ℕ → ℕ → List Event → Option (Slot × Bool) → Type 0
 RunsAsTold parents cpu slot events current = IsRunningTold (tasks_in parents cpu slot (after events).tasks) (is_current_in parents slot current) (is_current_stalled current)
 
@@ -120,7 +120,7 @@ pub on_from-push : (slot : ℕ) (on : Bool) (changes : List Change) (change : Ch
 on_from-push slot on [] change = refl
 on_from-push slot on (first ∷ changes) change = on_from-push slot (on_with slot on first.account) changes change
 
--- the changes of any processor tell whether an account is on
+-- the changes of any processor determine whether a group's accounting is on
 abbrev OnAsTold : ℕ → ℕ → List Event → Type 0
 OnAsTold cpu slot events = on_from slot true (changes_from cpu first_world events) ≡ is_on (after events).groups slot
 
@@ -167,7 +167,7 @@ follows_less taken added new is =
     counts_are new _ _ _ _ (less_than new.io taken.io added.io is.io) (less_than new.stalled taken.stalled added.stalled is.stalled)
     (less_than new.running taken.running added.running is.running) (less_than new.stalled_running taken.stalled_running added.stalled_running is.stalled_running)
 
--- a processor's changes tell the states of groups
+-- a processor's changes determine the states of groups
 abbrev pub told_by : State → List (Option ℕ) → ℕ → List Change → Bool
 told_by state parents slot changes = on_from slot true changes && tells state (less (added parents slot changes) (taken parents slot changes)) (is_current_in parents slot (shown_last changes)) (is_current_stalled (shown_last changes))
 
@@ -185,7 +185,7 @@ told_by_last limits events legal more state cpu slot =
     ∙ ap (λ b. on && b) (sym states ∙ ap (holds_of state) same)
     ∙ ap (λ b. b && holds_of state (tasks_in (parents_of (after events).groups) cpu slot (after events).tasks)) (on_as_told limits cpu slot events legal)
 
--- they tell it by the parents of later groups too
+-- they also do with the parents of later groups
 pub told_by_changes : (limits : Limits) (events : List Event) → AreLegal limits first_world events → (parents : List (Option ℕ)) → Prolongs (parents_of (after events).groups) parents → (state : State) (cpu slot : ℕ) →
     told_by state parents slot (changes_from cpu first_world events) ≡ holds state cpu slot (after events)
 told_by_changes limits events legal parents more state cpu slot =
@@ -203,19 +203,19 @@ shown-take changes (suc k) low =
     ∙ ap (λ is. slice_index_or is k None) front
     ∙ get_or-take (suc k) (currents changes) k None (omega arith)
 
--- after k changes a plan tells what its first k changes tell
+-- after k changes a plan gives what its first k changes give
 pub holds_by_front : (state : State) (parents : List (Option ℕ)) (changes : List Change) (slot k : ℕ) → k ≤ length changes → holds_after state (record { changes = changes; parents = parents }) slot k ≡ told_by state parents slot (take k changes)
 unfolding holds_after
 holds_by_front state parents changes slot k low =
     ap (λ current. on_from slot true (take k changes) && tells state (less (added parents slot (take k changes)) (taken parents slot (take k changes))) (is_current_in parents slot current) (is_current_stalled current)) (sym (shown-take changes k low))
 
--- the events up to a change are a front of all
+-- the events up to a change are a prefix of all
 pub until_legal : (limits : Limits) (cpu : ℕ) (events : List Event) (k : ℕ) → AreLegal limits first_world events → AreLegal limits first_world (until_change cpu events k)
 until_legal limits cpu events k legal =
     let parts = take-append-drop (event_of_change cpu events k) events in
     legal_front limits first_world (until_change cpu events k) (drop (event_of_change cpu events k) events) (rw parts legal)
 
--- groups that are made after a change stand behind those before it
+-- groups created after a change come after those created before it
 pub until_prolongs : (cpu : ℕ) (events : List Event) (k : ℕ) → Prolongs (parents_of (after (until_change cpu events k)).groups) (parents_of (after events).groups)
 until_prolongs cpu events k =
     let rest : List Event = drop (event_of_change cpu events k) events in

@@ -43,7 +43,7 @@ on_by_change plan slot k change is = ap (on_from slot true) (one_more plan.chang
 pub on_at_first : OnAtFirst
 on_at_first plan slot = refl
 
--- another group's account leaves this one
+-- a switch of another group's accounting doesn't change this one's
 pub account_apart : (slot : ℕ) (on : Bool) (account : Option (Slot × Bool)) → is_account_of slot account ≡ false → on_with slot on account ≡ on
 account_apart slot on None off = refl
 account_apart slot on (Some account) off = ap (λ b. if b then account.1 else on) off
@@ -111,7 +111,7 @@ no_part parents slot (Some part) off = ap (λ b. cond b part.1 no_counts) off
 nothing_more : (n : Counts) → both_counts n no_counts ≡ n
 nothing_more n = same_counts (both_counts n no_counts) n (omega arith) (omega arith) (omega arith) (omega arith)
 
--- where no counted task runs it doesn't matter whether the running one is in a stall
+-- if no counted task runs it doesn't matter whether the running task is in a stall
 no_current : (state : State) (n : Counts) (one other : Bool) → tells state n false one ≡ tells state n false other
 no_current IoSome n one other = refl
 no_current IoFull n one other = refl
@@ -142,7 +142,7 @@ aside_stays state plan slot k change is aside =
 abbrev is_early : ℕ → Change → Bool
 is_early at change = nat_le change.at at
 
--- the moments with one before them, by their places
+-- the times of changes with `first` before them, by index
 abbrev moment_at : ℕ → List Change → ℕ → ℕ
 moment_at first changes k = slice_index_or (first ∷ map (λ (change : Change). change.at) changes) k 0
 
@@ -155,7 +155,7 @@ rises_later first change changes rises k low = rises (suc k) (omega (arith, low)
 rises_first : (first : ℕ) (change : Change) (changes : List Change) → Rises first (change ∷ changes) → first ≤ change.at
 rises_first first change changes rises = rises 0 (omega arith)
 
--- none is before the first moment
+-- none is before the first time
 no_earlier : (first : ℕ) (changes : List Change) → Rises first changes → (k : ℕ) → k ≤ length changes → first ≤ moment_at first changes k
 no_earlier first changes rises zero low = omega arith
 no_earlier first [] rises (suc k) low = absurd (omega (arith, low))

@@ -12,7 +12,7 @@ use Rattle.psi_spec.proofs.StallLaws.{map_same}
 
 -- ---- planned time, change by change
 
--- the moments of changes
+-- the times of changes
 abbrev pub moments : List Change → List ℕ
 moments changes = map (λ (change : Change). change.at) changes
 
@@ -31,7 +31,7 @@ moment_past plan n at j room past =
 pub last_change-next : (plan : PlanView) (k : ℕ) → last_change plan (k + 1) ≡ slice_index_or (moments plan.changes) k 0
 last_change-next plan k = let next : k + 1 ≡ suc k = omega arith in ap (last_change plan) next
 
--- moments up to a change don't depend on what comes after
+-- times up to a change don't depend on what comes after
 moment_kept : (plan : PlanView) (k at j : ℕ) → k < length plan.changes → 1 ≤ j → j ≤ k + 1 → change_moment plan (k + 1) at j ≡ change_moment plan k (last_change plan (k + 1)) j
 moment_kept plan k at j room low high =
     let case : (j ≤ k) ⊎ (j ≡ k + 1) = grind (arith, high) in
@@ -84,7 +84,7 @@ counts_more at later forward (change ∷ changes) =
     let others = counts_more at later forward changes in
     omega (arith, before, behind, one, others)
 
--- no fewer changes come up to a later moment
+-- no fewer changes come up to a later time
 pub changes_more : (plan : PlanView) (at later : ℕ) → at ≤ later → changes_up_to plan at ≤ changes_up_to plan later
 changes_more plan at later forward =
     let few = length-filter (λ (change : Change). nat_le change.at at) plan.changes in

@@ -1,4 +1,4 @@
--- Events that don't touch a processor, and the changes up to a moment.
+-- Events that don't touch a processor, and the changes up to a time.
 use Rattle.std.proofs.Common.{◌≡◌, ℕ, ◌+◌, ◌≤◌, ◌<◌, List, [], ◌∷◌, ◌++◌, length, take, refl, sym, ap, ◌∙◌, arith, subst, Bool, true, false, cond, Option, None, Some, append_assoc, ⊎_elim}
 use Rattle.std.specs.Prelude.{filter, nat_le, slice_index_or}
 use Rattle.std.proofs.lemmas.Bool.Decides.{nat_tests}
@@ -41,7 +41,7 @@ past_it at moment off = grind (arith, nat_tests)
 at_most : (at moment : ℕ) → nat_le moment at ≡ true → moment ≤ at
 at_most at moment on = grind (arith, nat_tests)
 
--- no event comes up to a moment that is over
+-- no event comes up to a time that has passed
 pub none_later : (limits : Limits) (w : World) (events : List Event) (at : ℕ) → AreLegal limits w events → at < w.last → up_to events at ≡ []
 none_later limits w [] at legal past = refl
 none_later limits w (event ∷ events) at legal past =
@@ -49,7 +49,7 @@ none_later limits w (event ∷ events) at legal past =
     let off = late w.last at event.at past turn in
     rw off (none_later limits (after_event w event) events at legal.1 (omega (arith, past, turn)))
 
--- the events up to a moment are a front of all
+-- the events up to a time are a prefix of all
 pub up_to_front : (limits : Limits) (w : World) (events : List Event) (at : ℕ) → AreLegal limits w events → (rest : List Event) × (events ≡ up_to events at ++ rest)
 up_to_front limits w [] at legal = ([], refl)
 up_to_front limits w (event ∷ events) at legal =
@@ -58,7 +58,7 @@ up_to_front limits w (event ∷ events) at legal =
       | false ↦ λ off. (event ∷ events, ap (λ es. es ++ event ∷ events) (sym (none_later limits (after_event w event) events at legal.1 (past_it at event.at off))))
     ] refl
 
--- the world after the events up to a moment is that of a moment no later
+-- the world after the events up to a time has a last time no later than it
 pub ends_by : (w : World) (events : List Event) (at : ℕ) → w.last ≤ at → (after_from w (up_to events at)).last ≤ at
 ends_by w [] at low = low
 ends_by w (event ∷ events) at low =
@@ -69,7 +69,7 @@ ends_by w (event ∷ events) at low =
 
 -- ---- their changes
 
--- the numbers of changes of a front are a front of all numbers
+-- the numbers of changes of a prefix are a prefix of all numbers
 numbers_front : (cpu : ℕ) (front rest : List Event) → (more : List ℕ) × (changes_of cpu (front ++ rest) ≡ changes_of cpu front ++ more)
 numbers_front cpu front rest =
     by_last (λ es. (more : List ℕ) × (changes_of cpu (front ++ es) ≡ changes_of cpu front ++ more))

@@ -1,8 +1,11 @@
-//! Ways to compute the same, over a whole trace: how stall time and interrupt time, which psi_spec
-//! defines over the tasks of a world, come out of the changes of one processor.
+//! One processor's changes instead of the whole trace: stall time and interrupt time, which
+//! psi_spec defines over the tasks of a world, follow from the changes of one processor.
 //!
-//! In `specs/`: `Plan` (the changes of one processor, and clocks that run on them), `Moments` (what
-//! holds of a trace at a moment).
+//! In `specs/`: `Plan` (the changes of one processor, and clocks that follow them), `Moments`
+//! (properties of a trace at a time).
+//!
+//! These are definitions and laws, without code that runs: proc_plan derives plans from a trace,
+//! and clock_row and slot_clocks advance clocks by them.
 #![tactic(auto)]
 
 mod moments;
