@@ -1,4 +1,4 @@
--- How many live tasks are in a group or below it, as comings and goings tell it.
+-- The number of live tasks in a group or below it, from tasks that came and left.
 use Rattle.std.proofs.Common.{◌≡◌, ℕ, ◌+◌, ◌-◌, ◌≤◌, ◌<◌, List, [], ◌∷◌, ◌++◌, refl, sym, ap, ◌∙◌, subst, arith, Bool, true, false, Option, None, Some, length, ⊎_elim}
 use Rattle.std.specs.Prelude.{map, ◌==◌, IfSome, if◌then◌else◌}
 use Rattle.std.specs.List.{AllByRecursion}
@@ -89,7 +89,7 @@ going_fits false tasks new is = omega (arith, is)
 same_group : (parents : List (Option ℕ)) (slot old new : ℕ) → (old == new) ≡ true → one (is_under parents old slot) ≡ one (is_under parents new slot)
 same_group parents slot old new is = ⊎_elim (λ same. ap (λ n. one (is_under parents n slot)) same.1) (λ other. absurd (cc (is, other.0))) (eqb_tells old new)
 
--- a task that leaves one group, where it was counted, and comes into another
+-- a task that leaves one group, in which it was counted, and comes into another
 passage_counts : (parents : List (Option ℕ)) (slot at : ℕ) (cell : SideCell) (new_count : ℕ) (old new : Option Slot) → new_count + one (leads parents slot old) ≡ cell.tasks + one (leads parents slot new) →
     one (leads parents slot old) ≤ cell.tasks → new_count ≤ 65536 → (cell_by parents slot cell (passage at old new)).tasks ≡ new_count
 passage_counts parents slot at cell new_count None None is there few = omega (arith, is)
@@ -180,7 +180,7 @@ same_tally p q slots same [] below = refl
 same_tally p q slots same (e ∷ es) below =
     ap (λ b. one b + tally p (map (λ e. e.1) es)) (same e.1 below.0) ∙ ap (λ n. one (q e.1) + n) (same_tally p q slots same es below.1)
 
--- tasks are told by the parents of groups that are made later too
+-- the counts are the same with the parents of groups created later
 pub tasks_later : (limits : Limits) (w : World) → IsLegalWorld limits w → (parents : List (Option ℕ)) → Prolongs (parents_of w.groups) parents → (slot : ℕ) → counted (is_below parents slot) w.tasks ≡ tasks_under w slot
 tasks_later limits w world parents more slot =
     let each : length (parents_of w.groups) ≡ length w.groups = length-map w.groups (λ (group : GroupLife). number_of_slot group.parent) in

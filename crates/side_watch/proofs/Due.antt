@@ -1,4 +1,4 @@
--- The sides that are due by a moment are those of the events up to it.
+-- The sides that are due at a time are those of the events up to it.
 use Rattle.std.proofs.Common.{◌≡◌, ℕ, suc, ◌+◌, ◌≤◌, List, [], ◌∷◌, ◌++◌, length, take, drop, refl, sym, ap, ◌∙◌, arith, Bool, true, false, cond, Option, None, Some}
 use Rattle.std.specs.Prelude.{filter, nat_le, slice_index_or}
 use Rattle.std.specs.List.{All}
@@ -19,14 +19,14 @@ use Rattle.proc_plan.proofs.SideMoments.{sides_up_to, sides_are_in_order}
 use Rattle.side_watch.specs.Sides.{due_by}
 use Rattle.side_watch.specs.Watch.{seen_events, IsNotAfter}
 
--- a side has its moment by this one
+-- a side's time is at most this one
 abbrev is_due : ℕ → Side → Bool
 is_due at side = nat_le side.at at
 
 not_due : (at first moment : ℕ) → nat_le first at ≡ false → first ≤ moment → nat_le moment at ≡ false
 not_due at first moment off turn = grind (arith, nat_tests)
 
--- where the first isn't due, none is
+-- if the first isn't due, none is
 none_due : (at : ℕ) (side : Side) (sides : List Side) → IsNonDecreasingBy (λ (side : Side). side.at) (side ∷ sides) → nat_le side.at at ≡ false → All (λ x. is_due at x ≡ false) sides
 none_due at side sides order off = λ k d room.
     let turn = order 0 (suc k) d (omega arith) (omega (arith, room)) in
@@ -45,21 +45,21 @@ due_are at (side ∷ sides) order =
 still_due : (before at moment : ℕ) → before ≤ at → nat_le moment before ≡ true → nat_le moment at ≡ true
 still_due before at moment turn on = grind (arith, nat_tests)
 
--- what was due by a moment is due by a later one
+-- sides that were due at a time are due at a later one
 due_again : (before at : ℕ) (sides : List Side) → before ≤ at → filter (is_due at) (filter (is_due before) sides) ≡ filter (is_due before) sides
 due_again before at sides turn =
     filter_all (is_due at) (filter (is_due before) sides)
     (All-weaker (λ x. is_due before x ≡ true) (λ x. is_due at x ≡ true) (λ x on. still_due before at x.at turn on) (filter (is_due before) sides) (filter_passes (is_due before) sides))
 
--- the sides of the events up to an earlier moment are due
+-- the sides of the events up to an earlier time are due
 seen_due : (limits : Limits) (events : List Event) (moment : Option ℕ) (at : ℕ) → AreLegal limits first_world events → IsNotAfter moment at → filter (is_due at) (sides_of (seen_events events moment)) ≡ sides_of (seen_events events moment)
 seen_due limits events None at legal turn = refl
 seen_due limits events (Some before) at legal turn =
     let are = sides_up_to limits events legal before in
     ap (filter (is_due at)) are ∙ due_again before at (sides_of events) turn ∙ sym are
 
--- those that were taken and those that are due behind them are the sides of the events up to the
--- moment
+-- the sides that were taken, followed by those that are due, are the sides of the events up to the
+-- time
 pub taken_on : (limits : Limits) (events : List Event) (moment : Option ℕ) (at taken : ℕ) → AreLegal limits first_world events → IsNotAfter moment at → take taken (sides_of events) ≡ sides_of (seen_events events moment) →
     sides_of (seen_events events moment) ++ due_by at (drop taken (sides_of events)) ≡ sides_of (up_to events at)
 taken_on limits events moment at taken legal turn front =
@@ -82,7 +82,7 @@ due_first at (side ∷ sides) =
       | false ↦ refl
     ]
 
--- a front with those that are due behind it
+-- a prefix followed by the sides that are due after it
 pub take_due_on : (at taken : ℕ) (sides : List Side) → take (taken + length (due_by at (drop taken sides))) sides ≡ take taken sides ++ due_by at (drop taken sides)
 take_due_on at taken sides =
     take-add taken (length (due_by at (drop taken sides))) sides ∙ ap (λ xs. take taken sides ++ xs) (due_first at (drop taken sides))

@@ -1,4 +1,4 @@
--- What sides tell of samples and preferences is what the events tell.
+-- The samples and preferences of sides are those of the events.
 use Rattle.std.proofs.Common.{◌≡◌, ℕ, ℤ, List, [], ◌∷◌, ◌++◌, refl, sym, ap, ◌∙◌, true, false, Option, None, Some}
 use Rattle.std.specs.Prelude.{◌==◌, if◌then◌else◌, pos, negsuc}
 use Rattle.std.specs.FinMap as tasks_by
@@ -31,7 +31,7 @@ use Rattle.side_watch.specs.Laws.{told_in, memory_in, preference_in, host_in, Me
 
 -- ---- what sides tell, all together
 
--- comings and goings tell nothing of this kind
+-- tasks that come or leave have no value of this kind
 abbrev IsOfSamples : {A : Type 0} → (SideAct → List A) → Type 0
 IsOfSamples tells = (of : Slot) (added : ℤ) → tells (side.Tasks of added) ≡ []
 
@@ -45,7 +45,7 @@ passage_tells tells none at (Some old) (Some new) =
       | false ↦ rw (none old (negsuc 0), none new (pos 1)) refl
     ]
 
--- where the sides of an act tell what the act tells, those of events tell what the events tell
+-- if the values of an act's sides are the act's, those of events' sides are the events'
 all_tell : {A : Type 0} (tells : SideAct → List A) (told : List GroupLife → Act → List A) → IsOfSamples tells → ((at : ℕ) (groups : List GroupLife) (a : Act) → told_in tells (sample_by at groups a) ≡ told groups a)
     → (w : World) (events : List Event) → told_from (λ (w : World) (event : Event). told w.groups event.act) w events ≡ told_in tells (told_from sides_by w events)
 all_tell tells told none each w [] = refl
@@ -89,7 +89,7 @@ populated_is_counted events slot = any_counted (λ (task : Task). is_under (pare
 
 -- ---- what is kept after sides
 
--- a side that is told last
+-- the last side with a value
 memory_step : (parents : List (Option ℕ)) (slot : ℕ) (cell : SideCell) (what : SideAct) (rest : List MemorySample) → last_or (side_sample (cell_after parents slot cell what).memory) rest ≡ last_or (side_sample cell.memory) (memory_in slot what ++ rest)
 memory_step parents slot cell (side.Mem of current swap scan) rest =
     elim (of.0 == slot) as (λ b. last_or (side_sample (if b then record cell { memory = record { current = current; swap = swap; scan = scan } } else cell).memory) rest ≡ last_or (side_sample cell.memory) ((if b then record { current = current; swap = swap; scan = scan } ∷ [] else []) ++ rest)) [ true ↦ refl | false ↦ refl ]

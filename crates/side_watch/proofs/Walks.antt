@@ -14,7 +14,7 @@ use Rattle.side_watch.specs.declared.cell.SideCell.{SideCell}
 use Rattle.side_watch.specs.Sides.{cell_counted, counted, side_cell_in, zero_side_cell}
 use Rattle.side_watch.specs.Watch.{AreSmallCells, IsSmallMemory}
 
--- a walk that stands past all groups counts none of them
+-- a walk past the root counts no group
 pub past_all : (parents : List (Option Slot)) (place at : ℕ) (came : Bool) (cell : SideCell) → AreOlder (parent_numbers parents) → length parents ≤ place → at < length parents → cell_counted (parent_numbers parents) (Some place) came at cell ≡ cell
 past_all parents place at came cell older past room =
     let other : (place == at) ≡ false = grind (arith, nat_tests) in
@@ -23,7 +23,7 @@ past_all parents place at came cell older past room =
     let off : is_under (parent_numbers parents) place at ≡ false = by_step (parent_numbers parents) place at older ∙ rw (other, none) refl in
     ap (λ b. if b then counted came cell else cell) off
 
--- a group is counted where the walk stands, and the walk goes on to the parent
+-- the group at which the walk is gets counted, and the walk goes on to the parent
 pub step_up : (parents : List (Option Slot)) (cells : List SideCell) (cell : SideCell) (place at : ℕ) (came : Bool) → AreOlder (parent_numbers parents) → place < length cells → cell ≡ counted came (side_cell_in cells place) →
     cell_counted (parent_numbers parents) (number_of_slot (slice_index_or parents place None)) came at (side_cell_in (slice_set cells place cell) at)
     ≡ cell_counted (parent_numbers parents) (Some place) came at (side_cell_in cells at)
@@ -49,6 +49,6 @@ pub small_kept : (cells : List SideCell) (cell : SideCell) (place : ℕ) (came :
 small_kept cells cell place came room is small =
     All-set (λ (cell : SideCell). IsSmallMemory cell.memory) cells place cell (subst (λ (c : SideCell). IsSmallMemory c.memory) (sym is) (small place zero_side_cell room)) small
 
--- the cell of a slot that has one, whatever stands for others
+-- the cell of a slot that has one, whatever other slots give
 pub cell_here : (cells : List SideCell) (slot : ℕ) (other : SideCell) → slot < length cells → slice_index_or cells slot other ≡ side_cell_in cells slot
 cell_here cells slot other room = get_or_default cells slot other zero_side_cell room

@@ -1,4 +1,4 @@
--- A watch tells what events tell.
+-- A watch has the state after the events.
 use Rattle.std.proofs.Common.{◌≡◌, ℕ, ◌+◌, ◌<◌, List, [], ◌∷◌, ◌++◌, length, take, drop, refl, sym, ap, ◌∙◌, subst, arith, Option, None, Some}
 use Rattle.std.specs.Prelude.{nat_lt, replicate}
 use Rattle.std.proofs.lemmas.List.{get_or-replicate, length-replicate}
@@ -26,7 +26,7 @@ use Rattle.side_watch.proofs.Due.{taken_on, take_due_on}
 
 -- ---- events up to a moment
 
--- the events that were seen are a front of all
+-- the events so far are a prefix of all
 seen_front : (limits : Limits) (events : List Event) (moment : Option ℕ) → AreLegal limits first_world events → (rest : List Event) × (events ≡ seen_events events moment ++ rest)
 seen_front limits events None legal = (events, refl)
 seen_front limits events (Some at) legal = up_to_front limits first_world events at legal
@@ -36,7 +36,7 @@ seen_legal limits events moment legal =
     let front = seen_front limits events moment legal in
     legal_front limits first_world (seen_events events moment) front.0 (subst (AreLegal limits first_world) front.1 legal)
 
--- groups that are made behind them stand behind those before
+-- groups created by later events come after those created before
 seen_prolongs : (limits : Limits) (events : List Event) (moment : Option ℕ) → AreLegal limits first_world events → Prolongs (parents_of (after (seen_events events moment)).groups) (parents_of (after events).groups)
 seen_prolongs limits events moment legal =
     let front = seen_front limits events moment legal in
@@ -53,7 +53,7 @@ told_cell events moment slot = cell_by (parents_of (after events).groups) slot z
 abbrev told_host : List Event → Option ℕ → HostReading
 told_host events moment = host_by no_host (sides_of (seen_events events moment))
 
--- what it tells
+-- the content of a watch
 told_memory : (events : List Event) (moment : Option ℕ) (slot : ℕ) → side_sample (told_cell events moment slot).memory ≡ memory_of slot (seen_events events moment)
 told_memory events moment slot = memory_by (parents_of (after events).groups) slot zero_side_cell (sides_of (seen_events events moment)) ∙ sym (memory_is_last (seen_events events moment) slot)
 
@@ -69,7 +69,7 @@ told_tasks limits events moment slot legal =
 told_hosts : (events : List Event) (moment : Option ℕ) → told_host events moment ≡ host_of (seen_events events moment)
 told_hosts events moment = hosts_by no_host (sides_of (seen_events events moment)) ∙ sym (host_is_last (seen_events events moment))
 
--- a watch that keeps it tells what the events tell
+-- a watch with this invariant has the state after the events
 pub watching : (limits : Limits) (events : List Event) (moment : Option ℕ) (watch : SideView) → AreLegal limits first_world events →
     watch.parents ≡ parents_of (after events).groups → length watch.cells ≡ length (after events).groups → take watch.taken (sides_of events) ≡ sides_of (seen_events events moment) →
     ((slot : ℕ) → slot < length (after events).groups → side_cell_at watch slot ≡ told_cell events moment slot) → watch.host ≡ told_host events moment → HasFollowed events moment watch
@@ -116,7 +116,7 @@ hosts_both : (host : HostReading) (some more : List Side) → host_by host (some
 hosts_both host [] more = refl
 hosts_both host (side ∷ some) more = hosts_both (host_after host side.what) some more
 
--- what a watch kept is what the sides told
+-- the state in a watch is what the sides give
 kept_cell : (limits : Limits) (events : List Event) (moment : Option ℕ) (watch : SideView) (slot : ℕ) → AreLegal limits first_world events → HasFollowed events moment watch → slot < length (after events).groups → side_cell_at watch slot ≡ told_cell events moment slot
 kept_cell limits events moment watch slot legal is room =
     same_cell (side_cell_at watch slot) (told_cell events moment slot)

@@ -1,4 +1,4 @@
--- What sides tell in the place of the events that told them.
+-- Sides can be read instead of the events that they come from.
 use Rattle.std.specs.Prelude.{◌≡◌, ℕ, List, [], ◌∷◌, nat_lt, ◌==◌, if◌then◌else◌}
 use Rattle.std.specs.List.{flat_map}
 use Rattle.psi_base.specs.declared.event.Event.{Event}
@@ -15,24 +15,24 @@ use Rattle.proc_plan.specs.declared.side.SideAct.TheVariants as side
 use Rattle.proc_plan.specs.Sides.{sides_of}
 use Rattle.side_watch.specs.Watch.{tasks_under}
 
--- the sample that a side tells of the memory of the group in a slot, if it tells one
+-- a side's sample of the memory of the group in a slot, if it is one
 abbrev pub memory_in : ℕ → SideAct → List MemorySample
 memory_in slot (side.Mem of current swap scan) =
     if of.0 == slot then record { current = current; swap = swap; scan = scan } ∷ [] else []
 memory_in slot _ = []
 
--- the preference that it tells of it, if it tells one
+-- a side's preference of this group, if it is one
 abbrev pub preference_in : ℕ → SideAct → List Preference
 preference_in slot (side.Prefer of preference) = if of.0 == slot then preference ∷ [] else []
 preference_in slot _ = []
 
--- the sample that it tells of the host, if it tells one
+-- a side's sample of the host's memory, if it is one
 abbrev pub host_in : SideAct → List HostReading
 host_in (side.Host mem_total swap_total swap_free) =
     record { mem_total = mem_total; swap_total = swap_total; swap_free = swap_free } ∷ []
 host_in _ = []
 
--- what sides tell, all together
+-- the values of all sides, in order
 abbrev pub told_in : {A : Type 0} → (SideAct → List A) → List Side → List A
 told_in tells sides = flat_map (λ (side : Side). tells side.what) sides
 
@@ -41,17 +41,17 @@ abbrev pub MemoryIsLastSide : Type 0
 MemoryIsLastSide = (events : List Event) (slot : ℕ) →
     memory_of slot events ≡ last_or no_memory_sample (told_in (memory_in slot) (sides_of events))
 
--- So is its last preference,
+-- The same for its last preference.
 abbrev pub PreferenceIsLastSide : Type 0
 PreferenceIsLastSide = (events : List Event) (slot : ℕ) →
     preference_of slot events ≡ last_or Plain (told_in (preference_in slot) (sides_of events))
 
--- and the last sample of the host.
+-- The same for the last sample of the host.
 abbrev pub HostIsLastSide : Type 0
 HostIsLastSide = (events : List Event) →
     host_of events ≡ last_or no_host (told_in host_in (sides_of events))
 
--- A group is populated exactly where more than no live tasks are in it or below it.
+-- A group is populated if and only if the number of live tasks in it or below it is greater than 0.
 abbrev pub PopulatedIsCounted : Type 0
 PopulatedIsCounted = (events : List Event) (slot : ℕ) →
     is_populated (after events) slot ≡ nat_lt 0 (tasks_under (after events) slot)

@@ -1,4 +1,4 @@
--- What sides tell of a group and of the host, one after the other.
+-- The state of a group and of the host after each side, in order.
 use Rattle.std.specs.Prelude.{◌≡◌, ℕ, ◌+◌, ◌-◌, ◌^◌, ◌<◌, List, [], ◌∷◌, drop, length, min}
 use Rattle.std.specs.Prelude.{nat_le, slice_index_or, ◌==◌, Bool, true, false, if◌then◌else◌}
 use Rattle.std.specs.Prelude.{Option, Some, ℤ, pos, negsuc}
@@ -15,11 +15,11 @@ use Rattle.side_watch.specs.declared.cell.GroupMemory.{GroupMemory}
 
 -- ---- a group
 
--- a sample by its fields, as readings have it
+-- a memory sample as a reading's record
 abbrev pub side_sample : GroupMemory → MemorySample
 side_sample memory = record { current = memory.current; swap = memory.swap; scan = memory.scan }
 
--- a group of which no side told: no memory, neither preferred nor avoided, and no task in it
+-- a group before its first side: no memory, neither preferred nor avoided, and no task in it
 abbrev pub zero_side_cell : SideCell
 zero_side_cell = record {
   memory = record { current = 0; swap = 0; scan = 0 };
@@ -27,11 +27,11 @@ zero_side_cell = record {
   tasks = 0;
 }
 
--- what is kept of the group in a slot; a slot beyond the last is as a group of which no side told
+-- the state of the group in a slot; a slot beyond the last has the state before the first side
 abbrev pub side_cell_in : List SideCell → ℕ → SideCell
 side_cell_in cells slot = slice_index_or cells slot zero_side_cell
 
--- a task came: otherwise it left
+-- whether a task came; otherwise it left
 abbrev pub is_coming : ℤ → Bool
 is_coming (pos n) = true
 is_coming (negsuc n) = false
@@ -44,16 +44,16 @@ moved came tasks = if came then min (tasks + 1) (2 ^ 32 - 1) else tasks - 1
 abbrev pub counted : Bool → SideCell → SideCell
 counted came cell = record cell { tasks = moved came cell.tasks }
 
--- a group after a task came or left whose own group leads to this slot, if it does
+-- the group in a slot after a task came or left, if the chain of the task's group reaches the slot
 abbrev pub cell_counted : List (Option ℕ) → Option ℕ → Bool → ℕ → SideCell → SideCell
 cell_counted parents start came slot cell =
     if leads_to parents start slot then counted came cell else cell
 
--- the group in a slot after a sample of the memory of the group in another or in the same slot
+-- the group in `slot` after a memory sample of the group in `of`
 abbrev pub with_memory : ℕ → GroupMemory → ℕ → SideCell → SideCell
 with_memory of memory slot cell = if of == slot then record cell { memory = memory } else cell
 
--- it after the preference of the group in another or in the same slot was set
+-- the group in `slot` after the preference of the group in `of` was set
 abbrev pub with_preference : ℕ → Preference → ℕ → SideCell → SideCell
 with_preference of preference slot cell =
     if of == slot then record cell { preference = preference } else cell
@@ -67,7 +67,7 @@ cell_after parents slot cell (side.Host mem_total swap_total swap_free) = cell
 cell_after parents slot cell (side.Tasks of added) =
     cell_counted parents (Some of.0) (is_coming added) slot cell
 
--- it after some more sides
+-- the group in a slot after more sides
 abbrev pub cell_by : List (Option ℕ) → ℕ → SideCell → List Side → SideCell
 cell_by parents slot cell [] = cell
 cell_by parents slot cell (side ∷ sides) =
@@ -83,37 +83,37 @@ host_after host (side.Host mem_total swap_total swap_free) =
     record { mem_total = mem_total; swap_total = swap_total; swap_free = swap_free }
 host_after host (side.Tasks of added) = host
 
--- it after some more sides
+-- the host's memory after more sides
 abbrev pub host_by : HostReading → List Side → HostReading
 host_by host [] = host
 host_by host (side ∷ sides) = host_by (host_after host side.what) sides
 
 -- ---- sides up to a moment
 
--- the first sides of a list, as far as their moments are at most this one (ns)
+-- the longest prefix of the sides whose times are at most `at` (ns)
 abbrev pub due_by : ℕ → List Side → List Side
 due_by at [] = []
 due_by at (side ∷ sides) = if nat_le side.at at then side ∷ due_by at sides else []
 
--- the sides behind so many that are due by a moment (ns)
+-- the sides after the first `taken` that are due at `at` (ns)
 abbrev pub due_from : ℕ → ℕ → List Side → List Side
 due_from taken at sides = due_by at (drop taken sides)
 
 -- ---- all groups
 
--- each group comes out of what it was before
+-- each group's new state is `step` of its old one
 abbrev pub EachIs : List SideCell → List SideCell → (ℕ → SideCell → SideCell) → Type 0
 EachIs old new step =
     (slot : ℕ) → slot < length old → side_cell_in new slot ≡ step slot (side_cell_in old slot)
 
--- the group in a slot and all above it count a task that came into it or left it
+-- the group in a slot and all groups above it count a task that came or left
 abbrev pub EachCounts : List (Option ℕ) → ℕ → Bool → List SideCell → List SideCell → Type 0
 EachCounts parents of came old new = EachIs old new (cell_counted parents (Some of) came)
 
--- each group went through one side
+-- one side was applied to each group
 abbrev pub EachTook : List (Option ℕ) → SideAct → List SideCell → List SideCell → Type 0
 EachTook parents what old new = EachIs old new (λ slot cell. cell_after parents slot cell what)
 
--- each group went through these sides
+-- these sides were applied to each group
 abbrev pub Took : List (Option ℕ) → List Side → List SideCell → List SideCell → Type 0
 Took parents sides old new = EachIs old new (λ slot cell. cell_by parents slot cell sides)

@@ -1,4 +1,4 @@
--- What a watch tells, and of which events it tells it.
+-- The content of a watch, and the events that it comes from.
 use Rattle.std.specs.Prelude.{◌≡◌, ℕ, ◌^◌, ◌<◌, ◌≤◌, List, [], length, replicate, take}
 use Rattle.std.specs.Prelude.{nat_lt, Bool, Option, None, Some}
 use Rattle.std.specs.List.{All}
@@ -23,8 +23,8 @@ use Rattle.side_watch.specs.declared.cell.SideCell.{SideCell}
 use Rattle.side_watch.specs.declared.cell.GroupMemory.{GroupMemory}
 use Rattle.side_watch.specs.Sides.{side_sample, zero_side_cell, side_cell_in}
 
--- A watch: what is kept of the group in each slot, the parent of each, the last sample of the
--- host's memory, and how many sides were taken.
+-- A watch: the state of the group in each slot, the parent of each, the last sample of the host's
+-- memory, and the number of sides taken.
 pub record SideView : Type 0 where
   pub cells : List SideCell
   pub parents : List (Option ℕ)
@@ -36,11 +36,11 @@ abbrev pub watch_view : List SideCell → List (Option Slot) → HostReading →
 watch_view cells parents host taken =
     record { cells = cells; parents = parent_numbers parents; host = host; taken = taken }
 
--- what is kept of the group in a slot
+-- the state of the group in a slot
 abbrev pub side_cell_at : SideView → ℕ → SideCell
 side_cell_at watch slot = side_cell_in watch.cells slot
 
--- some task lives in the group in a slot or below it, as the watch counts
+-- a live task is in the group in a slot or below it, as the watch counts
 abbrev pub has_tasks : SideView → ℕ → Bool
 has_tasks watch slot = nat_lt 0 (side_cell_at watch slot).tasks
 
@@ -54,7 +54,7 @@ pub record IsSmallMemory (memory : GroupMemory) : Type 0 where
 abbrev pub AreSmallCells : List SideCell → Type 0
 AreSmallCells cells = All (λ (cell : SideCell). IsSmallMemory cell.memory) cells
 
--- What holds of each watch: parents are older, each group has a place for its parent, and all
+-- The invariant of watches: parents are older, each group has an entry for its parent, and all
 -- samples are small.
 pub record IsWatch (watch : SideView) : Type 0 where
   pub older : AreOlder watch.parents
@@ -73,30 +73,30 @@ first_watch lives = record {
 
 -- ---- events
 
--- the events up to a moment (ns), or none of them where there is no moment yet
+-- the events up to a time (ns), or none if there is no time yet
 abbrev pub seen_events : List Event → Option ℕ → List Event
 seen_events events None = []
 seen_events events (Some at) = up_to events at
 
--- a moment (ns), if there is one, isn't after another
+-- a time (ns), if any, isn't after another
 abbrev pub IsNotAfter : Option ℕ → ℕ → Type 0
 IsNotAfter None at = Unit {0}
 IsNotAfter (Some before) at = before ≤ at
 
--- how many live tasks are in the group in a slot or below it
+-- the number of live tasks in the group in a slot or below it
 abbrev pub tasks_under : World → ℕ → ℕ
 tasks_under w slot =
     how_many (λ (task : Task). is_under (parents_of w.groups) task.slot.0 slot)
     (tasks_by.values w.tasks)
 
--- something holds of each group that these events make
+-- a property holds for each group that these events create
 abbrev pub OfEachGroup : List Event → (ℕ → Type 0) → Type 0
 OfEachGroup events Holds = (slot : ℕ) → slot < length (after events).groups → Holds slot
 
--- A watch of all groups of these events tells what those up to a moment tell: of each group the
--- last sample of its memory, its preference, how many live tasks are in it or below it and whether
--- there is one, and the last sample of the host's memory. It took the sides of the events up to
--- that moment.
+-- A watch of all groups of these events has the state after the events up to a time. For each group
+-- this is the last sample of its memory, its preference, and the number of live tasks in it or
+-- below it, and so whether there is one; for the host it is the last sample of its memory. The
+-- watch took the sides of the events up to that time.
 pub record HasFollowed (events : List Event) (moment : Option ℕ) (watch : SideView) : Type 0 where
   pub parents : watch.parents ≡ parents_of (after events).groups
   pub each : length watch.cells ≡ length (after events).groups
@@ -111,13 +111,13 @@ pub record HasFollowed (events : List Event) (moment : Option ℕ) (watch : Side
       (λ slot. has_tasks watch slot ≡ is_populated (after (seen_events events moment)) slot)
   pub host : watch.host ≡ host_of (seen_events events moment)
 
--- Where groups are those of legal events, a watch of them tells what no event tells.
+-- If the groups are those of legal events, a watch of them has the state before any event.
 abbrev pub Begins : List GroupLife → SideView → Type 0
 Begins lives watch = (limits : Limits) (events : List Event) → AreLegal limits first_world events →
     lives ≡ (after events).groups → HasFollowed events None watch
 
--- Where sides are those of legal events, and a watch told what the events up to an earlier moment
--- tell, or nothing yet, it tells what those up to this moment (ns) tell.
+-- If the sides are those of legal events, and a watch had the state after the events up to an
+-- earlier time, or before any event, it now has the state after the events up to this time (ns).
 abbrev pub Advances : SideView → SideView → List Side → ℕ → Type 0
 Advances old new sides at = (limits : Limits) (events : List Event) (moment : Option ℕ) →
     AreLegal limits first_world events → sides ≡ sides_of events →

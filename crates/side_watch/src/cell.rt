@@ -1,4 +1,4 @@
-//! What is kept of one group.
+//! The state of one group.
 
 ghost use Rattle.std.specs.Prelude.{◌≡◌};
 ghost use Rattle.side_watch.specs.Sides.{counted, zero_side_cell};
@@ -12,23 +12,23 @@ pub struct GroupMemory {
     pub current: u64,
     /// Swap in use, in bytes.
     pub swap: u64,
-    /// How many pages were scanned for it so far.
+    /// The number of pages scanned for it so far.
     pub scan: u64,
 }
 
-/// What the sides so far tell of a group.
+/// The state of a group after the sides so far.
 #[derive(Clone, Copy, Debug)]
 pub(crate) struct SideCell {
     /// The last sample of its memory.
     pub(crate) memory: GroupMemory,
     /// The last preference.
     pub(crate) preference: Preference,
-    /// How many live tasks are in it or below it.
+    /// The number of live tasks in it or below it.
     pub(crate) tasks: u32,
 }
 
 impl SideCell {
-    /// A group of which no side told.
+    /// A group before its first side.
     pub(crate) fn zero() -> SideCell
         ensures { result ≡ zero_side_cell }
     {

@@ -1,8 +1,11 @@
-//! What a trace tells of its groups beside their stall times, followed moment by moment: memory,
+//! The state of a trace's groups besides their stall times, followed tick by tick: memory,
 //! preferences, whether tasks live there, and the memory of the host.
 //!
-//! [`SideWatch`] takes the sides of a trace in their order. Its contracts say it in the words of
-//! `kill_spec`: what it tells after a moment is what the events up to that moment tell.
+//! [`SideWatch`] takes the *sides* of a trace in order: memory samples, preferences, and tasks that
+//! come or leave. By its contracts, its content at a time is what `kill_spec` defines for the
+//! events up to that time.
+//!
+//! It neither extracts sides from events (proc_plan does) nor decides anything by them: rules do.
 #![tactic(auto)]
 
 mod cell;

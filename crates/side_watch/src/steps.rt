@@ -1,4 +1,4 @@
-//! Sides, one after the other.
+//! Applies sides in order.
 
 ghost use Rattle.std.specs.Prelude.{◌≡◌, ◌+◌, length};
 ghost use Rattle.psi_spec.specs.LegalGroups.{AreOlder};
@@ -15,7 +15,7 @@ use kill_spec::HostReading;
 use proc_plan::{Side, SideAct};
 use psi_base::{Ns, Preference, Slot};
 
-// Counts a task that came into a group or left it, for the group and for all above it.
+// Counts a task that came into a group or left it, for the group and all groups above it.
 fn count_task(cells: &mut [SideCell], parents: &[Option<Slot>], slot: Slot, came: bool)
     requires older { AreOlder (parent_numbers parents.now) }
     requires each { length cells.old ≡ length parents.now }
@@ -35,7 +35,6 @@ fn count_task(cells: &mut [SideCell], parents: &[Option<Slot>], slot: Slot, came
     }
 }
 
-// Sets the last sample of a group's memory, if there is such a group.
 fn set_memory(cells: &mut [SideCell], slot: Slot, memory: GroupMemory)
     requires fits { IsSmallMemory memory }
     requires small { AreSmallCells cells.old }
@@ -49,7 +48,6 @@ fn set_memory(cells: &mut [SideCell], slot: Slot, memory: GroupMemory)
     }
 }
 
-// Sets a group's preference, if there is such a group.
 fn set_preference(cells: &mut [SideCell], slot: Slot, preference: Preference)
     requires small { AreSmallCells cells.old }
     ensures each { length cells.new ≡ length cells.old }
@@ -62,7 +60,7 @@ fn set_preference(cells: &mut [SideCell], slot: Slot, preference: Preference)
     }
 }
 
-// Takes all groups through one more side.
+// Applies a side to all groups.
 fn take_cells(cells: &mut [SideCell], parents: &[Option<Slot>], what: SideAct)
     requires older { AreOlder (parent_numbers parents.now) }
     requires each { length cells.old ≡ length parents.now }
@@ -114,8 +112,8 @@ fn host_after(host: HostReading, what: SideAct) -> HostReading
     }
 }
 
-/// Takes all groups and the host through the sides up to a moment (ns), behind so many that were
-/// taken, and tells how many are taken then.
+/// Applies the sides after the first `taken` that are due at `at` (ns) to all groups and the host.
+/// Returns the number of sides taken so far.
 pub(crate) fn take_due(
     cells: &mut [SideCell],
     parents: &[Option<Slot>],

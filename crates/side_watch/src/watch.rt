@@ -1,4 +1,4 @@
-//! What a trace tells of its groups up to a moment.
+//! The state of a trace's groups up to a time, besides stall times.
 
 ghost use Rattle.std.specs.Prelude.{◌≡◌, IfOk};
 ghost use Rattle.psi_spec.specs.LegalGroups.{AreGroups};
@@ -18,16 +18,16 @@ use psi_spec::GroupLife;
 use std::alloc::Global;
 use std::marker::Model;
 
-/// What the sides of a trace up to a moment tell of all its groups and of the host. Contracts see
-/// all of it.
+/// The state of all groups and of the host after a trace's sides up to a time. Contracts see all of
+/// it.
 #[derive(Drop)]
 pub struct SideWatch {
     /// By slot.
     cells: Vec<SideCell>,
-    /// By slot, None for the root.
+    /// By slot, `None` for the root.
     parents: Vec<Option<Slot>>,
     host: HostReading,
-    /// How many sides were taken.
+    /// The number of sides taken.
     taken: usize,
 }
 
@@ -41,7 +41,7 @@ impl Model for SideWatch {
     ghost invariant = { λ w. IsWatch (watch_view w.cells.items w.parents.items w.host w.taken) };
 }
 
-// The parents of groups, in the order of their slots.
+// The parents of groups, ordered by slot.
 fn parents_of(alloc: Global, lives: &[GroupLife]) -> Result<Vec<Option<Slot>>, NoMemory>
     ensures { IfOk result (λ parents. parent_numbers parents.items ≡ parents_of lives.now) }
 {
@@ -53,10 +53,10 @@ fn parents_of(alloc: Global, lives: &[GroupLife]) -> Result<Vec<Option<Slot>>, N
 }
 
 impl SideWatch {
-    /// The watch of these groups before any side: no memory, no preference, no task. Takes all
-    /// memory that it will need.
+    /// The watch of these groups before any side: no memory, no preference, no task. Allocates
+    /// everything up front.
     ///
-    /// The groups are all that a trace ever makes, in the order of their slots.
+    /// The groups are all that a trace ever creates, ordered by slot.
     pub fn make(alloc: Global, lives: &[GroupLife]) -> Result<SideWatch, NoMemory>
         requires groups { AreGroups lives.now }
         ensures first { IfOk result (λ watch. watch ≡ first_watch lives.now) }
@@ -74,11 +74,11 @@ impl SideWatch {
         })
     }
 
-    /// Takes the sides up to a moment (ns), those at the moment among them, that weren't taken yet.
-    /// The sides are all of a trace in their order, the same at each call. Takes no memory.
+    /// Takes the sides up to and at `at` (ns) that weren't taken yet. `sides` are all of a trace in
+    /// order, the same at each call. Does not allocate.
     ///
-    /// It takes time for each of these sides, and for a task that came or left for each group on
-    /// its chain.
+    /// The time is proportional to the number of these sides, and for a task that came or left to
+    /// the length of its group's chain.
     pub fn advance(&mut self, sides: &[Side], at: Ns)
         requires small { AreSmall sides.now }
         ensures advances { Advances self.old self.new sides.now at }
@@ -94,8 +94,8 @@ impl SideWatch {
         self.taken = taken;
     }
 
-    /// The last sample of a group's memory, in bytes and pages. Zeros without one, and for a slot
-    /// beyond the last.
+    /// The last sample of a group's memory, in bytes and pages. Zeros if there is none, and for a
+    /// slot beyond the last.
     pub fn memory(&self, slot: Slot) -> GroupMemory
         ensures memory { result ≡ (side_cell_at self.now slot.0).memory }
         ensures small { IsSmallMemory result }
@@ -103,21 +103,21 @@ impl SideWatch {
         self.cell(slot).memory
     }
 
-    /// A group's last preference: plain without one, and for a slot beyond the last.
+    /// A group's last preference: plain if there is none, and for a slot beyond the last.
     pub fn preference(&self, slot: Slot) -> Preference
         ensures { result ≡ (side_cell_at self.now slot.0).preference }
     {
         self.cell(slot).preference
     }
 
-    /// Whether some live task is in a group or below it. None is for a slot beyond the last.
+    /// Whether a live task is in a group or below it. False for a slot beyond the last.
     pub fn is_populated(&self, slot: Slot) -> bool
         ensures { result ≡ has_tasks self.now slot.0 }
     {
         self.cell(slot).tasks > 0
     }
 
-    /// The last sample of the host's memory, in bytes. Zeros without one.
+    /// The last sample of the host's memory, in bytes. Zeros if there is none.
     pub fn host(&self) -> HostReading
         ensures host { result ≡ self.now.host }
         ensures small { IsHostReading result }
@@ -125,7 +125,6 @@ impl SideWatch {
         self.host
     }
 
-    // What is kept of a group.
     fn cell(&self, slot: Slot) -> SideCell
         ensures cell { result ≡ side_cell_at self.now slot.0 }
         ensures small { IsSmallMemory result.memory }
