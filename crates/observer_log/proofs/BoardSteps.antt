@@ -140,7 +140,7 @@ compares id v d is x views b at =
 
 -- ---- 3: the splits
 
--- a view is cut in two, of which the first is the same
+-- a view is split in two, the first of which is unchanged
 cuts : (id : ℕ) (v new : View) → ((x : BoardState) (views : List View) (b : HoldsBoard x views) → (j : ℕ) → Knows b.0 b.1.states id v → Knows b.0 b.1.states j new) → Forks HoldsBoard id v v new
 cuts id v new knows x views b at = let same = set_again views id v at in subst (λ (l : List View). HoldsBoard x (l ++ new ∷ [])) (sym same) (
   b.0,
@@ -236,7 +236,7 @@ observer_heard v u w o states made is note = made ∙ (ap (λ z. with_note z u) 
 
 -- ---- the last read
 
--- what is read after all was told, and is told to be published, was published last
+-- a state that was read after all were notified, and is a published one, was published last
 pub last_read : LastReadIsLast
 last_read states state before later published =
     let short : state.tick < length states = slice_get_within states state.tick state published.0 in

@@ -38,7 +38,7 @@ left_out p e is = rw is refl
 counts_push : (o cpu : ℕ) (entries : List Entry) (e : Entry) → counts_of o cpu (entries ++ e ∷ []) ≡ counts_of o cpu entries ++ counts_of o cpu (e ∷ [])
 counts_push o cpu entries e = ap (map (λ (x : Entry). x.count)) (filter-append (is_of o cpu) entries (e ∷ [])) ∙ map-append (λ (x : Entry). x.count) (filter (is_of o cpu) entries) (filter (is_of o cpu) (e ∷ []))
 
--- the last of its kind, where none of its kind comes behind it
+-- the last entry of its observer and processor, if no such entry follows it
 pub last_here : (entries : List Entry) (i : ℕ) (e : Entry) (o cpu : ℕ) → i < length entries → e ≡ get_or entries i e → is_of o cpu e ≡ true → filter (is_of o cpu) (drop (suc i) entries) ≡ []
     → last_of (counts_of o cpu entries) ≡ Some e.count
 last_here entries i e o cpu inside at is none =

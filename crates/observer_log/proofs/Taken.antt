@@ -15,7 +15,7 @@ use Rattle.observer_log.specs.declared.entry.Entry.{Entry}
 abbrev said_by : ℕ → List Said → List Said
 said_by o xs = filter (λ (s : Said). nat_eq s.observer o) xs
 
--- it is told by what they say
+-- which entries are an observer's follows from their content
 by_said : (o : ℕ) (entries : List Entry) → map said (by o entries) ≡ said_by o (map said entries)
 by_said o [] = refl
 by_said o (e ∷ es) = go (is_by o e) refl (by_said o es)
@@ -118,8 +118,8 @@ taken_push journal lists places taken j e x is own inside at there short next sa
 so_far : (journal : List Entry) (lists : List (List Entry)) (places : List ℕ) (taken : List Entry) → IsTaken journal lists places taken → (o : ℕ) → map said (by o journal) ≡ map said (take (place_of places o) (list_of lists o))
 so_far journal lists places taken is o = by_said o journal ∙ (ap (said_by o) (sym is.same) ∙ (sym (by_said o taken) ∙ ap (map said) (is.own o)))
 
--- where the journal agrees with the lists, what it says next is what the list of the observer says
--- next
+-- if the journal agrees with the lists, its next entry has the content of the next entry in the
+-- observer's list
 pub agreed_next : (journal : List Entry) (lists : List (List Entry)) (places : List ℕ) (taken : List Entry) (j : ℕ) (e : Entry) → IsTaken (take j journal) lists places taken → j < length journal → e ≡ get_or journal j e → Agrees journal lists
     → (rest : List Said) × (map said (list_of lists e.observer) ≡ map said (take (place_of places e.observer) (list_of lists e.observer)) ++ said e ∷ rest)
 agreed_next journal lists places taken j e is inside at agrees =
@@ -164,7 +164,7 @@ all_taken journal lists places taken o is agrees =
     let front : length (map said (take p list)) ≡ p = length-map (take p list) said ∙ length-take-le p list (is.within o) in
     sym front ∙ (ap length (sym same) ∙ length-map list said)
 
--- where each list was taken whole, the two agree
+-- if each list was taken whole, the two agree
 pub in_order : (journal : List Entry) (lists : List (List Entry)) (places : List ℕ) (taken : List Entry) → IsTaken journal lists places taken → ((o : ℕ) → place_of places o ≡ length (list_of lists o)) → AreInOrder journal lists taken
 in_order journal lists places taken is whole =
     let mine : (o : ℕ) → by o taken ≡ list_of lists o = λ o. is.own o ∙ (ap (λ (n : ℕ). take n (list_of lists o)) (whole o) ∙ take-length (list_of lists o)) in record {

@@ -1,4 +1,4 @@
--- The tick board: what its passes know, and the rule between any two steps.
+-- The tick board: what its passes know, and the invariant between any two steps.
 use Rattle.std.specs.Prelude.{◌≡◌, ℕ, ◌+◌, ◌-◌, ◌<◌, ◌≤◌, max, List, [], ◌∷◌, ◌++◌, length, slice_get, Option, Some}
 use mathlib.Core.Option.{some}
 use lib.ListN.{get_elem?}
@@ -18,38 +18,38 @@ use Rattle.observer_log.specs.declared.board.View.TheVariants.{Spent, Shown, See
 abbrev pub words_of : BoardState → List ℕ
 words_of state = state.tick ∷ state.events ∷ state.kills ∷ []
 
--- before the first tick
+-- the state before the first tick
 abbrev pub first_state : BoardState
 first_state = record { tick = 0; events = 0; kills = 0 }
 
--- a state is the one that was published under its tick
+-- a state is the published state of its tick
 abbrev pub IsPublished : List BoardState → BoardState → Type 0
 IsPublished states state = slice_get states state.tick ≡ Some state
 
--- so are all of these
+-- all of these states are published ones
 abbrev pub ArePublished : List BoardState → List BoardState → Type 0
 ArePublished states [] = Unit {0}
 ArePublished states (state ∷ more) = IsPublished states state × ArePublished states more
 
--- a state is the last one published
+-- a state is the last published one
 abbrev pub IsLast : List BoardState → BoardState → Type 0
 IsLast states state = slice_get states (length states - 1) ≡ Some state
 
--- a list begins with another
+-- a list has another as a prefix
 abbrev pub Begins : List BoardState → List BoardState → Type 0
 Begins states front = (rest : List BoardState) × (states ≡ front ++ rest)
 
 -- ---- what a pass knows
 
--- an observer that was told of these states, and has read nothing
+-- an observer that was notified of these states, and has read nothing
 abbrev pub newcomer : List BoardState → Watching
 newcomer states = record { least = length states - 1; read = [] }
 
--- an observer that read a state
+-- an observer after it read a state
 abbrev pub after_read : BoardState → Watching → Watching
 after_read state watching = record { least = state.tick; read = state ∷ watching.read }
 
--- an observer that was told of these states
+-- an observer after it was notified of these states
 abbrev pub after_told : List BoardState → Watching → Watching
 after_told states watching = record { least = max watching.least (length states - 1); read = watching.read }
 
@@ -57,7 +57,7 @@ after_told states watching = record { least = max watching.least (length states 
 abbrev pub first_view : View
 first_view = Driver (record { states = first_state ∷ []; heard = [] })
 
--- the view that the driver gives to a new observer
+-- the view of a new observer, from the driver's
 abbrev pub admitted : View → View
 admitted (Driver driver) = Observer (newcomer driver.states)
 admitted view = Spent
@@ -76,7 +76,7 @@ with_note view note = view
 
 -- ---- the rule
 
--- What a pass knows of the board, where the driver's pass has this number and published these
+-- What a pass knows of the board, if the driver's pass has number `seat` and published these
 -- states.
 abbrev pub Knows : ℕ → List BoardState → ℕ → View → Type 0
 Knows seat states other Spent = Unit {0}
@@ -85,31 +85,31 @@ Knows seat states other (Seen read) = ArePublished states read
 Knows seat states other (Driver driver) = (other ≡ seat) × (driver.states ≡ states) × ArePublished states driver.heard
 Knows seat states other (Observer watching) = (watching.least < length states) × ArePublished states watching.read
 
--- A board with this driver: its view is at its number, the board shows the last state published,
--- under its tick, and each pass knows of the board what its view says.
+-- A board with this driver: the driver's view is at its number, the board shows the last published
+-- state, under its tick, and each pass knows of the board what its view says.
 pub record IsBoard (seat : ℕ) (driver : Publishing) (value : BoardState) (views : List View) : Type 0 where
   pub here : get_elem? views seat ≡ some (Driver driver)
   pub last : length driver.states ≡ value.tick + 1
   pub shown : IsPublished driver.states value
   pub each : (other : ℕ) (view : View) → get_elem? views other ≡ some view → Knows seat driver.states other view
 
--- The rule: it is a board with some driver.
+-- The invariant: it is a board with some driver.
 abbrev pub HoldsBoard : BoardState → List View → Type 0
 HoldsBoard value views = (seat : ℕ) × (driver : Publishing) × IsBoard seat driver value views
 
 -- ---- the steps
 
--- the driver published one state more
+-- the driver published one more state
 abbrev pub HasPublished : View → BoardState → BoardState → View → Type 0
 HasPublished before old new after =
     (driver : Publishing) → before ≡ Driver driver → after ≡ Driver (record { states = driver.states ++ new ∷ []; heard = driver.heard })
 
--- an observer read the state of a tick that isn't before the least
+-- an observer read a state, whose tick is at least the observer's `least`
 abbrev pub HasRead : View → BoardState → BoardState → View → Type 0
 HasRead before old new after =
     (watching : Watching) → before ≡ Observer watching → (after ≡ Observer (after_read new watching)) × (watching.least ≤ new.tick)
 
--- what the driver heard of is what it published
+-- the states that observers reported to the driver are published ones
 abbrev pub HasCompared : View → BoardState → BoardState → View → Type 0
 HasCompared before old new after =
     (driver : Publishing) → before ≡ Driver driver → (after ≡ before) × ArePublished driver.states driver.heard
@@ -119,22 +119,22 @@ HasCompared before old new after =
 abbrev pub BoardSeat : Type 0
 BoardSeat = Seat BoardState (Doing BoardState View)
 
--- a driver's pass: which board it is of, and the states published there
+-- a driver's pass: its board, and the states published there
 pub record DriverEnd : Type 0 where
   pub board : TableId
   pub states : List BoardState
 
--- an observer's pass: which board it is of, and what it knows
+-- an observer's pass: its board, and what the observer knows
 pub record BoardEnd : Type 0 where
   pub board : TableId
   pub knows : Watching
 
--- a view as the driver's; where it isn't, one that published nothing stands in for it
+-- a view as the driver's; any other view gives a driver that published nothing
 abbrev pub as_driver : View → Publishing
 as_driver (Driver driver) = driver
 as_driver view = record { states = []; heard = [] }
 
--- a view as an observer's, likewise
+-- a view as an observer's; any other view gives an observer that knows nothing
 abbrev pub as_observer : View → Watching
 as_observer (Observer watching) = watching
 as_observer view = newcomer []
@@ -153,8 +153,8 @@ IsObserver seat = cell_view seat ≡ Observer (as_observer (cell_view seat))
 
 -- ---- a law
 
--- Whoever was told all that was published, then read a state, and was then told all again, has read
--- the last one.
+-- An observer that was notified of all published states, then read a state, and whose reads are all
+-- published ones, has read the last state.
 abbrev pub LastReadIsLast : Type 0
 LastReadIsLast = (states : List BoardState) (state : BoardState) (before : Watching) → (after_told states before).least ≤ state.tick →
     ArePublished states (after_read state (after_told states before)).read → IsLast states state

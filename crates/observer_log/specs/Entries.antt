@@ -1,9 +1,9 @@
--- Entries, and the lists in which observers keep their own. That an entry is a right sample of its
--- plan stands in its type.
+-- Entries, and the lists in which observers keep their own. By its type an entry is a correct
+-- sample of its plan.
 use Rattle.std.specs.Prelude.{◌≡◌, ℕ, Bool, ◌&&◌, nat_eq, List, [], ◌∷◌, map, filter, slice_index_or}
 use Rattle.observer_log.specs.declared.entry.Entry.{Entry}
 
--- what an entry says, but for the plan
+-- the content of an entry, without its plan
 pub record Said : Type 0 where
   pub observer : ℕ
   pub cpu : ℕ
@@ -20,7 +20,7 @@ said entry =
 abbrev pub is_by : ℕ → Entry → Bool
 is_by observer entry = nat_eq entry.observer observer
 
--- the entry is an observer's, of a processor
+-- the entry is an observer's, for a processor
 abbrev pub is_of : ℕ → ℕ → Entry → Bool
 is_of observer cpu entry = nat_eq entry.observer observer && nat_eq entry.cpu.0 cpu
 
@@ -28,21 +28,21 @@ is_of observer cpu entry = nat_eq entry.observer observer && nat_eq entry.cpu.0 
 abbrev pub by : ℕ → List Entry → List Entry
 by observer entries = filter (is_by observer) entries
 
--- the counts of an observer's entries of a processor
+-- the counts of an observer's entries for a processor
 abbrev pub counts_of : ℕ → ℕ → List Entry → List ℕ
 counts_of observer cpu entries = map (λ (entry : Entry). entry.count) (filter (is_of observer cpu) entries)
 
 -- ---- lists of their own
 
--- the list of an observer, by its number: of one without a list there is no entry
+-- the list of an observer, by its number; an observer without a list has no entry
 abbrev pub list_of : List (List Entry) → ℕ → List Entry
 list_of lists observer = slice_index_or lists observer []
 
--- all are an observer's
+-- all entries are an observer's
 abbrev pub AreBy : ℕ → List Entry → Type 0
 AreBy observer [] = Unit {0}
 AreBy observer (entry ∷ entries) = (entry.observer ≡ observer) × AreBy observer entries
 
--- each list has entries of its observer alone
+-- each list has only entries of its own observer
 abbrev pub AreOwn : List (List Entry) → Type 0
 AreOwn lists = (observer : ℕ) → AreBy observer (list_of lists observer)

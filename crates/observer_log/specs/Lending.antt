@@ -11,7 +11,7 @@ use Rattle.observer_log.specs.Watch.{WatcherView}
 abbrev pub with_reader : WatcherView → ℕ → ReaderEnd → WatcherView
 with_reader watcher cpu reader = record watcher { readers = slice_set watcher.readers cpu reader }
 
--- A watcher ends with what is left behind the reader of a processor that it lends.
+-- A watcher ends with the reader of a processor that it lent, in its final state.
 abbrev pub LendsReader : MutBor WatcherView → ℕ → MutBor ReaderEnd → Fml
 LendsReader watcher cpu reader =
     Lends (Watcher.the_row (record { mir = named 1; lft = [] })) ClockReader.the_row watcher reader (with_reader watcher.now cpu)

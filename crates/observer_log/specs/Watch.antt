@@ -1,4 +1,4 @@
--- Watchers: the readers by which they take samples, and the entries that they keep.
+-- Watchers: the readers with which they take samples, and the entries that they keep.
 use Rattle.std.specs.Prelude.{◌≡◌, ℕ, ◌+◌, ◌<◌, ◌≤◌, List, [], ◌∷◌, ◌++◌, length, slice_index_or, slice_set}
 use Rattle.plan_laws.specs.Plan.{PlanView, no_plan}
 use Rattle.proc_plan.specs.Plans.{PlansView, plan_at}
@@ -45,8 +45,7 @@ new_watcher observer plans readers = record { observer = observer; plans = plans
 
 -- ---- looks
 
--- An entry is one that an observer took of a slot on a processor, no earlier than after so many
--- changes.
+-- An observer took an entry of a slot on a processor, after at least `least` changes.
 pub record IsTakenBy (observer : ℕ) (plans : PlansView) (cpu slot least : ℕ) (entry : Entry) : Type 0 where
   pub observer_is : entry.observer ≡ observer
   pub plan_is : entry.plan.now ≡ plan_at plans cpu
@@ -54,8 +53,8 @@ pub record IsTakenBy (observer : ℕ) (plans : PlansView) (cpu slot least : ℕ)
   pub slot_is : entry.slot.0 ≡ slot
   pub later : least ≤ entry.count
 
--- The reader of a processor took a sample of a count, after the last one, by its own tries, eight
--- at most. The other readers did nothing.
+-- The reader of a processor took a sample with a count, after the last one, with its own tries, at
+-- most eight. The other readers did nothing.
 pub record HasSampled (cpu last count : ℕ) (old new : List ReaderEnd) : Type 0 where
   pub reader : ReaderEnd
   pub are : new ≡ slice_set old cpu reader
@@ -66,7 +65,7 @@ pub record HasSampled (cpu last count : ℕ) (old new : List ReaderEnd) : Type 0
   pub few : tries_of reader.knows ≤ tries_of (reader_at old cpu).knows + 8
 
 -- A watcher looked at a slot on a processor: the processor's reader took a sample after the last
--- one, whose entry stands at the end of the list.
+-- one, and its entry was appended to the list.
 pub record HasLooked (cpu slot last : ℕ) (old new : WatcherView) : Type 0 where
   pub observer_is : new.observer ≡ old.observer
   pub plans_are : new.plans ≡ old.plans

@@ -10,14 +10,14 @@ use std::alloc::Global;
 use std::marker::Model;
 use std::sync::Wait;
 
-/// What the driver tells of a tick.
+/// The driver's state at a tick.
 #[derive(Clone, Copy, Debug, PartialEq, Eq)]
 pub struct BoardState {
     /// The number of the tick, from 1; 0 before the first.
     pub tick: u64,
-    /// How many events came up to it.
+    /// The number of events up to it.
     pub events: u64,
-    /// How many kills.
+    /// The number of kills up to it.
     pub kills: u64,
 }
 
@@ -41,17 +41,17 @@ impl Words<3> for BoardState {
 
 /// What the driver knows. A contract reads the arrays as lists of any length.
 pub struct Publishing {
-    /// All states published, the first one among them, by tick.
+    /// All published states, ordered by tick, including the first.
     pub states: [BoardState; 0],
-    /// The states of which an observer told it last.
+    /// The states that an observer reported last.
     pub heard: [BoardState; 0],
 }
 
 /// What an observer knows. A contract reads the array as a list of any length.
 pub struct Watching {
-    /// The greatest tick that it saw or was told of.
+    /// The greatest tick that it saw or was notified of.
     pub least: u64,
-    /// The states that it read, the last one first.
+    /// The states that it read, the last first.
     pub read: [BoardState; 0],
 }
 
@@ -59,17 +59,17 @@ pub struct Watching {
 pub enum View {
     /// Nothing: its note was taken.
     Spent,
-    /// It is a note of the driver's: the states published so far.
+    /// A note of the driver's: the states published so far.
     Shown([BoardState; 0]),
-    /// It is a note of an observer's: the states that it read.
+    /// A note of an observer's: the states that it read.
     Seen([BoardState; 0]),
-    /// It is the driver's.
+    /// The driver's view.
     Driver(Publishing),
-    /// It is an observer's.
+    /// An observer's view.
     Observer(Watching),
 }
 
-/// The rule of the board.
+/// The invariant of the board.
 pub struct BoardRule;
 
 impl Protocol<BoardState, View> for BoardRule {
@@ -80,7 +80,7 @@ impl Protocol<BoardState, View> for BoardRule {
     ghost first = { first_view };
 }
 
-// 1, the swap: the driver puts a state on the board.
+// 1, a swap: the driver puts a state on the board.
 struct Publishes;
 
 impl Outcome<BoardState, View> for Publishes {
@@ -98,7 +98,7 @@ impl Outcome<BoardState, View> for Reads {
     ghost then = { HasRead };
 }
 
-// 2, a load: the driver compares what it heard with what it published.
+// 2, a load: the driver compares what observers reported with what it published.
 struct Compares;
 
 impl Outcome<BoardState, View> for Compares {
@@ -107,7 +107,7 @@ impl Outcome<BoardState, View> for Compares {
     ghost then = { HasCompared };
 }
 
-// 3, a split: the driver gives a new observer its pass.
+// 3, a split: the driver creates a new observer's pass.
 struct Admits;
 
 impl Split<View> for Admits {
@@ -118,7 +118,7 @@ impl Split<View> for Admits {
     ghost right = { admitted };
 }
 
-// 3 and 4, a split and a join: one writes a note of what it knows, and the other takes it.
+// 3 and 4, a split and a join: one pass creates a note of what it knows, and the other takes it.
 struct Tells;
 
 impl Split<View> for Tells {
@@ -142,7 +142,7 @@ type Cell = RuledSeqCell<BoardState, View, BoardRule, 3>;
 
 type Seat = Pass<BoardState, View>;
 
-/// The board. Contracts see which one it is.
+/// The board. Contracts see its identity.
 #[derive(Drop)]
 pub struct Board {
     cell: Cell,
@@ -156,8 +156,7 @@ impl Model for Board {
     ghost view = { λ board. board.cell.table.shared.table_id };
 }
 
-/// The driver's pass of a board. Contracts see which board it is, and the states that were
-/// published on it.
+/// The driver's pass of a board. Contracts see its board, and the states that were published on it.
 #[derive(Drop)]
 pub struct DriverPass {
     seat: Seat,
@@ -173,8 +172,8 @@ impl Model for DriverPass {
     ghost invariant = { λ pass. IsDriver pass.seat };
 }
 
-/// An observer's pass of a board. It may go to another thread. Contracts see which board it is, and
-/// what it knows.
+/// An observer's pass of a board. It may be sent to another thread. Contracts see its board, and
+/// what the observer knows.
 #[derive(Drop)]
 pub struct BoardPass {
     seat: Seat,
@@ -191,7 +190,7 @@ impl Model for BoardPass {
 }
 
 impl Board {
-    /// A board that shows tick 0, and its driver's pass.
+    /// A new board at tick 0, and its driver's pass.
     pub fn make(alloc: Global) -> Result<(Board, DriverPass), NoMemory>
         ensures board { IfOk result (λ made. made.1.board ≡ made.0) }
         ensures first { IfOk result (λ made. made.1.states ≡ first_state ∷ []) }
@@ -205,7 +204,7 @@ impl Board {
         Ok((Board { cell }, DriverPass { seat }))
     }
 
-    /// Shows the state of the next tick.
+    /// Publishes the state of the next tick.
     pub fn publish<R: Wait>(&self, rt: &R, pass: &mut DriverPass, state: BoardState)
         requires board { pass.old.board ≡ self.now }
         requires next { state.tick ≡ length pass.old.states }
@@ -215,7 +214,8 @@ impl Board {
         self.cell.swap_as::<Publishes, R>(rt, &mut pass.seat, state);
     }
 
-    /// A pass for an observer, who has been told what was published so far, and has read nothing.
+    /// A pass for a new observer, who has been notified of what was published so far, and has read
+    /// nothing.
     pub fn pass<R: Wait>(&self, _rt: &R, driver: &mut DriverPass) -> Result<BoardPass, NoMemory>
         requires board { driver.old.board ≡ self.now }
         ensures ok { IsOk result }
@@ -228,7 +228,8 @@ impl Board {
         })
     }
 
-    /// The state that the board shows: of no earlier tick than the pass saw or was told of.
+    /// Reads the state on the board: its tick is at least every tick that the pass saw or was
+    /// notified of.
     pub fn read<R: Wait>(&self, rt: &R, pass: &mut BoardPass) -> BoardState
         requires board { pass.old.board ≡ self.now }
         ensures board { pass.new.board ≡ pass.old.board }
@@ -238,8 +239,8 @@ impl Board {
         self.cell.load_as::<Reads, R>(rt, &mut pass.seat)
     }
 
-    /// Tells a pass all that was published: each state that it read is the one that was published
-    /// under its tick.
+    /// Notifies a pass of all published states, and checks what it has read: each such state is the
+    /// published state of its tick. Always returns Ok.
     pub fn tell<R: Wait>(
         &self,
         rt: &R,

@@ -7,8 +7,8 @@ use proc_plan::Plan;
 use psi_base::{Cpu, Ns, Slot};
 
 /// A sample that an observer took: the times of a slot on a processor after `count` changes of its
-/// plan, at the moment of the last of them. That they are so stands in the type: an entry with
-/// other numbers can't be made.
+/// plan, at the time of the last of them. The type ensures this: an entry with other numbers can't
+/// be created.
 #[derive(Clone, Copy)]
 pub struct Entry<'a> {
     /// The number of the observer, from 0.
@@ -17,18 +17,18 @@ pub struct Entry<'a> {
     pub plan: &'a Plan,
     pub cpu: Cpu,
     pub slot: Slot,
-    /// After how many changes: at most as many as the plan has.
+    /// The number of changes included: at most those of the plan.
     pub count: u64,
-    /// The moment (ns) of the last of these changes, and 0 where there is none.
+    /// The time (ns) of the last of these changes, and 0 if there is none.
     pub at: Ns,
-    /// For how long (ns) the group was in each state, in the order of the states.
+    /// The time (ns) that the group was in each state, ordered by state.
     pub seven: [u64; 7],
     pub ghost within: { count ≤ length plan.now.changes },
     pub ghost moment: { at ≡ last_change plan.now count },
     pub ghost times: { seven ≡ planned plan.now slot.0 count at },
 }
 
-// The moment (ns) of the change with a number from 1, and 0 for 0.
+// The time (ns) of change `count`, numbered from 1, and 0 for 0.
 fn moment_of(plan: &Plan, count: u64) -> Ns
     requires { count ≤ length plan.now.changes }
     ensures { result ≡ last_change plan.now count }
@@ -40,7 +40,7 @@ fn moment_of(plan: &Plan, count: u64) -> Ns
 }
 
 impl<'a> Entry<'a> {
-    /// The entry of a sample, which is the slot's clock after so many changes of the plan.
+    /// The entry of a sample, which must be the slot's clock after that many changes of the plan.
     pub fn take(observer: u32, plan: &'a Plan, cpu: Cpu, slot: Slot, sample: &Sample) -> Entry<'a>
         requires { IsClock sample.now.clock plan.now slot.0 sample.now.count }
         ensures observer { result.observer ≡ observer }
@@ -49,7 +49,7 @@ impl<'a> Entry<'a> {
         ensures slot { result.slot ≡ slot }
         ensures count { result.count ≡ sample.now.count }
     {
-        // With its length a plan tells that it is whole.
+        // The contract of `len` says that the plan is well-formed.
         plan.len();
         let at = moment_of(plan, sample.count);
         Entry {

@@ -1,4 +1,4 @@
-//! The journal of all observers, which stands under a lock.
+//! The journal of all observers. A lock protects it.
 ghost use Rattle.std.specs.Prelude.{◌≡◌, ◌↔◌, ◌+◌, ◌<◌, [], ◌∷◌, ◌++◌, ℕ, length, IfErr, IfOk, Err, Ok, None, Some};
 ghost use Rattle.observer_log.specs.Entries.{AreOwn, by, counts_of, list_of};
 ghost use Rattle.observer_log.specs.Journal.{Agrees, AreInOrder, IsBefore, IsGood, IsNotBefore, joined, last_of};
@@ -12,8 +12,8 @@ use std::alloc::Global;
 use std::marker::Model;
 use std::sync::ledger::{Book, Ledger, Share};
 
-/// An entry stayed out of a journal: the last entry of its observer and processor has the greater
-/// count. Its field is private, so that one comes only of what a journal refused.
+/// An entry wasn't added to a journal: the last entry of its observer and processor has a greater
+/// count. The field is private, so only a journal that rejected an entry creates one.
 #[derive(Clone, Copy, Debug, PartialEq, Eq)]
 pub struct Fall {
     last: u64,
@@ -28,7 +28,7 @@ impl Fall {
     }
 }
 
-/// Why an entry stays out of the journal.
+/// Why an entry wasn't added to the journal.
 #[derive(Clone, Copy, Debug, PartialEq, Eq)]
 pub enum AddFault {
     Falls(Fall),
@@ -41,9 +41,9 @@ impl From<NoMemory> for AddFault {
     }
 }
 
-/// The entries of all observers, in the order in which they were added, with a ledger of how many
-/// were. It is good by its type: each entry is, and for each observer and processor the counts
-/// never fall. Contracts see the list.
+/// The entries of all observers, in the order in which they were added, with a ledger of their
+/// number. By its type each entry is correct, and for each observer and processor the counts never
+/// decrease. Contracts see the list.
 #[derive(Drop)]
 pub struct Journal<'a, L: Ledger> {
     entries: Vec<Entry<'a>>,
@@ -93,7 +93,7 @@ fn greater_last(entries: &[Entry<'_>], entry: &Entry<'_>) -> Option<u64>
 }
 
 impl<'a, L: Ledger> Journal<'a, L> {
-    /// An empty journal, whose entries the ledger counts. It takes no memory.
+    /// An empty journal, whose entries the ledger counts. Does not allocate.
     pub fn make(alloc: Global, book: Book<L>) -> Journal<'a, L>
         requires { book.total ≡ 0 }
         ensures { result ≡ [] }
@@ -104,9 +104,9 @@ impl<'a, L: Ledger> Journal<'a, L> {
         }
     }
 
-    /// Adds an entry at the end, and one to the share of who adds it. Falls comes exactly where the
-    /// last entry of its observer and processor has the greater count. What is refused leaves all
-    /// as it was.
+    /// Appends an entry, and adds one to the caller's share. Returns `Falls` if and only if the
+    /// last entry of its observer and processor has a greater count. After an error nothing has
+    /// changed.
     pub fn add(&mut self, entry: Entry<'a>, share: &mut Share<L>) -> Result<(), AddFault>
         requires { 0 < share.old.parts }
         ensures added { IfOk result (λ _. self.new ≡ self.old ++ entry.entry ∷ []) }
@@ -130,7 +130,7 @@ impl<'a, L: Ledger> Journal<'a, L> {
     }
 
     /// The entries, in the order in which they were added. For each observer and processor the
-    /// counts never fall.
+    /// counts never decrease.
     pub fn entries(&self) -> &[Entry<'a>]
         ensures entries { result.now ≡ self.now }
         ensures good { IsGood self.now }
@@ -138,8 +138,8 @@ impl<'a, L: Ledger> Journal<'a, L> {
         &self.entries
     }
 
-    /// The entries of the observers' own lists: in the journal's order where it agrees with them,
-    /// else list after list. The list at place `i` is that of observer `i`.
+    /// The entries of the observers' own lists: in the journal's order if it agrees with them,
+    /// otherwise list after list. The list at index `i` is that of observer `i`.
     pub fn order(&self, own: &[Own<'a>]) -> Result<Vec<Entry<'a>>, NoMemory>
         requires { AreOwn own.now }
         ensures agrees { Agrees self.now own.now →
@@ -156,7 +156,8 @@ impl<'a, L: Ledger> Journal<'a, L> {
         }
     }
 
-    /// Tells who has all shares that there are as many entries as were added by them in all.
+    /// Shows the holder of all shares, by contract, that the number of entries is the number added
+    /// with these shares.
     pub fn audit(&mut self, all: &mut Share<L>)
         requires { all.old.parts ≡ L.parts }
         ensures same { self.new ≡ self.old }

@@ -1,7 +1,8 @@
 //! Laws of the definitions. Each function has an empty body: its contract is the law.
 ghost use Rattle.observer_log.specs.Board.{LastReadIsLast};
 
-/// Who reads the board after it was told all, and is then told all again, has read the last state.
+/// An observer that reads the board after it was notified of all states, and whose reads turn out
+/// to be published ones when it is notified of all again, has read the last state.
 pub fn law_last_read()
     ensures { LastReadIsLast }
 {}

@@ -1,10 +1,12 @@
-//! Observers of a replay: a journal under a lock to which they add what they saw, the watchers by
-//! which they see it, and a board of ticks that they read without a lock.
+//! Observers of a replay: a journal under a lock to which they add what they saw, the watchers with
+//! which they sample, and a board of ticks that they read without a lock.
 //!
 //! An observer takes samples with a [`Watcher`], which keeps an [`Entry`] of each in a list of its
-//! own ([`Own`]), and adds them to the [`Journal`]. Once all have ended, [`Journal::order`] puts
-//! the entries of their own lists into the journal's order. The driver of the replay publishes each
-//! tick on the [`Board`].
+//! own ([`Own`]), and adds them to the [`Journal`]. Once all observers have ended,
+//! [`Journal::order`] puts the entries of their own lists into the journal's order. The driver of
+//! the replay publishes each tick on the [`Board`].
+//!
+//! It starts no threads: observe_core does.
 #![tactic(auto)]
 
 mod board;

@@ -1,4 +1,4 @@
-//! The entries of the observers' own lists, in the order of the journal where it agrees with them.
+//! The entries of the observers' own lists, in the order of the journal if it agrees with them.
 ghost use Rattle.std.specs.Prelude.{◌≡◌, ◌↔◌, ℕ, true, IfOk, None, Ok, Some};
 ghost use Rattle.observer_log.specs.Entries.{AreOwn, by, list_of, said};
 ghost use Rattle.observer_log.specs.Journal.{Agrees, AreInOrder, joined};
@@ -8,7 +8,7 @@ use crate::own::Own;
 use psi_base::NoMemory;
 use std::alloc::Global;
 
-// Whether two entries say the same, but for the plan.
+// Whether two entries are the same, apart from the plan.
 fn say_same(one: &Entry<'_>, other: &Entry<'_>) -> bool
     ensures { (result ≡ true) ↔ (said one.now ≡ said other.now) }
 {
@@ -20,8 +20,8 @@ fn say_same(one: &Entry<'_>, other: &Entry<'_>) -> bool
         && one.seven == other.seven
 }
 
-/// The entries of the lists in the order of the journal, each for the journal's own at its place.
-/// None where the two don't agree.
+/// The entries of the lists in the order of the journal, each in place of the journal's own. `None`
+/// if the two don't agree.
 pub(crate) fn in_order<'a>(
     alloc: Global,
     journal: &[Entry<'_>],
@@ -59,7 +59,7 @@ pub(crate) fn in_order<'a>(
     Ok(Some(taken))
 }
 
-/// The entries of the lists, one list after the other.
+/// The entries of the lists, list after list.
 pub(crate) fn joined<'a>(alloc: Global, own: &[Own<'a>]) -> Result<Vec<Entry<'a>>, NoMemory>
     requires { AreOwn own.now }
     ensures joined { IfOk result (λ entries. entries.items ≡ joined own.now) }

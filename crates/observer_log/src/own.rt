@@ -21,7 +21,7 @@ impl<'a> Model for Own<'a> {
 }
 
 impl<'a> Own<'a> {
-    /// No entry. It takes no memory.
+    /// An empty list. Does not allocate.
     pub(crate) fn new(alloc: Global) -> Own<'a>
         ensures { result ≡ [] }
     {

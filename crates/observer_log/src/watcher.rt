@@ -16,8 +16,8 @@ use std::alloc::Global;
 use std::marker::Model;
 
 /// Takes samples of all processors for one observer, with a reader for each, and keeps the entries.
-/// It may go to another thread. Contracts see the observer, the plans, what the readers know, and
-/// the entries.
+/// It may be sent to another thread. Contracts see the observer, the plans, what the readers know,
+/// and the entries.
 #[derive(Drop)]
 pub struct Watcher<'a> {
     observer: u32,
@@ -43,7 +43,7 @@ impl<'a> Model for Watcher<'a> {
     ghost invariant = { λ w. length w.readers.items ≡ length w.plans.now.plans };
 }
 
-// Calls the gate and takes one sample, which becomes an entry.
+// Calls the gate and takes one sample, as an entry.
 fn take_one<'a, G: Gate>(
     observer: u32,
     plans: &'a Plans,
@@ -70,8 +70,8 @@ fn take_one<'a, G: Gate>(
 }
 
 impl<'a> Watcher<'a> {
-    /// A watcher with no entry. There is one reader for each processor, in their order. It takes no
-    /// memory.
+    /// A watcher with no entry. `readers` has one reader for each processor, in order. Does not
+    /// allocate.
     pub fn make(
         alloc: Global,
         observer: u32,
@@ -89,9 +89,10 @@ impl<'a> Watcher<'a> {
         }
     }
 
-    /// Takes one sample of a slot on a processor, after at least as many changes as the last one,
-    /// and adds its entry to the list. Before it calls the gate, with the number of the observer.
-    /// NoMemory comes before the call, and leaves all as it was.
+    /// Takes one sample of a slot on a processor, after at least as many changes as `last`, the
+    /// previous one, and appends its entry to the list. Calls the gate before that, with the number
+    /// of the observer. If out of memory, it returns before it calls the gate, and nothing has
+    /// changed.
     pub fn look<G: Gate>(
         &mut self,
         cpu: Cpu,
@@ -126,7 +127,7 @@ impl<'a> Watcher<'a> {
     }
 
     /// The reader of a processor, which the writer of its row may meet and settle with. The list
-    /// stays.
+    /// doesn't change.
     pub fn reader(&mut self, cpu: Cpu) -> &mut ClockReader
         requires { cpu.0 < length self.old.plans.plans }
         ensures* writes_back { sem 𝓛 (LendsReader self.entry cpu.0 result) }
@@ -142,7 +143,7 @@ impl<'a> Watcher<'a> {
         &self.own
     }
 
-    /// Gives the list up, and ends the watcher.
+    /// Returns the list, and ends the watcher.
     pub fn into_own(self) -> Own<'a>
         ensures { result ≡ self.entry.own }
     {
