@@ -1,4 +1,4 @@
--- A crew that goes over many ticks at once, and hands out their tables one after another.
+-- A crew that advances by many ticks at once, and returns their tables in order.
 use Rattle.std.proofs.Common.{◌≡◌, ℕ, zero, suc, ◌+◌, ◌-◌, ◌*◌, ◌/◌, ◌<◌, ◌≤◌, ◌^◌, List, [], ◌∷◌, drop, length, map, refl, sym, ap, ◌∙◌, subst, arith}
 use Rattle.std.specs.Prelude.{Some, min, slice_get}
 use Rattle.std.specs.List.{range_with_len}
@@ -27,14 +27,14 @@ use Rattle.replay_ticks.specs.Replays.{IsAhead, IsReady, IsToGo, moments_behind}
 within_end : (length end n : ℕ) → 0 < length → n ≤ end / length → n * length ≤ end
 within_end length end n some few = (le-div_iff_mul-le some).0 few
 
--- so it comes within the last moment
+-- so it is within the last possible time
 pub moment_early : (plans : PlansView) (trace : Trace) (pace : Pace) (n : ℕ) → IsPlanned plans trace pace → n ≤ tick_count trace pace → tick_moment pace.length n ≤ last_moment
 moment_early plans trace pace n planned few =
     let before = within_end pace.length (end_of trace.events) n planned.some few in
     let world = legal_after (limits_of pace.length trace.cpus) trace.events planned.accepted.legal in
     omega (arith, before, world.early, planned.short)
 
--- the moments of ticks that a crew goes over, from one on, are those of the trace's ticks
+-- the moments of a crew's ticks, starting with a tick of the trace, are those of the trace's ticks
 pub moments_are : (ticks : Ticks) (length i n : ℕ) → ticks.first ≡ tick_moment length (i + 1) → ticks.length ≡ length → ticks.count ≡ n → moments_of ticks ≡ moments_behind length i n
 moments_are ticks length i n first apart many =
     let all = moments_behind length i n in
@@ -53,7 +53,7 @@ last_is ticks length i n some first apart many =
     sum ∙ ap (λ k. k * length) same in
     rw (first, apart, many) here
 
--- the first of them, and those behind it
+-- the first of them, and the rest
 first_of : (length i n : ℕ) → 0 < n → slice_get (moments_behind length i n) 0 ≡ Some (tick_moment length (i + 1))
 first_of length i n some =
     let many = length-map-range_with_len (tick_moment length) (i + 1) n in
@@ -82,8 +82,8 @@ at_is_behind plans clocks at there = record {
 
 -- ---- going over ticks
 
--- the ticks that a crew is to go over, behind the first so many: as many as are left, and as it has
--- room for
+-- the ticks by which a crew is to advance after the first i: as many as remain and as it has room
+-- for
 pub record AreNext (ticks : Ticks) (crew : CrewView) (pacing : Pacing) (i : ℕ) : Type 0 where
   pub first : ticks.first ≡ tick_moment pacing.length (i + 1)
   pub length : ticks.length ≡ pacing.length
@@ -115,7 +115,7 @@ next_some ticks plans crew pacing trace pace i is roomy next =
     let count = next.count in
     grind (arith, last, left, count, roomy)
 
--- no clock is past the first of them, where no table is ready
+-- no clock is past the first of them, if no table is ready
 pub next_behind : (ticks : Ticks) (plans : PlansView) (crew : CrewView) (pacing : Pacing) (trace : Trace) (pace : Pace) (i : ℕ) → IsToGo plans crew pacing trace pace i → length crew.ready ≡ 0 → AreNext ticks crew pacing i → AreBehind crew.plans crew.clocks ticks.first
 next_behind ticks plans crew pacing trace pace i is none next =
     let first = first_next ticks plans crew pacing trace pace i is next in
@@ -158,7 +158,7 @@ next_ready ticks plans crew new pacing trace pace i is roomy next same ready the
 
 -- ---- going to the next tick alone
 
--- its moment is early
+-- its moment is early enough
 pub tick_early : (plans : PlansView) (crew : CrewView) (pacing : Pacing) (trace : Trace) (pace : Pace) (i at : ℕ) → IsToGo plans crew pacing trace pace i → at ≡ tick_moment pacing.length (i + 1) → at ≤ last_moment
 tick_early plans crew pacing trace pace i at is moment =
     let left = is.left in
@@ -166,7 +166,7 @@ tick_early plans crew pacing trace pace i at is moment =
     let same = ap (λ l. tick_moment l (i + 1)) is.paced.length in
     omega (arith, early, same, moment)
 
--- no clock is past it, where no table is ready
+-- no clock is past it, if no table is ready
 pub tick_behind : (plans : PlansView) (crew : CrewView) (pacing : Pacing) (trace : Trace) (pace : Pace) (i at : ℕ) → IsToGo plans crew pacing trace pace i → length crew.ready ≡ 0 → at ≡ tick_moment pacing.length (i + 1) → AreBehind crew.plans crew.clocks at
 tick_behind plans crew pacing trace pace i at is none moment =
     let here : i + length crew.ready ≡ i = omega (arith, none) in
@@ -202,7 +202,7 @@ pub first_is : (plans : PlansView) (crew : CrewView) (trace : Trace) (pace : Pac
 first_is plans crew trace pace i at is moment =
     ap (λ moments. slice_get moments 0) is.ahead.ready ∙ first_of pace.length i (length crew.ready) is.some ∙ ap Some (sym moment)
 
--- a crew that handed it out is ahead of the ticks behind it
+-- a crew that returned it is ahead of the following ticks
 pub handed_out : (plans : PlansView) (crew new : CrewView) (trace : Trace) (pace : Pace) (i : ℕ) → IsReady plans crew trace pace i → new ≡ record crew { ready = drop 1 crew.ready } → IsAhead plans new trace pace (i + 1)
 handed_out plans crew new trace pace i is same =
     let left : drop 1 crew.ready ≡ moments_behind pace.length (i + 1) (length crew.ready - 1) = ap (drop 1) is.ahead.ready ∙ behind_first pace.length i (length crew.ready) in

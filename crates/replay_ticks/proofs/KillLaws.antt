@@ -109,11 +109,11 @@ kills_fit plans trace pace rules i so_far planned fits left is =
 
 -- ---- whom
 
--- a kill is of one of so many groups
+-- a kill's slot is below n
 abbrev IsOf : ℕ → Kill → Type 0
 IsOf n kill = kill.victim.0 < n
 
--- a group that was read is one of so many
+-- the slot of a group that was read is below n
 abbrev IsBelow : ℕ → GroupReading → Type 0
 IsBelow n group = group.slot.0 < n
 

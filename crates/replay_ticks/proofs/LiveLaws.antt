@@ -1,4 +1,4 @@
--- What the samples of a crew tell of a trace: their lines are live lines that the tick may have.
+-- The lines of a crew's samples are valid live lines of the tick.
 use Rattle.std.proofs.Common.{◌≡◌, ℕ, zero, suc, ◌+◌, ◌-◌, ◌<◌, ◌≤◌, List, [], ◌∷◌, ◌++◌, length, get_or, refl, sym, ap, ◌∙◌, subst, arith, Option, None, Some}
 use Rattle.std.specs.Prelude.{nat_le}
 use Rattle.std.specs.List.{All, flat_map, range_with_len}
@@ -47,7 +47,7 @@ rise_between low high down up numbers from to rise = subst (λ n. RiseWithin dow
 
 -- ---- moments of changes
 
--- the moments of a plan's changes never fall, however far apart
+-- the times of a plan's changes never decrease, however far apart
 rises : (plan : PlanView) → AreInOrder plan → (k n : ℕ) → k + n ≤ length plan.changes → last_change plan k ≤ last_change plan (k + n)
 rises plan order k zero within =
     let same : k ≡ k + 0 = omega arith in
@@ -58,7 +58,7 @@ rises plan order k (suc n) within =
     let same : k + n + 1 ≡ k + suc n = omega arith in
     subst (λ m. last_change plan k ≤ last_change plan m) same (omega (arith, before, one))
 
--- so a change that isn't behind one up to a moment comes up to it
+-- so a change that isn't later than another up to a time comes up to that time too
 early_enough : (plan : PlanView) (k last at : ℕ) → AreInOrder plan → k ≤ last → last ≤ length plan.changes → last_change plan last ≤ at → last_change plan k ≤ at
 early_enough plan k last at order low within past =
     let same : k + (last - k) ≡ last = omega (arith, low) in
@@ -80,7 +80,7 @@ sample_times plans trace pace clock slot cpu k at planned below is past =
     clock_tells_planned clock (plan_of cpu trace.events) slot k at own there
     ∙ planned_after (limits_of pace.length trace.cpus) trace.events planned.accepted.legal cpu slot k at within there
 
--- what the samples of a processor are taken beside: the changes of its plan up to a moment
+-- the samples of a processor are taken during the changes of its plan up to a time
 pub record AreBeside (plans : PlansView) (slot cpu low high at : ℕ) (samples : List Sample) : Type 0 where
   pub clocks : All (λ (sample : Sample). IsClock sample.clock (plan_at plans cpu) slot sample.count) samples
   pub rise : RiseWithin low (counts_sampled samples) high
@@ -97,7 +97,7 @@ beside_rest plans slot cpu low high at sample samples are = record {
   past = are.past;
 }
 
--- the first of them comes up to the moment
+-- the first of them comes up to that time
 first_past : (plans : PlansView) (slot cpu low high at : ℕ) (sample : Sample) (samples : List Sample) → AreBeside plans slot cpu low high at (sample ∷ samples) → last_change (plan_at plans cpu) sample.count ≤ at
 first_past plans slot cpu low high at sample samples are =
     early_enough (plan_at plans cpu) sample.count high at are.whole.order (rise_ends sample.count high (counts_sampled samples) are.rise.1) are.within are.past
@@ -121,7 +121,7 @@ in_time_cons at sample samples first rest = λ k d below. by_place k d below
     by_place zero d below = first
     by_place (suc k) d below = rest k d (omega (arith, below))
 
--- their clocks may be opened at the moment
+-- their clocks can be opened at that time
 sampled_in_time : (plans : PlansView) (slot cpu low high at : ℕ) (samples : List Sample) → at ≤ last_moment → AreBeside plans slot cpu low high at samples → All (λ (sample : Sample). IsInTime sample.clock at) samples
 sampled_in_time plans slot cpu low high at [] early are = λ k d below. absurd (omega (arith, below))
 sampled_in_time plans slot cpu low high at (sample ∷ samples) early are =
@@ -131,14 +131,14 @@ sampled_in_time plans slot cpu low high at (sample ∷ samples) early are =
 
 -- ---- all processors
 
--- no more changes come up to a moment than there are
+-- the number of changes up to a time is at most the number of all changes
 up_to_within : (plan : PlanView) (at : ℕ) → changes_up_to plan at ≤ length plan.changes
 up_to_within plan at =
     let passed = length-filter (λ (change : Change). nat_le change.at at) plan.changes in
     let most = count_by-le-length (λ (change : Change). nat_le change.at at) plan.changes in
     omega (arith, passed, most)
 
--- the samples of a processor were taken beside its changes up to the moment that a crew reached
+-- the samples of a processor were taken during its changes up to the tick that a crew reached
 beside_cpu : (plans : PlansView) (old new : CrewView) (slot cpu asked low at : ℕ) → IsSampled (plan_at plans cpu) slot asked low (clocks_at new.clocks cpu).made (watch_at old.watches cpu) (watch_at new.watches cpu) → AreAt plans new.clocks at → cpu < length new.clocks
     → AreBeside plans slot cpu low (clocks_at new.clocks cpu).made at (watch_at new.watches cpu).samples
 beside_cpu plans old new slot cpu asked low at is there below =
@@ -159,14 +159,14 @@ same_pieces f g from (suc count) same =
     ap (λ text. text ++ flat_map f (range_with_len (from + 1) count)) (same from (omega arith) (omega arith))
     ∙ ap (λ text. g from ++ text) (same_pieces f g (from + 1) count (λ i low high. same i (omega (arith, low)) (omega (arith, high))))
 
--- pieces of which each is empty
+-- pieces that are all empty
 no_pieces : (f : ℕ → List ℕ) (from count : ℕ) → ((i : ℕ) → f i ≡ []) → flat_map f (range_with_len from count) ≡ []
 no_pieces f from zero none = refl
 no_pieces f from (suc count) none = ap (λ text. text ++ flat_map f (range_with_len (from + 1) count)) (none from) ∙ no_pieces f (from + 1) count none
 
 -- ---- a slot is watched
 
--- What is known where a crew reached the tick behind the first so many, at which a slot is watched.
+-- The facts about a crew that reached the tick after the first i, at which a slot is watched.
 pub record HasReached (plans : PlansView) (old new : CrewView) (trace : Trace) (pace : Pace) (i at : ℕ) : Type 0 where
   pub planned : IsPlanned plans trace pace
   pub left : i < tick_count trace pace
@@ -232,7 +232,7 @@ slot_in_time plans old new trace pace i at slot is early sampled = λ cpu below.
 
 -- ---- nothing is watched
 
--- where there are no samples there is no line
+-- without samples there is no line
 pub idle_text : (watches : List WatchView) (at cpus : ℕ) → AreIdle watches → watches_text at cpus watches ≡ []
 idle_text watches at cpus idle = no_pieces (λ cpu. samples_text at cpu (watch_at watches cpu).samples) 0 cpus (λ cpu. ap (samples_text at cpu) (idle cpu))
 
@@ -350,7 +350,7 @@ watch_is crew live path trace pace i named is = by_watch pace.watch refl
     by_watch None none = absurd (let is_none = sym named ∙ is.path ∙ ap watched_path none in let no : ⊥ = cc in no)
     by_watch (Some watch) some = (watch, some, let paths = sym (is.path ∙ ap watched_path some) ∙ named in cc)
 
--- where none is, nothing is watched
+-- without a watched path nothing is watched
 pub watch_none : (crew : CrewView) (live : Option (List ℕ)) (trace : Trace) (pace : Pace) (i : ℕ) → live ≡ None → IsWatching crew live trace pace i → pace.watch ≡ None
 watch_none crew live trace pace i none is = by_watch pace.watch refl
   where
@@ -358,7 +358,7 @@ watch_none crew live trace pace i none is = by_watch pace.watch refl
     by_watch None is_none = is_none
     by_watch (Some watch) some = absurd (let is_some = sym none ∙ is.path ∙ ap watched_path some in let no : ⊥ = cc in no)
 
--- no table is ready where something is watched
+-- no table is ready if something is watched
 pub unwatched_ready : (crew : CrewView) (live : Option (List ℕ)) (trace : Trace) (pace : Pace) (i : ℕ) → 0 < length crew.ready → IsWatching crew live trace pace i → pace.watch ≡ None
 unwatched_ready crew live trace pace i some is = by_watch pace.watch refl
   where
@@ -366,7 +366,7 @@ unwatched_ready crew live trace pace i some is = by_watch pace.watch refl
     by_watch None is_none = is_none
     by_watch (Some watch) is_some = absurd (let by_tick = subst (λ w. GoesByTick w 0 crew trace pace.length i) is_some is.by_tick in omega (arith, some, by_tick.0))
 
--- nothing was sampled where nothing is watched
+-- nothing was sampled if nothing is watched
 pub idle_unwatched : (crew : CrewView) (live : Option (List ℕ)) (trace : Trace) (pace : Pace) (i : ℕ) → pace.watch ≡ None → IsWatching crew live trace pace i → AreIdle crew.watches
 idle_unwatched crew live trace pace i none is = subst (λ watch. GoesByTick watch 0 crew trace pace.length i) none is.by_tick
 
@@ -378,11 +378,11 @@ asked_is crew live trace pace i watch some is = is.asked ∙ ap asked_by some
 pub by_tick_is : (crew : CrewView) (live : Option (List ℕ)) (trace : Trace) (pace : Pace) (i : ℕ) (watch : LiveWatch) → pace.watch ≡ Some watch → IsWatching crew live trace pace i → GoesByTick (Some watch) 0 crew trace pace.length i
 by_tick_is crew live trace pace i watch some is = subst (λ w. GoesByTick w 0 crew trace pace.length i) some is.by_tick
 
--- the moment of the next tick, by how a replay is paced
+-- the moment of the next tick, by the length of a tick
 pub moment_same : (pacing : Pacing) (trace : Trace) (pace : Pace) (i : ℕ) → IsPaced pacing trace pace → tick_moment pacing.length (i + 1) ≡ tick_moment pace.length (i + 1)
 moment_same pacing trace pace i paced = ap (λ length. tick_moment length (i + 1)) paced.length
 
--- all clocks of a crew are at a moment
+-- all clocks of a crew are at a time
 abbrev pub AreThere : PlansView → CrewView → ℕ → Type 0
 AreThere plans crew at = AreAt plans crew.clocks at
 
@@ -394,6 +394,6 @@ slot_is plans lives crew live path trace pace i at slot planned is named same at
     found ∙ ap (λ groups. live_slot 0 groups path at) (same ∙ planned.stand.lives) ∙ sym by_lives ∙ ap (live_slot_at trace.events path) at_is
     ∙ ap (λ watched. watched_at trace watched (tick_moment pace.length (i + 1))) (sym named ∙ is.path)
 
--- where no path is watched there is none
+-- if no path is watched there is no watched slot
 pub no_slot : (crew : CrewView) (live : Option (List ℕ)) (trace : Trace) (pace : Pace) (i : ℕ) → IsWatching crew live trace pace i → live ≡ None → IsSlotAt None trace pace (i + 1)
 no_slot crew live trace pace i is none = ap (λ watched. watched_at trace watched (tick_moment pace.length (i + 1))) (sym none ∙ is.path)

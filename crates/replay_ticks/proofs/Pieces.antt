@@ -7,17 +7,17 @@ use Rattle.outside.specs.Outside.{AppendsFront}
 use Rattle.outside.specs.Calls.{PutsAll}
 use Rattle.outside.proofs.Grows.{Appends-none, Appends-then, AppendsFront-then}
 
--- a front of the first text is one of both
+-- a prefix of the first text is a prefix of both
 pub front_of_both : (old new : Option (List ℕ)) (xs ys : List ℕ) → AppendsFront old new xs → AppendsFront old new (xs ++ ys)
 front_of_both old new xs ys front = AppendsFront-then old old new [] xs ys (Appends-none old) front
 
--- the first text, and then a front of the second, are a front of both
+-- the first text followed by a prefix of the second is a prefix of both
 pub front_then : (old mid new : Option (List ℕ)) (xs ys : List ℕ) → Appends old mid xs → AppendsFront mid new ys → AppendsFront old new (xs ++ ys)
 front_then old mid new xs ys first front =
     let all : xs ++ (ys ++ []) ≡ xs ++ ys = ap (λ zs. xs ++ zs) (append-nil ys) in
     rw (← all) (AppendsFront-then old mid new xs ys [] first front)
 
--- what is put behind a text is put behind it in whole, or as a front of both
+-- a text is appended to another in whole, or as a prefix of both
 pub puts_then : {T E : Type 0} → (old mid new : Option (List ℕ)) (result : Result T E) (xs ys : List ℕ) → Appends old mid xs → PutsAll mid new result ys → PutsAll old new result (xs ++ ys)
 puts_then old mid new (Ok value) xs ys first put = Appends-then old mid new xs ys first put
 puts_then old mid new (Err fault) xs ys first put = front_then old mid new xs ys first put

@@ -69,7 +69,7 @@ triggers_made plans trace pace planned = λ k d below. ((triggers_within plans t
 
 -- ---- signals
 
--- the engine tells the signals of the last tick
+-- the engine has the signals of the last tick
 pub fired_is : (engine : EngineView) (trace : Trace) (pace : Pace) (number : ℕ) → 0 < number → HasTicked engine trace pace number → engine.fired ≡ fired_in trace pace number
 fired_is engine trace pace number some stands =
     let back : number - 1 + 1 ≡ number = omega (arith, some) in
@@ -94,7 +94,7 @@ signals_are plans engine order pacing trace pace number at is =
 
 -- ---- reports
 
--- pieces of numbers below a bound, where both tell the same of each
+-- pieces of numbers below a bound, if both functions agree on each
 same_pieces : (f g : ℕ → List ℕ) (n : ℕ) (xs : List ℕ) → ((x : ℕ) → x < n → f x ≡ g x) → All (λ x. x < n) xs → flat_map f xs ≡ flat_map g xs
 same_pieces f g n [] same below = refl
 same_pieces f g n (x ∷ xs) same below =
@@ -105,7 +105,7 @@ same_pieces f g n (x ∷ xs) same below =
 report_same : (version : Version) (at : ℕ) (lives : List GroupLife) (t u : ℕ → List ℕ) (a b : ℕ → AverageState) (slot : ℕ) → t slot ≡ u slot → a slot ≡ b slot → slot_report version at lives t a slot ≡ slot_report version at lives u b slot
 report_same version at lives t u a b slot totals averages = rw (totals, averages) refl
 
--- the reports by an engine that stands for ticks are those at the last of them
+-- the reports of an engine after some ticks are those at the last of them
 pub reports_are : (plans : PlansView) (engine : EngineView) (order : List Slot) (pacing : Pacing) (trace : Trace) (pace : Pace) (number at : ℕ) →
     IsToPut plans engine order pacing trace pace number at →
     slot_reports (version_of pacing.version) at plans.lives (totals_in engine) (averages_in engine) (numbers_of order) ≡ reports trace pace number
@@ -133,7 +133,7 @@ pub text_is : (trace : Trace) (pace : Pace) (rules : List Rule) (number : ℕ) �
 unfolding tick_text
 text_is trace pace rules number = append_assoc (signals_text trace pace number) (kills_text trace pace rules number) (due_text trace pace number)
 
--- live lines stand in front of the others
+-- live lines come before the others
 pub lines_split : (trace : Trace) (pace : Pace) (rules : List Rule) (number : ℕ) (live : List ℕ) → live ++ tick_text trace pace (with_rules rules) number ≡ tick_lines trace pace rules number live
 unfolding tick_text
 lines_split trace pace rules number live =
@@ -180,14 +180,14 @@ pub kills_put : (plans : PlansView) (trace : Trace) (pace : Pace) (rules : List 
     lives ≡ plans.lives → killed ≡ kills_in trace pace rules number → kill_lines lives killed ≡ kills_text trace pace rules number
 kills_put plans trace pace rules number planned lives killed lives_are are = rw (lives_are ∙ planned.stand.lives, are) refl
 
--- a front of the signals is one of the tick's text
+-- a prefix of the signals is a prefix of the tick's text
 pub signals_front : (old new : Option (List ℕ)) (trace : Trace) (pace : Pace) (rules : List Rule) (number : ℕ) (signals : List ℕ) → signals ≡ signals_text trace pace number →
     AppendsFront old new signals → AppendsFront old new (tick_text trace pace (with_rules rules) number)
 signals_front old new trace pace rules number signals same front =
     subst (AppendsFront old new) (sym (text_is trace pace rules number))
     (front_of_both old new (signals_text trace pace number) _ (subst (AppendsFront old new) same front))
 
--- so are the signals, and a front of the kills
+-- so are the signals followed by a prefix of the kills
 pub kills_front : (old mid new : Option (List ℕ)) (trace : Trace) (pace : Pace) (rules : List Rule) (number : ℕ) (signals killed : List ℕ) → signals ≡ signals_text trace pace number → killed ≡ kills_text trace pace rules number →
     Appends old mid signals → AppendsFront mid new killed → AppendsFront old new (tick_text trace pace (with_rules rules) number)
 kills_front old mid new trace pace rules number signals killed same also first front =

@@ -1,4 +1,4 @@
--- The lines of signals and reports, one after another.
+-- The lines of signals and reports, in order.
 use Rattle.std.proofs.Common.{◌≡◌, ◌<◌, ℕ, ◌+◌, List, [], ◌∷◌, ◌++◌, length, take, drop, get_or, sym, ap, ◌∙◌}
 use Rattle.std.specs.Prelude.{slice_get}
 use Rattle.std.specs.List.{flat_map}
@@ -28,7 +28,7 @@ numbers_more f slots i d inside =
     flat_map-map f (λ (slot : Slot). slot.0) (take (i + 1) slots) ∙ taken_more (λ (slot : Slot). f slot.0) slots i d inside
     ∙ ap (λ t. t ++ f (get_or slots i d).0) (sym (flat_map-map f (λ (slot : Slot). slot.0) (take i slots)))
 
--- the pieces of slots before one, of that one, and of those behind it
+-- the pieces of the slots before one, of that slot, and of those after it
 pub numbers_at : (f : ℕ → List ℕ) (slots : List Slot) (i : ℕ) (d : Slot) → i < length slots
     → flat_map f (numbers_of slots) ≡ flat_map f (numbers_of (take i slots)) ++ (f (get_or slots i d).0 ++ flat_map (λ (slot : Slot). f slot.0) (drop (i + 1) slots))
 numbers_at f slots i d inside =

@@ -39,11 +39,11 @@ life_within last latest life early is = record {
   gone = gone_within last latest life.made life.gone early is.gone;
 }
 
--- the latest moment that may be named is within the last
+-- the latest time that may be named is within the last possible time
 pub latest_within : (length : ℕ) → length ≤ longest_tick → 1000000 * length ≤ last_moment
 latest_within length short = omega (arith, short)
 
--- the lives of a planned trace are within the last moment
+-- the groups of a planned trace are within the last possible time
 pub lives_within : (plans : PlansView) (trace : Trace) (pace : Pace) → IsPlanned plans trace pace → All (λ life. IsLifeWithin last_moment life) plans.lives
 lives_within plans trace pace planned =
     let limits = limits_of pace.length trace.cpus in
@@ -79,14 +79,14 @@ no_ticks : (engine : EngineView) (trace : Trace) (pace : Pace) → StandsFor eng
 unfolding ticks_of
 no_ticks engine trace pace stands = stands
 
--- an engine that was made of plans has made no tick of their trace
+-- a new engine has had no tick of its trace
 pub engine_new : (plans : PlansView) (engine : EngineView) (trace : Trace) (pace : Pace) → IsPlanned plans trace pace → StandsFor engine (length plans.plans) plans.lives plans.triggers [] → HasTicked engine trace pace 0
 engine_new plans engine trace pace planned stands =
     let cpus = subst (λ cpus. StandsFor engine cpus plans.lives plans.triggers []) planned.stand.each stands in
     let lives = subst (λ lives. StandsFor engine trace.cpus lives plans.triggers []) planned.stand.lives cpus in
     no_ticks engine trace pace (subst (λ triggers. StandsFor engine trace.cpus (lives_of trace) triggers []) planned.stand.triggers lives)
 
--- what was made of plans is a replay of their trace before its first tick
+-- the new parts are a replay of their trace before its first tick
 pub replay_new : (replay : ReplayView) (trace : Trace) (pace : Pace) (rules : List Rule) → IsPlanned replay.plans trace pace →
     replay.crew.plans ≡ replay.plans → AreOnPlans replay.crew.plans replay.crew.clocks → replay.crew.ready ≡ [] →
     ((cpu : ℕ) → cpu < length replay.crew.plans.plans → (clocks_at replay.crew.clocks cpu).made ≡ 0) →

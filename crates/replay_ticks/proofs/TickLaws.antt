@@ -64,7 +64,7 @@ tick_fits plans engine trace pace i table planned stands sizes =
     let slots : length plans.lives ≡ length engine.groups = ap length planned.stand.lives ∙ sym stands.slots in
     subst (λ n. HasSizes n (length engine.groups) table) cpus (subst (λ n. HasSizes (length plans.plans) n table) slots sizes)
 
--- the engine stands for it too then
+-- then the engine has had this tick
 pub tick_taken : (plans : PlansView) (engine new : EngineView) (trace : Trace) (pace : Pace) (i at : ℕ) (table : List (List (List ℕ))) → IsPlanned plans trace pace → at ≡ tick_moment pace.length (i + 1)
     → HasTicked engine trace pace i → IsTableAt table plans at → EngineTakes engine (tick_at at table) new → HasTicked new trace pace (i + 1)
 tick_taken plans engine new trace pace i at table planned moment stands is takes =
@@ -151,7 +151,7 @@ ticked_replay old crew rows engine judge = record {
   kills = old.kills + length (judge_kills judge);
 }
 
--- where not all ticks were made, one is left
+-- if not all ticks were replayed, one remains
 pub one_left : (replay : ReplayView) (trace : Trace) (pace : Pace) (rules : List Rule) (i : ℕ) → IsReplay replay trace pace rules i → (replay.made ≡ replay.pacing.last → ⊥) → i < tick_count trace pace
 one_left replay trace pace rules i is open_ =
     let made = is.made in
@@ -160,7 +160,7 @@ one_left replay trace pace rules i is open_ =
     let other : i ≡ tick_count trace pace → ⊥ = λ same. open_ (made ∙ same ∙ sym last) in
     grind (arith, within, other)
 
--- where one is left, not all were made
+-- if one remains, not all were replayed
 pub still_open : (replay : ReplayView) (trace : Trace) (pace : Pace) (rules : List Rule) (i : ℕ) → IsReplay replay trace pace rules i → i < tick_count trace pace → replay.made ≡ replay.pacing.last → ⊥
 still_open replay trace pace rules i is left all =
     let made = is.made in
@@ -213,7 +213,7 @@ pub sampled_is : (replay : ReplayView) (crew new : CrewView) (rows : List (List 
 sampled_is replay crew new rows engine trace pace rules i is ready sampled =
     subst (λ plans. IsTickSampled plans new rows engine trace pace (i + 1)) (ready.ahead.same ∙ is.ahead.same) sampled
 
--- all is there to write the lines of the tick that was made last, at its moment
+-- the conditions for writing the lines of the last tick, at its moment
 pub to_put : (replay : ReplayView) (order : List Slot) (trace : Trace) (pace : Pace) (rules : List Rule) (i at : ℕ) → IsReplay replay trace pace rules (i + 1) → order ≡ replay.order → at ≡ tick_moment pace.length (i + 1)
     → IsToPut replay.plans replay.engine order replay.pacing trace pace replay.made at
 to_put replay order trace pace rules i at is ordered moment =
@@ -245,11 +245,11 @@ to_judge replay crew rows engine order trace pace rules i at is moment ordered s
   judged = is.judge;
 }
 
--- a judge tells the kills of the tick
+-- a judge has the kills of the tick
 pub kills_are : (judge : JudgeView) (trace : Trace) (pace : Pace) (rules : List Rule) (number : ℕ) (found : List Kill) → HasJudged judge trace pace rules number → found ≡ judge_kills judge → found ≡ kills_in trace pace rules number
 kills_are judge trace pace rules number found judged same = same ∙ judged.kills
 
--- one tick more was made
+-- one more tick was replayed
 pub is_ticked : (replay : ReplayView) (crew : CrewView) (rows : List (List (List ℕ))) (engine : EngineView) (judge : JudgeView) (trace : Trace) (pace : Pace) (rules : List Rule) (i : ℕ) → IsReplay replay trace pace rules i
     → (replay.made ≡ replay.pacing.last → ⊥) → IsTickSampled replay.plans crew rows engine trace pace (i + 1) → IsWatching crew replay.live trace pace (i + 1)
     → HasJudged judge trace pace rules (i + 1) → IsReplay (ticked_replay replay crew rows engine judge) trace pace rules (i + 1)
@@ -273,7 +273,7 @@ is_ticked replay crew rows engine judge trace pace rules i is open_ sampled watc
       kills = omega (arith, more, found, is.kills);
     }
 
--- the kills of the tick that was made last
+-- the kills of the last tick
 pub kills_made : (replay : ReplayView) (trace : Trace) (pace : Pace) (rules : List Rule) (i : ℕ) (found : List Kill) → IsReplay replay trace pace rules (i + 1) → found ≡ judge_kills replay.judge → found ≡ kills_in trace pace rules replay.made
 kills_made replay trace pace rules i found is same = same ∙ is.judge.kills ∙ ap (kills_in trace pace rules) (sym is.made)
 
@@ -281,7 +281,7 @@ kills_made replay trace pace rules i found is same = same ∙ is.judge.kills ∙
 pub text_is : (replay : ReplayView) (trace : Trace) (pace : Pace) (rules : List Rule) (i : ℕ) → IsReplay replay trace pace rules (i + 1) → tick_text trace pace (with_rules rules) replay.made ≡ tick_text trace pace (with_rules rules) (i + 1)
 text_is replay trace pace rules i is = ap (tick_text trace pace (with_rules rules)) is.made
 
--- a tick was made
+-- a tick was replayed
 pub passed : (trace : Trace) (pace : Pace) (rules : List Rule) (i : ℕ) (old new : ReplayView) (result : Bool) → Passes trace pace rules i old new result → result ≡ true → (i < tick_count trace pace) × IsReplay new trace pace rules (i + 1) × IsLiveTick old.crew new.crew trace pace (i + 1)
 passed trace pace rules i old new result given made = subst (Passes trace pace rules i old new) made given
 
@@ -289,7 +289,7 @@ passed trace pace rules i old new result given made = subst (Passes trace pace r
 pub to_watch : (replay : ReplayView) (trace : Trace) (pace : Pace) (rules : List Rule) (i : ℕ) → IsReplay replay trace pace rules i → IsWatching replay.crew replay.live trace pace replay.made
 to_watch replay trace pace rules i is = subst (IsWatching replay.crew replay.live trace pace) (sym is.made) is.watching
 
--- the moment of the tick that was made last
+-- the moment of the last tick
 pub made_moment : (replay : ReplayView) (trace : Trace) (pace : Pace) (rules : List Rule) (i : ℕ) → IsReplay replay trace pace rules (i + 1) → tick_moment replay.pacing.length replay.made ≡ tick_moment pace.length (i + 1)
 made_moment replay trace pace rules i is = ap (λ length. tick_moment length replay.made) is.paced.length ∙ ap (tick_moment pace.length) is.made
 
@@ -317,17 +317,17 @@ pub lines_put : (trace : Trace) (pace : Pace) (rules : List Rule) (i : ℕ) (liv
 lines_put trace pace rules i live had mid has first rest =
     subst (Appends had has) (lines_split trace pace rules i live) (Appends-then had mid has live (tick_text trace pace (with_rules rules) i) first rest)
 
--- a front of them, where the live lines fail
+-- a prefix of them, if the live lines fail
 pub live_front : (trace : Trace) (pace : Pace) (rules : List Rule) (i : ℕ) (live : List ℕ) (had has : Option (List ℕ)) → AppendsFront had has live → AppendsFront had has (tick_lines trace pace rules i live)
 live_front trace pace rules i live had has front =
     subst (AppendsFront had has) (lines_split trace pace rules i live) (front_of_both had has live (tick_text trace pace (with_rules rules) i) front)
 
--- or where the others do
+-- or if the others do
 pub lines_front : (trace : Trace) (pace : Pace) (rules : List Rule) (i : ℕ) (live : List ℕ) (had mid has : Option (List ℕ)) → Appends had mid live → AppendsFront mid has (tick_text trace pace (with_rules rules) i) → AppendsFront had has (tick_lines trace pace rules i live)
 lines_front trace pace rules i live had mid has first rest =
     subst (AppendsFront had has) (lines_split trace pace rules i live) (front_then had mid has live (tick_text trace pace (with_rules rules) i) first rest)
 
--- the next tick gives a front of its lines, where it fails
+-- the next tick gives a prefix of its lines, if it fails
 pub gives_front : (trace : Trace) (pace : Pace) (rules : List Rule) (i : ℕ) (old new : ReplayView) (live : List ℕ) (had has : Option (List ℕ)) (result : Result Bool TickFault) → IsErr result → i < tick_count trace pace
     → IsLiveText trace pace.length pace.watch (i + 1) live → AppendsFront had has (tick_lines trace pace rules (i + 1) live) → TickGives trace pace rules i old new had has result
 gives_front trace pace rules i old new live had has (Ok x) failed left is_live front = absurd (let no : ⊥ = cc in no)

@@ -1,4 +1,4 @@
--- A trace of which some ticks were made.
+-- A replay of a trace after some ticks.
 use Rattle.std.specs.Prelude.{◌≡◌, ℕ, ◌+◌, ◌<◌, ◌≤◌, List, [], drop, length, map, Bool, true, false, if◌then◌else◌, Option, None, Some, Result, Ok, Err}
 use Rattle.std.specs.List.{All, flat_map, range_with_len}
 use Rattle.std.specs.Io.KnownBytes.{Appends, Keeps}
@@ -27,8 +27,8 @@ use Rattle.replay_ticks.specs.declared.pacing.Pacing.{Pacing}
 use Rattle.replay_ticks.specs.declared.replay.TickFault.{TickFault}
 
 -- A replay: the plans of its trace, the clocks of all processors, the table of the last tick, the
--- engine, what decides by rules, all slots by path, how it is paced, the path that is watched, if
--- one is, how many ticks were made, and how many signals and kills there were.
+-- engine, the judge of rules, all slots by path, the ticks and reports, the watched path, if any,
+-- and the numbers of ticks replayed, signals and kills.
 pub record ReplayView : Type 0 where
   pub plans : PlansView
   pub crew : CrewView
@@ -42,100 +42,98 @@ pub record ReplayView : Type 0 where
   pub signals : ℕ
   pub kills : ℕ
 
--- a replay of a trace is paced so
+-- these are the ticks and reports of a trace's replay
 pub record IsPaced (pacing : Pacing) (trace : Trace) (pace : Pace) : Type 0 where
   pub version : version_of pacing.version ≡ trace.version
   pub length : pacing.length ≡ pace.length
   pub report : pacing.report ≡ pace.report
   pub last : pacing.last ≡ tick_count trace pace
 
--- a table has a place for each processor and group
+-- a table has an entry for each processor and group
 abbrev pub HasPlaces : PlansView → List (List (List ℕ)) → Type 0
 HasPlaces plans rows = HasSizes (length plans.plans) (length plans.lives) rows
 
 -- ---- ticks ahead
 
--- the moments (ns) of so many ticks that come behind the first i
+-- the moments (ns) of `count` ticks after the first i
 abbrev pub moments_behind : ℕ → ℕ → ℕ → List ℕ
 moments_behind length i count = map (tick_moment length) (range_with_len (i + 1) count)
 
--- A crew is ahead of the first so many ticks: the tables of some ticks that come next are ready,
--- and no clock is past them.
+-- A crew is ahead of the first i ticks: the tables of the next ticks are ready, perhaps none, and
+-- no clock is past these ticks.
 pub record IsAhead (plans : PlansView) (crew : CrewView) (trace : Trace) (pace : Pace) (i : ℕ) : Type 0 where
   pub same : crew.plans ≡ plans
   pub ready : crew.ready ≡ moments_behind pace.length i (length crew.ready)
   pub within : i + length crew.ready ≤ tick_count trace pace
   pub behind : AreBehind plans crew.clocks (tick_moment pace.length (i + length crew.ready))
 
--- All is there to go over the ticks that come behind the first so many.
+-- The conditions for advancing by ticks after the first i.
 pub record IsToGo (plans : PlansView) (crew : CrewView) (pacing : Pacing) (trace : Trace) (pace : Pace) (i : ℕ) : Type 0 where
   pub planned : IsPlanned plans trace pace
   pub paced : IsPaced pacing trace pace
   pub left : i < tick_count trace pace
   pub ahead : IsAhead plans crew trace pace i
 
--- The table of the tick behind the first so many is ready.
+-- The table of the tick after the first i is ready.
 pub record IsReady (plans : PlansView) (crew : CrewView) (trace : Trace) (pace : Pace) (i : ℕ) : Type 0 where
   pub ahead : IsAhead plans crew trace pace i
   pub some : 0 < length crew.ready
 
 -- ---- live samples
 
--- the path that is watched, if one is
+-- the watched path, if any
 abbrev pub watched_path : Option LiveWatch → Option (List ℕ)
 watched_path None = None
 watched_path (Some watch) = Some watch.path
 
--- how many samples are taken of a processor in an interval
+-- the number of samples of a processor in an interval
 abbrev pub asked_by : Option LiveWatch → ℕ
 asked_by None = 0
 asked_by (Some watch) = watch.count
 
--- the slot that is watched at a moment (ns) of a trace: the one that the watched path has then, if
--- it is live
+-- the watched slot at `at` (ns): the slot of the live group with the watched path, if any
 abbrev pub watched_at : Trace → Option (List ℕ) → ℕ → Option ℕ
 watched_at trace None at = None
 watched_at trace (Some path) at = live_slot_at trace.events path at
 
--- a slot is that which is watched at the tick with a number, if one is
+-- a slot is the watched slot at tick i, if any
 abbrev pub IsSlotAt : Option Slot → Trace → Pace → ℕ → Type 0
 IsSlotAt slot trace pace i = number_of_slot slot ≡ watched_at trace (watched_path pace.watch) (tick_moment pace.length i)
 
--- no samples are there
+-- there are no samples
 abbrev pub AreIdle : List WatchView → Type 0
 AreIdle watches = (cpu : ℕ) → (watch_at watches cpu).samples ≡ []
 
--- Where a group is watched, a crew goes tick by tick: so many tables are ready, and each
--- processor's clocks made the changes up to the tick with a number, and no others. Else there are
--- no samples.
+-- If a group is watched, a crew advances tick by tick: `count` tables are ready, and each
+-- processor's clocks made the changes up to tick i, and no others. Otherwise there are no samples.
 abbrev pub GoesByTick : Option LiveWatch → ℕ → CrewView → Trace → ℕ → ℕ → Type 0
 GoesByTick None count crew trace tick i = AreIdle crew.watches
 GoesByTick (Some watch) count crew trace tick i =
     (length crew.ready ≡ count)
     × ((cpu : ℕ) → cpu < trace.cpus → (clocks_at crew.clocks cpu).made ≡ changes_until trace tick cpu i)
 
--- what is watched: the path, how many samples are taken, and how far the crew is after the first so
--- many ticks
+-- the watched path, the number of samples, and how far the crew has advanced after the first i
+-- ticks
 pub record IsWatching (crew : CrewView) (live : Option (List ℕ)) (trace : Trace) (pace : Pace) (i : ℕ) : Type 0 where
   pub path : live ≡ watched_path pace.watch
   pub asked : crew.asked ≡ asked_by pace.watch
   pub by_tick : GoesByTick pace.watch 0 crew trace pace.length i
 
--- the lines of samples of a processor at a moment (ns)
+-- the lines of a processor's samples at `at` (ns)
 abbrev pub samples_text : ℕ → ℕ → List Sample → List ℕ
 samples_text at cpu samples = flat_map (λ (sample : Sample). live_line at cpu sample.count (opened sample.clock at)) samples
 
--- the lines of the samples of so many processors
+-- the lines of the samples of the first `cpus` processors
 abbrev pub watches_text : ℕ → ℕ → List WatchView → List ℕ
 watches_text at cpus watches = flat_map (λ cpu. samples_text at cpu (watch_at watches cpu).samples) (range_with_len 0 cpus)
 
--- the clocks of all samples of so many processors may be opened at a moment (ns)
+-- the clocks of all samples of the first `cpus` processors can be opened at `at` (ns)
 abbrev pub AreInTime : ℕ → List WatchView → ℕ → Type 0
 AreInTime cpus watches at =
     (cpu : ℕ) → cpu < cpus → All (λ (sample : Sample). IsInTime sample.clock at) (watch_at watches cpu).samples
 
--- Beside the changes up to a tick a crew took samples of the slot that is watched at the tick, and
--- these are its live lines, which the tick may have.
+-- During the changes up to tick i a crew sampled the slot that is watched at that tick, and the
+-- lines of the samples are valid live lines of the tick.
 pub record IsLiveTick (old new : CrewView) (trace : Trace) (pace : Pace) (i : ℕ) : Type 0 where
   pub watched : Option Slot
   pub slot : IsSlotAt watched trace pace i
@@ -143,13 +141,13 @@ pub record IsLiveTick (old new : CrewView) (trace : Trace) (pace : Pace) (i : �
   pub text : IsLiveText trace pace.length pace.watch i (watches_text (tick_moment pace.length i) trace.cpus new.watches)
   pub in_time : AreInTime trace.cpus new.watches (tick_moment pace.length i)
 
--- a crew that handed out one table more
+-- a crew after it returned one more table
 abbrev pub handed : CrewView → CrewView
 handed crew = record crew { ready = drop 1 crew.ready }
 
 -- ---- one tick
 
--- All is there to sample the tick at a moment (ns), which comes behind the first so many.
+-- The conditions for sampling the tick after the first i, whose moment is `at` (ns).
 pub record IsToSample (plans : PlansView) (crew : CrewView) (rows : List (List (List ℕ))) (engine : EngineView) (trace : Trace)
     (pace : Pace) (i at : ℕ) : Type 0 where
   pub planned : IsPlanned plans trace pace
@@ -159,15 +157,15 @@ pub record IsToSample (plans : PlansView) (crew : CrewView) (rows : List (List (
   pub sizes : HasPlaces plans rows
   pub ticked : HasTicked engine trace pace i
 
--- The tick with a number from 1 was sampled.
+-- Tick `number`, counted from 1, was sampled.
 pub record IsTickSampled (plans : PlansView) (crew : CrewView) (rows : List (List (List ℕ))) (engine : EngineView) (trace : Trace)
     (pace : Pace) (number : ℕ) : Type 0 where
   pub ahead : IsAhead plans crew trace pace number
   pub sizes : HasPlaces plans rows
   pub ticked : HasTicked engine trace pace number
 
--- All is there to write the lines of the tick with a number from 1, which was the last to be
--- sampled, at its moment (ns).
+-- The conditions for writing the lines of tick `number`, counted from 1: it was sampled last, and
+-- its moment is `at` (ns).
 pub record IsToPut (plans : PlansView) (engine : EngineView) (order : List Slot) (pacing : Pacing) (trace : Trace) (pace : Pace)
     (number at : ℕ) : Type 0 where
   pub planned : IsPlanned plans trace pace
@@ -177,34 +175,33 @@ pub record IsToPut (plans : PlansView) (engine : EngineView) (order : List Slot)
   pub ticked : HasTicked engine trace pace number
   pub by_path : IsPathOrder plans.lives (numbers_of order)
 
--- All is there to write the pressure files of the root at the tick with a number from 1, which was
--- the last to be sampled.
+-- The conditions for writing the root's pressure files at tick `number`, counted from 1: it was
+-- sampled last.
 pub record IsToPutRoot (plans : PlansView) (engine : EngineView) (pacing : Pacing) (trace : Trace) (pace : Pace) (number : ℕ) : Type 0 where
   pub planned : IsPlanned plans trace pace
   pub paced : IsPaced pacing trace pace
   pub within : number ≤ tick_count trace pace
   pub ticked : HasTicked engine trace pace number
 
--- the lines of the reports of a tick, where they are due
+-- the lines of a tick's reports, if they are due
 abbrev pub due_text : Trace → Pace → ℕ → List ℕ
 due_text trace pace number =
     if is_report pace.report pace.length (tick_count trace pace) number then reports trace pace number else []
 
 -- ---- the whole replay
 
--- A crew reached the tick behind the first so many: where it took samples of the slot that is
--- watched at the tick, they are those of the tick, and where it goes tick by tick the tick's table
--- alone is ready.
+-- A crew reached the tick after the first i. If it sampled the slot that is watched at that tick,
+-- its samples are the tick's. If it advances tick by tick, only that tick's table is ready.
 pub record IsReached (slot : Option Slot) (old new : CrewView) (trace : Trace) (pace : Pace) (i : ℕ) : Type 0 where
   pub live : IsSlotAt slot trace pace (i + 1) → IsLiveTick old new trace pace (i + 1)
   pub asked : new.asked ≡ old.asked
   pub by_tick : GoesByTick pace.watch 1 new trace pace.length (i + 1)
 
--- the lines of a tick, with live lines
+-- the lines of a tick, with these live lines
 abbrev pub tick_lines : Trace → Pace → List Rule → ℕ → List ℕ → List ℕ
 tick_lines trace pace rules i live = tick_text trace pace (record { live = λ _. live; rules = rules }) i
 
--- A replay with rulesets has made the first so many ticks of a trace at a pace.
+-- A replay of a trace with rulesets after the first i ticks.
 pub record IsReplay (replay : ReplayView) (trace : Trace) (pace : Pace) (rules : List Rule) (i : ℕ) : Type 0 where
   pub planned : IsPlanned replay.plans trace pace
   pub paced : IsPaced replay.pacing trace pace
@@ -220,16 +217,16 @@ pub record IsReplay (replay : ReplayView) (trace : Trace) (pace : Pace) (rules :
   pub signals : replay.signals ≡ signals_until trace pace i
   pub kills : replay.kills ≡ kills_until trace pace rules i
 
--- a replay is one of some trace
+-- it is a replay of some trace
 abbrev pub IsSomeReplay : ReplayView → Type 0
 IsSomeReplay replay = (trace : Trace) × (pace : Pace) × (rules : List Rule) × (i : ℕ) × IsReplay replay trace pace rules i
 
--- of a replay a tick is left
+-- a replay has a next tick
 abbrev pub IsTickLeft : ReplayView → Type 0
 IsTickLeft replay =
     (trace : Trace) × (pace : Pace) × (rules : List Rule) × (i : ℕ) × IsReplay replay trace pace rules i × (i < tick_count trace pace)
 
--- making the next tick: one is left, and samples were taken up to it, or nothing changes
+-- replaying the next tick: if there is one, samples were taken up to it; otherwise nothing changes
 abbrev pub Passes : Trace → Pace → List Rule → ℕ → ReplayView → ReplayView → Bool → Type 0
 Passes trace pace rules i old new true =
     (i < tick_count trace pace) × IsReplay new trace pace rules (i + 1) × IsLiveTick old.crew new.crew trace pace (i + 1)
@@ -239,8 +236,8 @@ Passes trace pace rules i old new false = (i ≡ tick_count trace pace) × (new 
 abbrev pub root_report : Trace → Pace → ℕ → List ℕ
 root_report trace pace i = group_report trace pace i root_group
 
--- What the next tick gives: its lines, or a front of them, where one is left. Its live lines are
--- those of the samples that the crew took up to the tick.
+-- The output of the next tick, if there is one: its lines, or a prefix of them after a fault. Its
+-- live lines are those of the samples that the crew took up to the tick.
 abbrev pub TickGives : Trace → Pace → List Rule → ℕ → ReplayView → ReplayView → Option (List ℕ) → Option (List ℕ)
     → Result Bool TickFault → Type 0
 TickGives trace pace rules i old new had has (Ok true) =

@@ -1,5 +1,5 @@
-//! What those ask of a replay between its ticks who take samples of their own beside it: how far it
-//! is, and its clocks.
+//! Access for callers that take samples of their own between the ticks of a replay: its progress
+//! and its clocks.
 ghost use Rattle.std.specs.Prelude.{◌≡◌, ◌+◌, ◌<◌, ◌≤◌, ℕ, List, length, IfOk, Some, is_some, true};
 ghost use Rattle.psi_spec.specs.Trace.{Trace};
 ghost use Rattle.plan_laws.specs.Plan.{IsClock};
@@ -17,7 +17,7 @@ use replay_workers::{ClockReader, Sample};
 use std::thread::Threads;
 
 impl<'a> Replay<'a> {
-    /// How many ticks the trace has.
+    /// The number of ticks of the trace.
     pub fn ticks(&self) -> u64
         ensures { (trace : Trace) (pace : Pace) (rules : List Rule) (i : ℕ) →
             IsReplay self.now trace pace rules i → result ≡ tick_count trace pace }
@@ -25,15 +25,15 @@ impl<'a> Replay<'a> {
         self.pacing.last
     }
 
-    /// How many signals there were at the ticks that were made.
+    /// The number of signals at the ticks replayed so far.
     pub fn signals(&self) -> u64
         ensures { result ≡ self.now.signals }
     {
         self.signals
     }
 
-    /// Makes the next tick, where one is left, and takes no sample, also where a path is watched.
-    /// Takes no memory.
+    /// Replays the next tick, if there is one, and takes no sample, even if a path is watched. Does
+    /// not allocate.
     pub fn pass_unwatched<R: Threads + Sync, G: Gate>(&mut self, rt: &R, gate: &G)
         requires { IsTickLeft self.old }
         ensures passed { (trace : Trace) (pace : Pace) (rules : List Rule) (i : ℕ) →
@@ -45,8 +45,8 @@ impl<'a> Replay<'a> {
         self.advance(rt, None, gate);
     }
 
-    /// A reader of a processor's row, where its clocks are in one. It has seen the changes that
-    /// were made.
+    /// A reader of a processor's row, in which its clocks must be. It has seen the changes made so
+    /// far.
     pub fn reader(&mut self, cpu: Cpu) -> Result<ClockReader, NoMemory>
         requires replay { IsSomeReplay self.old }
         requires cpu { cpu.0 < length self.old.plans.plans }
@@ -59,8 +59,8 @@ impl<'a> Replay<'a> {
         self.crew.reader(cpu)
     }
 
-    /// Tells a reader of a processor's row how many changes were made: it has then seen at least so
-    /// many, and no fewer than before. Takes no memory.
+    /// Tells a reader of a processor's row how many changes were made: the reader has then seen at
+    /// least that many. Does not allocate.
     pub fn meet(&mut self, cpu: Cpu, reader: &mut ClockReader)
         requires replay { IsSomeReplay self.old }
         requires cpu { cpu.0 < length self.old.plans.plans }
@@ -74,8 +74,8 @@ impl<'a> Replay<'a> {
         let _met = self.crew.meet(cpu, reader);
     }
 
-    /// Learns from a reader of a processor's row what it has seen: at most as many changes as were
-    /// made. Takes no memory.
+    /// Learns how many changes a reader of a processor's row has seen, which is at most the number
+    /// made. Does not allocate.
     pub fn settle(&mut self, cpu: Cpu, reader: &mut ClockReader)
         requires replay { IsSomeReplay self.old }
         requires cpu { cpu.0 < length self.old.plans.plans }
@@ -88,8 +88,7 @@ impl<'a> Replay<'a> {
         let _settled = self.crew.settle(cpu, reader);
     }
 
-    /// The clock of a slot on a processor that the replay itself has, after the changes that were
-    /// made.
+    /// The replay's own clock of a slot on a processor, after the changes made so far.
     pub fn last(&mut self, cpu: Cpu, slot: Slot) -> Sample
         requires replay { IsSomeReplay self.old }
         requires cpu { cpu.0 < length self.old.plans.plans }

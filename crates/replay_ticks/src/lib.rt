@@ -1,4 +1,8 @@
-//! A trace replayed tick by tick: at each tick its groups are sampled, and its lines written.
+//! Replays a trace tick by tick: at each tick it samples the trace's groups, evaluates the rules,
+//! and writes the tick's lines.
+//!
+//! The parts do the work: replay_workers advances the clocks, tick_engine computes averages and
+//! triggers, and kill_engine decides kills. It reads no files and no options: replay_core does.
 #![tactic(auto)]
 
 mod beside;

@@ -1,4 +1,4 @@
-//! Live samples: which slot is watched, and the lines of what was sampled.
+//! Live samples: the watched slot, and the lines of samples.
 ghost use Rattle.std.specs.Prelude.{◌≡◌, ◌<◌, ◌^◌, length, IfSome};
 ghost use Rattle.std.specs.List.{All};
 ghost use Rattle.outside.specs.Outside.{HasCause, StaysOver};
@@ -17,7 +17,7 @@ use psi_spec::GroupLife;
 use replay_workers::{Crew, Sample};
 use tick_engine::is_live_at;
 
-/// The slot of the group with a path that is live at a moment (ns), if there is one.
+/// The slot of the group that has a path and is live at `at` (ns). `None` if there is none.
 pub(crate) fn watched_slot(lives: &[GroupLife], path: &Path, at: Ns) -> Option<Slot>
     requires few { length lives.now < 2 ^ 32 }
     ensures slot { number_of_slot result ≡ live_slot 0 lives.now path.now at }
@@ -32,7 +32,7 @@ pub(crate) fn watched_slot(lives: &[GroupLife], path: &Path, at: Ns) -> Option<S
     None
 }
 
-// Writes the lines of the samples of a processor at a tick (ns).
+// Writes the lines of a processor's samples at a tick (ns).
 #[tactic(auto, using(outside::proofs::Grows::growth))]
 fn put_samples<K: Sink>(
     out: &mut K,
@@ -53,7 +53,7 @@ fn put_samples<K: Sink>(
     Ok(())
 }
 
-/// Writes the lines of the samples that a crew took last, of so many processors, at a tick (ns).
+/// Writes the lines of a crew's last samples of the first `cpus` processors at a tick (ns).
 #[tactic(auto, using(outside::proofs::Grows::growth))]
 pub(crate) fn put_live<K: Sink>(
     out: &mut K,

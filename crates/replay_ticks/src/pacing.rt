@@ -1,4 +1,4 @@
-//! Which ticks a trace has, and which of them are reported.
+//! The ticks of a trace, and which of them have reports.
 ghost use Rattle.std.specs.Prelude.{◌≡◌, ◌<◌};
 ghost use Rattle.pressure_spec.specs.Ticks.{is_report, tick_moment};
 
@@ -8,18 +8,18 @@ use replay_rules::is_due;
 /// How a trace is replayed.
 #[derive(Clone, Copy, Debug, PartialEq, Eq)]
 pub(crate) struct Pacing {
-    /// The version of the trace: in version 2 reports tell of interrupts.
+    /// The version of the trace: in version 2 reports include interrupts.
     pub(crate) version: u32,
     /// The length of a tick (ns).
     pub(crate) length: Ns,
     /// The period of reports (ns), 0 for none.
     pub(crate) report: Ns,
-    /// How many ticks the trace has.
+    /// The number of ticks of the trace.
     pub(crate) last: u64,
 }
 
 impl Pacing {
-    /// Whether the tick with a number from 1, at its moment (ns), is reported: the last one is, and
+    /// Whether `tick`, counted from 1, has reports; `at` is its moment (ns). The last tick has, and
     /// each at which a report is due.
     pub(crate) fn is_report(self, tick: u64, at: Ns) -> bool
         requires some { 0 < tick }

@@ -1,4 +1,4 @@
-//! A trace that is replayed tick by tick.
+//! A replay of a trace, tick by tick.
 ghost use Rattle.std.specs.Prelude.{◌≡◌, ◌+◌, ◌<◌, ℕ, List, length, IfSome};
 ghost use Rattle.psi_base.specs.declared.event.Slot.{Slot};
 ghost use Rattle.outside.specs.Outside.{HasCause, StaysOver};
@@ -26,10 +26,10 @@ use tick_engine::Engine;
 /// The slot of the root.
 const ROOT: Slot = Slot(0);
 
-/// Why a tick wasn't written in whole.
+/// Why the lines of a tick are incomplete.
 #[derive(Clone, Copy, Debug, PartialEq, Eq)]
 pub enum TickFault {
-    /// A write failed, after a front of the tick's lines.
+    /// A write failed, after a prefix of the tick's lines.
     WriteFault,
 }
 
@@ -44,7 +44,7 @@ impl From<WriteFailed> for TickFault {
     }
 }
 
-/// A trace of which some ticks were made. Contracts see it whole.
+/// A replay of a trace after some ticks. Contracts see all of it.
 #[derive(Drop)]
 pub struct Replay<'a> {
     pub(crate) plans: &'a Plans,
@@ -52,16 +52,16 @@ pub struct Replay<'a> {
     pub(crate) rows: Rows,
     pub(crate) engine: Engine,
     pub(crate) judge: Judge,
-    /// All slots, in the byte order of their paths.
+    /// All slots, sorted by path (bytes).
     pub(crate) order: Vec<Slot>,
     pub(crate) pacing: Pacing,
-    /// The path whose group is watched.
+    /// The watched path.
     pub(crate) live: Option<Path>,
-    /// How many ticks were made.
+    /// The number of ticks replayed.
     pub(crate) made: u64,
-    /// How many signals there were.
+    /// The number of signals.
     pub(crate) signals: u64,
-    /// How many kills there were.
+    /// The number of kills.
     pub(crate) kills: u64,
 }
 
@@ -85,10 +85,9 @@ impl<'a> Model for Replay<'a> {
     } };
 }
 
-// Makes the changes up to the ticks behind the first so many, where the table of none is ready:
-// over as many ticks at once as are left and as the crew can go over, and up to the next alone
-// where a path is watched, whose slot may be another at each. Then samples of a slot are taken
-// beside them, if one is named.
+// If no tick is ready, advances the clocks past tick `made`: by all ticks that remain and fit, or
+// by one if a path is watched, because its slot may change at every tick. Then also samples the
+// slot `watched`, if any.
 fn look_ahead<R: Threads + Sync, G: Gate>(
     rt: &R,
     crew: &mut Crew<'_>,
@@ -127,7 +126,8 @@ fn look_ahead<R: Threads + Sync, G: Gate>(
     }
 }
 
-// Samples all groups at the next tick (ns), whose table is ready: the engine takes their times.
+// Samples all groups at the next tick (ns), whose table is ready, and gives their times to the
+// engine.
 fn sample(crew: &mut Crew<'_>, rows: &mut Rows, engine: &mut Engine, at: Ns)
     requires { (trace : Trace) × (pace : Pace) × (i : ℕ)
         × IsToSample crew.old.plans crew.old rows.old engine.old trace pace i at }
@@ -140,8 +140,8 @@ fn sample(crew: &mut Crew<'_>, rows: &mut Rows, engine: &mut Engine, at: Ns)
     engine.tick(at, rows);
 }
 
-// Writes the reports of the tick that was the last to be sampled, by its number from 1 and its
-// moment (ns), where they are due.
+// Writes the reports of the tick that was sampled last, if they are due. The tick is given by its
+// number from 1 and its moment (ns).
 fn put_due<K: Sink>(
     out: &mut K,
     plans: &Plans,
@@ -165,8 +165,7 @@ fn put_due<K: Sink>(
     Ok(())
 }
 
-// Writes the pressure files of the root at the tick that was the last to be sampled, by its number
-// from 1.
+// Writes the root's pressure files at the tick that was sampled last, given by its number from 1.
 fn put_root<K: Sink>(
     out: &mut K,
     plans: &Plans,
@@ -190,8 +189,8 @@ fn put_root<K: Sink>(
 }
 
 impl<'a> Replay<'a> {
-    /// The slot that the watched path has at the next tick, if a tick is left, and the path is live
-    /// then.
+    /// The slot of the watched path at the next tick. `None` if there is no next tick, or if no
+    /// live group has the path then.
     pub fn next_slot(&self) -> Option<Slot>
         requires { IsSomeReplay self.now }
         ensures slot { (trace : Trace) (pace : Pace) (rules : List Rule) (i : ℕ) →
@@ -211,7 +210,7 @@ impl<'a> Replay<'a> {
         }
     }
 
-    // Makes the next tick: one is left. Samples of a slot are taken up to it, if one is named.
+    // Replays the next tick, which must exist. Samples the slot `watched`, if any, up to it.
     pub(crate) fn advance<R: Threads + Sync, G: Gate>(
         &mut self,
         rt: &R,
@@ -251,8 +250,8 @@ impl<'a> Replay<'a> {
         self.kills += self.judge.kills().len() as u64;
     }
 
-    /// Makes the next tick, and writes nothing. False exactly where no tick is left; then nothing
-    /// changes. Takes no memory.
+    /// Replays the next tick, and writes nothing. Returns false if and only if there is none; then
+    /// nothing changes. Does not allocate.
     pub fn pass<R: Threads + Sync, G: Gate>(&mut self, rt: &R, gate: &G) -> bool
         requires { IsSomeReplay self.old }
         ensures { (trace : Trace) (pace : Pace) (rules : List Rule) (i : ℕ) →
@@ -267,8 +266,7 @@ impl<'a> Replay<'a> {
         true
     }
 
-    // Writes the lines of the tick that was made last, whose moment (ns) this is, but for its live
-    // lines.
+    // Writes the lines of the last tick, whose moment is `at` (ns), except its live lines.
     #[tactic(auto, using(outside::proofs::Grows::growth))]
     fn put_tick<K: Sink>(&self, out: &mut K, at: Ns) -> Result<(), WriteFailed>
         requires { (trace : Trace) × (pace : Pace) × (rules : List Rule) × (i : ℕ)
@@ -295,8 +293,8 @@ impl<'a> Replay<'a> {
         )
     }
 
-    /// Makes the next tick and writes its lines. False exactly where no tick is left; then nothing
-    /// is written. After a fault the replay isn't to be used again. Takes no memory.
+    /// Replays the next tick and writes its lines. Returns false if and only if there is none; then
+    /// nothing is written. After an error the replay can't be used again. Does not allocate.
     pub fn tick<R: Threads + Sync, K: Sink, G: Gate>(
         &mut self,
         rt: &R,
@@ -319,7 +317,7 @@ impl<'a> Replay<'a> {
         Ok(true)
     }
 
-    /// The kills at the tick that was made last, by ruleset and action; none before the first.
+    /// The kills at the last tick, by ruleset and action; none before the first.
     pub fn kills(&self) -> &[Kill]
         ensures { (trace : Trace) (pace : Pace) (rules : List Rule) (i : ℕ) →
             IsReplay self.now trace pace rules i → result.now ≡ kills_in trace pace rules i }
@@ -327,7 +325,7 @@ impl<'a> Replay<'a> {
         self.judge.kills()
     }
 
-    /// Writes the pressure files of the root at the tick that was made last.
+    /// Writes the root's pressure files at the last tick.
     pub fn put_root<K: Sink>(&self, out: &mut K) -> Result<(), WriteFailed>
         requires { (trace : Trace) × (pace : Pace) × (rules : List Rule) × (i : ℕ)
             × (0 < i) × IsReplay self.now trace pace rules i }
@@ -340,8 +338,8 @@ impl<'a> Replay<'a> {
         put_root(out, self.plans, &self.engine, self.pacing, self.made)
     }
 
-    /// Writes the last line, behind the last tick: the end moment, and how many ticks, signals and
-    /// kills there were.
+    /// Writes the last line, after the last tick: the end time (ns), and the numbers of ticks,
+    /// signals and kills.
     pub fn finish<K: Sink>(&mut self, out: &mut K) -> Result<(), WriteFailed>
         requires { (trace : Trace) × (pace : Pace) × (rules : List Rule)
             × IsReplay self.old trace pace rules (tick_count trace pace) }

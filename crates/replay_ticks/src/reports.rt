@@ -21,13 +21,13 @@ use psi_spec::GroupLife;
 use replay_rules::Kill;
 use tick_engine::{Engine, is_live_at};
 
-/// The version of traces that tell of interrupts.
+/// The version of traces with interrupts.
 const WITH_IRQ: u32 = 2;
 
-/// Where interrupts stand among the quantities of pressure.
+/// The index of interrupts among the quantities of pressure.
 const IRQ: usize = QUANTITIES - 1;
 
-/// Writes the lines of the triggers that signalled at a tick (ns), by their numbers.
+/// Writes the lines of the triggers that fired at a tick (ns), by their numbers.
 #[tactic(auto, using(outside::proofs::Grows::growth))]
 pub(crate) fn put_signals<K: Sink>(
     out: &mut K,
@@ -72,7 +72,7 @@ pub(crate) fn put_kills<K: Sink>(
     Ok(())
 }
 
-// Writes the reports on the resources of a group at a moment (ns).
+// Writes the reports on a group's resources at a tick (ns).
 #[tactic(auto, using(outside::proofs::Grows::growth))]
 fn put_resources<K: Sink>(
     out: &mut K,
@@ -93,8 +93,7 @@ fn put_resources<K: Sink>(
     write_report(out, at, path, Res::Cpu, is_root, totals, averages)
 }
 
-// Writes the report on interrupts of a group at a moment (ns), where the version of the trace tells
-// of them.
+// Writes the report on a group's interrupts at a tick (ns), if the trace's version has interrupts.
 fn put_irq<K: Sink>(
     out: &mut K,
     version: u32,
@@ -114,7 +113,7 @@ fn put_irq<K: Sink>(
     Ok(())
 }
 
-/// Writes the reports of a group at a moment (ns) of a trace of this version.
+/// Writes a group's reports at a tick (ns) of a trace with this version.
 #[tactic(auto, using(outside::proofs::Grows::growth))]
 pub(crate) fn put_files<K: Sink>(
     out: &mut K,
@@ -134,7 +133,7 @@ pub(crate) fn put_files<K: Sink>(
     put_irq(out, version, at, path, totals, averages)
 }
 
-// Writes the report of a group at a tick (ns), where it is live then.
+// Writes a group's report at a tick (ns), if the group is live then.
 fn put_report<K: Sink>(
     out: &mut K,
     version: u32,
@@ -166,8 +165,8 @@ fn put_report<K: Sink>(
     )
 }
 
-/// Writes the reports of all groups that are live at a tick (ns) of a trace of a version, in this
-/// order of slots.
+/// Writes the reports of all groups that are live at a tick (ns), in the given order of slots, for
+/// a trace with this version.
 #[tactic(auto, using(outside::proofs::Grows::growth))]
 pub(crate) fn put_reports<K: Sink>(
     out: &mut K,

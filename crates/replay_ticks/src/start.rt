@@ -22,14 +22,13 @@ use run_spec::Options;
 use std::alloc::Global;
 use tick_engine::Engine;
 
-/// How many ns a millisecond has.
+/// A millisecond in ns.
 const MILLISECOND: Ns = 1_000_000;
 
-/// How many ns a second has.
+/// A second in ns.
 const SECOND: Ns = 1_000_000_000;
 
-// The path that options have watched, if they name one, and how many samples they have taken of a
-// processor in an interval.
+// The options' watched path, if any, and the number of samples of a processor in an interval.
 fn watched(alloc: Global, options: &Options) -> Result<(Option<Path>, u32), NoMemory>
     ensures path { IfOk result (λ watched. watched.0 ≡ watched_path (watch_of options.now)) }
     ensures asked { IfOk result (λ watched. watched.1 ≡ asked_by (watch_of options.now)) }
@@ -40,9 +39,9 @@ fn watched(alloc: Global, options: &Options) -> Result<(Option<Path>, u32), NoMe
     }
 }
 
-/// A replay of the trace that the plans stand for, with rules if there are some, before its first
-/// tick: a trace of this version that is accepted at the options' length of a tick. It takes all
-/// memory that the replay needs.
+/// A replay before its first tick of the trace that `plans` represent, with rules if any. The trace
+/// has this version, and is accepted with the options' length of a tick. Allocates everything that
+/// the replay needs.
 pub fn prepare<'a>(
     alloc: Global,
     version: u32,
@@ -68,11 +67,11 @@ pub fn prepare<'a>(
     let interval = Ns::from(options.interval_s) * SECOND;
     let last = plans.finish() / length;
     let (live, asked) = watched(alloc, options)?;
-    // Where a path is watched the crew goes tick by tick.
+    // If a path is watched the crew advances tick by tick.
     let ahead = if live.is_some() { 1 } else { last };
     Ok(Replay {
         plans,
-        // What owns most is made last: where memory is wanting none of it has to be given up.
+        // The largest allocations come last, so they needn't be freed if memory runs out.
         order: plans.groups().path_order(alloc)?,
         rows: Rows::make(alloc, plans.cpus(), slots)?,
         engine: Engine::make(alloc, plans.lives(), plans.triggers(), plans.cpus())?,

@@ -89,7 +89,7 @@ populated_is_counted events slot = any_counted (λ (task : Task). is_under (pare
 
 -- ---- what is kept after sides
 
--- the last side with a value
+-- one more side sets the last value if it has one
 memory_step : (parents : List (Option ℕ)) (slot : ℕ) (cell : SideCell) (what : SideAct) (rest : List MemorySample) → last_or (side_sample (cell_after parents slot cell what).memory) rest ≡ last_or (side_sample cell.memory) (memory_in slot what ++ rest)
 memory_step parents slot cell (side.Mem of current swap scan) rest =
     elim (of.0 == slot) as (λ b. last_or (side_sample (if b then record cell { memory = record { current = current; swap = swap; scan = scan } } else cell).memory) rest ≡ last_or (side_sample cell.memory) ((if b then record { current = current; swap = swap; scan = scan } ∷ [] else []) ++ rest)) [ true ↦ refl | false ↦ refl ]

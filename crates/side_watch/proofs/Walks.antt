@@ -14,7 +14,7 @@ use Rattle.side_watch.specs.declared.cell.SideCell.{SideCell}
 use Rattle.side_watch.specs.Sides.{cell_counted, counted, side_cell_in, zero_side_cell}
 use Rattle.side_watch.specs.Watch.{AreSmallCells, IsSmallMemory}
 
--- a walk past the root counts no group
+-- a walk past all groups counts none of them
 pub past_all : (parents : List (Option Slot)) (place at : ℕ) (came : Bool) (cell : SideCell) → AreOlder (parent_numbers parents) → length parents ≤ place → at < length parents → cell_counted (parent_numbers parents) (Some place) came at cell ≡ cell
 past_all parents place at came cell older past room =
     let other : (place == at) ≡ false = grind (arith, nat_tests) in
