@@ -149,7 +149,7 @@ turning_on row before after was seat stored way =
       way = subst (λ (z : PlanView × ℕ). AreOnTheWay z.0 z.1 (writer_on after).body) (λ i. (sym plan i, sym count i)) way;
     }
 
--- a slot that was done at one seat is done at one that went on from there
+-- a slot that was done is still done after the seat stored more words
 pub done_on : (before after : RowSeat) (slot : ℕ) → HasStored before after → AreClock (writer_on before).plan slot ((writer_on before).count + 1) (words_at (writer_on after).body slot) → IsDone after slot
 done_on before after slot stored done =
     let is = stored_view before after stored in

@@ -46,9 +46,9 @@ Knows seat writer other (Reader reader) =
     (reader.plan ≡ writer.plan) × (2 * reader.seen ≤ sequence writer) × KnowsLoaded (sequence writer) writer.body reader.attempt
 
 -- A row with this writer. The writer's view is at its seat and has the words after the sequence
--- number. Each seat knows of the row what its view says; the writer also knows that the count it
--- was told is at most its own. If no change is open, the words of each slot are a clock after the
--- changes that are in the row.
+-- number. Each seat knows of the row what its view says. The count reported to the writer is at
+-- most its own. If no change is open, the words of each slot are a clock after the changes that are
+-- in the row.
 pub record IsWholeRow (seat : ℕ) (writer : WriterView) (row : RowState) : Type 0 where
   pub here : get_elem? row.views seat ≡ some (Writer writer)
   pub words : row.words ≡ sequence writer ∷ writer.body

@@ -56,8 +56,8 @@ Puts step before word after = Writes (put_at (step.word - 1) step.first) before.
 abbrev pub Closes : RowStep → Sitter → ℕ → Sitter → Type 0
 Closes step before number after = Writes closed before.0 after.0
 
--- 4: A load by the writer finds the word that its view has, and shows that twice the count it was
--- told is at most the sequence number.
+-- 4: A load by the writer finds the word that its view has, and shows that twice the count reported
+-- to it is at most the sequence number.
 abbrev pub Owns : RowStep → Sitter → ℕ → Sitter → Type 0
 Owns step before word after =
     (after.0 ≡ before.0)
@@ -151,11 +151,12 @@ number_noted view = 0
 abbrev pub count_shown : ℕ → ReaderView → ReaderView
 count_shown number reader = record reader { seen = max reader.seen number }
 
--- a writer that was told of at least this many changes
+-- a writer to whom at least this many changes were reported
 abbrev pub count_told : ℕ → WriterView → WriterView
 count_told number writer = record writer { told = max writer.told number }
 
--- after it takes a note, a reader has seen the note's count, or the writer was told of it
+-- after it takes a note, a reader has seen the note's count, or the count was reported to the
+-- writer
 abbrev pub with_note : View → View → View
 with_note (Writer writer) note = Writer (count_told (number_noted note) writer)
 with_note (Reader reader) note = Reader (count_shown (number_noted note) reader)

@@ -38,7 +38,7 @@ ChainIsDone seat start =
     (slot : ℕ) → slot < length (writer_on seat).plan.parents
     → leads_to (writer_on seat).plan.parents (number_of_slot start) slot ≡ true → IsDone seat slot
 
--- every slot on each of these chains is done
+-- every slot on these chains is done
 abbrev pub ChainsAreDone : RowSeat → List (Option Slot) → Type 0
 ChainsAreDone seat starts = All (ChainIsDone seat) starts
 

@@ -67,7 +67,7 @@ pub(crate) fn own_word(board: &Board, seat: &mut RowSeat, place: usize) -> u64
     board.shared.load::<Owning>(seat, place + 1)
 }
 
-/// The writer loads the sequence number, which is at least twice the count that it was told.
+/// The writer loads the sequence number, which is at least twice the count reported to it.
 pub(crate) fn own_number(board: &Board, seat: &mut RowSeat)
     requires board { seat.old.table_id ≡ board.now.shared.table_id }
     requires words { 0 < board.now.shared.table_id.words }

@@ -112,7 +112,7 @@ taken_push journal lists places taken j e x is own inside at there short next sa
       own = λ q. own_push lists places taken e.observer x known short next by_o is.own q (eqb q e.observer) refl;
     }
 
--- ---- where the two agree
+-- ---- if the two agree
 
 -- what the journal's entries of an observer say so far is what its list says up to its place
 so_far : (journal : List Entry) (lists : List (List Entry)) (places : List ℕ) (taken : List Entry) → IsTaken journal lists places taken → (o : ℕ) → map said (by o journal) ≡ map said (take (place_of places o) (list_of lists o))

@@ -26,7 +26,7 @@ last-push events event = ap (λ (w : World). w.last) (after-push events event)
 pub after_others : (limits : Limits) (events : List Event) (event : Event) → AreLegal limits first_world (events ++ event ∷ []) → (after events).last ≤ event.at
 after_others limits events event legal = in_turn limits (after events) event (legal_last limits first_world events event legal)
 
--- ---- the events up to a moment
+-- ---- the events up to a time
 
 has_come : (at moment : ℕ) → nat_le moment at ≡ true → moment ≤ at
 has_come at moment on = grind (arith, nat_tests)

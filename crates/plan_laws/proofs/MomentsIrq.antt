@@ -23,7 +23,7 @@ use Rattle.plan_laws.proofs.PlanLaws.{after-push, as_many, by_last, changes_same
 use Rattle.plan_laws.proofs.PlanStates.{legal_front, legal_last, until_legal}
 use Rattle.plan_laws.proofs.PlanUpTo.{ends_by, past_it, up_to_front}
 
--- ---- the last moments of interrupts
+-- ---- the times of the last interrupts
 
 -- the time of a processor's last `irq` line, or 0
 abbrev last_irq : World → ℕ → ℕ
@@ -80,7 +80,7 @@ event_tells limits events event legal few cpu =
 last_irq-push : (events : List Event) (event : Event) (cpu : ℕ) → last_irq (after (events ++ event ∷ [])) cpu ≡ slice_index_or (irqs_after event.at (after events).irqs event.act) cpu 0
 last_irq-push events event cpu = ap (λ w. last_irq w cpu) (after-push events event)
 
--- ---- from the first moment on
+-- ---- from time 0 on
 
 -- a total is at most the time of the last interrupts, and these were no later than the last event
 record EndsBy (time : ℕ) (w : World) (cpu : ℕ) : Type 0 where
@@ -144,7 +144,7 @@ irq_is_within limits events legal few cpu slot at =
 pub no_irq_at_first : NoIrqAtFirst
 no_irq_at_first limits events legal few cpu slot = omega (arith, irq_is_within limits events legal few cpu slot 0)
 
--- ---- all that a plan tells of
+-- ---- all interrupt time of a plan
 
 -- the interrupt time (ns) of a processor
 abbrev told_all : ℕ → List Event → ℕ
@@ -166,7 +166,7 @@ plan_irqs_fit limits events legal few cpu k low =
     let sum = ap (λ cs. sum (map (λ (change : Change). change.irq) cs)) until.changes in
     omega (arith, sum, ends.sum, ends.last, until.last)
 
--- ---- from a moment to a later one
+-- ---- from one time to a later one
 
 -- A total grew since `at`: not at all, or by at most the time from `at` to the last interrupts plus
 -- a second.

@@ -83,7 +83,7 @@ parent_stays path at life = without_is (λ l. number_of_slot l.parent ≡ number
 made_stays : Stays (λ (life : GroupLife). life.made)
 made_stays path at life = without_is (λ l. l.made ≡ life.made) path at life refl refl
 
--- ---- the groups made by a moment are the first
+-- ---- the groups created up to a time are a prefix
 
 -- a field of the first groups, for as many as there are
 first_parts : {X : Type 0} (part : GroupLife → X) (some all : List GroupLife) → Front (map part some) (map part all) → map part some ≡ take (length some) (map part all)
@@ -108,7 +108,7 @@ groups_keep_slots limits events legal at =
       made = first_parts (λ (life : GroupLife). life.made) some _ (front_from (λ (life : GroupLife). life.made) made_stays (λ _ _. refl) (after (up_to events at)) parts.0);
     })
 
--- ---- lives up to the last moment
+-- ---- groups up to the last time
 
 gone_later : (made last at : ℕ) → last ≤ at → (o : Option ℕ) → IfSome o (λ gone. (made ≤ gone) × (gone ≤ last)) → IfSome o (λ gone. (made ≤ gone) × (gone ≤ at))
 gone_later made last at low None is = tt

@@ -180,7 +180,7 @@ are_a_map groups (first ∷ slots) all =
     both_hold _ _ (below_each groups (path_at groups first) slots (recursion_from_All (Ascends groups first) slots (pairs_head (Ascends groups) first slots all)))
     (are_a_map groups slots (pairs_tail (Ascends groups) first slots all))
 
--- ---- the groups at a moment, by all groups
+-- ---- the groups at a time, from all groups
 
 -- the group in an existing slot
 pub got_there : (groups : List GroupLife) (slot : ℕ) → slot < length groups → slice_get groups slot ≡ Some (slice_index_or groups slot root)

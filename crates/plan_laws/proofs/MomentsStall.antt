@@ -28,7 +28,7 @@ record Grew (before now room : ℕ) : Type 0 where
 grew_by : (b : Bool) (before now room : ℕ) → now ≡ before + (if b then room else 0) → Grew before now room
 grew_by b before now room is = let part = at_most_all b room in record { least = omega (arith, is); most = omega (arith, is, part) }
 
--- ---- from a moment to a later one
+-- ---- from one time to a later one
 
 -- up to both times, in a group's state on a processor
 abbrev Grows : State → ℕ → ℕ → List Event → Type 0
@@ -66,7 +66,7 @@ stall_grows limits events legal state cpu slot at later from =
     let grew = by_legal limits (Grows state cpu slot) (grows-none state cpu slot) (grows-push limits state cpu slot) events legal at later from in
     (grew.least, grew.most)
 
--- ---- from the first moment on
+-- ---- from time 0 on
 
 -- the stall time of all events up to a time is at most the time
 all_within : (limits : Limits) (state : State) (cpu slot : ℕ) (events : List Event) → AreLegal limits first_world events → (at : ℕ) → (after events).last ≤ at → stall state cpu slot events at ≤ at

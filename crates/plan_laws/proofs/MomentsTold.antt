@@ -22,7 +22,7 @@ told-push tells w (first ∷ events) event = ap (λ rest. tells w first ++ rest)
 abbrev pub TellsAtOnce : {A : Type 0} → (World → Event → List A) → (A → ℕ) → Type 0
 TellsAtOnce tells moment = (w : World) (event : Event) → AllByRecursion (λ x. moment x ≡ event.at) (tells w event)
 
--- ---- up to a moment
+-- ---- up to a time
 
 all_early : {A : Type 0} (moment : A → ℕ) (at now : ℕ) (xs : List A) → AllByRecursion (λ x. moment x ≡ now) xs → nat_le now at ≡ true → filter (λ x. nat_le (moment x) at) xs ≡ xs
 all_early moment at now [] all on = refl

@@ -27,7 +27,7 @@ use Rattle.plan_laws.proofs.MomentsLives.{InTurn, switched_is, turn_after, witho
 use Rattle.plan_laws.proofs.MomentsOrder.{got_there}
 use Rattle.plan_laws.proofs.MomentsTold.{TellsAtOnce, told-push, told_in_order, told_until}
 
--- ---- what an event tells of triggers
+-- ---- the triggers of an event
 
 -- the triggers that an event sets
 abbrev by_event : World → Event → List TriggerSpec

@@ -86,7 +86,7 @@ clock_is_in_time clock plan slot k at plan_is is from to = record {
       omega (arith, start_time clock (last_change plan k) state, known, within, plan_is.early k is.within);
 }
 
--- ---- what a clock tells
+-- ---- the times of a clock
 
 pub clock_tells_planned : ClockTellsPlanned
 clock_tells_planned clock plan slot k at is from = map_states (opened_time clock at) (λ state. planned_time state plan slot k at) (λ state. is.times state at from)

@@ -129,7 +129,7 @@ planned_irq_is_irq limits events legal cpu slot k low =
     ap (irq_over parents slot true) (sym until.changes)
     ∙ tells_irq limits cpu slot (until_change cpu events k) (until_legal limits cpu events k legal) parents (until_prolongs cpu events k)
 
--- ---- up to a moment
+-- ---- up to a time
 
 -- interrupt time is that of the events up to the last change
 irq_by_own_changes : (limits : Limits) (events : List Event) → AreLegal limits first_world events → (cpu slot : ℕ) → irq_time cpu slot events ≡ irq_time cpu slot (until_change cpu events (length (changes_of cpu events)))

@@ -94,7 +94,7 @@ changes_of-push cpu events event =
     ∙ ap (λ is. is ++ filter (is_change cpu (events ++ event ∷ [])) ((1 + length events) ∷ [])) front
     ∙ ap (λ is. filter (is_change cpu events) (range_with_len 1 (length events)) ++ is) last
 
--- ---- an event that touches a processor, and one that doesn't
+-- ---- events that touch a processor, and events that don't
 
 pub record Untouched (w : World) (event : Event) (cpu : ℕ) : Type 0 where
   pub leaves : touches w (Some event) cpu ≡ false

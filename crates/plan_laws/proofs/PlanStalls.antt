@@ -25,7 +25,7 @@ use Rattle.psi_spec.proofs.TaskLaws.{no_entries}
 use Rattle.psi_spec.proofs.GroupLaws.{and_false}
 use Rattle.psi_spec.proofs.RefusalLaws.{passed}
 
--- ---- moments of legal events
+-- ---- times of legal events
 
 not_before : (last at : ℕ) → nat_lt at last ≡ false → last ≤ at
 not_before last at off = grind (arith, nat_tests)
@@ -231,7 +231,7 @@ stall_by_own_changes limits events legal state cpu slot at from =
     ∙ ap (λ k. planned_time state (plan_of cpu events) slot k at) (as_many cpu events)
     ∙ planned_is_stall limits events legal state cpu slot n at (omega arith) (omega (arith, until.last, earlier, from))
 
--- ---- moments of a plan
+-- ---- times of a plan
 
 abbrev pub moment_at : List Change → ℕ → ℕ
 moment_at changes k = slice_index_or (0 ∷ moments changes) k 0

@@ -29,7 +29,7 @@ use Rattle.psi_spec.proofs.TaskLaws.{no_entries}
 use Rattle.psi_counts.proofs.TouchLaws.{stays_untouched}
 use Rattle.psi_counts.proofs.TouchWithin.{change_tells}
 
--- ---- fronts of legal events
+-- ---- prefixes of legal events
 
 pub legal_front : (limits : Limits) (w : World) (front rest : List Event) → AreLegal limits w (front ++ rest) → AreLegal limits w front
 legal_front limits w [] rest legal = tt
@@ -113,7 +113,7 @@ runs_as_told : (limits : Limits) (parents : List (Option ℕ)) (cpu slot : ℕ) 
 runs_as_told limits parents cpu slot events =
     by_last (λ es. AreLegal limits first_world es → RunsAsTold parents cpu slot es (shown_last (changes_from cpu first_world es))) (λ _. runs-none parents cpu slot) (runs-push limits parents cpu slot) events
 
--- ---- which accounts are on
+-- ---- which accounting is on
 
 -- with a change more
 pub on_from-push : (slot : ℕ) (on : Bool) (changes : List Change) (change : Change) → on_from slot on (changes ++ change ∷ []) ≡ on_with slot (on_from slot on changes) change.account

@@ -14,7 +14,7 @@ use Rattle.psi_counts.specs.Legal.{added, both_counts, taken}
 use Rattle.plan_laws.specs.Plan.{PlanView, Leaves, added_after, counts_after, current_after, holds_after, is_account_of, is_part_in, last_change, less, on_after, on_from, taken_after, AsideStays, CountsByChange, CurrentByChange, OnAtFirst, OnByChange, PlaceOfMoment, PlanCountsAreFew}
 use Rattle.plan_laws.proofs.PlanStates.{counts_are, on_from-push}
 
--- ---- a list with the element behind its front
+-- ---- a prefix and the next element
 
 take_one : {A : Type 0} (xs : List A) (k : ℕ) (x : A) → slice_get xs k ≡ Some x → take (suc k) xs ≡ take k xs ++ x ∷ []
 take_one [] k x is = absurd (cc is)
@@ -35,7 +35,7 @@ current_by_change plan k change is =
     let next : k + 1 ≡ suc k = omega arith in
     (ap (current_after plan) next ∙ read_one (λ (c : Change). c.current) None plan.changes k change is, ap (last_change plan) next ∙ read_one (λ (c : Change). c.at) 0 plan.changes k change is)
 
--- ---- accounts
+-- ---- accounting
 
 pub on_by_change : OnByChange
 on_by_change plan slot k change is = ap (on_from slot true) (one_more plan.changes k change is) ∙ on_from-push slot true (take k plan.changes) change
@@ -137,7 +137,7 @@ aside_stays state plan slot k change is aside =
     (tells_same state (counts_after plan slot k) (counts_after plan slot (k + 1)) (is_current_in plan.parents slot (current_after plan k)) (is_current_in plan.parents slot (current_after plan (k + 1)))
     (is_current_stalled (current_after plan k)) (is_current_stalled (current_after plan (k + 1))) counts aside.before current)
 
--- ---- the place of a moment
+-- ---- the number of changes up to a time
 
 abbrev is_early : ℕ → Change → Bool
 is_early at change = nat_le change.at at

@@ -70,7 +70,7 @@ planned_by_change state plan slot k at room =
     let goal : sum (map (planned_after state plan slot (k + 1) at) (range_with_len 1 (k + 1))) ≡ sum (map (planned_after state plan slot (k + 1) at) (range_with_len 1 k)) + planned_after state plan slot (k + 1) at (1 + k) = more in
     goal ∙ ap (λ n. n + planned_after state plan slot (k + 1) at (1 + k)) front ∙ ap (λ n. sum (map (planned_after state plan slot k (last_change plan (k + 1))) (range_with_len 1 k)) + n) last
 
--- ---- changes up to a moment
+-- ---- changes up to a time
 
 one_change : (moment at later : ℕ) → at ≤ later → cond (nat_le moment at) 1 0 ≤ cond (nat_le moment later) 1 0
 one_change moment at later forward = grind arith

@@ -27,7 +27,7 @@ states_stay limits events event legal state cpu slot untouched =
     (λ on. absurd (cc (on.turns, untouched)))
     (touched_or_not (after events) event cpu)
 
--- ---- the events up to a moment
+-- ---- the events up to a time
 
 abbrev is_early : ℕ → Change → Bool
 is_early at change = nat_le change.at at
@@ -95,7 +95,7 @@ stall_up_to limits events legal state cpu slot at =
     stall_by_own_changes limits front legally state cpu slot at (ends_by first_world events at (omega arith))
     ∙ ap (λ es. stall state cpu slot es at) (sym (until_of_front cpu front parts.0 (count_at cpu events at) (omega arith)) ∙ ap (λ es. until_change cpu es (count_at cpu events at)) (sym parts.1))
 
--- ---- how many changes there are up to a moment
+-- ---- the number of changes up to a time
 
 early_with : (at : ℕ) (o : Option Change) (changes : List Change) → filter (is_early at) (with_change o changes) ≡ filter (is_early at) (with_change o []) ++ filter (is_early at) changes
 early_with at None changes = refl
@@ -118,7 +118,7 @@ with_change-split : (o : Option Change) (changes : List Change) → with_change 
 with_change-split None changes = refl
 with_change-split (Some change) changes = refl
 
--- the changes by the events up to a moment are the early ones of all
+-- the changes by the events up to a time are the early ones of all
 early_changes : (limits : Limits) (cpu : ℕ) (w : World) (events : List Event) (at : ℕ) → AreLegal limits w events → changes_from cpu w (up_to events at) ≡ filter (is_early at) (changes_from cpu w events)
 early_changes limits cpu w [] at legal = refl
 early_changes limits cpu w (event ∷ events) at legal =

@@ -45,7 +45,7 @@ no_plan = record { changes = []; parents = [] }
 abbrev pub plan_of : ℕ → List Event → PlanView
 plan_of cpu events = record { changes = changes_from cpu first_world events; parents = parents_of (after events).groups }
 
--- ---- what a plan tells after some changes
+-- ---- the state after some changes
 
 -- the sum of what the first k changes add on a slot's chain
 abbrev pub added_after : PlanView → ℕ → ℕ → Counts
@@ -172,7 +172,7 @@ irq_over parents slot on (change ∷ changes) =
 unfoldable pub planned_irq : PlanView → ℕ → ℕ → ℕ
 planned_irq plan slot k = irq_over plan.parents slot true (take k plan.changes)
 
--- ---- clocks that stand for a slot
+-- ---- clocks that represent a slot
 
 -- A clock represents a slot after the first k changes of a plan. It may have started earlier, if
 -- the changes since then left the slot's states as they were; so several clocks can represent the

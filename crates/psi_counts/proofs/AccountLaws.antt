@@ -45,7 +45,7 @@ on_act limits w at _ legal are slot = refl
 pub on_by_account : OnByAccount
 on_by_account limits w event legal are slot = on_act limits w event.at event.act legal are slot
 
--- ---- changes by switched accounts
+-- ---- changes by switches of accounting
 
 -- what a test lets through
 made_then : (b : Bool) (made other : Change) → (if b then Some made else None) ≡ Some other → made ≡ other

@@ -72,7 +72,7 @@ one_le : (b : Bool) → one b ≤ 1
 one_le true = omega arith
 one_le false = omega arith
 
--- one that starts counts one more at most
+-- starting a task adds at most one to the count
 start_le : (c : ℕ) (tasks : Tasks) (next : Option Pid) → counted (is_running_on c) (start next tasks) ≤ counted (is_running_on c) tasks + 1
 start_le c tasks None = omega arith
 start_le c tasks (Some pid) =
@@ -127,7 +127,7 @@ runs_once_first cpu = rw no_entries (omega arith)
 pub runs_once_kept : RunsOnceKept
 runs_once_kept limits w event legal once = of_once (after_event w event).tasks (once_act limits w event.at event.act legal (once_of w.tasks once))
 
--- ---- what the running task tells
+-- ---- what the running task determines
 
 -- a stricter test counts no more
 tally_fewer : (p q : Task → Bool) (tasks : List Task) → tally (λ t. p t && q t) tasks ≤ tally p tasks

@@ -72,7 +72,7 @@ fits_moved : (cpus slots slot : ℕ) → slot < slots → (o : Option Task) → 
 fits_moved cpus slots slot room None fits = tt
 fits_moved cpus slots slot room (Some t) fits = (fits.0, room)
 
--- a task that leaves stays where it was
+-- a task that leaves keeps its processor and slot
 fits_left : (cpus slots : ℕ) (how : How) (o : Option Task) → Fits cpus slots o → Fits cpus slots (left_if how o)
 fits_left cpus slots how None fits = tt
 fits_left cpus slots Preempt (Some t) fits = fits
@@ -81,7 +81,7 @@ fits_left cpus slots IoWait (Some t) fits = fits
 fits_left cpus slots Exit (Some t) fits = tt
 fits_left cpus slots Idle (Some t) fits = fits
 
--- a running task is where tasks are
+-- a running task's processor and slot exist
 fits_running : (cpus slots : ℕ) (tasks : Tasks) → AreWithin cpus slots tasks → (cpu : ℕ) (o : Option (ℕ × Task)) → running_on tasks cpu ≡ o → Fits cpus slots (task_part o)
 fits_running cpus slots tasks within cpu None is = tt
 fits_running cpus slots tasks within cpu (Some e) is = subst (Fits cpus slots) ((running_found tasks cpu e is).0) (within e.0)
@@ -136,7 +136,7 @@ fits_after limits w at _ h within = tt
 
 -- ---- the tasks after an act
 
--- all tasks after an act, given the one that it changes
+-- all tasks after an act, given the task that it changes
 within_act : (limits : Limits) (w : World) (at : ℕ) (a : Act) → AreWithin limits.cpus (length w.groups) w.tasks → Fits limits.cpus (length w.groups) (task_after w.groups w.tasks a) → AreWithin limits.cpus (length w.groups) (tasks_after w.groups w.tasks a)
 within_act limits w at (act.Fork pid path cpu) within fits = fits_placed limits.cpus (length w.groups) w.tasks within pid.0 (Some (new_task w.groups path cpu.0)) fits
 within_act limits w at (act.Wake pid cpu) within fits = fits_changed limits.cpus (length w.groups) w.tasks within pid.0 _ (task_of w.tasks pid.0) fits
@@ -266,7 +266,7 @@ pub all_touched : (IsSo : ℕ → Change → Type 0) (w : World) (event : Event)
 all_touched IsSo w event touch told beside so =
     (first_so IsSo (change_of w event) touch.first touch.second told so, second_so IsSo (change_of w event) touch.first touch.second beside told so)
 
--- ---- what a change tells
+-- ---- changes
 
 either_none : (b : Bool) → ◌≡◌ {A = ℕ} (if b then 0 else 0) 0
 either_none true = refl
@@ -341,7 +341,7 @@ touches_before w (act.Irq named ns) cpu at = cc at
 touches_before w (act.Pressure path on) cpu at = refl
 touches_before w _ cpu at = at
 
--- a task that comes to a processor, one that stays where it was, and one that leaves
+-- a task that comes to a processor, a task that stays there, and a task that leaves
 came_there : (named cpu : ℕ) (o : Option Task) → is_some_and (changed (readied named) o) (is_at cpu) ≡ true → (named == cpu) ≡ true
 came_there named cpu None at = cc at
 came_there named cpu (Some t) at = at

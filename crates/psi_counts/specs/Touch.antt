@@ -52,7 +52,7 @@ after_effect groups tasks switches_account = None
 abbrev pub task_after : List GroupLife → Tasks → Act → Option Task
 task_after groups tasks act = after_effect groups tasks (effect_of act)
 
--- ---- accounts
+-- ---- accounting
 
 -- The slot of a group whose accounting is switched, and whether it is on afterwards; `None` if no
 -- path is given.

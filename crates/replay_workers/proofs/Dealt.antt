@@ -140,7 +140,7 @@ pub may_go : (plans : PlansView) (batches : List (List LaneView)) (old ticks : T
 may_go plans batches old ticks out room is within behind = λ worker d below.
     subst (MayAllGo ticks) (get_or_default batches worker [] d below) (batch_may_go plans batches old ticks out room is within behind worker below)
 
--- ---- behind it
+-- ---- after it
 
 lane_gone : (plans : PlansView) (before ticks : Ticks) (room cpu : ℕ) (old new : LaneView) → IsLaneOf plans before room cpu old → HasGone ticks old new → IsLaneOf plans ticks room cpu new
 lane_gone plans before ticks room cpu old new is gone = record {

@@ -71,7 +71,7 @@ is_tried_next counts low last count start before after rises all one = (
   tried_next counts low last count all.0 one.0 all.1 one.1 rises all.4 one.4,
 )
 
--- whoever tries nothing takes no sample
+-- a reader without tries takes no sample
 pub none_tried : (low : ℕ) (reader : ReaderView) → IsTried [] low reader reader
 none_tried low reader = ([], 0, sym (append-nil reader.got), omega arith, refl)
 

@@ -165,7 +165,7 @@ tells-push limits parents slot events event legal earlier =
 pub tasks_told : (limits : Limits) (parents : List (Option ℕ)) (slot : ℕ) (events : List Event) → AreLegal limits first_world events → Tells parents slot events
 tasks_told limits parents slot events legal = by_legal limits (Tells parents slot) (sym (none_first (is_below parents slot))) (tells-push limits parents slot) events legal
 
--- ---- groups that are made later
+-- ---- groups created later
 
 -- each entry's slot is below the last
 entries_within : (cpus slots : ℕ) (tasks : Tasks) → AreWithin cpus slots tasks → (es : List (ℕ × Task)) → AllByRecursion (λ e. task_of tasks e.0 ≡ Some e.1) es → AllByRecursion (λ e. e.1.slot.0 < slots) es

@@ -29,7 +29,7 @@ use Rattle.side_watch.specs.declared.cell.SideCell.{SideCell}
 use Rattle.side_watch.specs.Sides.{side_sample, is_coming, counted, cell_after, cell_by, host_after, host_by}
 use Rattle.side_watch.specs.Laws.{told_in, memory_in, preference_in, host_in, MemoryIsLastSide, PreferenceIsLastSide, HostIsLastSide, PopulatedIsCounted}
 
--- ---- what sides tell, all together
+-- ---- the values of all sides
 
 -- tasks that come or leave have no value of this kind
 abbrev IsOfSamples : {A : Type 0} → (SideAct → List A) → Type 0

@@ -24,7 +24,7 @@ use Rattle.side_watch.proofs.Told.{memory_by, preference_by, hosts_by, memory_is
 use Rattle.side_watch.proofs.Counting.{by_both, tasks_told, tasks_later}
 use Rattle.side_watch.proofs.Due.{taken_on, take_due_on}
 
--- ---- events up to a moment
+-- ---- events up to a time
 
 -- the events so far are a prefix of all
 seen_front : (limits : Limits) (events : List Event) (moment : Option ℕ) → AreLegal limits first_world events → (rest : List Event) × (events ≡ seen_events events moment ++ rest)
@@ -44,7 +44,7 @@ seen_prolongs limits events moment legal =
     let by = prolongs_by (after (seen_events events moment)) front.0 in
     (by.0, ap (λ (w : World). parents_of w.groups) whole ∙ by.1)
 
--- ---- a watch whose groups are as sides tell them
+-- ---- a watch whose groups have the state after sides
 
 -- what is kept of the group in a slot once all sides of the events that were seen were taken
 abbrev told_cell : List Event → Option ℕ → ℕ → SideCell
@@ -98,7 +98,7 @@ pub begins_as : (lives : List GroupLife) (cells : List SideCell) (parents : List
     Begins lives (record { cells = cells; parents = parents; host = no_host; taken = 0 })
 begins_as lives cells parents cells_are parents_are = rw (cells_are, parents_are) (begins lives)
 
--- ---- on to a later moment
+-- ---- on to a later time
 
 abbrev memory_from : MemorySample → GroupMemory
 memory_from sample = record { current = sample.current; swap = sample.swap; scan = sample.scan }

@@ -88,7 +88,7 @@ abbrev pub host_by : HostReading → List Side → HostReading
 host_by host [] = host
 host_by host (side ∷ sides) = host_by (host_after host side.what) sides
 
--- ---- sides up to a moment
+-- ---- sides up to a time
 
 -- the longest prefix of the sides whose times are at most `at` (ns)
 abbrev pub due_by : ℕ → List Side → List Side

@@ -63,7 +63,7 @@ start_together current change stays other same alone chains is minus plus before
       after = ap (λ (c : Chains). c.after) is;
     }
 
--- ---- how high they stand
+-- ---- upper bounds of heights
 
 side_low : {A : Type 0} (side : Option (Slot × A)) (slots : ℕ) → IfSome side (λ pair. pair.0.0 < slots) → height (slot_in side) ≤ slots
 side_low None slots below = omega arith

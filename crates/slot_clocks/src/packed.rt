@@ -140,7 +140,7 @@ impl PackedChange {
         }
     }
 
-    // A change of interrupt time alone. This is rare, so it isn't inlined; neither is `of_account`.
+    // A change of interrupt time alone. This is rare, so it isn't inlined.
     #[inline(never)]
     fn of_irq(at: Ns, current: Option<(Slot, bool)>, irq: u64) -> PackedChange
         requires running { IfSome current (λ current. current.0.0 < most_groups) }
