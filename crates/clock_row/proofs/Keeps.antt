@@ -97,7 +97,7 @@ writer_steps s id w w' r i x cs words plan more grows told rest = (
   },
 )
 
--- a load leaves the row as it was, but for the seat's view
+-- a load changes only the seat's view of the row
 unchanged : (s : RowState) (i id : ℕ) (cs : List (ℕ × Unit {0})) (v : View) → get_elem? s.views id ≡ some v → stepped s i (get_or s.words i 0) id cs v keeps ≡ s
 unchanged s i id cs v at = λ k. record { words = set-get_or s.words i 0 k; homes = s.homes; views = set_again s.views id v at k }
 

@@ -11,7 +11,7 @@ use Rattle.clock_row.specs.Words.{AreClock, AreClockWords, ArePut, mask_at, word
 
 -- ---- words at a place
 
--- nine words that are the same place by place
+-- nine words that are equal at each index
 pub words_are : (n from : ℕ) (xs body : List ℕ) → length xs ≡ n → from + n ≤ length body → ((i : ℕ) → i < n → get_or xs i 0 ≡ get_or body (from + i) 0) → xs ≡ take n (drop from body)
 words_are n from xs body wide room each = let a = length-take n (drop from body) in let b = length-drop from body in
     ext_get_or 0 xs (take n (drop from body)) (omega arith) (λ i l. each i (omega arith) ∙ sym (get_or-take n (drop from body) i 0 (omega arith) ∙ get_or-drop from body i 0))

@@ -1,4 +1,4 @@
--- The turn of slots in the course of a change.
+-- The update of slots during a change.
 use Rattle.std.proofs.Common.{◌≡◌, ◌≢◌, ℕ, zero, suc, ◌+◌, ◌*◌, ◌^◌, ◌<◌, ◌≤◌, ◌⊎◌, ◌||◌, eqb, Bool, true, false, List, [], ◌∷◌, length, refl, sym, ap, ◌∙◌, subst, inl, inr, ⊎_elim, arith}
 use Rattle.std.specs.Prelude.{IfSome, None, Option, Some, slice_get, slice_index_or}
 use Rattle.std.specs.Option.{option_or}
@@ -53,7 +53,7 @@ pub slot_done : (plan : PlanView) (k slot : ℕ) (clock : ClockView) (before aft
     → AreClock plan slot (k + 1) (words_at after slot)
 slot_done plan k slot clock before after below way is put = (clock, words_there plan k slot clock before after below way is put, is)
 
--- those of another slot are as they were
+-- the words of another slot are unchanged
 pub others_stay : (plan : PlanView) (k slot : ℕ) (words before after : List ℕ) → slot < length plan.parents → AreOnTheWay plan k before → ArePut (9 * slot) 9 words before after → (other : ℕ) → other < length plan.parents → other ≢ slot
     → words_at after other ≡ words_at before other
 others_stay plan k slot words before after below way put other inside apart = let wide = way.wide in
@@ -89,7 +89,7 @@ slot_turns plan k slot clock before after below way is put other_mask =
 pub goes_nowhere : (plan : PlanView) (k : ℕ) (body : List ℕ) → GoesOn plan k body body
 goes_nowhere plan k body = record { each = λ slot below. inl refl; done = λ slot below was. was }
 
--- a slot that is turned twice has one mask after the change
+-- a slot that is updated twice has one mask after the change
 twice : (plan : PlanView) (k slot : ℕ) (a b c : List ℕ) → StaysOrTurns plan k slot a b → StaysOrTurns plan k slot b c → StaysOrTurns plan k slot a c
 twice plan k slot a b c one two = ⊎_elim
     (λ (same : words_at b slot ≡ words_at a slot). ⊎_elim
@@ -116,13 +116,13 @@ stay_by_mask plan k before after goes slot below same = ⊎_elim
     (λ (turned : (mask_at after slot ≡ mask_at before slot → ⊥) × AreClock plan slot (k + 1) (words_at after slot)). absurd (turned.0 same))
     (goes.each slot below)
 
--- before a change each slot is on the way
+-- when a change opens, the words of each slot are a clock before it
 pub way_begins : (plan : PlanView) (k : ℕ) (body : List ℕ) → AreClockWords plan k body → AreOnTheWay plan k body
 way_begins plan k body are = record { wide = are.wide; each = λ slot below. inl (are.each slot below) }
 
 -- ---- seats
 
--- a seat that stored words has its view but for these
+-- a seat that stored words has the same view apart from these
 pub stored_view : (before after : RowSeat) → HasStored before after → writer_on after ≡ with_body (writer_on after).body (writer_on before)
 stored_view before after stored = ap as_writer stored
 
@@ -200,7 +200,7 @@ parent_below parents low (Some slot) older is = older low slot.0 (sym is)
 some_change : (plan : PlanView) (k : ℕ) → k < length plan.changes → (change : Change) × (slice_get plan.changes k ≡ Some change)
 some_change plan k room = let none : Change = record { at = 0; minus = None; plus = None; current = None; irq = 0; account = None } in (slice_index_or plan.changes k none, slice_get-get_or plan.changes k none room)
 
--- what holds of four holds of all in their list
+-- a property of four elements holds for all in their list
 all_four : (P : Option Slot → Type 0) (a b c d : Option Slot) → P a → P b → P c → P d → All P (a ∷ b ∷ c ∷ d ∷ [])
 all_four P a b c d of_a of_b of_c of_d zero x inside = of_a
 all_four P a b c d of_a of_b of_c of_d (suc zero) x inside = of_b
@@ -228,7 +228,7 @@ true_or_false : (b : Bool) → (b ≡ true) ⊎ (b ≡ false)
 true_or_false true = inl refl
 true_or_false false = inr refl
 
--- a change leaves the words of a slot that is on none of its chains
+-- a change doesn't affect the words of a slot on none of its chains
 aside_done : (plan : PlanView) (k slot : ℕ) (body : List ℕ) (starts : List (Option Slot)) → IsPlan plan → k < length plan.changes → slot < length plan.parents → AreOnTheWay plan k body → OthersAreAside plan k starts → IsOnNone plan.parents starts slot
     → AreClock plan slot (k + 1) (words_at body slot)
 aside_done plan k slot body starts whole room below way aside none = ⊎_elim
@@ -263,7 +263,7 @@ all_done plan k body starts whole room way aside done = record {
       (one_or_none plan.parents starts slot);
 }
 
--- the chains of a change begin at slots that the plan knows
+-- the chains of a change begin at slots of the plan
 pub starts_below : (plan : PlanView) (k : ℕ) (starts : List (Option Slot)) → IsPlan plan → k < length plan.changes → AreConcerned plan k starts → AreBelow (length plan.parents) starts
 starts_below plan k starts whole room are =
     let change = some_change plan k room in
@@ -286,7 +286,7 @@ chain_stays before after start turned done slot below leads =
 
 -- ---- a change
 
--- once it is open, the slots may be turned
+-- once it is open, the slots may be updated
 pub turning_begins : (row : TableId) (before after : RowSeat) (plan : PlanView) (clocks : OnPlan) → IsWriterEnd row before plan clocks → clocks.made < length plan.changes → IsSameSeat before after → after.me.0 ≡ Writer (change_opened (writer_on before)) → IsTurning row after
 turning_begins row before after plan clocks was room seat view =
     let is : writer_on after ≡ change_opened (writer_on before) = ap as_writer view in
@@ -304,7 +304,7 @@ turning_begins row before after plan clocks was room seat view =
           (subst (λ (z : PlanView × WriterView). AreClockWords z.0 z.1.count z.1.body) (λ i. (plan_is i, sym is i)) was.words);
     }
 
--- the plan and the count of a writer's seat stay while slots are turned
+-- the plan and the count of a writer's seat don't change while slots are updated
 pub turned_from : (row : TableId) (before begun after : RowSeat) (plan : PlanView) (clocks : OnPlan) (k : ℕ) → IsWriterEnd row before plan clocks → k ≡ clocks.made → begun.me.0 ≡ Writer (change_opened (writer_on before)) → HasTurned begun after
     → (plan ≡ (writer_on after).plan) × (k ≡ (writer_on after).count)
 turned_from row before begun after plan clocks k was count view turned =

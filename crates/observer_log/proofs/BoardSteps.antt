@@ -1,4 +1,4 @@
--- Each step keeps the rule of the board.
+-- Each step preserves the invariant of the board.
 use Rattle.std.proofs.Common.{◌≡◌, ℕ, zero, suc, ◌+◌, ◌-◌, ◌<◌, ◌≤◌, ◌≢◌, max, List, [], ◌∷◌, ◌++◌, length, set, sym, refl, ap, ◌∙◌, subst, ⊎_elim, arith, Some, length-append}
 use Rattle.std.specs.Prelude.{slice_get}
 use mathlib.Core.Option.{some, some-injective, some-ne-none}
@@ -63,7 +63,7 @@ mine value views id v d is b at =
 guest : (value : BoardState) (views : List View) (b : HoldsBoard value views) (id : ℕ) (v : View) (o : Watching) → v ≡ Observer o → get_elem? views id ≡ some v → id ≢ b.0
 guest value views b id v o is at e = let here : get_elem? views b.0 ≡ some (Driver b.1) = b.2.here in cc
 
--- what the others know after one state more
+-- what the others know after one more state
 others_know : (seat : ℕ) (states rest : List BoardState) (other : ℕ) → other ≢ seat → (v : View) → Knows seat states other v → Knows seat (states ++ rest) other v
 others_know seat states rest other apart Spent k = tt
 others_know seat states rest other apart (Shown shown) k = still_begins states rest shown k

@@ -155,7 +155,7 @@ next_same journal lists places taken j e x is inside at agrees there =
     let other : get_or (map said (take p list) ++ said e ∷ next.0) p (said x) ≡ said e = ap (λ (n : ℕ). get_or (map said (take p list) ++ said e ∷ next.0) n (said x)) (sym front) ∙ get_or-append_seam (map said (take p list)) (said e) next.0 (said x) in
     sym other ∙ (ap (λ l. get_or l p (said x)) (sym next.1) ∙ one)
 
--- and in the end each list was taken whole
+-- and in the end all entries of each list were taken
 pub all_taken : (journal : List Entry) (lists : List (List Entry)) (places : List ℕ) (taken : List Entry) (o : ℕ) → IsTaken journal lists places taken → Agrees journal lists → place_of places o ≡ length (list_of lists o)
 all_taken journal lists places taken o is agrees =
     let list = list_of lists o in
@@ -164,7 +164,7 @@ all_taken journal lists places taken o is agrees =
     let front : length (map said (take p list)) ≡ p = length-map (take p list) said ∙ length-take-le p list (is.within o) in
     sym front ∙ (ap length (sym same) ∙ length-map list said)
 
--- if each list was taken whole, the two agree
+-- if all entries of each list were taken, the two agree
 pub in_order : (journal : List Entry) (lists : List (List Entry)) (places : List ℕ) (taken : List Entry) → IsTaken journal lists places taken → ((o : ℕ) → place_of places o ≡ length (list_of lists o)) → AreInOrder journal lists taken
 in_order journal lists places taken is whole =
     let mine : (o : ℕ) → by o taken ≡ list_of lists o = λ o. is.own o ∙ (ap (λ (n : ℕ). take n (list_of lists o)) (whole o) ∙ take-length (list_of lists o)) in record {

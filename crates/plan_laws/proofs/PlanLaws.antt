@@ -61,7 +61,7 @@ with_change-append : (o : Option Change) (xs ys : List Change) → with_change o
 with_change-append None xs ys = refl
 with_change-append (Some change) xs ys = refl
 
--- the changes with those of an event more
+-- the changes, and those of one more event
 pub changes_from-push : (cpu : ℕ) (w : World) (events : List Event) (event : Event) → changes_from cpu w (events ++ event ∷ []) ≡ changes_from cpu w events ++ with_change (change_of (after_from w events) event cpu) []
 changes_from-push cpu w [] event = refl
 changes_from-push cpu w (first ∷ events) event =
@@ -121,7 +121,7 @@ touched_or_not w event cpu =
     (λ on. inr (record { change = made; turns = on.0; one = on.1; moment = refl; irq = refl; account = refl }))
     (touch_cases (touched event.act (before w.tasks event.act) cpu) made)
 
--- an event that doesn't touch the processor leaves its changes
+-- an event that doesn't touch the processor adds no change
 pub changes_same : (cpu : ℕ) (events : List Event) (event : Event) → Untouched (after events) event cpu → changes_from cpu first_world (events ++ event ∷ []) ≡ changes_from cpu first_world events
 changes_same cpu events event off = changes_from-push cpu first_world events event ∙ rw off.none (append-nil (changes_from cpu first_world events))
 
@@ -226,7 +226,7 @@ unfolding changes_of
 until-none cpu zero low = record { within = omega arith; changes = refl; last = refl }
 until-none cpu (suc k) low = absurd (omega (arith, low))
 
--- an event more leaves the events up to earlier changes
+-- one more event doesn't affect the events up to earlier changes
 until-front : (cpu : ℕ) (events : List Event) (event : Event) (numbers : List ℕ) (changes : List Change) (k : ℕ) → k ≤ length (changes_of cpu events)
     → changes_of cpu (events ++ event ∷ []) ≡ changes_of cpu events ++ numbers → changes_from cpu first_world (events ++ event ∷ []) ≡ changes_from cpu first_world events ++ changes → IsUntil cpu events k → IsUntil cpu (events ++ event ∷ []) k
 until-front cpu events event numbers changes k low more_numbers more_changes is =

@@ -30,7 +30,7 @@ use Rattle.psi_spec.proofs.RefusalLaws.{passed}
 not_before : (last at : ℕ) → nat_lt at last ≡ false → last ≤ at
 not_before last at off = grind (arith, nat_tests)
 
--- a legal event isn't before the last
+-- a legal event isn't before the last event
 pub in_turn : (limits : Limits) (w : World) (event : Event) → cause_of limits w event ≡ None → w.last ≤ event.at
 unfolding cause_of
 in_turn limits w event legal = not_before w.last event.at (passed (λ why. applies why limits w event) cause_order 1 cause.TimeBack legal refl)
@@ -144,7 +144,7 @@ tells-none : (limits : Limits) (state : State) (cpu slot : ℕ) → TellsStall l
 unfolding planned_time stall
 tells-none limits state cpu slot legal parents more at from = refl
 
--- parents after an event more are parents before it
+-- a list that prolongs the parents after one more event prolongs those before it
 pub fewer_before : (events : List Event) (event : Event) (parents : List (Option ℕ)) → Prolongs (parents_of (after (events ++ event ∷ [])).groups) parents → Prolongs (parents_of (after events).groups) parents
 fewer_before events event parents more = prolongs_back (after events) event parents (subst (λ (w : World). Prolongs (parents_of w.groups) parents) (after-push events event) more)
 

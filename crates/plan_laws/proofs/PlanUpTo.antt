@@ -79,7 +79,7 @@ numbers_front cpu front rest =
     (is.0 ++ numbers, ap (changes_of cpu) (sym (append_assoc front es (event ∷ []))) ∙ changes_of-push cpu (front ++ es) event ∙ ap (λ ns. ns ++ numbers) is.1 ∙ append_assoc (changes_of cpu front) is.0 numbers))
     rest
 
--- the events up to an early change are those of the front
+-- the events up to an early change are those of the prefix
 pub until_of_front : (cpu : ℕ) (front rest : List Event) (k : ℕ) → k ≤ length (changes_of cpu front) → until_change cpu (front ++ rest) k ≡ until_change cpu front k
 until_of_front cpu front rest k low =
     let numbers = numbers_front cpu front rest in

@@ -26,7 +26,7 @@ pub no_account : (groups : List GroupLife) (tasks : Tasks) (a : Act) (cpu : ℕ)
 no_account groups tasks (act.Pressure path on) cpu off = absurd (cc off)
 no_account groups tasks _ cpu off = refl
 
--- a path that has to be live is that of a slot
+-- a path that must be live has a slot
 the_slot : (o : Option ℕ) → not (is_some o) ≡ false → (n : ℕ) × (o ≡ Some n)
 the_slot None h = absurd (cc h)
 the_slot (Some n) h = (n, refl)

@@ -22,7 +22,7 @@ opened_at clock at Nonidle = refl
 pub advanced_time : (clock : ClockView) (at mask later : ℕ) (state : State) → opened_time (advanced clock at mask) later state ≡ opened_time clock at state + (if mask_holds mask state then later - at else 0)
 advanced_time clock at mask later state = rw (opened_at clock at state) refl
 
--- no time has passed by the zero clock
+-- the times of the zero clock are 0
 pub zero_time : (at : ℕ) (state : State) → opened_time zero_clock at state ≡ 0
 zero_time at IoSome = refl
 zero_time at IoFull = refl
@@ -90,7 +90,7 @@ parted : (held : Bool) (time start at later : ℕ) → start ≤ at → at ≤ l
 parted true time start at later from to = omega arith
 parted false time start at later from to = omega arith
 
--- a clock follows itself over a change that leaves its mask
+-- a clock follows itself over a change that doesn't change its mask
 pub clock_stays : (clock : ClockView) (at : ℕ) → clock.start ≤ at → ClockFollows clock at clock
 clock_stays clock at from = record {
   start = from;

@@ -1,4 +1,4 @@
--- Legal events keep the world legal, and what that says of counts.
+-- Legal events preserve the invariant of worlds, and what follows for counts.
 use Rattle.std.proofs.Common.{◌≡◌, ℕ, ◌+◌, ◌≤◌, ◌<◌, List, [], ◌∷◌, ◌++◌, refl, ap, ◌∙◌, sym, subst, Bool, true, false, arith, cond, Option, None, Some, length, nat_lt}
 use Rattle.std.specs.Prelude.{map, filter, nat_le, ◌&&◌, if◌then◌else◌, IfSome, ◌==◌}
 use Rattle.std.specs.List.{AllByRecursion}
@@ -54,7 +54,7 @@ changed_not_more : (f : Task → Task) (o : Option Task) → one (is_some_and (c
 changed_not_more f None = omega arith
 changed_not_more f (Some t) = omega arith
 
--- nor does one that leaves
+-- nor does a task that leaves
 left_not_more : (how : How) (o : Option Task) → one (is_some_and (left_if how o) always) ≤ one (is_some_and o always)
 left_not_more how None = omega arith
 left_not_more Preempt (Some t) = omega arith
@@ -69,7 +69,7 @@ not_more after old new now most is fewer low = omega (arith, is, fewer, low)
 room_for_one : (n : ℕ) → nat_le 65536 n ≡ false → n + 1 ≤ 65536
 room_for_one n h = grind (arith, nat_tests)
 
--- a legal act leaves no more tasks than may live
+-- after a legal act the number of tasks is within the limit
 few_act : (limits : Limits) (w : World) (at : ℕ) (a : Act) → cause_of limits w (record { at = at; act = a }) ≡ None → counted always w.tasks ≤ 65536 → counted always (tasks_after w.groups w.tasks a) ≤ 65536
 unfolding cause_of
 few_act limits w at (act.Fork pid path cpu) h few =
@@ -199,7 +199,7 @@ counts_are_few limits w world parents cpu slot = record {
 
 -- ---- counts over a trace
 
--- what is taken and added by a change, and then by others, is taken and added by all
+-- the sums over a change and then over others are the sums over all
 all_follow : (old first middle new : Counts) (minus plus more_minus more_plus : Counts) → Follows old minus plus middle → Follows middle more_minus more_plus new → Follows old (both_counts minus more_minus) (both_counts plus more_plus) new
 all_follow old first middle new minus plus more_minus more_plus one others = record {
   io = omega (arith, one.io, others.io);

@@ -92,7 +92,7 @@ readied_fewer : (c cpu : ℕ) (o : Option Task) → one (is_some_and (changed (r
 readied_fewer c cpu None = omega arith
 readied_fewer c cpu (Some t) = let none = not_running c (readied cpu t) refl in omega (arith, none)
 
--- a change that leaves whether it runs
+-- a change that doesn't affect whether the task runs
 kept_fewer : (c : ℕ) (f : Task → Task) → ((t : Task) → is_running_on c (f t) ≡ is_running_on c t) → (o : Option Task) → one (is_some_and (changed f o) (is_running_on c)) ≤ one (is_some_and o (is_running_on c))
 kept_fewer c f same None = omega arith
 kept_fewer c f same (Some t) = let here = ap one (same t) in omega (arith, here)
@@ -191,7 +191,7 @@ current_in : (parents : List (Option ℕ)) (slot : ℕ) (o : Option (ℕ × Task
 current_in parents slot None = refl
 current_in parents slot (Some e) = sym (and_true (is_under parents e.1.slot.0 slot))
 
--- it is in a stall besides, by what is shown
+-- it is also in a stall, by what is shown
 current_stalled : (parents : List (Option ℕ)) (slot : ℕ) (o : Option (ℕ × Task)) → (is_current_in parents slot (shown o) && is_current_stalled (shown o)) ≡ is_some_and (task_part o) (λ t. is_under parents t.slot.0 slot && stalls t)
 current_stalled parents slot None = refl
 current_stalled parents slot (Some e) = refl

@@ -1,4 +1,4 @@
--- How counts of tasks follow a task that comes, changes or goes.
+-- How counts of tasks follow a task that is added, changed or removed.
 use Rattle.std.proofs.Common.{◌≡◌, ℕ, ◌+◌, List, [], ◌∷◌, refl, ap, ◌∙◌, sym, subst, Bool, true, false, arith, cond, Option, None, Some, ◌==◌, ⊎_elim}
 use Rattle.std.specs.Prelude.{T, map, find, filter, ◌&&◌}
 use Rattle.std.specs.Ordering.{nat_cmp, is_lt, is_eq}
@@ -19,7 +19,7 @@ use Rattle.psi_spec.proofs.TaskLaws.{firstT, found, get_put, get_remove, itself,
 
 -- ---- counts as sums
 
--- how many of a list pass a test, one task after the other
+-- the number of tasks in a list that pass a test, by recursion
 abbrev pub tally : (Task → Bool) → List Task → ℕ
 tally test [] = 0
 tally test (task ∷ tasks) = one (test task) + tally test tasks

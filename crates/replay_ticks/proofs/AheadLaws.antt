@@ -133,7 +133,7 @@ next_early ticks plans crew pacing trace pace i is roomy next =
     let early = moment_early plans trace pace (i + ticks.count) is.planned (next_many ticks plans crew pacing trace pace i is next) in
     omega (arith, last, early)
 
--- a crew that went over them has the next table ready
+-- a crew that advanced by them has the next table ready
 pub next_ready : (ticks : Ticks) (plans : PlansView) (crew new : CrewView) (pacing : Pacing) (trace : Trace) (pace : Pace) (i : ℕ) → IsToGo plans crew pacing trace pace i → 1 ≤ crew.room → AreNext ticks crew pacing i → new.plans ≡ crew.plans → new.ready ≡ moments_of ticks → AreAt new.plans new.clocks (last_of ticks)
     → IsReady plans new trace pace i
 next_ready ticks plans crew new pacing trace pace i is roomy next same ready there =
@@ -176,7 +176,7 @@ tick_behind plans crew pacing trace pace i at is none moment =
     subst (λ p. AreBehind p crew.clocks at) (sym is.ahead.same)
     (behind_later plans crew.clocks (tick_moment pace.length i) at (omega (arith, same, apart)) behind)
 
--- a crew that went to it has its table ready
+-- a crew that advanced to it has its table ready
 pub tick_ready : (plans : PlansView) (crew new : CrewView) (pacing : Pacing) (trace : Trace) (pace : Pace) (i at : ℕ) → IsToGo plans crew pacing trace pace i → at ≡ tick_moment pacing.length (i + 1) → new.plans ≡ crew.plans → new.ready ≡ at ∷ [] → AreAt new.plans new.clocks at
     → IsReady plans new trace pace i
 tick_ready plans crew new pacing trace pace i at is moment same ready there =
@@ -197,7 +197,7 @@ tick_ready plans crew new pacing trace pace i at is moment same ready there =
 
 -- ---- one table
 
--- the first table that is ready is that of the next tick
+-- the first ready table is that of the next tick
 pub first_is : (plans : PlansView) (crew : CrewView) (trace : Trace) (pace : Pace) (i at : ℕ) → IsReady plans crew trace pace i → at ≡ tick_moment pace.length (i + 1) → slice_get crew.ready 0 ≡ Some at
 first_is plans crew trace pace i at is moment =
     ap (λ moments. slice_get moments 0) is.ahead.ready ∙ first_of pace.length i (length crew.ready) is.some ∙ ap Some (sym moment)

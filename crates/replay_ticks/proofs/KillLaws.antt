@@ -155,7 +155,7 @@ if_below : (b : Bool) (n : ℕ) (xs : List Kill) → All (IsOf n) xs → All (Is
 if_below true n xs all = all
 if_below false n xs all = All-nil (IsOf n)
 
--- so each kill of a tick is of a group that there is
+-- so each kill of a tick is of an existing group
 pub kills_below : (plans : PlansView) (trace : Trace) (pace : Pace) (rules : List Rule) (order : List Slot) (i : ℕ) → IsPlanned plans trace pace → IsPathOrder plans.lives (numbers_of order)
     → All (λ (kill : Kill). kill.victim.0 < length plans.lives) (kills_in trace pace rules i)
 unfolding kills

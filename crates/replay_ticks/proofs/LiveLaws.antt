@@ -191,7 +191,7 @@ length-counts : (samples : List Sample) → length (counts_sampled samples) ≡ 
 length-counts [] = refl
 length-counts (sample ∷ samples) = ap (λ n. suc n) (length-counts samples)
 
--- the samples of a slot at a tick are of numbers of changes that they may be of
+-- the samples of a slot at a tick have valid numbers of changes
 counts_allowed : (plans : PlansView) (old new : CrewView) (trace : Trace) (pace : Pace) (i at slot cpu asked : ℕ) → HasReached plans old new trace pace i at → cpu < trace.cpus →
     (clocks_at old.clocks cpu).made ≡ changes_until trace pace.length cpu i →
     IsSampled (plan_at plans cpu) slot asked (clocks_at old.clocks cpu).made (clocks_at new.clocks cpu).made (watch_at old.watches cpu) (watch_at new.watches cpu) →
@@ -244,7 +244,7 @@ idle_in_time watches at cpus idle = λ cpu below. no_samples (watch_at watches c
 
 -- ---- the tick
 
--- a crew that went on with nothing watched reached the tick
+-- a crew that advanced with nothing watched reached the tick
 pub reached_unwatched : (slot : Option Slot) (old new : CrewView) (trace : Trace) (pace : Pace) (i : ℕ) → pace.watch ≡ None → AreIdle new.watches → new.asked ≡ old.asked → IsReached slot old new trace pace i
 reached_unwatched slot old new trace pace i none idle asked = record {
   live = λ _. record {
@@ -282,7 +282,7 @@ live_tick plans old new trace pace watch i at slot watches is early by_tick aske
       in_time = subst (AreInTime trace.cpus new.watches) is.at_is (times_of plans old new trace pace i at slot is early sampled);
     }
 
--- a crew that went to the tick with a path watched reached it
+-- a crew that advanced to the tick with a watched path reached it
 pub reached_watched : (plans : PlansView) (old new : CrewView) (trace : Trace) (pace : Pace) (watch : LiveWatch) (i at : ℕ) (slot : Option Slot) → pace.watch ≡ Some watch → HasReached plans old new trace pace i at → at ≤ last_moment →
     GoesByTick (Some watch) 0 old trace pace.length i → old.asked ≡ watch.count → AreSampled slot old new → IsReached slot old new trace pace i
 reached_watched plans old new trace pace watch i at slot watches is early by_tick asked sampled = record {
@@ -311,7 +311,7 @@ by_tick_kept : (watch : Option LiveWatch) (crew : CrewView) (trace : Trace) (tic
 by_tick_kept None crew trace tick i is = is
 by_tick_kept (Some watch) crew trace tick i is = (length-drop 1 crew.ready ∙ ap (λ n. n - 1) is.0, is.1)
 
--- a crew that reached a tick and handed out its table took its samples
+-- a crew that reached a tick and returned its table took its samples
 pub live_next : (slot : Option Slot) (old mid new : CrewView) (trace : Trace) (pace : Pace) (i : ℕ) → IsReached slot old mid trace pace i → new ≡ handed mid → IsSlotAt slot trace pace (i + 1) → IsLiveTick old new trace pace (i + 1)
 live_next slot old mid new trace pace i is same found = subst (λ (crew : CrewView). IsLiveTick old crew trace pace (i + 1)) (sym same) (live_kept old mid trace pace (i + 1) (is.live found))
 
@@ -342,7 +342,7 @@ watching_new crew live trace pace path asked none idle fresh = record {
 
 -- ---- what a crew goes on from
 
--- a path that is watched is that of what is watched
+-- the watched path is that of the options
 pub watch_is : (crew : CrewView) (live : Option (List ℕ)) (path : List ℕ) (trace : Trace) (pace : Pace) (i : ℕ) → live ≡ Some path → IsWatching crew live trace pace i → (watch : LiveWatch) × (pace.watch ≡ Some watch) × (watch.path ≡ path)
 watch_is crew live path trace pace i named is = by_watch pace.watch refl
   where
@@ -386,7 +386,7 @@ moment_same pacing trace pace i paced = ap (λ length. tick_moment length (i + 1
 abbrev pub AreThere : PlansView → CrewView → ℕ → Type 0
 AreThere plans crew at = AreAt plans crew.clocks at
 
--- the slot that was looked for is that which is watched at the next tick
+-- the slot that was found is watched at the next tick
 pub slot_is : (plans : PlansView) (lives : List GroupLife) (crew : CrewView) (live : Option (List ℕ)) (path : List ℕ) (trace : Trace) (pace : Pace) (i at : ℕ) (slot : Option Slot) → IsPlanned plans trace pace → IsWatching crew live trace pace i → live ≡ Some path → lives ≡ plans.lives
     → at ≡ tick_moment pace.length (i + 1) → number_of_slot slot ≡ live_slot 0 lives path at → IsSlotAt slot trace pace (i + 1)
 slot_is plans lives crew live path trace pace i at slot planned is named same at_is found =

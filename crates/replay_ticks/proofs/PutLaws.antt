@@ -44,13 +44,13 @@ range_below n = λ k d below.
     let inside : k < n = omega (arith, below, length-range_with_len 0 n) in
     omega (arith, inside, get_or-range_with_len 0 n k d inside)
 
--- the numbers of triggers that signal are those of triggers that there are
+-- the numbers of triggers that fire are those of existing triggers
 fired_below : (cpus : ℕ) (lives : List GroupLife) (triggers : List TriggerSpec) (ticks : List Tick) (tick : Tick) → All (λ number. number < length triggers) (fired_at cpus lives triggers ticks tick)
 unfolding fired_at
 fired_below cpus lives triggers ticks tick =
     All-filter (fires_by_number cpus lives triggers ticks tick) (λ number. number < length triggers) (range_with_len 0 (length triggers)) (range_below (length triggers))
 
--- an order of all slots by path has no slots but those that there are
+-- an order of all slots by path has only existing slots
 pub order_below : (lives : List GroupLife) (order : List ℕ) → IsPathOrder lives order → All (λ slot. slot < length lives) order
 order_below lives order is = All-permutation (λ slot. slot < length lives) (range_with_len 0 (length lives)) order is.each (range_below (length lives))
 
@@ -63,7 +63,7 @@ slots_below n slots all = λ k d below.
 pub order_made : (lives : List GroupLife) (slots : List Slot) → IsPathOrder lives (numbers_of slots) → All (λ (slot : Slot). slot.0 < length lives) slots
 order_made lives slots is = slots_below (length lives) slots (order_below lives (numbers_of slots) is)
 
--- each trigger watches a group that there is
+-- each trigger watches an existing group
 pub triggers_made : (plans : PlansView) (trace : Trace) (pace : Pace) → IsPlanned plans trace pace → All (λ (trigger : TriggerSpec). trigger.slot.0 < length plans.lives) plans.triggers
 triggers_made plans trace pace planned = λ k d below. ((triggers_within plans trace pace planned).each k d below).slot
 
@@ -77,7 +77,7 @@ fired_is engine trace pace number some stands =
     stands.fired front (tick_of trace.cpus trace.events pace.length number)
     (subst (λ n. ticks_of trace.cpus trace.events pace.length n ≡ front ++ tick_of trace.cpus trace.events pace.length n ∷ []) back (ticks_more trace.cpus trace.events pace.length (number - 1)))
 
--- their numbers are those of triggers that there are
+-- their numbers are those of existing triggers
 pub fired_made : (plans : PlansView) (engine : EngineView) (trace : Trace) (pace : Pace) (number : ℕ) → IsPlanned plans trace pace → 0 < number → HasTicked engine trace pace number → All (λ number. number < length plans.triggers) engine.fired
 fired_made plans engine trace pace number planned some stands =
     rw (fired_is engine trace pace number some stands, planned.stand.triggers)

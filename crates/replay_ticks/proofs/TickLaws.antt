@@ -1,4 +1,4 @@
--- What one tick more makes of a replay.
+-- How one more tick changes a replay.
 use Rattle.std.proofs.Common.{◌≡◌, ℕ, zero, suc, ◌+◌, ◌-◌, ◌*◌, ◌<◌, ◌≤◌, ◌^◌, List, [], ◌∷◌, ◌++◌, length, sym, ap, ◌∙◌, subst, arith}
 use Rattle.std.specs.Prelude.{Bool, Err, IsErr, true, Ok, Option, Result}
 use Rattle.std.specs.List.{range_with_len}
@@ -180,7 +180,7 @@ moment_fits replay trace pace rules i is open_ =
     let same = moment_is replay trace pace rules i is in
     omega (arith, early, same)
 
--- all is there to go over the ticks that come next
+-- the conditions for advancing by the next ticks
 pub to_go : (replay : ReplayView) (trace : Trace) (pace : Pace) (rules : List Rule) (i : ℕ) → IsReplay replay trace pace rules i → (replay.made ≡ replay.pacing.last → ⊥) → IsToGo replay.crew.plans replay.crew replay.pacing trace pace replay.made
 to_go replay trace pace rules i is open_ =
     let left = one_left replay trace pace rules i is open_ in
@@ -285,7 +285,7 @@ text_is replay trace pace rules i is = ap (tick_text trace pace (with_rules rule
 pub passed : (trace : Trace) (pace : Pace) (rules : List Rule) (i : ℕ) (old new : ReplayView) (result : Bool) → Passes trace pace rules i old new result → result ≡ true → (i < tick_count trace pace) × IsReplay new trace pace rules (i + 1) × IsLiveTick old.crew new.crew trace pace (i + 1)
 passed trace pace rules i old new result given made = subst (Passes trace pace rules i old new) made given
 
--- all is there to watch at the ticks that come next
+-- the conditions for watching at the next ticks
 pub to_watch : (replay : ReplayView) (trace : Trace) (pace : Pace) (rules : List Rule) (i : ℕ) → IsReplay replay trace pace rules i → IsWatching replay.crew replay.live trace pace replay.made
 to_watch replay trace pace rules i is = subst (IsWatching replay.crew replay.live trace pace) (sym is.made) is.watching
 

@@ -31,7 +31,7 @@ lane_of_place batches worker k below =
     ap (λ w. lane_at (batch_at batches w) ((k * length batches + worker) / length batches)) (mod-mul-add k (length batches) worker below)
     ∙ ap (lane_at (batch_at batches worker)) (div-mul-add k (length batches) worker below)
 
--- a place that is counted so is among few
+-- the index of a lane in its batch is below 64
 pub place_few : (workers place worker cpu : ℕ) → worker < workers → place * workers + worker ≡ cpu → cpu < 64 → place < 64
 place_few workers place worker cpu below is few =
     let some : place * 1 ≤ place * workers = mul-le-mul_left place (let one : 1 ≤ workers = omega (arith, below) in one) in
@@ -45,7 +45,7 @@ place_there plans batches tick at worker place cpu kept below inside is =
     let here : cpu / length batches ≡ place = ap (λ n. n / length batches) (sym is) ∙ div-mul-add place (length batches) worker inside in
     subst (λ n. n < length (batch_at batches worker)) here (subst (λ w. cpu / length batches < length (batch_at batches w)) other lane.place)
 
--- the lane of each processor is there
+-- the lane of each processor exists
 pub lane_there : (plans : PlansView) (batches : List (List LaneView)) (ticks : Ticks) (out room cpu : ℕ) → AreLanes plans batches ticks out room → cpu < length plans.plans → cpu / length batches < length (batch_at batches (cpu % length batches))
 lane_there plans batches ticks out room cpu is below =
     (is.each (cpu % length batches) (mod-lt cpu is.some)).all (cpu / length batches) (subst (λ c. c < length plans.plans) (sym (place_is cpu (length batches))) below)
@@ -67,7 +67,7 @@ pub lane_found : (batches : List (List LaneView)) (workers cpu : ℕ) (batch : L
 lane_found batches workers cpu batch lane many same below there =
     there ∙ ap (λ n. get_or batch (cpu / n) lane) many ∙ ap (λ xs. get_or xs (cpu / length batches) lane) same ∙ get_or_default (batch_at batches (cpu % length batches)) (cpu / length batches) lane no_lane below
 
--- so the lane at a processor's places is there
+-- so the lane at a processor's place exists
 pub place_inside : (plans : PlansView) (batches : List (List LaneView)) (ticks : Ticks) (out room cpu workers : ℕ) (batch lanes : List LaneView) → AreLanes plans batches ticks out room → cpu < length plans.plans → workers ≡ length batches
     → batch ≡ get_or batches (cpu % workers) batch → lanes ≡ batch → cpu / workers < length lanes
 place_inside plans batches ticks out room cpu workers batch lanes is below many there same =
@@ -161,7 +161,7 @@ batch_gone plans before ticks room workers worker old new is gone = record {
       lane_gone plans before ticks room (k * workers + worker) (lane_at old k) (lane_at new k) (is.each k inside) (gone.each k inside);
 }
 
--- a crew whose batches went over ticks is one
+-- a crew is still a crew after its batches advanced by ticks
 pub crew_gone : (plans : PlansView) (old new : List (List LaneView)) (before ticks : Ticks) (out room : ℕ) → AreLanes plans old before out room → ticks.count ≤ room → HaveAllGone ticks old new → AreLanes plans new ticks 0 room
 crew_gone plans old new before ticks out room is within gone = record {
   some = subst (λ n. 0 < n) (sym gone.many) is.some;
@@ -207,7 +207,7 @@ gone_at plans old new before ticks out room is within gone =
 
 -- ---- tables
 
--- the times of all processors are kept for each tick that isn't handed out
+-- the times of all processors are stored for each tick whose table wasn't returned
 pub are_kept : (plans : PlansView) (batches : List (List LaneView)) (ticks : Ticks) (out room : ℕ) → AreLanes plans batches ticks out room → out < ticks.count → AreKept plans batches out (moment_in ticks out)
 are_kept plans batches ticks out room is left = λ cpu below.
     let lane = lane_is plans batches ticks out room cpu is below in
@@ -310,7 +310,7 @@ new_lane plans room cpu number lane same below own on size whole slots =
 
 -- ---- room
 
--- what is kept takes few bytes, or is that of one tick
+-- the stored times take at most `most_kept` bytes, or are those of one tick
 pub room_is : (cpus slots moments : ℕ) → (1 ≤ room_of cpus slots moments) × (room_of cpus slots moments ≤ max moments 1) × ((64 * (room_of cpus slots moments * slots * cpus) ≤ 64000000) ⊎ (room_of cpus slots moments ≡ 1))
 room_is cpus slots moments =
     let bytes = 64 * (slots * cpus) in

@@ -1,4 +1,4 @@
--- One change, one processor and one group more.
+-- One more change, processor or group.
 use Rattle.std.proofs.Common.{◌≡◌, ℕ, ◌+◌, ◌*◌, ◌<◌, ◌≤◌, List, [], ◌∷◌, ◌++◌, length, get_or, set, sym, ap, ◌∙◌, subst, arith, ◌⊎◌, ⊎_elim, inl, inr}
 use Rattle.std.proofs.Math.Nat.{mul-le-mul_right}
 use Rattle.std.proofs.lemmas.List.{get_or_append_left, get_or_push, get_or-set_same, get_or-set_other, length-append, length-set}
@@ -51,7 +51,7 @@ places_end j n slots below =
     let one : (j + 1) * slots ≡ j * slots + slots = grind arith in
     omega (arith, all, one)
 
--- the times at one tick more are kept
+-- the times at one more tick are stored
 pub keeps_more : (old new : List (List ℕ)) (plan : PlanView) (ticks : Ticks) (j at : ℕ) → KeepsTicks old plan ticks j → KeepsTick old new j plan at → at ≡ moment_in ticks j → KeepsTicks new plan ticks (j + 1)
 keeps_more old new plan ticks j at before tick moment = λ k slot early below.
     let case : (k < j) ⊎ (k ≡ j) = grind (arith, early) in
@@ -70,7 +70,7 @@ pub record KeptTo (old new : List (List ℕ)) (slots j slot : ℕ) (plan : PlanV
   pub here : (s : ℕ) → s < slot → kept_at new slots j s ≡ times_by plan s at
   pub before : (place : ℕ) → place < j * slots → get_or new place [] ≡ get_or old place []
 
--- one group more is kept
+-- the times of one more group are stored
 pub kept_more : (old now : List (List ℕ)) (slots j slot : ℕ) (plan : PlanView) (at place : ℕ) (times : List ℕ) → KeptTo old now slots j slot plan at → slot < slots → j * slots + slots ≤ length old → place ≡ j * slots + slot → times ≡ times_by plan slot at
     → KeptTo old (set now place times) slots j (slot + 1) plan at
 kept_more old now slots j slot plan at place times is below room there value =
@@ -95,7 +95,7 @@ place_fits tick slots slot early few below =
     let most : tick * slots ≤ 4294967295 * slots = mul-le-mul_right slots (let last : tick ≤ 4294967295 = omega (arith, early) in last) in
     omega (arith, most, few, below)
 
--- the times of a group on one processor more are put in
+-- the times of a group on one more processor are copied
 pub row_more : (plans : PlansView) (old table new : List (List (List ℕ))) (slot cpu at : ℕ) (times : List ℕ) → HasSizes (length plans.plans) (length plans.lives) table → FillsRow old table plans slot cpu at → slot < length plans.lives
     → cpu < length plans.plans → new ≡ put_times table slot cpu times → times ≡ times_by (plan_at plans cpu) slot at → FillsRow old new plans slot (cpu + 1) at
 row_more plans old table new slot cpu at times sizes is below there set value =

@@ -12,7 +12,7 @@ use Rattle.replay_workers.proofs.Steps.{each_more}
 
 -- ---- numbers
 
--- numbers that never fall, from one to the last of them
+-- numbers that never decrease, start at or above `low` and end at `last`
 abbrev pub Rises : ℕ → List ℕ → ℕ → Type 0
 Rises low [] last = low ≡ last
 Rises low (number ∷ numbers) last = (low ≤ number) × Rises number numbers last
@@ -75,7 +75,7 @@ is_tried_next counts low last count start before after rises all one = (
 pub none_tried : (low : ℕ) (reader : ReaderView) → IsTried [] low reader reader
 none_tried low reader = ([], 0, sym (append-nil reader.got), omega arith, refl)
 
--- what was tried since is the same for a reader that tried nothing before
+-- the tries since then are the same for a reader that made none before
 pub tried_since : (counts : List ℕ) (low : ℕ) (old before after : ReaderView) → before.got ≡ old.got → before.met ≡ old.met → IsTried counts low before after → IsTried counts low old after
 tried_since counts low old before after got met tried = (
   tried.0,

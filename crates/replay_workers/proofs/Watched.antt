@@ -1,4 +1,4 @@
--- The watchers of lanes, and what an interval makes of them.
+-- The watchers of lanes, and how an interval changes them.
 use Rattle.std.proofs.Common.{◌≡◌, ℕ, ◌<◌, ◌≤◌, List, [], ◌++◌, drop, take, length, map, refl, sym, ap, ◌∙◌, subst, arith, ◌⊎◌, ⊎_elim}
 use Rattle.std.specs.Prelude.{Some}
 use Rattle.std.specs.List.{All}
@@ -20,7 +20,7 @@ use Rattle.replay_workers.proofs.Dealt.{clocks_are, clocks_many, gone_at, gone_t
 use Rattle.plan_laws.proofs.PlanTimes.{changes_more}
 use Rattle.replay_workers.proofs.Tries.{no_clocks, no_tries, rise_wider, tried_since}
 
--- a slice of the whole that was written over is what was written
+-- a prefix that was overwritten is what was written
 pub written_back : {X : Type 0} (xs new : List X) (n : ℕ) → n ≡ length new → take n (new ++ drop (length new) xs) ≡ new
 written_back xs new n size = rw size (take-append_seam new (drop (length new) xs))
 
@@ -45,7 +45,7 @@ has_watched lane_old lane_new slot old met new one two settled =
       };
     }
 
--- so they took their samples beside the lanes
+-- so they took their samples while the lanes made changes
 pub have_watched : (lanes_old lanes_new : List (List LaneView)) (slot : ℕ) (old met new : List WatcherView) → HaveMet slot lanes_old old met → HaveSampled slot met new → AreSettled lanes_new new → HaveWatched slot lanes_old lanes_new old new
 have_watched lanes_old lanes_new slot old met new is sampled settled = record {
   many = sampled.many ∙ is.many;
@@ -57,7 +57,7 @@ have_watched lanes_old lanes_new slot old met new is sampled settled = record {
 
 -- ---- the watchers of a crew
 
--- no processor is watched that isn't there
+-- only existing processors are watched
 pub watched_below : (plans : PlansView) (lanes : List (List LaneView)) (asked : ℕ) (watchers : List WatcherView) (cpu : ℕ) → AreWatchers plans lanes asked watchers → cpu < length watchers → cpu < length plans.plans
 watched_below plans lanes asked watchers cpu are below =
     let case : (asked ≡ 0) ⊎ (0 < asked) = grind arith in
@@ -85,7 +85,7 @@ have_slot plans lanes ticks out room asked slot watchers is are known = λ k bel
     let slots = (lane_is plans lanes ticks out room k is inside).slots in
     subst (λ (plan : PlanView). slot < length plan.parents) (sym (are.each k below).plan) (omega (arith, known, slots))
 
--- the same watchers are those of lanes that went over ticks
+-- the watchers are still those of the lanes after these advanced by ticks
 pub watchers_stay : (plans : PlansView) (lanes_old lanes_new : List (List LaneView)) (before ticks : Ticks) (out room asked : ℕ) (old new : List WatcherView) → AreLanes plans lanes_old before out room → HaveAllGone ticks lanes_old lanes_new
     → AreWatchers plans lanes_old asked old → length new ≡ length old → ((k : ℕ) → k < length old → IsSameWatcher (watcher_at old k) (watcher_at new k)) → AreWatchers plans lanes_new asked new
 watchers_stay plans lanes_old lanes_new before ticks out room asked old new is gone are many same = record {
@@ -109,14 +109,14 @@ watchers_stay plans lanes_old lanes_new before ticks out room asked old new is g
 watch_found : (watchers : List WatcherView) (cpu : ℕ) → watch_at (map watch_seen watchers) cpu ≡ watch_seen (watcher_at watchers cpu)
 watch_found watchers cpu = get_or-map watch_seen watchers cpu no_watcher
 
--- watchers that have none show no samples
+-- watchers without samples show none
 no_samples : (watchers : List WatcherView) → ((k : ℕ) → k < length watchers → (watcher_at watchers k).samples ≡ []) → (cpu : ℕ) → (watch_at (map watch_seen watchers) cpu).samples ≡ []
 no_samples watchers none cpu =
     let case : (cpu < length watchers) ⊎ (length watchers ≤ cpu) = grind arith in
     ap (λ (watch : WatchView). watch.samples) (watch_found watchers cpu)
     ∙ ⊎_elim (λ below. none cpu below) (λ beyond. ap (λ (watcher : WatcherView). watcher.samples) (get_or-eq_default watchers no_watcher beyond)) case
 
--- watchers that put them away show no samples
+-- watchers that discarded their samples show none
 pub none_sampled : (old new : List WatcherView) → HaveCleared old new → (cpu : ℕ) → (watch_at (map watch_seen new) cpu).samples ≡ []
 none_sampled old new cleared = no_samples new (λ k below. (cleared.each k (omega (arith, below, cleared.many))).none)
 
@@ -134,7 +134,7 @@ nothing_asked plan slot asked before now watch zero none forward = record {
   few = omega arith;
 }
 
--- the changes of a processor that were made after ticks are no fewer
+-- a processor has made at least as many changes after ticks as before
 made_more : (plans : PlansView) (old new : List (List LaneView)) (before ticks : Ticks) (out room cpu : ℕ) → AreLanes plans old before out room → ticks.count ≤ room → AreBehind plans (clocks_of old (length plans.plans)) ticks.first → HaveAllGone ticks old new → cpu < length plans.plans
     → (clocks_at (clocks_of old (length plans.plans)) cpu).made ≤ (clocks_at (clocks_of new (length plans.plans)) cpu).made
 made_more plans old new before ticks out room cpu is within behind gone below =
@@ -144,7 +144,7 @@ made_more plans old new before ticks out room cpu is within behind gone below =
     let later = changes_more plan ticks.first (last_of ticks) (omega arith) in
     omega (arith, early, late, later)
 
--- watchers that took their samples beside the lanes show them
+-- watchers that took samples while the lanes made changes show them
 pub are_sampled : (plans : PlansView) (lanes_old lanes_new : List (List LaneView)) (before ticks : Ticks) (out room asked : ℕ) (slot : Slot) (old new : List WatcherView) (ready : ℕ) → IsCrew plans lanes_old before out room asked old → ticks.count ≤ room
     → AreBehind plans (clocks_of lanes_old (length plans.plans)) ticks.first → HaveAllGone ticks lanes_old lanes_new → HaveWatched slot.0 lanes_old lanes_new old new
     → AreSampled (Some slot) (crew_of plans lanes_old before out room asked old) (crew_of plans lanes_new ticks ready room asked new)

@@ -44,7 +44,7 @@ step_up parents cells cell place at came older room is =
     rw (under, get_or-set_other cells place at cell zero_side_cell (λ is. other.1 (sym is))) refl)
     (eqb_tells place at))
 
--- a count that changes leaves samples small
+-- counting a task doesn't affect that samples are small
 pub small_kept : (cells : List SideCell) (cell : SideCell) (place : ℕ) (came : Bool) → place < length cells → cell ≡ counted came (side_cell_in cells place) → AreSmallCells cells → AreSmallCells (slice_set cells place cell)
 small_kept cells cell place came room is small =
     All-set (λ (cell : SideCell). IsSmallMemory cell.memory) cells place cell (subst (λ (c : SideCell). IsSmallMemory c.memory) (sym is) (small place zero_side_cell room)) small

@@ -106,7 +106,7 @@ memory_from sample = record { current = sample.current; swap = sample.swap; scan
 cell_of : (cell : SideCell) (memory : GroupMemory) (preference : Preference) (tasks : ℕ) → cell.memory ≡ memory → cell.preference ≡ preference → cell.tasks ≡ tasks → cell ≡ record { memory = memory; preference = preference; tasks = tasks }
 cell_of cell memory preference tasks a b c = rw (← a, ← b, ← c) refl
 
--- what is kept of two groups is the same, field by field
+-- the states of two groups are equal, field by field
 same_cell : (one other : SideCell) → side_sample one.memory ≡ side_sample other.memory → one.preference ≡ other.preference → one.tasks ≡ other.tasks → one ≡ other
 same_cell one other memory preference tasks =
     let memories : one.memory ≡ other.memory = ap memory_from memory in

@@ -57,7 +57,7 @@ passed_by true parents (suc p) parent slot other older is apart here =
     let up : parent_of parents p ≡ number_of_slot parent = ap (parent_of parents) same ∙ sym is in
     sym (by_step parents p other older ∙ ap (λ b. b || leads_to parents (parent_of parents p) other) apart_too ∙ ap (λ o. leads_to parents o other) up ∙ leads parents parent other)
 
--- passing a slot leaves which other slots are reached
+-- passing a slot doesn't change which other slots are reached
 pub reaches_passed : (parents : List (Option ℕ)) (place : ℕ) (parent : Option Slot) (slot other : ℕ) → AreOlder parents → number_of_slot parent ≡ parent_of parents slot → other ≢ slot → reaches parents (passed (slot + 1) (height parent) place) other ≡ reaches parents place other
 reaches_passed parents place parent slot other older is apart = passed_by (place == slot + 1) parents place parent slot other older is apart refl
 

@@ -1,4 +1,4 @@
--- A group that a change doesn't reach, and one to which it comes.
+-- Groups that a change reaches, and groups that it doesn't.
 use Rattle.std.proofs.Common.{◌≡◌, ℕ, suc, ◌+◌, arith, List, refl, sym, ap, ◌∙◌, subst, Bool, true, false, ⊎_elim, Option, None, Some}
 use Rattle.std.specs.Prelude.{◌&&◌, if◌then◌else◌}
 use Rattle.psi_base.specs.declared.event.Slot.{Slot}
@@ -57,7 +57,7 @@ is_apart parents slot (Some account) place older start reached = λ same. cc (re
     place_is : (place number slot : ℕ) → place ≡ suc number → slot ≡ number → place ≡ slot + 1
     place_is place number slot is same = omega (arith, is, same)
 
--- a group that no chain of a change reaches stays as it is
+-- a group that no chain of a change reaches is unchanged
 pub stays_turned : (parents : List (Option ℕ)) (current : Option (Slot × Bool)) (change : Change) (starts : Chains) (slot : ℕ) (cell : Cell) → MayStart current change starts → reaches parents starts.minus slot ≡ false → reaches parents starts.plus slot ≡ false
     → reaches parents starts.before slot ≡ false → reaches parents starts.after slot ≡ false → AreOlder parents → (IsApart change.account slot → MaskTells parents current slot cell) → IsUpTo change.at cell.clock → IsTurned parents change slot cell cell
 stays_turned parents current change starts slot cell start minus plus before after older told_apart up_to =

@@ -39,7 +39,7 @@ pub record IsAhead (parents : List (Option ℕ)) (starts chains : Chains) (slot 
 abbrev pub IsWalked : List (Option ℕ) → Change → Chains → Chains → ℕ → Cell → Cell → Type 0
 IsWalked parents change starts chains slot old now = (IsTurned parents change slot old now × IsBehind parents chains slot) ⊎ ((now ≡ old) × IsAhead parents starts chains slot)
 
--- at first the walk is to come to each group
+-- at first the walk has visited no group
 pub none_walked : (parents : List (Option ℕ)) (change : Change) (starts : Chains) (slot : ℕ) (cell : Cell) → IsWalked parents change starts starts slot cell cell
 none_walked parents change starts slot cell = inr (refl, record { minus = refl; plus = refl; before = refl; after = refl })
 
@@ -58,7 +58,7 @@ within_top chains limit is = record { minus = omega (arith, is); plus = omega (a
 some_top : (a b c d limit : ℕ) → max (max a b) (max c d) ≡ limit → (a ≡ limit) ⊎ ((b ≡ limit) ⊎ ((c ≡ limit) ⊎ (d ≡ limit)))
 some_top a b c d limit is = grind (arith, is)
 
--- the walk hasn't been at the highest slot
+-- the walk hasn't visited the highest slot
 not_behind : (parents : List (Option ℕ)) (chains : Chains) (slot : ℕ) → AreOlder parents → top chains ≡ slot + 1 → IsBehind parents chains slot → ⊥
 not_behind parents chains slot older is behind =
     ⊎_elim
@@ -181,7 +181,7 @@ all_walked parents current change starts chains slot old now older start is told
     (sym ahead.1.after ∙ ended parents chains.after slot (omega (arith, within.after)))
     older told up_to)
 
--- chains that go together still do once they were passed
+-- chains that are together still are after they were passed
 pub together_passed : (here parent : ℕ) (chains : Chains) → AreTogether chains → AreTogether (all_passed here parent chains)
 together_passed here parent chains are = record { plus = ap (passed here parent) are.plus; before = ap (passed here parent) are.before }
 

@@ -164,7 +164,7 @@ impl PackedChange {
         }
     }
 
-    // A change that only switches accounting.
+    // A change that only switches accounting. It isn't inlined either.
     #[inline(never)]
     fn of_account(at: Ns, current: Option<(Slot, bool)>, account: (Slot, bool)) -> PackedChange
         requires running { IfSome current (λ current. current.0.0 < most_groups) }
