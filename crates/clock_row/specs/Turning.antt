@@ -42,6 +42,6 @@ ChainIsDone seat start =
 abbrev pub ChainsAreDone : RowSeat → List (Option Slot) → Type 0
 ChainsAreDone seat starts = All (ChainIsDone seat) starts
 
--- each of these slots, if any, is below the bound
+-- each slot in the list, if any, is below the bound
 abbrev pub AreBelow : ℕ → List (Option Slot) → Type 0
 AreBelow slots starts = All (λ start. IfSome start (λ slot. slot.0 < slots)) starts

@@ -26,7 +26,7 @@ first_state = record { tick = 0; events = 0; kills = 0 }
 abbrev pub IsPublished : List BoardState → BoardState → Type 0
 IsPublished states state = slice_get states state.tick ≡ Some state
 
--- all of these states are published ones
+-- all states in a list are published ones
 abbrev pub ArePublished : List BoardState → List BoardState → Type 0
 ArePublished states [] = Unit {0}
 ArePublished states (state ∷ more) = IsPublished states state × ArePublished states more

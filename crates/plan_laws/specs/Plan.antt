@@ -55,7 +55,7 @@ added_after plan slot k = added plan.parents slot (take k plan.changes)
 abbrev pub taken_after : PlanView → ℕ → ℕ → Counts
 taken_after plan slot k = taken plan.parents slot (take k plan.changes)
 
--- counts minus others, none of which is larger
+-- counts minus others that aren't larger
 abbrev pub less : Counts → Counts → Counts
 less more fewer =
     record {
@@ -257,8 +257,8 @@ abbrev pub StallUpTo : Type 0
 StallUpTo = (limits : Limits) (events : List Event) → AreLegal limits first_world events → (state : State) (cpu slot at : ℕ) →
     stall state cpu slot (up_to events at) at ≡ stall state cpu slot (until_change cpu events (count_at cpu events at)) at
 
--- The times of a plan's changes give the number of changes up to a time: it is at most the number
--- of changes, and none of these is later.
+-- The times of a plan's changes give the number of changes up to a time. It is at most the number
+-- of all changes, and the last change counted isn't later than that time.
 abbrev pub CountsByPlan : Type 0
 CountsByPlan = (limits : Limits) (events : List Event) → AreLegal limits first_world events → (cpu at : ℕ) →
     (count_at cpu events at ≡ changes_up_to (plan_of cpu events) at) × (count_at cpu events at ≤ length (changes_of cpu events))

@@ -2,7 +2,8 @@
 //! and writes the tick's lines.
 //!
 //! The parts do the work: replay_workers advances the clocks, tick_engine computes averages and
-//! triggers, and kill_engine decides kills. It reads no files and no options: replay_core does.
+//! triggers, and kill_engine decides kills. It reads no files and parses no command line:
+//! replay_core does.
 #![tactic(auto)]
 
 mod beside;

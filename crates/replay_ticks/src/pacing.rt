@@ -19,7 +19,7 @@ pub(crate) struct Pacing {
 }
 
 impl Pacing {
-    /// Whether `tick`, counted from 1, has reports; `at` is its moment (ns). The last tick has, and
+    /// Whether `tick`, counted from 1, has reports; `at` is its time (ns). The last tick has, and
     /// each at which a report is due.
     pub(crate) fn is_report(self, tick: u64, at: Ns) -> bool
         requires some { 0 < tick }

@@ -141,7 +141,7 @@ fn sample(crew: &mut Crew<'_>, rows: &mut Rows, engine: &mut Engine, at: Ns)
 }
 
 // Writes the reports of the tick that was sampled last, if they are due. The tick is given by its
-// number from 1 and its moment (ns).
+// number from 1 and its time (ns).
 fn put_due<K: Sink>(
     out: &mut K,
     plans: &Plans,
@@ -266,7 +266,7 @@ impl<'a> Replay<'a> {
         true
     }
 
-    // Writes the lines of the last tick, whose moment is `at` (ns), except its live lines.
+    // Writes the lines of the last tick, whose time is `at` (ns), except its live lines.
     #[tactic(auto, using(outside::proofs::Grows::growth))]
     fn put_tick<K: Sink>(&self, out: &mut K, at: Ns) -> Result<(), WriteFailed>
         requires { (trace : Trace) × (pace : Pace) × (rules : List Rule) × (i : ℕ)

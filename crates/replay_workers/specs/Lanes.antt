@@ -132,7 +132,7 @@ pub record FillsRow (old new : List (List (List ℕ))) (plans : PlansView) (slot
 abbrev pub clocks_of : List (List LaneView) → ℕ → List OnPlan
 clocks_of batches cpus = map (λ cpu. (lane_of batches cpu).on) (range_with_len 0 cpus)
 
--- the rows of these clocks
+-- the rows of the first `cpus` clocks
 abbrev pub rows_of : List (List LaneView) → ℕ → List (Option TableId)
 rows_of batches cpus = map (λ cpu. (lane_of batches cpu).row) (range_with_len 0 cpus)
 
@@ -158,14 +158,14 @@ pub record IsBatchOf (plans : PlansView) (ticks : Ticks) (room workers worker : 
 abbrev pub no_ticks : Ticks
 no_ticks = record { first = 0; length = 0; count = 0 }
 
--- A batch has the lanes of its worker, none of which made a change yet, with clocks in rows if
--- `in_rows`, and plain ones otherwise.
+-- A batch has the lanes of its worker before any change, with clocks in rows if `in_rows`, and
+-- plain ones otherwise.
 pub record IsNewBatch (plans : PlansView) (room : ℕ) (in_rows : Bool) (workers worker : ℕ) (lanes : List LaneView) : Type 0 where
   pub batch : IsBatchOf plans no_ticks room workers worker lanes
   pub fresh : (k : ℕ) → k < length lanes → (lane_at lanes k).on.made ≡ 0
   pub rows : (k : ℕ) → k < length lanes → is_some (lane_at lanes k).row ≡ in_rows
 
--- the batches of all workers, none of which made a change yet
+-- the batches of all workers, before any change
 pub record AreNewBatches (plans : PlansView) (room : ℕ) (in_rows : Bool) (workers : ℕ) (batches : List (List LaneView)) : Type 0 where
   pub many : length batches ≡ workers
   pub each : (worker : ℕ) → worker < workers → IsNewBatch plans room in_rows workers worker (batch_at batches worker)

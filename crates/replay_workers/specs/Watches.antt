@@ -181,13 +181,13 @@ pub record AreWatchers (plans : PlansView) (batches : List (List LaneView)) (ask
   pub all : 0 < asked → length watchers ≡ length plans.plans
   pub each : (cpu : ℕ) → cpu < length watchers → IsWatcherOf plans batches asked cpu (watcher_at watchers cpu)
 
--- A crew has lanes, and watchers of these lanes.
+-- A crew has lanes, and watchers that sample them.
 pub record IsCrew (plans : PlansView) (batches : List (List LaneView)) (ticks : Ticks) (out room asked : ℕ)
     (watchers : List WatcherView) : Type 0 where
   pub lanes : AreLanes plans batches ticks out room
   pub watched : AreWatchers plans batches asked watchers
 
--- a crew of these parts
+-- a crew with these parts
 abbrev pub crew_of : PlansView → List (List LaneView) → Ticks → ℕ → ℕ → ℕ → List WatcherView → CrewView
 crew_of plans batches ticks out room asked watchers = record {
   plans = plans;

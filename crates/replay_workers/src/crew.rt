@@ -28,7 +28,7 @@ use std::thread::Threads;
 /// each worker makes those of its own processors. They store the times of all groups at each tick,
 /// until [`Crew::fill`] returns them. During an interval one group's clocks can be sampled live.
 /// Contracts see the plans, how many changes each processor's clocks made and their row, the
-/// moments whose times are ready, the most ticks that the crew advances by at once, and the
+/// ticks whose times are ready, the most ticks that the crew advances by at once, and the
 /// samples.
 ///
 /// A crew that takes live samples has its clocks in rows, even if it watches nothing. To take
@@ -68,7 +68,7 @@ impl<'a> Model for Crew<'a> {
 impl<'a> Crew<'a> {
     /// The clocks of all processors before the first change, for 1 to 64 workers. `moments` is the
     /// trace's number of ticks; it bounds the look-ahead. `asked` live samples of a processor are
-    /// taken in an interval in which a group is watched. Allocates everything up front.
+    /// taken in an interval in which a group is watched. Allocates all that the crew needs.
     pub fn make(
         alloc: Global,
         plans: &'a Plans,
@@ -121,7 +121,7 @@ impl<'a> Crew<'a> {
         self.room
     }
 
-    /// The number of moments that are ready.
+    /// The number of ticks that are ready.
     pub fn ready(&self) -> u32
         ensures { result ≡ length self.now.ready }
     {
@@ -182,7 +182,7 @@ impl<'a> Crew<'a> {
         self.out = 0;
     }
 
-    /// Makes the changes of all processors up to and at a tick's moment `at` (ns), and stores the
+    /// Makes the changes of all processors up to and at a tick's time `at` (ns), and stores the
     /// times of all groups there. If a slot is watched and the crew takes samples, its clock is
     /// sampled `asked` times on each processor meanwhile. Discards earlier samples. Does not
     /// allocate.
@@ -226,7 +226,7 @@ impl<'a> Crew<'a> {
         }
     }
 
-    /// Copies the times (ns) of all groups on all processors at the first ready moment to a table.
+    /// Copies the times (ns) of all groups on all processors at the first ready tick to a table.
     /// Does not allocate.
     pub fn fill(&mut self, at: Ns, rows: &mut Rows)
         requires first { slice_get self.old.ready 0 ≡ Some at }

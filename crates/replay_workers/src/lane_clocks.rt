@@ -24,7 +24,7 @@ pub(crate) enum LaneClocks<'a> {
     Row(ClockWriter<'a>),
 }
 
-// Stores the times (ns) of all groups at tick `tick`, whose moment is `at`. The clocks must have
+// Stores the times (ns) of all groups at tick `tick`, whose time is `at`. The clocks must have
 // made all changes up to `at`.
 fn keep_tick<C: IrqClocks>(clocks: &mut C, slots: u32, tick: u32, at: Ns, kept: &mut [Times])
     requires known { slots ≡ length (C.plan clocks.old).parents }

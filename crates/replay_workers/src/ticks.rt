@@ -4,14 +4,14 @@ ghost use Rattle.replay_workers.specs.Crew.{last_of, moment_in};
 
 use psi_base::Ns;
 
-/// Evenly spaced moments.
+/// Evenly spaced ticks.
 #[derive(Clone, Copy, Debug)]
 pub struct Ticks {
-    /// The first moment, in ns.
+    /// The time of the first tick, in ns.
     pub first: Ns,
-    /// The time from each moment to the next, in ns.
+    /// The time from each tick to the next, in ns.
     pub length: Ns,
-    /// The number of moments.
+    /// The number of ticks.
     pub count: u32,
 }
 

@@ -31,7 +31,7 @@ pub record SideView : Type 0 where
   pub host : HostReading
   pub taken : ℕ
 
--- the watch of these parts
+-- the watch with these parts
 abbrev pub watch_view : List SideCell → List (Option Slot) → HostReading → ℕ → SideView
 watch_view cells parents host taken =
     record { cells = cells; parents = parent_numbers parents; host = host; taken = taken }
@@ -93,7 +93,7 @@ tasks_under w slot =
 abbrev pub OfEachGroup : List Event → (ℕ → Type 0) → Type 0
 OfEachGroup events Holds = (slot : ℕ) → slot < length (after events).groups → Holds slot
 
--- A watch of all groups of these events has the state after the events up to a time. For each group
+-- A watch of all groups of the events has the state after the events up to a time. For each group
 -- this is the last sample of its memory, its preference, and the number of live tasks in it or
 -- below it, and so whether there is one; for the host it is the last sample of its memory. The
 -- watch took the sides of the events up to that time.

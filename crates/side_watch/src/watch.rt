@@ -53,8 +53,8 @@ fn parents_of(alloc: Global, lives: &[GroupLife]) -> Result<Vec<Option<Slot>>, N
 }
 
 impl SideWatch {
-    /// The watch of these groups before any side: no memory, no preference, no task. Allocates
-    /// everything up front.
+    /// The watch of the groups before any side: no memory, no preference, no task. Allocates all
+    /// that it needs.
     ///
     /// The groups are all that a trace ever creates, ordered by slot.
     pub fn make(alloc: Global, lives: &[GroupLife]) -> Result<SideWatch, NoMemory>

@@ -41,7 +41,7 @@ impl Model for SlotClocks {
 }
 
 impl SlotClocks {
-    /// The clocks of `slots` slots, before the first change. Allocates everything up front.
+    /// The clocks of `slots` slots, before the first change. Allocates all that it needs.
     pub fn make(alloc: Global, slots: u32) -> Result<SlotClocks, NoMemory>
         ensures { IfOk result (λ clocks. clocks ≡ first_clocks slots) }
     {

@@ -14,7 +14,7 @@ const COUNTS: [u32; 64] = [
     0, 0, 0, 1, 1, 0, 0, 1, 0, 1, 0, 1, 1, 1, 0, 1, 0, 0, 1, 1, 1, 0, 1, 1, 0, 1, 1, 1, 1, 1, 1, 1,
 ];
 
-/// The bits of counts, each of which is at most 1.
+/// The bits of counts that are at most 1 each.
 #[inline(always)]
 pub(crate) fn bits_of(counts: &Counts) -> u8
     requires { AreAtMost 1 counts.now }
