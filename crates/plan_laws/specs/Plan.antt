@@ -257,8 +257,8 @@ abbrev pub StallUpTo : Type 0
 StallUpTo = (limits : Limits) (events : List Event) → AreLegal limits first_world events → (state : State) (cpu slot at : ℕ) →
     stall state cpu slot (up_to events at) at ≡ stall state cpu slot (until_change cpu events (count_at cpu events at)) at
 
--- The times of a plan's changes give the number of changes up to a time. It is at most the number
--- of all changes, and the last change counted isn't later than that time.
+-- The number of changes up to a time follows from the times of a plan's changes. It is at most the
+-- number of all changes, and the last change counted isn't later.
 abbrev pub CountsByPlan : Type 0
 CountsByPlan = (limits : Limits) (events : List Event) → AreLegal limits first_world events → (cpu at : ℕ) →
     (count_at cpu events at ≡ changes_up_to (plan_of cpu events) at) × (count_at cpu events at ≤ length (changes_of cpu events))
