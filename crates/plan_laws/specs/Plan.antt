@@ -40,8 +40,7 @@ pub record PlanView : Type 0 where
 abbrev pub no_plan : PlanView
 no_plan = record { changes = []; parents = [] }
 
--- a processor's plan for events: its changes by them, and the parents of all groups that they
--- created
+-- a processor's plan for events: its changes by them, and the parents of all groups after them
 abbrev pub plan_of : ℕ → List Event → PlanView
 plan_of cpu events = record { changes = changes_from cpu first_world events; parents = parents_of (after events).groups }
 
@@ -251,8 +250,7 @@ StatesStay =
     → (state : State) (cpu slot : ℕ) → touches (after events) (Some event) cpu ≡ false →
     holds state cpu slot (after (events ++ event ∷ [])) ≡ holds state cpu slot (after events)
 
--- So the stall time of the events up to a time is that of the events up to the last change until
--- then.
+-- So the stall time of the events up to a time is that of the events until the last change.
 abbrev pub StallUpTo : Type 0
 StallUpTo = (limits : Limits) (events : List Event) → AreLegal limits first_world events → (state : State) (cpu slot at : ℕ) →
     stall state cpu slot (up_to events at) at ≡ stall state cpu slot (until_change cpu events (count_at cpu events at)) at
@@ -394,8 +392,7 @@ PlannedIrqIsIrq =
     (limits : Limits) (events : List Event) → AreLegal limits first_world events → (cpu slot k : ℕ) → k ≤ length (changes_of cpu events) →
     planned_irq (plan_of cpu events) slot k ≡ irq_time cpu slot (until_change cpu events k)
 
--- The planned interrupt time by the changes up to a time is the interrupt time of the events up to
--- it.
+-- The planned interrupt time by the changes up to a time is that of the events up to it.
 abbrev pub PlannedIrqUntil : Type 0
 PlannedIrqUntil = (limits : Limits) (events : List Event) → AreLegal limits first_world events → (cpu slot at : ℕ) →
     planned_irq (plan_of cpu events) slot (changes_up_to (plan_of cpu events) at) ≡ irq_time cpu slot (up_to events at)
