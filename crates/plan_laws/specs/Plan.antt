@@ -250,7 +250,7 @@ StatesStay =
     → (state : State) (cpu slot : ℕ) → touches (after events) (Some event) cpu ≡ false →
     holds state cpu slot (after (events ++ event ∷ [])) ≡ holds state cpu slot (after events)
 
--- So the stall time of the events up to a time is that of the events until the last change.
+-- So the stall time up to a time is that of the events up to the last change by then.
 abbrev pub StallUpTo : Type 0
 StallUpTo = (limits : Limits) (events : List Event) → AreLegal limits first_world events → (state : State) (cpu slot at : ℕ) →
     stall state cpu slot (up_to events at) at ≡ stall state cpu slot (until_change cpu events (count_at cpu events at)) at
