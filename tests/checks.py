@@ -36,6 +36,11 @@ class Done:
         must_be("what json.tool says", (read.returncode, read.stderr), (0, ""))
         return json.loads(read.stdout)
 
+    def without_notes(self) -> "Done":
+        """The run without the notes of lint. tests/oomd has those of what oomd does otherwise."""
+        kept = [it for it in self.output.splitlines(True) if ": note: " not in it]
+        return Done(self.status, "".join(kept), self.error)
+
     def must_print(self, what: str, status: int, output: str) -> None:
         """Compares the status and the output; where they are others, what was said of it is told too."""
         must_be(f"{what}, where standard error was {self.error!r}", (self.status, self.output), (status, output))

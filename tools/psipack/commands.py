@@ -28,6 +28,7 @@ TOOLS = (
     Tool("blame", "psi-blame", "say who ran while a group waited"),
     Tool("report", "psi-report", "write an incident on one page"),
     Tool("systemd-oomd", "psi-systemd-oomd", "say whom systemd-oomd would have killed"),
+    Tool("oomd", "psi-meta-oomd", "say whom oomd would have killed by its own configuration"),
 )
 # The programs, each with a manual page in `docs`.
 PROGRAMS = ("psi_oomd", "psi_observe")

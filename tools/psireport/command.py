@@ -25,6 +25,7 @@ WRITE = 6
 HELP = {
     "rules": "rules: when their detectors were true, how near they came, whom they would have killed, and what of it",
     "drop-in": "a drop-in file for these rules",
+    "oomd": "a configuration of oomd: whom oomd 0.5.0 would have killed by it, as tools/oomd says",
     "recording": "the recording of which the trace was made: how near it is to the machine's own files",
     "from": "where in the recording the trace begins, as --from of psitrace",
     "group": "draw this group, several times for several: those that stalled most if left out",
@@ -52,6 +53,7 @@ def words() -> Words:
     option("trace", metavar="TRACE", help="a trace")
     option("--rules", metavar="FILE", help=HELP["rules"])
     option("--drop-in", metavar="FILE", help=HELP["drop-in"])
+    option("--oomd", metavar="FILE", help=HELP["oomd"])
     option("--recording", metavar="FOLDER", help=HELP["recording"])
     option("--from", dest="start", metavar="S", help=HELP["from"])
     option("--group", action="append", default=[], metavar="PATH", help=HELP["group"])
@@ -70,7 +72,9 @@ def read_words() -> Given:
         raise Fault("--drop-in changes rules: give them by --rules")
     if it.start is not None and it.recording is None:
         raise Fault("--from is a moment of the recording: give it by --recording")
-    return Given(it.trace, it.rules, it.drop_in, it.recording, it.start, it.group, it.wall, it.tick_ms, it.interval_s, it.output)
+    return Given(
+        it.trace, it.rules, it.drop_in, it.recording, it.start, it.group, it.wall, it.tick_ms, it.interval_s, it.output, it.oomd
+    )  # fmt: skip
 
 
 def write(page: bytes, name: str | None) -> None:

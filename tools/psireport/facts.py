@@ -42,6 +42,7 @@ class Given(NamedTuple):
     tick_ms: Optional[int]
     interval_s: Optional[int]
     output: Optional[str]
+    oomd: Optional[str] = None
 
     def rules_words(self) -> list[str]:
         words = [f"--rules={self.rules}"] if self.rules is not None else []

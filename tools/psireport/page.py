@@ -10,7 +10,7 @@ from xml.etree import ElementTree
 from psichart.svg import STYLE, STYLE_BESIDE, add
 from psireplay.times import SECOND, rounded, shown, zone
 
-from . import judgement, sections, trust
+from . import by_oomd, judgement, sections, trust
 from .facts import Facts, sum_of, sums
 from .html import Element, data_of, escape_controls, folded, say, table, word
 from .pictures import MS, Picture
@@ -77,6 +77,7 @@ def body(page: Element, facts: Facts, runs: Runs) -> None:
     pictures = sections.time_lines(main, facts)
     sections.blame(main, facts)
     judgement.rules(main, facts)
+    by_oomd.section(main, facts, runs)
     trust.recording(main, facts)
     made(main, facts, runs)
     add(page, "script", data(facts, pictures), type="application/json", id="data")

@@ -3,7 +3,7 @@ import argparse
 import contextlib
 from collections.abc import Iterable
 
-from psirules import by_systemd, expectations, telling
+from psirules import by_oomd, by_systemd, expectations, telling
 from psirules.expectations import Expectation
 from psirules.program import Kill, Program
 from psirules.replays import STANDARD_INPUT, Traces, accepted, all_groups, note_unmatched, read_again
@@ -22,6 +22,7 @@ ABOUT = """Replays each trace by the rules of FILE, and holds its kills against 
 What follows a # is a comment. PATH and PATTERN are written as in rules files: in a component, * is any run of bytes.
 Each has to match a group of each trace; `no kill of PATTERN if present` may match none. TRACE may be - for the standard input, once.
 
+With --by oomd the kills are those of tools/oomd, by oomd's algorithm; FILE is its configuration then.
 With --by systemd-oomd the kills are those of tools/systemd-oomd by the settings of FOLDER; RULESET is `memory pressure` or `swap`."""
 STATUS = "The status is 0 where all holds, 1 where something doesn't, and 2 where something couldn't be run."
 
@@ -79,6 +80,8 @@ def check_words(given: argparse.Namespace) -> None:
             raise Fault(f"--rules, --tick-ms and --interval-s aren't for --by {given.by}, which looks each second by its settings")
     elif given.settings is not None or given.systemd:
         raise Fault(f"--settings and --systemd are for --by {by_systemd.NAME}")
+    elif given.by == by_oomd.NAME and given.tick_ms:
+        raise Fault(f"--tick-ms isn't for --by {given.by}, which looks at multiples of --interval-s")
     elif given.rules is None:
         raise Fault(f"the following arguments are required: --rules, or --by {by_systemd.NAME} and --settings")
 
@@ -104,11 +107,15 @@ def judge(given: argparse.Namespace, program: Program) -> list[Judged]:
             rules: RulesFile = by_systemd.BySystemd(given.settings)
             check(wanted, given.want, rules)
             replays = by_systemd.replays(program, given.settings, given.systemd, traces)
+        elif given.by == by_oomd.NAME:
+            rules = by_oomd.ByOomd(given.rules)
+            check(wanted, given.want, rules)
+            replays = by_oomd.replays(program, given.rules, given.interval_s, traces)
         else:
             rules, file = accepted(program, given.rules, files)
             check(wanted, given.want, rules)
             (replays,) = traces.replays(program, [file])
-    if given.by != by_systemd.NAME:
+    if given.by not in (by_oomd.NAME, by_systemd.NAME):
         note_unmatched([trace for trace, found in zip(given.traces, replays) if not isinstance(found, Fault)], [rules])
     return [Judged(trace, found, wanted, rules) for trace, found in zip(given.traces, replays)]
 

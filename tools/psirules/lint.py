@@ -7,7 +7,7 @@ from dataclasses import asdict
 from typing import Any
 
 from psireplay.kinds import RULES, kind_of, told_kind
-from psirules import telling
+from psirules import oomd_notes, telling
 from psirules.mending import Finding, Kind, Mender
 from psirules.program import Program, Refusal
 from psirules.relaxed import Reading
@@ -18,7 +18,8 @@ from psirules.wording import Fault, quoted
 
 ABOUT = """Reports what psi_oomd refuses in FILE (comments, commas after the last item, plugins and values that only oomd has),
 what it passes over in silence (a misspelt argument does nothing; it names the one that was probably meant), and what it takes
-otherwise than oomd 0.5.0 (a size without a letter). With --fix a corrected file is printed, which psi_oomd takes, and each
+otherwise than oomd 0.5.0 (a size without a letter). Notes name what oomd does otherwise by the same words, such as a kill
+at pressure 0; with --tick-ms or --interval-s also ticks that don't divide the interval. With --fix a corrected file is printed, which psi_oomd takes, and each
 change is reported on standard error; LOST marks those by which the rules do other things than in oomd."""
 STATUS = """The status is 0 where nothing is wrong, 1 where something is, and 2 where FILE can't be read. With --fix it is 0
 where the printed file means what FILE does, 1 where some of that is lost, and 2 where nothing could be printed."""
@@ -78,6 +79,7 @@ class Linted:
 
     def __init__(self, data: bytes) -> None:
         self.findings: list[Finding] = []
+        self.notes: list[Finding] = []
         self.fixed: bytes | None = None
         try:
             reading = Reading(data)
@@ -90,6 +92,7 @@ class Linted:
             what = f"the key {quoted(key)} stands twice in one object, and the last one counts"
             self.findings.append(Finding(WHOLE_FILE, Kind.IGNORED, what, "the last one stays"))
         was = verdict(data, reading.data)
+        self.notes = oomd_notes.notes(reading.data)
         mender = Mender(reading.data)
         self.findings += mender.findings
         if was and not any(it.kind is Kind.REFUSED for it in self.findings):
@@ -125,6 +128,7 @@ def run(given: argparse.Namespace) -> int:
     linted = Linted(data)
     if given.fix:
         return told_fix(linted, given.file)
+    linted.findings += [*linted.notes, *oomd_notes.of_pace(given.tick_ms, given.interval_s)]
     status = telling.FAILED if any(it.kind is not Kind.NOTE for it in linted.findings) else telling.OK
     if given.form is Form.JSON:
         records = [{**asdict(it), "kind": it.kind.value} for it in linted.findings]

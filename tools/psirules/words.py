@@ -2,7 +2,7 @@
 import argparse
 from collections.abc import Callable
 
-from psirules import by_systemd, compare, expect, from_systemd, lint, sweep
+from psirules import by_oomd, by_systemd, compare, expect, from_oomd, from_systemd, lint, sweep, to_oomd
 from psirules.program import Pace
 from psirules.telling import Form
 from psirules.wording import Fault
@@ -62,7 +62,9 @@ def add_expect(command: argparse.ArgumentParser) -> None:
     command.add_argument("want", metavar="WANT", help="the file with what is wanted")
     command.add_argument("traces", metavar="TRACE", nargs="+", help="a trace")
     command.add_argument("--rules", metavar="FILE", help="the rules file")
-    command.add_argument("--by", choices=("oomd", by_systemd.NAME), default="oomd", help="who kills: oomd, by --rules, if left out")
+    killers = ("psi_oomd", by_oomd.NAME, by_systemd.NAME)
+    by = "who kills: psi_oomd by --rules if left out, or oomd 0.5.0 by --rules, or systemd-oomd by --settings"
+    command.add_argument("--by", choices=killers, default=killers[0], help=by)
     command.add_argument("--settings", metavar="FOLDER", help="with --by systemd-oomd: its settings, as of tools/systemd-oomd")
     command.add_argument("--systemd", type=number(247, 9999), metavar="N", help="with it: by which version of systemd")
     add_replay(command)
@@ -95,12 +97,19 @@ def parser() -> Words:
     command = add("lint", lint.ABOUT, lint.STATUS, "tell what is wrong in a rules file, or correct it")
     command.add_argument("file", metavar="FILE", help="the rules file, or - for the standard input")
     command.add_argument("--fix", action="store_true", help="print a corrected file, and report each change on standard error")
+    add_pace(command)
     add_form(command, False)
     command.set_defaults(run=lint.run)
     command = add("from-systemd", from_systemd.ABOUT, from_systemd.STATUS, "print the rules that are nearest to systemd-oomd's settings")
     command.add_argument("folder", metavar="FOLDER", help="the settings, as of tools/systemd-oomd")
     command.add_argument("--systemd", type=number(247, 9999), metavar="N", help="by which version of systemd")
     command.set_defaults(run=from_systemd.run)
+    command = add("to-oomd", to_oomd.ABOUT, to_oomd.STATUS, "print these rules as a configuration of oomd")
+    command.add_argument("file", metavar="FILE", help="a rules file of psi_oomd")
+    command.set_defaults(run=to_oomd.run)
+    command = add("from-oomd", from_oomd.ABOUT, from_oomd.STATUS, "print the rules that are nearest to a configuration of oomd")
+    command.add_argument("file", metavar="FILE", help="oomd's configuration")
+    command.set_defaults(run=from_oomd.run)
     return words
 
 

@@ -1,0 +1,248 @@
+#!/usr/bin/env python3
+"""Counts how often psi_oomd's kills by a rules file are those that oomd 0.5.0 would make by it, and why not: the figures of the table
+in docs/RULES.md.
+
+usage: bench/oomd_differences.py [CASES [DEFAULT_CASES]]     (400 and 200 if left out; PSI_OOMD names the program)
+       bench/oomd_differences.py --binary [CASES]            (holds the emulation against oomd itself on each case, 100 if left out)
+
+First come the 58 experiments of tests/oomd_checks, whose answers oomd itself gave. Then made incidents with usual rules: at ticks of
+a second, where both look at the same times, and at psi_oomd's default ticks of two seconds, where they don't. Kills of oomd are those
+of tools/oomd. The cause of a first kill that differs is the smallest set of oomd's rules which, with psi_oomd's in their place, gives
+psi_oomd's first kill.
+"""
+from __future__ import annotations
+
+import collections
+import contextlib
+import itertools
+import os
+import sys
+import tempfile
+from collections.abc import Callable, Iterator
+from dataclasses import dataclass
+from unittest import mock
+
+sys.dont_write_bytecode = True
+TOP = os.path.dirname(os.path.dirname(os.path.abspath(__file__)))
+sys.path[:0] = [os.path.join(TOP, "tools"), os.path.join(TOP, "tests")]
+
+from oomd_checks.experiments import FOUND  # noqa: E402
+from oomd_incidents import incident, usual_rules  # noqa: E402
+from psioomd import binary  # noqa: E402
+from psioomd.detectors import Above, Reclaim, Rising  # noqa: E402
+from psioomd.engine import Engine  # noqa: E402
+from psioomd.killers import ByPressure, ByScans, BySize, Killer, Ranked  # noqa: E402
+from psioomd.machine import NO_PRESSURE, Averages  # noqa: E402
+from psioomd.plugin import SECOND, Look, Result, result  # noqa: E402
+from psioomd.emulation import Run, emulate  # noqa: E402
+from psirules.program import Kill, Pace, Program, RulesAt  # noqa: E402
+
+TICK_MS, CASES, DEFAULT_CASES, BINARY_CASES, WORKERS, PAST = 1000, 400, 200, 100, 1, 4
+INTERVALS = (1, 5)
+Patch = tuple[type, str, object]
+
+
+# ---------------------------------------------------------------- psi_oomd's rules in place of oomd's
+
+
+def scan_ranks(self: ByScans, look: Look, paths: list[str]) -> Ranked:
+    """Groups whose count of scanned pages rose."""
+    return {path: it for path, it in OWN_SCANS(self, look, paths).items() if it[0][0] > 0}
+
+
+def pressure_ranks(self: ByPressure, look: Look, paths: list[str]) -> Ranked:
+    """The exact sum, above 0."""
+    found = {path: look.machine.pressure(path, self.args["resource"]) for path in paths}
+    sums = {path: it.avg10 + it.avg60 for path, it in found.items()}
+    return {path: ((it,), "") for path, it in sums.items() if it > 0}
+
+
+def read_greatest(self: Above, look: Look) -> None:
+    """The greatest of each average among the groups."""
+    found = [look.machine.pressure(it, self.resource) for it in look.machine.among(self.args["cgroup"])]
+    both = [(it.avg10, it.avg60) for it in [*found, NO_PRESSURE]]
+    self.best = Averages(max(it[0] for it in both), max(it[1] for it in both))
+
+
+def reclaim_run(self: Reclaim, look: Look) -> Result:
+    """Whether a group that was there a look ago scanned."""
+    machine = look.machine
+    paths = machine.among(self.args["cgroup"])
+    if any(machine.scanned(it) > look.scanned.get(machine.group(it), machine.scanned(it)) for it in paths):
+        self.pages, self.last = 1, look.now
+    quiet = look.now - self.last
+    return result(self.pages > 0 and quiet // SECOND <= self.args["duration"])
+
+
+def size_ranks(self: BySize, look: Look, paths: list[str]) -> Ranked:
+    """Growth by the mean of the last four sizes, of groups in which a task is live."""
+    live = [it for it in paths if look.machine.is_populated(it)]
+    past = {look.machine.group(it): HISTORY.get(look.machine.group(it), [])[-PAST:] for it in live}
+    look.average = {group: sum(it) / len(it) if it else 0 for group, it in past.items()}  # type: ignore[misc]
+    return OWN_SIZES(self, look, live)
+
+
+def at_last(self: Killer, look: Look, path: str, candidates: list[object]) -> list[tuple[str, list[object]]]:
+    """The last victim, if none below it is one."""
+    if not look.machine.is_populated(path):
+        return []
+    below = look.machine.children(path) if self.is_recursive else []
+    found = self.victims(look, [it for it in below if look.machine.is_populated(it)]) if below else []
+    return found or [(path, candidates)]  # type: ignore[return-value]
+
+
+def remembered(self: Engine, now: int) -> None:
+    """A look, and each group's sizes after it."""
+    OWN_LOOK(self, now)
+    for path, group in self.machine.world.groups.items():
+        HISTORY.setdefault(group, []).append(self.machine.current(path))
+
+
+OWN_SCANS, OWN_SIZES, OWN_LOOK = ByScans.ranks, BySize.ranks, Engine.look
+HISTORY: dict[object, list[int]] = {}
+SWITCHES: dict[str, list[Patch]] = {
+    "kill_by_pg_scan waits a look, and kills without scans": [(ByScans, "run", Killer.run), (ByScans, "ranks", scan_ranks)],
+    "kill_by_pressure compares whole percents, and kills at 0": [(ByPressure, "ranks", pressure_ranks)],
+    "one weighted group counts": [(Above, "read", read_greatest)],
+    "memory_reclaim counts the sum, from 0": [(Reclaim, "run", reclaim_run)],
+    "growth is measured by a decaying average, from 0": [(BySize, "ranks", size_ranks)],
+    "recursive never kills a group with children": [(Killer, "at", at_last)],
+}
+FIRST_LOOK = "pressure_rising_beyond begins at 100"
+
+
+@contextlib.contextmanager
+def switched(names: tuple[str, ...]) -> Iterator[None]:
+    """psi_oomd's rules in place of these of oomd's."""
+    HISTORY.clear()
+    with contextlib.ExitStack() as stack:
+        stack.enter_context(mock.patch.object(Engine, "look", remembered))
+        for owner, attribute, value in itertools.chain(*(SWITCHES.get(it, []) for it in names)):
+            stack.enter_context(mock.patch.object(owner, attribute, value))
+        if FIRST_LOOK in names:
+            stack.enter_context(mock.patch.object(Rising, "run", run_from_zero))
+        yield
+
+
+def run_from_zero(self: Rising, look: Look) -> Result:
+    self.before = 0 if look.number == 1 else self.before
+    return OWN_RISING(self, look)
+
+
+OWN_RISING = Rising.run
+
+
+# ---------------------------------------------------------------- cases
+
+
+@dataclass
+class Case:
+    """A trace with rules, and the kills of both."""
+
+    run: Run
+    rules: list[Kill]
+    oomd: list[Kill]
+    plugins: str
+
+    def is_first_same(self) -> bool:
+        return self.rules[:1] == self.oomd[:1]
+
+    def cause(self) -> str:
+        """Why the first kills differ."""
+        names = [*SWITCHES, FIRST_LOOK]
+        for count in (1, 2):
+            for some in itertools.combinations(names, count):
+                with switched(some):
+                    if kills_of(self.run)[:1] == self.rules[:1]:
+                        return " and ".join(some)
+        return "another rule, such as two digits of an average, or several"
+
+
+def kills_of(run: Run) -> list[Kill]:
+    return [it.kill() for it in emulate(Program(), run, WORKERS).decisions]
+
+
+def case(folder: str, seed: int, tick_ms: int | None, interval: int) -> Case:
+    """A made incident by usual rules."""
+    names = [os.path.join(folder, it) for it in ("t.trace", "r.json")]
+    plugins = usual_rules(seed)
+    for name, text in zip(names, (incident(seed // 2), plugins)):
+        with open(name, "w", encoding="utf-8") as file:
+            file.write(text)
+    run = Run(names[0], names[1], interval=interval)
+    rules = Program().replay(names[0], RulesAt(names[1], names[1]), Pace(tick_ms, interval), WORKERS)
+    return Case(run, rules, kills_of(run), plugins)
+
+
+def share(count: int, total: int) -> str:
+    return f"{count} of {total} ({100 * count / total:.0f} %)" if total else "none"
+
+
+def tell(title: str, cases: list[Case]) -> None:
+    """The shares of cases in which both say the same."""
+    found = [it for it in cases if it.rules or it.oomd]
+    print(f"{title}: {len(cases)} cases, {len(found)} with kills")
+    rows: dict[str, Callable[[Case], bool]] = {
+        "all kills the same": lambda it: it.rules == it.oomd,
+        "first kill the same": Case.is_first_same,
+        "first victim the same": lambda it: [k.path for k in it.rules[:1]] == [k.path for k in it.oomd[:1]],
+    }
+    for name, holds in rows.items():
+        print(f"  {name}: {share(sum(map(holds, found)), len(found))}")
+    others = [it for it in found if "kill_by_pg_scan" not in it.plugins]
+    print(f"  first kill the same, without kill_by_pg_scan: {share(sum(map(Case.is_first_same, others)), len(others))}")
+
+
+def tell_causes(cases: list[Case]) -> None:
+    counts = collections.Counter(it.cause() for it in cases if not it.is_first_same())
+    print(f"  causes of {counts.total()} first kills that differ:")
+    for cause, count in counts.most_common():
+        print(f"    {count:4} {cause}")
+
+
+def tell_experiments() -> None:
+    differ = [it for it in FOUND if it.oomd != it.rules]
+    print(f"experiments: {len(FOUND)}, of which {len(differ)} differ and {len(FOUND) - len(differ)} don't")
+    for it in differ:
+        print(f"  {it.name}: oomd {it.oomd}; psi_oomd {it.rules}")
+
+
+def by_binary(count: int) -> int:
+    """Holds the emulation against oomd itself. The status is 1 if a kill differs, except among equal ranks."""
+    kills = wrong = 0
+    with tempfile.TemporaryDirectory() as folder:
+        for seed in range(count):
+            it = case(folder, seed, TICK_MS, INTERVALS[seed % 2])
+            own, found = emulate(Program(), it.run, WORKERS), binary.run_binary(Program(), it.run, "oomd").kills
+            same = [k.moment == o.moment and o.may_kill(k.path) for k, o in zip(found, own.decisions)]
+            kills += len(found)
+            wrong += len(found) != len(own.decisions) or not all(same)
+    print(f"{count} cases, {kills} kills by oomd itself, {wrong} cases in which the emulation differs")
+    return 1 if wrong else 0
+
+
+def main() -> int:
+    words = sys.argv[1:]
+    if words[:1] == ["--binary"]:
+        return by_binary(int(words[1]) if words[1:] else BINARY_CASES)
+    counts = [int(it) for it in words] or [CASES]
+    with tempfile.TemporaryDirectory() as folder:
+        same = [case(folder, seed, TICK_MS, INTERVALS[seed % 2]) for seed in range(counts[0])]
+        tell_experiments()
+        tell("incidents, ticks of a second, interval 1 or 5 s", same)
+        # The files of a case are made again, since all cases share their names.
+        tell_causes([remade(folder, seed, it) for seed, it in enumerate(same) if not it.is_first_same()])
+        seeds = range(counts[1] if counts[1:] else DEFAULT_CASES)
+        tell("incidents, default ticks of 2 s and interval of 5 s", [case(folder, it, None, 5) for it in seeds])
+    return 0
+
+
+def remade(folder: str, seed: int, it: Case) -> Case:
+    """The case with files of its own."""
+    own = os.path.join(folder, str(seed))
+    os.mkdir(own)
+    return case(own, seed, TICK_MS, it.run.interval)
+
+
+if __name__ == "__main__":
+    sys.exit(main())

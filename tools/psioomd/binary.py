@@ -1,0 +1,251 @@
+"""oomd itself on a trace: it looks at files of each time, and all its kills are dry."""
+from __future__ import annotations
+
+import contextlib
+import functools
+import os
+import shutil
+import tempfile
+from collections.abc import Iterator
+from dataclasses import dataclass, field
+from typing import IO
+
+from psioomd import dry
+from psioomd.configuration import Configuration
+from psioomd.daemon import Daemon, answer
+from psioomd.files import MOUNT, Files
+from psioomd.log import LogReader, Restart, reason
+from psioomd.machine import Machine
+from psioomd.emulation import (
+    SECOND,
+    Run,
+    first_host,
+    first_samples,
+    lines_at,
+    raise_refusal,
+    replay_words,
+    ticks_of,
+)
+from psioomd.sandbox import PATIENCE, SANDBOXES, Sandbox, sandbox
+from psirules.program import Kill, Program, processors
+from psirules.rules_file import bytes_of
+from psirules.wording import Fault, quoted, seconds
+
+__all__ = ["SANDBOXES", "BinaryRun", "run_binary"]
+IS_OOMD = "List of plugins"
+MEMORY = "/dev/shm"
+
+
+@dataclass
+class BinaryRun:
+    """What oomd itself did: its file and version, in what it ran, and how often it looked. `fault`
+    says how it ended, if it did."""
+
+    path: str
+    version: str
+    sandbox: str
+    names: list[str]
+    looks: int = 0
+    kills: list[Kill] = field(default_factory=list)
+    plugins: list[str] = field(default_factory=list)
+    restarts: list[Restart] = field(default_factory=list)
+    fault: str = ""
+
+    def who(self, kill: Kill) -> str:
+        """The ruleset and the action of a kill."""
+        plugin = quoted(self.plugins[self.kills.index(kill)])
+        if kill.ruleset < 0:
+            return plugin
+        action = f"action {kill.action} {plugin}" if kill.action >= 0 else plugin
+        return f"ruleset {kill.ruleset} {quoted(self.names[kill.ruleset])}, {action}"
+
+    def line(self, kill: Kill) -> str:
+        """A kill, for people."""
+        return f"{seconds(kill.moment)} s  by {self.path}: would kill {kill.path}, {self.who(kill)}"
+
+    def record(self) -> dict[str, object]:
+        """For programs."""
+        kills = [
+            {"moment_ns": it.moment, "ruleset": it.ruleset, "action": it.action, "victim": it.path}
+            for it in self.kills
+        ]
+        restarts = [{"moment_ns": it.moment, "service": it.service} for it in self.restarts]
+        return {
+            "program": self.path, "version": self.version, "sandbox": self.sandbox,
+            "looks": self.looks, "kills": kills, "restarts": restarts, "fault": self.fault or None,
+        }  # fmt: skip
+
+
+@contextlib.contextmanager
+def room() -> Iterator[str]:
+    """A temporary folder, in memory if there is room for one."""
+    where = MEMORY if os.access(MEMORY, os.W_OK) else None
+    with tempfile.TemporaryDirectory(prefix="psioomd-", dir=where, ignore_cleanup_errors=True) as it:
+        yield os.path.realpath(it)
+
+
+def program_at(name: str) -> str:
+    """The file of a program of the PATH, or at a path."""
+    found = shutil.which(name)
+    if not found:
+        advice = "give its path, or install Debian's package oomd"
+        raise Fault(f"{quoted(name)}: there is no such program: {advice}")
+    return os.path.realpath(found)
+
+
+@functools.lru_cache(maxsize=None)
+def version_of(kind: str, path: str) -> str:
+    """The version of the program, which has to be oomd."""
+    with room() as folder:
+        shut = Sandbox(kind, folder, path)
+        status, plugins = answer(shut, [path, "--list-plugins"])
+        if status or IS_OOMD not in plugins:
+            what = f"`--list-plugins` ended with status {status} and {quoted(plugins.strip()[:200])}"
+            raise Fault(f"{quoted(path)} isn't oomd: {what}")
+        _, said = answer(shut, [path, "--version"])
+    return said.strip().splitlines()[0].removeprefix("v") if said.strip() else "of no version"
+
+
+def store(folder: str, name: str, data: bytes) -> str:
+    path = os.path.join(folder, name)
+    with open(path, "wb") as file:
+        file.write(data)
+    return path
+
+
+def check_config(shut: Sandbox, path: str, name: str) -> None:
+    """Raises oomd's own reason to refuse a configuration."""
+    kmsg = os.path.join(shut.folder, "machine/dev/kmsg")
+    words = [shut.binary, "-f", MOUNT, "--kmsg-override", kmsg, "--check-config", path]
+    status, said = answer(shut, words)
+    if status:
+        raise Fault(f"{name}: {shut.binary} refuses this: {reason(said)}")
+
+
+def prepare_words(shut: Sandbox, run: Run, base: Configuration, parts: list[Configuration]) -> list[str]:
+    """Stores the dry copies, and returns the words that run oomd on them."""
+    check_config(shut, store(shut.folder, "given.json", bytes_of(run.config)), run.config)
+    copy = store(shut.folder, "oomd.json", dry.copy(base))
+    check_config(shut, copy, f"{run.config} with `dry` in each kill")
+    words = [shut.binary, "-C", copy, "-i", str(run.interval), "-f", MOUNT, "-D", shut.folder]
+    words += ["--kmsg-override", os.path.join(shut.folder, "machine/dev/kmsg")]
+    if parts:
+        folder = os.path.join(shut.folder, "drop-in")
+        os.mkdir(folder)
+        for number, part in enumerate(parts):
+            store(folder, f"{number:04}.json", dry.drop_in_copy(base, part))
+        words += ["-w", folder]
+    return words
+
+
+class Looks:
+    """Brings the files of a machine to the time of each look."""
+
+    def __init__(self, run: Run, files: Files, printed: Iterator[bytes]) -> None:
+        self.run, self.files = run, files
+        self.lines = lines_at(run.trace)
+        self.line = next(self.lines, None)
+        self.ticks = ticks_of(printed, run.interval)
+        self.warm = run.warm // run.interval
+        self.take(0)
+        if run.warm:
+            for line in first_samples(run.trace):
+                files.machine.world.take(*line)
+        files.update()
+
+    def take(self, moment: int) -> None:
+        """Takes the trace's lines up to a time (ns)."""
+        while self.line and self.line[0] <= moment:
+            self.files.machine.world.take(*self.line)
+            self.line = next(self.lines, None)
+
+    def times(self) -> Iterator[int]:
+        """The times (ns) of the looks, when the files of each are there."""
+        for number in range(1, self.warm + 1):
+            yield (number - self.warm) * self.run.interval * SECOND
+        for tick in self.ticks:
+            self.take(tick.moment)
+            self.files.machine.take_pressure(tick.reports)
+            self.files.update()
+            yield tick.moment
+
+
+@dataclass
+class Follower:
+    """Lets oomd look at each time, and reads what it writes."""
+
+    daemon: Daemon
+    found: BinaryRun
+    reader: LogReader
+    log: IO[str] | None
+
+    def has_looked(self, moment: int | None) -> bool:
+        """Waits until it sleeps again after a look, or its start. False if it has ended."""
+        end = self.daemon.sleep_end()
+        said = self.daemon.new_log()
+        when = "start" if moment is None else f"{seconds(moment)} s"
+        if self.log and said:
+            self.log.write(f"== {when}\n{said}")
+        if moment is not None:
+            self.reader.take(moment, said)
+        if end is None:
+            at = "before its first look" if moment is None else f"at {when}"
+            words = reason(said) or "no words"
+            self.found.fault = f"{self.found.path}: oomd ended {at}, {self.daemon.end()}: {words}"
+        return end is not None
+
+    def follow(self, looks: Looks) -> None:
+        shift = looks.warm * looks.run.interval * SECOND
+        if not self.daemon.is_preloaded():
+            advice = "give one that is linked dynamically"
+            raise Fault(f"{quoted(self.found.path)} ended at once, or is linked statically: {advice}")
+        if not self.has_looked(None):
+            return
+        for moment in looks.times():
+            self.found.looks += 1
+            self.daemon.wake(moment + shift)
+            if not self.has_looked(moment):
+                return
+        self.daemon.end()
+
+
+def run_binary(
+    program: Program,
+    run: Run,
+    name: str,
+    kind: str | None = None,
+    log: str | None = None,
+    patience: float = PATIENCE,
+) -> BinaryRun:
+    """What oomd itself would have done in a trace, or a fault."""
+    base, parts = run.configurations()
+    path = program_at(name)
+    machine = Machine(run.extras, first_host(run.trace))
+    with room() as folder, contextlib.ExitStack() as stack:
+        shut = sandbox(kind, folder, path)
+        files = Files(folder, machine)
+        found = BinaryRun(name, version_of(shut.kind, path), shut.text(), [it.name for it in base.rulesets])
+        words = prepare_words(shut, run, base, parts)
+        counts = [len(it.actions) for it in base.rulesets]
+        reader = LogReader(counts)
+        said = stack.enter_context(tempfile.TemporaryFile())
+        child = stack.enter_context(program.started(replay_words(run, processors()), said))
+        assert child.stdout is not None
+        looks = Looks(run, files, iter(child.stdout))
+        stream = stack.enter_context(open(log, "w", encoding="utf-8")) if log else None
+        daemon = Daemon(shut, words, run.uptime, patience)
+        try:
+            Follower(daemon, found, reader, stream).follow(looks)
+        finally:
+            terminate(daemon)
+        child.stdout.read()
+        child.wait()
+        raise_refusal(child.returncode, run.trace, said)
+    found.kills, found.plugins, found.restarts = reader.kills, reader.plugins, reader.restarts
+    return found
+
+
+def terminate(daemon: Daemon) -> None:
+    """Ends a daemon that is still running after a fault."""
+    if daemon.process.poll() is None:
+        daemon.end(0)

@@ -1,0 +1,260 @@
+"""The options of tools/oomd, and what it prints."""
+from __future__ import annotations
+
+import argparse
+import contextlib
+import json
+import re
+import sys
+from dataclasses import dataclass
+
+from psioomd import binary
+from psioomd.engine import Engine
+from psioomd.faults import Refused
+from psioomd.machine import Extras
+from psioomd.outcome import Decision
+from psioomd.emulation import SECOND, TICK_MS, UPTIME, Run, emulate
+from psirules.program import Kill, Pace, Program, processors
+from psirules.replays import accepted
+from psirules.rules_file import RulesFile
+from psirules.wording import Fault, counted, seconds
+from psisystemd.command import Words, interval
+from psisystemd.replayed import kept_trace
+
+OK, NOT_RUN = 0, 2
+DEFAULT_INTERVAL = 5
+VERSION = "0.5.0"
+FILES = ("memory.low", "memory.min", "memory.oom.group", "nr_dying_descendants")
+ABOUT = """Prints whom oomd 0.5.0 would have killed in TRACE, when and why, by its own configuration.
+
+  tools/oomd incident.trace --config oomd.json
+
+oomd reads FILE here as it does on a machine, and looks at N, 2N, 3N s. With --binary the program
+oomd itself looks at the trace, in a sandbox in which it can kill nobody."""
+STATUS = """A kill changes nothing, as in `psi_oomd replay`: what follows the first supposes that it freed
+nothing.
+
+Statuses: 0 all was printed, 2 something couldn't be run: a wrong option, a configuration that oomd
+refuses, a trace that psi_oomd refuses, a program that isn't oomd."""
+
+
+def warm(word: str) -> int:
+    """Seconds before the trace."""
+    if not (word.isascii() and word.isdigit() and int(word) <= 100000):
+        raise argparse.ArgumentTypeError(f"{word} is no whole number from 0 to 100000")
+    return int(word)
+
+
+def given_number(word: str) -> tuple[tuple[str, str], int]:
+    """A number that a file of a group has: /batch/memory.low=1073741824."""
+    found = re.fullmatch(r"(/(?:\S*/)?)([a-z_.]+)=([0-9]{1,18}|max)", word)
+    if not found or found[2] not in FILES:
+        raise argparse.ArgumentTypeError(f"{word}: write /GROUP/FILE=NUMBER, FILE one of {', '.join(FILES)}")
+    number = (1 << 63) - 1 if found[3] == "max" else int(found[3])
+    return (found[1].rstrip("/") or "/", found[2]), number
+
+
+def parser() -> Words:
+    form = argparse.RawDescriptionHelpFormatter
+    words = Words(
+        prog="oomd", description=ABOUT, epilog=STATUS, formatter_class=form, allow_abbrev=False
+    )
+    add = words.add_argument
+    add("trace", metavar="TRACE", help="a trace, or - for the standard input")
+    add("--config", metavar="FILE", required=True, help="oomd's configuration")
+    add("--interval-s", metavar="N", type=interval, help="seconds between looks: 5 if left out")
+    add("--drop-in", metavar="FILE", action="append", default=[],
+        help="a drop-in file, present from the start; several are added in the order of their names")  # fmt: skip
+    add("--given", metavar="FILE=N", action="append", type=given_number, default=[],
+        help=f"a number that no trace has, such as /batch/memory.low=1073741824: {', '.join(FILES)}")  # fmt: skip
+    add("--warm", metavar="S", type=warm, default=0,
+        help="begin S seconds before the trace, at a machine with its first samples")  # fmt: skip
+    add("--uptime-s", metavar="S", type=warm,
+        help="how long the machine was up when the trace began: long enough if left out")  # fmt: skip
+    add("--binary", metavar="FILE", nargs="?", const="oomd",
+        help="after TRACE: run this oomd on it too; that of the PATH if FILE is left out")  # fmt: skip
+    add("--sandbox", choices=binary.SANDBOXES,
+        help="with --binary: its sandbox; if left out, bwrap or unshare, the first that works")  # fmt: skip
+    add("--log", metavar="FILE", help="with --binary: write oomd's log there, with the trace's times")
+    add("--compare", metavar="FILE", help="print the kills by these rules of psi_oomd too")
+    add("--all", dest="is_all", action="store_true", help="print each candidate that isn't chosen")
+    add("--json", dest="is_json", action="store_true", help="print it as JSON")
+    return words
+
+
+def complain(text: str) -> None:
+    print(f"oomd: {text}", file=sys.stderr)
+
+
+class Comparison:
+    """The kills by psi_oomd's own rules."""
+
+    def __init__(self, name: str, rules: RulesFile, kills: list[Kill]) -> None:
+        self.name, self.rules, self.kills = name, rules, kills
+
+    def line(self, kill: Kill) -> str:
+        by = f"by {self.name}: would kill {kill.path}, {self.rules.killer(kill)}"
+        return f"{seconds(kill.moment)} s  {by}"
+
+
+def verdict(own: list[Kill], other: list[Kill], names: tuple[str, str]) -> str:
+    """How the first kills of two differ."""
+    if not own or not other:
+        who = names[0] if own else names[1]
+        return f"first kill: by {who} alone" if own or other else "no kill by either"
+    apart = other[0].moment - own[0].moment
+    which = "the same victim" if own[0].path == other[0].path else "another victim"
+    if not apart:
+        return f"first kill: {which}, at the same time"
+    word = "later" if apart > 0 else "earlier"
+    return f"first kill: {which}, {seconds(abs(apart))} s {word} by {names[1]}"
+
+
+def compare(program: Program, name: str, trace: str, interval_s: int) -> Comparison:
+    """The trace by a rules file, evaluated when oomd looks."""
+    with contextlib.ExitStack() as files:
+        rules, file = accepted(program, name, files)
+        kills = program.replay(trace, file, Pace(TICK_MS, interval_s), processors())
+    return Comparison(name, rules, kills)
+
+
+@dataclass(frozen=True)
+class Answers:
+    """All that is printed: what the emulation did (None if it refuses a configuration that oomd
+    itself takes), what oomd itself did, and the kills by rules."""
+
+    run: Run
+    own: Engine | None
+    ran: binary.BinaryRun | None
+    other: Comparison | None
+
+    def decisions(self) -> list[Decision]:
+        return self.own.decisions if self.own else []
+
+    def agreement(self) -> str:
+        if not self.ran or not self.own:
+            return f"oomd {VERSION} would refuse this configuration"
+        return agreement(self.own, self.ran)
+
+
+def agreement(own: Engine, ran: binary.BinaryRun) -> str:
+    """Whether a program's kills are those of the emulation, except among equals."""
+    for decision, other in zip(own.decisions, ran.kills):
+        found = decision.kill()
+        is_same = (found.moment, found.ruleset, found.action) == (other.moment, other.ruleset, other.action)
+        if not is_same or not decision.may_kill(other.path):
+            where = f"{seconds(found.moment)} s {found.path}"
+            other_kill = f"{seconds(other.moment)} s {other.path}"
+            return f"it differs from {VERSION} as emulated: {other_kill} in place of {where}"
+    apart = len(ran.kills) - len(own.decisions)
+    if apart:
+        more = "more" if apart > 0 else "fewer"
+        return f"it differs from {VERSION} as emulated: {counted(abs(apart), 'kill')} {more}"
+    return f"the same kills as {VERSION} as emulated"
+
+
+def binary_lines(answers: Answers, ran: binary.BinaryRun) -> list[str]:
+    """What the program did, for people."""
+    did = f"{counted(ran.looks, 'look')}, {counted(len(ran.kills), 'kill')}"
+    head = f"{ran.path}: oomd {ran.version} in {ran.sandbox}: {did}"
+    lines = [f"{head}; {answers.agreement()}"]
+    lines += [f"{seconds(it.moment)} s  {ran.path}: restarts {it.service}" for it in ran.restarts]
+    return [*lines, ran.fault] if ran.fault else lines
+
+
+def kill_lines(answers: Answers, is_all: bool) -> list[str]:
+    """The kills of all, in order of time."""
+    rows = [(it.moment, 0, it.lines(is_all)) for it in answers.decisions()]
+    if answers.other:
+        rows += [(it.moment, 1, [answers.other.line(it)]) for it in answers.other.kills]
+    if answers.ran:
+        rows += [(it.moment, 2, [answers.ran.line(it)]) for it in answers.ran.kills]
+    return [line for _, _, lines in sorted(rows, key=lambda row: row[:2]) for line in lines]
+
+
+def print_lines(answers: Answers, is_all: bool) -> None:
+    """For people: the kills in order of time, and how near each detector came."""
+    own, other, ran = answers.own, answers.other, answers.ran
+    lines = kill_lines(answers, is_all)
+    if own and not own.decisions:
+        lines.append("nobody would be killed")
+    if own and own.crash:
+        lines.append(own.crash)
+    if own and other:
+        kills = [it.kill() for it in own.decisions]
+        lines.append(verdict(kills, other.kills, (f"oomd {VERSION}", other.name)))
+    if ran:
+        lines += binary_lines(answers, ran)
+    if own:
+        lines += [f"{it.place}: {it.text}" for it in own.courses()]
+        lines.append(f"oomd {VERSION}: {counted(own.looks, 'look')}, one each {answers.run.interval} s")
+    print("\n".join(lines))
+
+
+def print_json(answers: Answers, name: str) -> None:
+    """For programs."""
+    own, other, ran = answers.own, answers.other, answers.ran
+    record: dict[str, object] = {
+        "trace": name,
+        "config": answers.run.config,
+        "oomd": VERSION,
+        "interval_s": answers.run.interval,
+        "looks": own.looks if own else None,
+        "decisions": [it.record() for it in answers.decisions()],
+        "crash": own.crash or None if own else None,
+        "notes": own.notes.texts if own else [],
+        "binary": {**ran.record(), **{"agreement": answers.agreement()}} if ran else None,
+        "compared": other and {"rules": other.name, "kills": [other.rules.record(it) for it in other.kills]},
+    }
+    json.dump(record, sys.stdout, indent=1)
+    print()
+
+
+def run_of(given: argparse.Namespace, trace: str) -> Run:
+    return Run(
+        trace,
+        given.config,
+        tuple(given.drop_in),
+        given.interval_s or DEFAULT_INTERVAL,
+        Extras(dict(given.given)),
+        given.warm,
+        UPTIME if given.uptime_s is None else given.uptime_s * SECOND,
+    )
+
+
+def try_emulation(program: Program, run: Run, has_binary: bool) -> Engine | None:
+    """The emulation. If oomd itself is run too, it has the last word on its configuration."""
+    try:
+        return emulate(program, run, processors())
+    except Refused as refused:
+        if not has_binary:
+            raise
+        complain(f"{refused} ({VERSION}, as emulated)")
+        return None
+
+
+def collect_answers(given: argparse.Namespace) -> Answers:
+    program = Program()
+    program.prepare()
+    with kept_trace(given.trace) as trace:
+        run = run_of(given, trace)
+        own = try_emulation(program, run, bool(given.binary))
+        ran = binary.run_binary(program, run, given.binary, given.sandbox, given.log) if given.binary else None
+        other = compare(program, given.compare, trace, run.interval) if given.compare else None
+    return Answers(run, own, ran, other)
+
+
+def run(given: argparse.Namespace) -> int:
+    if not given.binary and (given.sandbox or given.log):
+        raise Fault("--sandbox and --log are for --binary")
+    answers = collect_answers(given)
+    if answers.own:
+        for text in answers.own.notes.texts:
+            complain(text)
+        if answers.own.machine.world.host is None:
+            complain("the trace has no `host` line: its memory and swap are 0 for percentages")
+    if given.is_json:
+        print_json(answers, given.trace)
+    else:
+        print_lines(answers, given.is_all)
+    return OK

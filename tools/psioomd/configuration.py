@@ -1,0 +1,147 @@
+"""A configuration of oomd, read as oomd reads it: JsonCpp with comments, then its own walk."""
+from __future__ import annotations
+
+from collections.abc import Iterable
+from dataclasses import dataclass, field
+from typing import Any
+
+from psioomd.faults import Refused
+from psirules.relaxed import Reading
+from psirules.wording import Fault, quoted
+
+
+@dataclass
+class PluginUse:
+    """A plugin as a configuration names it: its arguments as texts, and its place for messages."""
+
+    name: str
+    args: dict[str, str]
+    place: str
+
+
+@dataclass
+class GroupUse:
+    """A group of detectors."""
+
+    name: str
+    detectors: list[PluginUse]
+    place: str
+
+
+@dataclass
+class RulesetUse:
+    """A ruleset. Delays are the texts of the file, empty if left out."""
+
+    name: str
+    place: str
+    groups: list[GroupUse] = field(default_factory=list)
+    actions: list[PluginUse] = field(default_factory=list)
+    delay: str = ""
+    hook_timeout: str = ""
+    silenced: str = ""
+    may_replace_detectors: bool = False
+    may_replace_actions: bool = False
+    is_disabled_by_drop_in: bool = False
+
+
+@dataclass
+class Configuration:
+    """All of a file: its name, its rulesets, the names of its prekill hooks, and its data."""
+
+    name: str
+    rulesets: list[RulesetUse]
+    hooks: list[str]
+    data: Any
+
+
+def text_of(value: Any, place: str) -> str:
+    """JsonCpp's asString."""
+    if value is None:
+        return ""
+    if isinstance(value, bool):
+        return "true" if value else "false"
+    if isinstance(value, float):
+        digits = format(value, ".17g")
+        return digits if any(it in digits for it in ".en") else f"{digits}.0"
+    if isinstance(value, (str, int)):
+        return str(value)
+    raise Refused(place, "Value is not convertible to string. (it aborts)")
+
+
+def truth_of(value: Any, place: str) -> bool:
+    """JsonCpp's asBool."""
+    if value is None or isinstance(value, (bool, int, float)):
+        return bool(value)
+    raise Refused(place, "Value is not convertible to bool. (it aborts)")
+
+
+def items(value: Any) -> Iterable[Any]:
+    """What oomd walks over: a list, or the values of an object by their keys."""
+    if isinstance(value, dict):
+        return [value[key] for key in sorted(value)]
+    return value if isinstance(value, list) else []
+
+
+def object_at(value: Any, place: str) -> dict[str, Any]:
+    """An object, or nothing for null. oomd aborts at any other value."""
+    if value is None or isinstance(value, dict):
+        return value or {}
+    raise Refused(place, "requires objectValue or nullValue (it aborts)")
+
+
+def plugin_use(value: Any, place: str) -> PluginUse:
+    """A plugin. oomd stops reading arguments at the first that is no text, number or truth."""
+    if not isinstance(value, dict) or not isinstance(value.get("name"), str):
+        return PluginUse("", {}, place)
+    name, args = value["name"], {}
+    given = value.get("args")
+    found: dict[str, Any] = given if isinstance(given, dict) else {}
+    for key in sorted(found):
+        if not isinstance(found[key], (str, int, float, bool)):
+            break
+        args[key] = text_of(found[key], place)
+    return PluginUse(name, args, f"{place} {quoted(name)}")
+
+
+def group_use(value: Any, place: str) -> GroupUse:
+    """A group: its name may come first."""
+    found = list(value) if isinstance(value, list) else []
+    name = str(found.pop(0)) if found and isinstance(found[0], str) else ""
+    here = f"{place} {quoted(name)}"
+    detectors = [plugin_use(it, f"{here}, item {at}") for at, it in enumerate(found)]
+    return GroupUse(name, detectors, here)
+
+
+def ruleset_use(value: Any, number: int, file: str) -> RulesetUse:
+    place = f"{file}: ruleset {number}"
+    found = object_at(value, place)
+    name = text_of(found.get("name"), place)
+    use = RulesetUse(name, f"{place} {quoted(name)}")
+    switches = object_at(found.get("drop-in"), use.place)
+    use.is_disabled_by_drop_in = truth_of(switches.get("disable-on-drop-in"), use.place)
+    use.may_replace_detectors = truth_of(switches.get("detectors"), use.place)
+    use.may_replace_actions = truth_of(switches.get("actions"), use.place)
+    use.silenced = text_of(found.get("silence-logs"), use.place)
+    use.delay = text_of(found.get("post_action_delay"), use.place)
+    use.hook_timeout = text_of(found.get("prekill_hook_timeout"), use.place)
+    use.groups = [
+        group_use(it, f"{use.place}, group {at}")
+        for at, it in enumerate(items(found.get("detectors")))
+    ]
+    use.actions = [
+        plugin_use(it, f"{use.place}, action {at}")
+        for at, it in enumerate(items(found.get("actions")))
+    ]
+    return use
+
+
+def configuration(name: str, data: bytes) -> Configuration:
+    """The configuration in these bytes, not yet checked for what its plugins take."""
+    try:
+        read = Reading(data).data
+    except Fault as fault:
+        raise Refused(name, f"Unable to parse JSON: {fault}") from fault
+    top = object_at(read, name)
+    rulesets = [ruleset_use(it, at, name) for at, it in enumerate(items(top.get("rulesets")))]
+    hooks = [plugin_use(it, name).name for it in items(top.get("prekill_hooks"))]
+    return Configuration(name, rulesets, hooks, read)

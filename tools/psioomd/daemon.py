@@ -1,0 +1,170 @@
+"""oomd as a process whose clock stands still: each of its sleeps waits for the driver."""
+from __future__ import annotations
+
+import functools
+import os
+import select
+import signal
+import struct
+import subprocess
+import tempfile
+import time
+
+from psioomd.sandbox import PATIENCE, Sandbox
+from psirules.wording import Fault, quoted
+
+SOURCE = os.path.join(os.path.dirname(os.path.abspath(__file__)), "clock.c")
+LIBRARY = "clock.so"
+HELLO, SLEEPS, KILLS = "H", "S", "K"
+MESSAGE = struct.Struct("<cq")
+MOST_LOG = 1 << 26
+GRACE = 20
+"""How long a process may take to end (s) once its driver is gone."""
+
+
+@functools.lru_cache(maxsize=None)
+def clock_library() -> bytes:
+    """The preloaded library, compiled once per run of this tool."""
+    with tempfile.TemporaryDirectory(prefix="psioomd-") as folder:
+        made = os.path.join(folder, LIBRARY)
+        words = ["cc", "-O2", "-shared", "-fPIC", "-o", made, SOURCE, "-ldl"]
+        try:
+            done = subprocess.run(words, capture_output=True, cwd=folder)
+        except OSError as fault:
+            advice = "install a C compiler (package gcc), or leave out --binary"
+            raise Fault(f"cc, which compiles {SOURCE}, doesn't run: {fault.strerror}: {advice}") from fault
+        if done.returncode:
+            said = done.stderr.decode(errors="replace").strip()
+            raise Fault(f"cc doesn't compile {SOURCE}: install libc6-dev, or leave out --binary: {said}")
+        with open(made, "rb") as file:
+            return file.read()
+
+
+class Daemon:
+    """A process in a sandbox, with the clock preloaded."""
+
+    def __init__(self, sandbox: Sandbox, words: list[str], uptime: int, patience: float) -> None:
+        self.sandbox, self.patience = sandbox, patience
+        folder = sandbox.folder
+        with open(os.path.join(folder, LIBRARY), "wb") as file:
+            file.write(clock_library())
+        hears, self.to = os.pipe()
+        self.of, says = os.pipe()
+        self.log = open(os.path.join(folder, "log"), "wb+")
+        variables = {
+            "LD_PRELOAD": os.path.join(folder, LIBRARY),
+            "PSIOOMD_ROOT": os.path.join(folder, "machine"),
+            "PSIOOMD_FOLDER": folder,
+            "PSIOOMD_OUT": str(says),
+            "PSIOOMD_IN": str(hears),
+            "PSIOOMD_UPTIME_NS": str(uptime),
+            "INLINE_LOGGING": "1",
+            "PATH": "/usr/bin:/bin",
+            "DBUS_SYSTEM_BUS_ADDRESS": "unix:path=/nonexistent",
+        }
+        inside = ["/usr/bin/env", "-i", *(f"{name}={it}" for name, it in variables.items()), *words]
+        self.process = subprocess.Popen(
+            sandbox.words(inside),
+            stdin=subprocess.DEVNULL,
+            stdout=self.log,
+            stderr=self.log,
+            pass_fds=(says, hears),
+            cwd=folder,
+            start_new_session=True,
+        )
+        os.close(says)
+        os.close(hears)
+
+    def message(self) -> tuple[str, int] | None:
+        """The next message; None if the process has ended."""
+        data, until = b"", time.monotonic() + self.patience
+        while len(data) < MESSAGE.size:
+            ready, _, _ = select.select([self.of], [], [], max(0, until - time.monotonic()))
+            if not ready:
+                name = quoted(self.sandbox.binary)
+                limit = f"{self.patience:g} s"
+                raise Fault(f"{name} neither sleeps nor ends in {limit}, and was terminated: is it oomd?")
+            more = os.read(self.of, MESSAGE.size - len(data))
+            if not more:
+                return None
+            data += more
+        kind, value = MESSAGE.unpack(data)
+        return kind.decode("latin-1"), value
+
+    def is_preloaded(self) -> bool:
+        """Whether the library has begun: it can't in a program that is linked statically."""
+        found = self.message()
+        return found is not None and found[0] == HELLO
+
+    def sleep_end(self) -> int | None:
+        """The time (ns) until which it sleeps; None if it has ended."""
+        while True:
+            found = self.message()
+            if found is None:
+                return None
+            if found[0] == SLEEPS:
+                return found[1]
+            if found[0] == KILLS:
+                what = f"{quoted(self.sandbox.binary)} tried to kill process {found[1]}"
+                raise Fault(f"{what}, which was refused, and it was terminated")
+
+    def wake(self, now: int) -> None:
+        """Ends its sleep at a time (ns)."""
+        try:
+            os.write(self.to, struct.pack("<q", now))
+        except BrokenPipeError:
+            pass
+
+    def new_log(self) -> str:
+        """What it has written since the last time."""
+        size = os.fstat(self.log.fileno()).st_size
+        text = os.pread(self.log.fileno(), min(size, MOST_LOG), 0) if size else b""
+        if size:
+            os.ftruncate(self.log.fileno(), 0)
+            os.lseek(self.log.fileno(), 0, os.SEEK_SET)
+        return text.decode(errors="replace")
+
+    def end(self, grace: float = GRACE) -> str:
+        """Ends it, by a signal if it doesn't end by itself in time (s). Returns how it ended."""
+        for fd in (self.to, self.of):
+            os.close(fd)
+        try:
+            self.process.wait(grace)
+        except subprocess.TimeoutExpired:
+            os.killpg(self.process.pid, signal.SIGKILL)
+            self.process.wait()
+        self.log.close()
+        return status_text(self.process.returncode)
+
+
+def status_text(status: int) -> str:
+    """How a process ended. A sandbox gives 128 and the number of a signal."""
+    number = -status if status < 0 else status - 128 if status > 128 else 0
+    try:
+        return f"by {signal.Signals(number).name}" if number else f"with status {status}"
+    except ValueError:
+        return f"with status {status}"
+
+
+def answer(sandbox: Sandbox, words: list[str], patience: float = PATIENCE) -> tuple[int, str]:
+    """The status and the words of a run of oomd that looks at nothing, such as --version."""
+    daemon = Daemon(sandbox, words, 0, patience)
+    ended = False
+    try:
+        until = time.monotonic() + patience
+        while daemon.message() is not None:
+            if time.monotonic() > until:
+                break
+            daemon.wake(0)
+        daemon.process.wait(patience)
+        text = daemon.new_log()
+        ended = True
+        return daemon.process.returncode, text
+    except subprocess.TimeoutExpired:
+        raise Fault(f"{quoted(sandbox.binary)} doesn't end, and was terminated: is it oomd?") from None
+    finally:
+        if not ended and daemon.process.poll() is None:
+            os.killpg(daemon.process.pid, signal.SIGKILL)
+        daemon.end()
+
+

@@ -1,0 +1,219 @@
+"""oomd's detectors."""
+from __future__ import annotations
+
+from typing import Any
+
+from psioomd.configuration import PluginUse
+from psioomd.machine import NO_PRESSURE, Averages
+from psioomd.numbers import float32
+from psioomd.plugin import SECOND, Duration, Look, Plugin, Result, result
+from psirules.wording import seconds
+from psisystemd.told import size
+from psisystemd.values import percent
+
+HUNDREDTHS = 100
+DEFAULT_FALL = float32(0.85)
+BITS = 1 << 64
+
+
+def average(hundredths: int) -> float:
+    """A printed average as oomd reads it: two decimals in a 32-bit float."""
+    return float32(hundredths / HUNDREDTHS)
+
+
+def weight(averages: Averages) -> float:
+    """The number by which oomd picks one group: three times avg10, twice avg60, and avg300."""
+    short, middle, long = map(average, (averages.avg10, averages.avg60, averages.avg300))
+    return float32(float32(float32(short * 3) + float32(middle * 2)) + long)
+
+
+class Nearest:
+    """The value that came nearest to a limit, and when (ns)."""
+
+    def __init__(self, is_least: bool = False) -> None:
+        self.sign = -1 if is_least else 1
+        self.value: int | None = None
+        self.moment = 0
+        self.path = ""
+
+    def take(self, now: int, value: int, path: str = "") -> None:
+        if self.value is None or value * self.sign > self.value * self.sign:
+            self.value, self.moment, self.path = value, now, path
+
+    def words(self, text: str) -> str:
+        where = f" of {self.path}" if self.path else ""
+        extreme = "at least" if self.sign < 0 else "at most"
+        return f"{extreme} {text}{where}, at {seconds(self.moment)} s"
+
+
+class Above(Plugin):
+    """`pressure_above`: avg10 of the weightiest group is above the threshold for the duration."""
+
+    def __init__(self, use: PluginUse, args: dict[str, Any]) -> None:
+        super().__init__(use, args)
+        self.resource, self.threshold = args["resource"], args["threshold"]
+        self.duration = Duration(args["duration"])
+        self.best, self.path = NO_PRESSURE, ""
+        self.most = Nearest()
+
+    def read(self, look: Look) -> None:
+        """Picks the one group whose pressure counts at this look."""
+        self.best, self.path = NO_PRESSURE, ""
+        for path in look.machine.among(self.args["cgroup"]):
+            pressure = look.machine.pressure(path, self.resource)
+            if weight(pressure) > weight(self.best):
+                self.best, self.path = pressure, path
+        self.most.take(look.now, self.watched(), self.path)
+
+    def watched(self) -> int:
+        """The average that has to be above the threshold, in hundredths of a percent."""
+        return self.best.avg10
+
+    def is_above(self, hundredths: int) -> bool:
+        return bool(average(hundredths) > self.threshold)
+
+    def run(self, look: Look) -> Result:
+        self.read(look)
+        return result(self.duration.holds(look.now, self.is_above(self.watched())))
+
+    def limit(self) -> str:
+        return f"limit {self.threshold} % for {self.duration.seconds} s"
+
+    def why(self) -> str:
+        name = "avg10" if type(self) is Above else "avg60"
+        found = f"full {self.resource} {name} of {self.path or 'no group'}"
+        return f"{self.name}: {found} is {percent(self.watched())}, {self.limit()}"
+
+    def nearest(self) -> str:
+        return f"{self.most.words(percent(self.most.value or 0))}; {self.limit()}"
+
+
+class Rising(Above):
+    """`pressure_rising_beyond`: avg60 so, avg10 above too, and not much lower than a look ago."""
+
+    def __init__(self, use: PluginUse, args: dict[str, Any]) -> None:
+        super().__init__(use, args)
+        self.ratio = args.get("fast_fall_ratio", DEFAULT_FALL)
+        self.before = 100 * HUNDREDTHS
+
+    def watched(self) -> int:
+        return self.best.avg60
+
+    def run(self, look: Look) -> Result:
+        self.read(look)
+        before, self.before = self.before, self.best.avg10
+        is_long = self.duration.holds(look.now, self.is_above(self.best.avg60))
+        is_falling = average(self.best.avg10) < float32(average(before) * self.ratio)
+        return result(is_long and self.is_above(self.best.avg10) and not is_falling)
+
+
+class MemoryAbove(Plugin):
+    """`memory_above`: the greatest use of memory is above the threshold for the duration."""
+
+    def __init__(self, use: PluginUse, args: dict[str, Any]) -> None:
+        super().__init__(use, args)
+        self.threshold = args.get("threshold_anon", args.get("threshold", 0))
+        self.duration = Duration(args["duration"])
+        self.usage, self.path = 0, ""
+        self.most = Nearest()
+
+    def run(self, look: Look) -> Result:
+        self.usage, self.path = 0, ""
+        for path in look.machine.among(self.args["cgroup"]):
+            usage = look.machine.current(path)
+            if usage > self.usage:
+                self.usage, self.path = usage, path
+        self.most.take(look.now, self.usage, self.path)
+        return result(self.duration.holds(look.now, self.usage > self.threshold))
+
+    def limit(self) -> str:
+        return f"limit {size(self.threshold)} for {self.duration.seconds} s"
+
+    def why(self) -> str:
+        return f"{self.name}: {self.path or 'no group'} uses {size(self.usage)}, {self.limit()}"
+
+    def nearest(self) -> str:
+        return f"{self.most.words(size(self.most.value or 0))}; {self.limit()}"
+
+
+class Reclaim(Plugin):
+    """`memory_reclaim`: the sum of scanned pages rose within the duration. It begins at 0 pages,
+    and at the machine's start, as oomd does."""
+
+    def __init__(self, use: PluginUse, args: dict[str, Any], uptime: int) -> None:
+        super().__init__(use, args)
+        self.pages, self.last = 0, -uptime
+        self.quiet = 0
+
+    def run(self, look: Look) -> Result:
+        pages = sum(map(look.machine.scanned, look.machine.among(self.args["cgroup"])))
+        if pages > self.pages:
+            self.last = look.now
+        self.pages = pages
+        self.quiet = look.now - self.last
+        return result(self.quiet // SECOND <= self.args["duration"])
+
+    def why(self) -> str:
+        limit = f"limit {self.args['duration']} s"
+        return f"{self.name}: pages were scanned {seconds(self.quiet)} s ago, {limit}"
+
+
+class SwapFree(Plugin):
+    """`swap_free`: less than a percentage of the swap is free. oomd counts without a sign."""
+
+    def __init__(self, use: PluginUse, args: dict[str, Any]) -> None:
+        super().__init__(use, args)
+        self.free, self.limit = 0, 0
+        self.least = Nearest(is_least=True)
+
+    def run(self, look: Look) -> Result:
+        host = look.machine.host()
+        total, free = host.swap // 1024 * 1024, host.swap_free // 1024 * 1024
+        self.free = free
+        self.limit = total * (self.args["threshold_pct"] % BITS) % BITS // 100
+        self.least.take(look.now, self.free)
+        return result(self.free < self.limit)
+
+    def why(self) -> str:
+        return f"{self.name}: {size(self.free)} of the swap is free, limit {size(self.limit)}"
+
+    def nearest(self) -> str:
+        return f"{self.least.words(size(self.least.value or 0))}; limit {size(self.limit)}"
+
+
+class Exists(Plugin):
+    """`exists`: some group matches, or none with `negate`."""
+
+    def run(self, look: Look) -> Result:
+        return result(bool(look.machine.among(self.args["cgroup"])) != self.args.get("negate", False))
+
+    def why(self) -> str:
+        found = "no group matches" if self.args.get("negate", False) else "a group matches"
+        return f"{self.name}: {found} {self.args['cgroup'].text}"
+
+
+class Dying(Plugin):
+    """`nr_dying_descendants`: a group has at most, or more than, a number of dying groups."""
+
+    def run(self, look: Look) -> Result:
+        machine, count = look.machine, self.args["count"]
+        counts = [
+            machine.extras.of(path, "nr_dying_descendants")
+            for path in machine.among(self.args["cgroup"])
+        ]
+        is_most = self.args.get("lte", True)
+        return result(any(it <= count if is_most else it > count for it in counts))
+
+
+class Constant(Plugin):
+    """A plugin that always returns the same: `continue`, `stop`, `dump_cgroup_overview`, and those
+    that are left out."""
+
+    def __init__(self, use: PluginUse, args: dict[str, Any], always: Result) -> None:
+        super().__init__(use, args)
+        self.always = always
+
+    def run(self, look: Look) -> Result:
+        return self.always
+
+

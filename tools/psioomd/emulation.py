@@ -1,0 +1,177 @@
+"""A trace by oomd's algorithm: psi_oomd replays it, and prints the pressure at each look."""
+from __future__ import annotations
+
+import itertools
+import tempfile
+from collections.abc import Iterable, Iterator
+from dataclasses import dataclass
+from typing import IO
+
+from psioomd.configuration import Configuration, configuration
+from psioomd.engine import Engine, engine
+from psioomd.machine import NO_HOST, Averages, Extras, Machine, Pressure
+from psireplay.command import Fault as ReplayFault
+from psireplay.lines import Report, read
+from psirules.program import Program, Refusal
+from psirules.rules_file import bytes_of
+from psirules.wording import Fault
+from psisystemd.world import Host, World, lines_of
+
+SECOND = 10**9
+TICK_MS = 1000
+"""A tick that divides every interval, so that oomd's looks are ticks."""
+RESOURCES = {b"io\n", b"memory\n"}
+UPTIME = 10**6 * SECOND
+"""How long the machine was up at the start of the trace (ns), unless it is said."""
+Line = tuple[int, str, list[str]]
+
+
+@dataclass(frozen=True)
+class Run:
+    """What is run: the trace, the configuration and its drop-in files by name, the seconds between
+    looks, what no trace has, the seconds of looks before the trace, and the uptime (ns)."""
+
+    trace: str
+    config: str
+    drop_ins: tuple[str, ...] = ()
+    interval: int = 5
+    extras: Extras = Extras()
+    warm: int = 0
+    uptime: int = UPTIME
+
+    def configurations(self) -> tuple[Configuration, list[Configuration]]:
+        """The configuration and the drop-in files, in the order in which oomd adds them."""
+        parts = sorted(self.drop_ins, key=lambda it: it.rpartition("/")[2])
+        return read_configuration(self.config), [read_configuration(it) for it in parts]
+
+
+@dataclass(frozen=True)
+class Tick:
+    """A look: its time (ns), and the pressure of each group."""
+
+    moment: int
+    reports: dict[str, Pressure]
+
+
+def read_configuration(name: str) -> Configuration:
+    return configuration(name, bytes_of(name))
+
+
+def needed_lines(printed: Iterable[bytes]) -> Iterator[bytes]:
+    """The lines without the reports that oomd doesn't read."""
+    is_kept = True
+    for line in printed:
+        if line[:5] not in (b"some ", b"full "):
+            words = line.split(b" ")
+            is_kept = words[0] != b"report" or words[3] in RESOURCES
+        if is_kept:
+            yield line
+
+
+def ticks_of(printed: Iterable[bytes], interval: int) -> Iterator[Tick]:
+    """The looks of a replay."""
+    reports = (it for it in read(needed_lines(printed)) if isinstance(it, Report))
+    for moment, of_moment in itertools.groupby(reports, key=lambda it: it.moment):
+        found: dict[str, Pressure] = {}
+        for it in of_moment:
+            averages = Averages(it.full.avg10, it.full.avg60, it.full.avg300)
+            found.setdefault(it.path, {})[it.resource] = averages
+        if moment % (interval * SECOND) == 0:
+            yield Tick(moment, found)
+
+
+def lines_at(trace: str) -> Iterator[Line]:
+    """The lines of a trace."""
+    with open(trace, "rb") as file:
+        yield from lines_of(file)
+
+
+def first_host(trace: str) -> Host:
+    """The first sample of the host: it is taken to hold from the start."""
+    for _, verb, fields in lines_at(trace):
+        if verb == "host":
+            return Host(*map(int, fields))
+    return NO_HOST
+
+
+def first_samples(trace: str) -> Iterator[Line]:
+    """The first `mem` line of each group that is live at the start."""
+    live, seen = {"/"}, set()
+    for moment, verb, fields in lines_at(trace):
+        if verb == "group" and moment == 0:
+            live.add(fields[0])
+        elif verb == "mem" and fields[0] in live and fields[0] not in seen:
+            seen.add(fields[0])
+            yield 0, verb, fields
+
+
+def warm_up(it: Engine, run: Run, world: World) -> None:
+    """Lets oomd look before the trace begins, at the machine of its first samples."""
+    for line in first_samples(run.trace):
+        world.take(*line)
+    count = run.warm // run.interval
+    for number in range(1, count + 1):
+        it.look((number - count) * run.interval * SECOND)
+
+
+def decide(it: Engine, run: Run, ticks: Iterator[Tick]) -> None:
+    """Takes the trace's lines and the looks in order of their times."""
+    world, lines = it.machine.world, lines_at(run.trace)
+    line = next(lines, None)
+    while line and line[0] == 0:
+        world.take(*line)
+        line = next(lines, None)
+    if run.warm:
+        warm_up(it, run, world)
+    for tick in ticks:
+        while line and line[0] <= tick.moment:
+            world.take(*line)
+            line = next(lines, None)
+        it.machine.take_pressure(tick.reports)
+        it.look(tick.moment)
+
+
+def prepare_engine(run: Run) -> Engine:
+    """The engine before its first look. A fault if oomd refuses the configuration."""
+    base, parts = run.configurations()
+    return engine(base, parts, Machine(run.extras, first_host(run.trace)), run.uptime)
+
+
+def replay_words(run: Run, threads: int) -> list[str]:
+    """How psi_oomd is asked for the pressure at each look."""
+    pace = [f"--tick-ms={TICK_MS}", f"--report-s={run.interval}"]
+    return ["replay", *pace, f"--workers={min(threads, 64)}", "--", run.trace]
+
+
+def check_trace(program: Program, trace: str) -> None:
+    """Raises psi_oomd's own refusal of a trace."""
+    with tempfile.TemporaryFile() as said:
+        with program.started(["check", f"--tick-ms={TICK_MS}", "--", trace], said) as child:
+            assert child.stdout is not None
+            child.stdout.read()
+        raise_refusal(child.returncode, trace, said)
+
+
+def raise_refusal(status: int | None, trace: str, said: IO[bytes]) -> None:
+    if status:
+        said.seek(0)
+        raise Refusal(trace, said.read(4096).decode("utf-8", "replace").strip(), status)
+
+
+def emulate(program: Program, run: Run, threads: int) -> Engine:
+    """What oomd would have done in a trace, or a fault."""
+    check_trace(program, run.trace)
+    it = prepare_engine(run)
+    with tempfile.TemporaryFile() as said:
+        with program.started(replay_words(run, threads), said) as child:
+            assert child.stdout is not None
+            first = child.stdout.readline()
+            if first:
+                try:
+                    decide(it, run, ticks_of(itertools.chain([first], child.stdout), run.interval))
+                except ReplayFault as fault:
+                    raise Fault(str(fault)) from fault
+        raise_refusal(child.returncode, run.trace, said)
+        if not first:
+            raise Fault(f"{program.path} printed no replay: let the variable PSI_OOMD name it")
+    return it

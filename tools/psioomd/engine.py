@@ -1,0 +1,305 @@
+"""oomd's engine: rulesets with their detectors, chains of actions and pauses."""
+from __future__ import annotations
+
+from collections.abc import Callable, Sequence
+from dataclasses import dataclass, field
+
+from psioomd.arguments import ANON, ARGUMENTS, values
+from psioomd.configuration import Configuration, PluginUse, RulesetUse
+from psioomd.detectors import (
+    Above,
+    Constant,
+    Dying,
+    Exists,
+    MemoryAbove,
+    Reclaim,
+    Rising,
+    SwapFree,
+)
+from psioomd.faults import Crash, Refused
+from psioomd.killers import ByPressure, ByScans, BySize, BySwap
+from psioomd.machine import Machine
+from psioomd.numbers import BadNumber, stoi
+from psioomd.outcome import Decision, Source
+from psioomd.plugin import SECOND, Look, Pauses, Plugin, Result
+from psirules.wording import quoted, seconds
+from psisystemd.world import Group, Host
+
+DEFAULT_DELAY = 15
+DECAY = 4.0
+HOOKS = ("dummy_prekill_hook",)
+SILENCED = ("engine", "plugins")
+PLUGINS: dict[str, Callable[..., Plugin]] = {
+    "pressure_above": Above,
+    "pressure_rising_beyond": Rising,
+    "memory_above": MemoryAbove,
+    "swap_free": SwapFree,
+    "exists": Exists,
+    "nr_dying_descendants": Dying,
+    "kill_by_memory_size_or_growth": BySize,
+    "kill_by_swap_usage": BySwap,
+    "kill_by_pressure": ByPressure,
+    "kill_by_pg_scan": ByScans,
+}
+ALWAYS = {
+    "continue": Result.CONTINUE, "stop": Result.STOP, "dump_cgroup_overview": Result.CONTINUE,
+}  # fmt: skip
+LEFT_OUT = {
+    "kill_by_io_cost": "a trace has no io.stat: its kills, and the pause after each, are missing",
+    "senpai": "it changes memory.high, which no trace shows: the memory may be other than recorded",
+    "systemd_restart": "what it restarts isn't followed, and neither is the end of its chain",
+}
+"""Plugins of oomd 0.5.0 that a trace can't answer for. Here each does nothing and continues."""
+
+
+@dataclass(frozen=True)
+class Start:
+    """What oomd reads once, when it starts: the totals of the machine, and its uptime (ns)."""
+
+    totals: Host
+    uptime: int
+
+
+class Notes:
+    """What of a configuration can't be followed, and what that may change."""
+
+    def __init__(self) -> None:
+        self.texts: list[str] = []
+
+    def add(self, place: str, what: str) -> None:
+        text = f"{place}: {what}"
+        if text not in self.texts:
+            self.texts.append(text)
+
+
+def plugin(use: PluginUse, start: Start, notes: Notes) -> Plugin:
+    """The plugin that a configuration names, or oomd's refusal."""
+    if not use.name:
+        raise Refused(use.place, "Plugin is missing name")
+    if use.name in LEFT_OUT:
+        notes.add(use.place, f"left out: {LEFT_OUT[use.name]}")
+        return Constant(use, {}, Result.CONTINUE)
+    if use.name not in PLUGINS and use.name not in ALWAYS and use.name != "memory_reclaim":
+        raise Refused(use.place, f"Could not locate plugin={use.name} in plugin registry")
+    args = values(use, start.totals) if use.name in ARGUMENTS else {}
+    if ANON in args:
+        notes.add(use.place, "a trace has no anonymous memory: threshold_anon is held against all")
+    if "meminfo_location" in use.args:
+        notes.add(use.place, "meminfo_location isn't read: the trace has the machine's totals")
+    if use.name == "nr_dying_descendants":
+        notes.add(use.place, "a trace has no dying groups: they are 0 unless --given says more")
+    if use.name in ALWAYS:
+        return Constant(use, args, ALWAYS[use.name])
+    if use.name == "memory_reclaim":
+        return Reclaim(use, args, start.uptime)
+    return PLUGINS[use.name](use, args)
+
+
+def delay_of(text: str, what: str, place: str, default: int) -> int:
+    """Seconds. oomd aborts at what is no number."""
+    if not text:
+        return default
+    try:
+        delay = stoi(text)
+    except BadNumber as fault:
+        raise Refused(place, f"{fault}: {what} is {quoted(text)} (it aborts)") from fault
+    if delay < 0:
+        raise Refused(place, f"Ruleset {what} must be non-negative")
+    return delay
+
+
+def check_head(use: RulesetUse, is_drop_in: bool) -> None:
+    """What oomd checks of a ruleset before its plugins."""
+    if not use.name:
+        raise Refused(use.place, "Ruleset is missing name")
+    for part in filter(None, use.silenced.strip().split(",")):
+        if part.strip() not in SILENCED:
+            raise Refused(use.place, f"Unrecognized log source={part.strip()}")
+    if not is_drop_in and not (use.groups and use.actions):
+        raise Refused(use.place, "Ruleset is missing DetectorGroups or missing Actions")
+
+
+class Ruleset(Pauses):
+    """A ruleset, with the file of the drop-in that it is from."""
+
+    def __init__(
+        self, use: RulesetUse, number: int, start: Start, notes: Notes, drop_in: str = ""
+    ) -> None:
+        check_head(use, bool(drop_in))
+        self.name, self.number, self.drop_in = use.name, number, drop_in
+        self.delay = delay_of(use.delay, "post_action_delay", use.place, DEFAULT_DELAY)
+        delay_of(use.hook_timeout, "prekill_hook_timeout", use.place, 0)
+        self.groups: list[tuple[str, list[Plugin]]] = []
+        for group in use.groups:
+            if not group.name:
+                raise Refused(group.place, "DetectorGroup is missing name")
+            if not group.detectors:
+                raise Refused(group.place, "DetectorGroup is missing Detectors")
+            self.groups.append((group.name, [plugin(it, start, notes) for it in group.detectors]))
+        self.actions = [plugin(it, start, notes) for it in use.actions]
+        self.is_enabled = True
+        self.rests_until: int | None = None
+        self.now = 0
+        self.is_paused_by_action = False
+        self.resumed: tuple[int, list[str]] | None = None
+        self.decisions: list[Decision] = []
+
+    def pause(self, seconds: int) -> None:
+        self.rests_until = self.now + seconds * SECOND
+        self.is_paused_by_action = True
+
+    def run(self, look: Look) -> None:
+        """Runs every detector, and the actions if a group is true and the ruleset doesn't rest."""
+        if not self.is_enabled:
+            return
+        self.now, look.ruleset = look.now, None
+        fired: list[str] | None = None
+        for number, (name, detectors) in enumerate(self.groups):
+            results = [self.step(it, None, [], look) for it in detectors]
+            if Result.STOP not in results and fired is None:
+                group = f"group {number} {quoted(name)}"
+                fired = [f"{group}: {it.why()}" for it in detectors]
+                look.ruleset = self
+        if self.rests_until is not None and look.now < self.rests_until:
+            return
+        if self.resumed:
+            (first, why), self.resumed = self.resumed, None
+            self.chain(first, why, look)
+        elif fired is not None:
+            self.chain(0, fired, look)
+
+    def step(self, it: Plugin, action: int | None, why: list[str], look: Look) -> Result:
+        """Runs a plugin, and stores whom it killed."""
+        result = it.run(look)
+        source = Source(self.number, self.name, action, it.name, self.drop_in)
+        self.decisions += [Decision(look.now, source, victim, why) for victim in look.victims]
+        look.victims.clear()
+        return result
+
+    def chain(self, first: int, why: list[str], look: Look) -> None:
+        """Runs the actions from this one on, until one stops or waits for the next look."""
+        for number in range(first, len(self.actions)):
+            result = self.step(self.actions[number], number, why, look)
+            if result is Result.PAUSED:
+                self.resumed = (number, why)
+                return
+            if result is Result.STOP:
+                if not self.is_paused_by_action:
+                    self.rests_until = look.now + self.delay * SECOND
+                self.is_paused_by_action = False
+                return
+
+
+@dataclass
+class Course:
+    """How near a detector came to its limit, for people."""
+
+    place: str
+    text: str
+
+
+@dataclass
+class Engine:
+    """All rulesets, in the order in which they run, and what oomd keeps of groups between looks."""
+
+    machine: Machine
+    rulesets: list[Ruleset]
+    notes: Notes
+    looks: int = 0
+    last: int = 0
+    crash: str = ""
+    decisions: list[Decision] = field(default_factory=list)
+    average: dict[Group, int] = field(default_factory=dict)
+    scanned: dict[Group, int] = field(default_factory=dict)
+
+    def look(self, now: int) -> None:
+        """Looks at a time (ns). After a crash nothing happens any more."""
+        if self.crash:
+            return
+        self.looks, self.last = self.looks + 1, now
+        self.machine.refresh()
+        groups = self.machine.world.groups.items()
+        before, current = self.average, self.machine.current
+        share = (DECAY - 1) / DECAY
+        self.average = {
+            group: int(before.get(group, 0) * share + current(path) / DECAY)
+            for path, group in groups
+        }
+        look = Look(now, self.looks, self.machine, self.scanned, self.average)
+        try:
+            for ruleset in self.rulesets:
+                ruleset.run(look)
+                self.decisions += ruleset.decisions
+                ruleset.decisions = []
+        except Crash as crash:
+            self.crash = f"{seconds(now)} s  {crash}: nothing is known after this"
+        self.scanned = {group: self.machine.scanned(path) for path, group in groups}
+
+    def courses(self) -> list[Course]:
+        """How near each detector came that measures something."""
+        found = []
+        for ruleset in self.rulesets:
+            plugins = [it for _, detectors in ruleset.groups for it in detectors]
+            found += [Course(it.place, it.nearest()) for it in plugins]
+        return [it for it in found if it.text]
+
+
+def merge(base: RulesetUse, part: RulesetUse, place: str) -> RulesetUse:
+    """A ruleset with a drop-in's detectors or actions in place of its own."""
+    for is_given, may_replace, what in (
+        (part.groups, base.may_replace_detectors, "DetectorGroup"),
+        (part.actions, base.may_replace_actions, "Action"),
+    ):
+        if is_given and not may_replace:
+            raise Refused(place, f"Error: {what} drop-in configs disabled")
+    groups, actions = part.groups or base.groups, part.actions or base.actions
+    return RulesetUse(
+        base.name, base.place, groups, actions, base.delay, base.hook_timeout, base.silenced
+    )
+
+
+def check_hooks(configuration: Configuration, notes: Notes) -> None:
+    for hook in configuration.hooks:
+        if hook not in HOOKS:
+            reason = f"Could not locate plugin={hook} in plugin registry"
+            raise Refused(configuration.name, reason if hook else "Plugin is missing name")
+        notes.add(configuration.name, f"the prekill hook {quoted(hook)} is left out")
+
+
+def drop_in_rulesets(
+    base: Configuration, part: Configuration, start: Start, notes: Notes
+) -> list[Ruleset]:
+    """The further rulesets that a drop-in file makes, or oomd's refusal."""
+    found = []
+    for use in part.rulesets:
+        targets = [(at, it) for at, it in enumerate(base.rulesets) if it.name == use.name]
+        if not targets:
+            raise Refused(use.place, f"Could not locate targeted ruleset={use.name}")
+        number, target = targets[0]
+        Ruleset(use, number, start, notes, part.name)
+        merger = merge(target, use, use.place)
+        found.append(Ruleset(merger, number, start, notes, part.name))
+    check_hooks(part, notes)
+    return found
+
+
+def engine(
+    base: Configuration, parts: Sequence[Configuration], machine: Machine, uptime: int
+) -> Engine:
+    """The engine of a configuration and drop-in files, or oomd's refusal of the configuration. A
+    drop-in file that oomd refuses is noted, since oomd goes on without it."""
+    notes, start = Notes(), Start(machine.totals, uptime)
+    rulesets = [Ruleset(it, at, start, notes) for at, it in enumerate(base.rulesets)]
+    check_hooks(base, notes)
+    before: list[list[Ruleset]] = [[] for _ in rulesets]
+    for part in parts:
+        try:
+            found = drop_in_rulesets(base, part, start, notes)
+        except Refused as refused:
+            notes.texts.append(f"{refused}: it goes on without this file")
+            continue
+        for it in found:
+            before[it.number].insert(0, it)
+            own = rulesets[it.number]
+            own.is_enabled = own.is_enabled and not base.rulesets[it.number].is_disabled_by_drop_in
+    return Engine(machine, [it for more, own in zip(before, rulesets) for it in (*more, own)], notes)

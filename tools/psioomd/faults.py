@@ -1,0 +1,16 @@
+"""Why oomd refuses a configuration."""
+from __future__ import annotations
+
+from psirules.wording import Fault
+
+
+class Refused(Fault):
+    """A place in a configuration, and oomd's reason for refusing it."""
+
+    def __init__(self, place: str, reason: str) -> None:
+        super().__init__(f"{place}: oomd refuses this: {reason}")
+        self.place, self.reason = place, reason
+
+
+class Crash(Exception):
+    """What makes oomd 0.5.0 crash."""

@@ -1,0 +1,139 @@
+"""The machine as oomd sees it at a look: the trace's last samples, and the pressure of the last tick."""
+from __future__ import annotations
+
+from dataclasses import dataclass, field
+
+from psioomd.patterns import ROOT, Patterns
+from psisystemd.world import Group, Host, Sample, World
+
+KIB = 1 << 10
+NO_SAMPLE = Sample(0, 0, 0)
+NO_HOST = Host(0, 0, 0)
+MAX = (1 << 63) - 1
+RANKS = {"prefer": 1, "none": 0, "avoid": -1}
+
+
+@dataclass(frozen=True)
+class Averages:
+    """Full pressure over 10, 60 and 300 s, in hundredths of a percent."""
+
+    avg10: int = 0
+    avg60: int = 0
+    avg300: int = 0
+
+
+NO_PRESSURE = Averages()
+# The averages of a group by resource.
+Pressure = dict[str, Averages]
+
+
+@dataclass(eq=False)
+class Extras:
+    """What no trace has: numbers by a group's path and the file's name, such as memory.low."""
+
+    numbers: dict[tuple[str, str], int] = field(default_factory=dict)
+
+    def of(self, path: str, file: str) -> int:
+        return self.numbers.get((path, file), 0)
+
+
+class Machine:
+    """The groups and the memory at one time. `totals` is the host at oomd's start."""
+
+    def __init__(self, extras: Extras, totals: Host) -> None:
+        self.world = World()
+        self.extras, self.totals = extras, totals
+        self.pressures: dict[Group, Pressure] = {}
+        self.matched: dict[Patterns, list[str]] = {}
+        self.paths: list[str] = []
+
+    def refresh(self) -> None:
+        """Forgets what was computed for the look before."""
+        paths = sorted(self.world.groups)
+        if paths != self.paths:
+            self.paths, self.matched = paths, {}
+
+    def take_pressure(self, reports: dict[str, Pressure]) -> None:
+        """Stores the pressure of a tick, of groups that are live."""
+        for path, pressure in reports.items():
+            group = self.world.groups.get(path)
+            if group:
+                self.pressures[group] = pressure
+
+    def host(self) -> Host:
+        return self.world.host or self.totals
+
+    def among(self, patterns: Patterns) -> list[str]:
+        """The live groups that the patterns match, in the order of their paths."""
+        if patterns not in self.matched:
+            self.matched[patterns] = patterns.among(self.paths)
+        return self.matched[patterns]
+
+    def group(self, path: str) -> Group:
+        return self.world.groups[path]
+
+    def sample(self, path: str) -> Sample:
+        return self.group(path).sample or NO_SAMPLE
+
+    def pressure(self, path: str, resource: str) -> Averages:
+        """0 if the group's account is off: it has no file of pressure then."""
+        group = self.group(path)
+        if not group.is_accounted:
+            return NO_PRESSURE
+        return self.pressures.get(group, {}).get(resource, NO_PRESSURE)
+
+    def current(self, path: str) -> int:
+        """Bytes of memory. That of the root is MemTotal less MemFree, both in KiB."""
+        used = self.sample(path).memory
+        if path != ROOT:
+            return used
+        total = self.host().memory // KIB
+        return (total - max(0, total - used // KIB)) * KIB
+
+    def swap(self, path: str) -> int:
+        """Bytes of swap; the root has no file of it."""
+        return 0 if path == ROOT else self.sample(path).swap
+
+    def scanned(self, path: str) -> int:
+        """Pages scanned so far."""
+        return self.sample(path).scanned
+
+    def preference(self, path: str) -> str:
+        return self.group(path).preference
+
+    def rank(self, path: str) -> int:
+        """The order of preferences: prefer, none, avoid."""
+        return RANKS[self.preference(path)]
+
+    def is_populated(self, path: str) -> bool:
+        return path == ROOT or self.group(path).has_tasks()
+
+    def ends_as_a_whole(self, path: str) -> bool:
+        return self.extras.of(path, "memory.oom.group") == 1
+
+    def children(self, path: str) -> list[str]:
+        """The groups below, without names that begin with a point."""
+        front = "" if path == ROOT else path
+        names = sorted(it.rpartition("/")[2] for it in self.group(path).children)
+        return [f"{front}/{it}" for it in names if it[0] != "."]
+
+    def raw_protection(self, path: str) -> int:
+        low, least = (self.extras.of(path, it) for it in ("memory.low", "memory.min"))
+        return min(self.current(path), max(low, least))
+
+    def protection(self, path: str) -> int:
+        """Bytes that memory.low and memory.min protect, shared among siblings."""
+        if path == ROOT:
+            return self.current(path)
+        if not self.extras.numbers:
+            return 0
+        above = path.rpartition("/")[0] or ROOT
+        raw = self.raw_protection(path)
+        if above == ROOT:
+            return raw
+        total = sum(map(self.raw_protection, self.children(above)))
+        return int(raw * min(1.0, self.protection(above) / total)) if total else 0
+
+    def effective(self, path: str) -> int:
+        """Bytes of memory that aren't protected."""
+        return self.current(path) - self.protection(path)

@@ -1,0 +1,106 @@
+"""What a look comes to: kills, with why and whom else."""
+from __future__ import annotations
+
+from dataclasses import dataclass, field
+
+from psirules.program import Kill
+from psirules.wording import listed, quoted, seconds
+
+MOST_CANDIDATES = 4
+
+
+@dataclass(frozen=True)
+class Candidate:
+    """A group that could be chosen: by what it was ranked, and what it asks for. `passed_over` says
+    why it couldn't be chosen, if it couldn't."""
+
+    path: str
+    rank: str
+    preference: str
+    passed_over: str = ""
+
+    def text(self) -> str:
+        wish = "" if self.preference == "none" else self.preference
+        return ", ".join(filter(None, [self.rank, wish, self.passed_over]))
+
+
+@dataclass(frozen=True)
+class Victim:
+    """Whom an action kills, those that were ranked equal to it, and all candidates by their ranks."""
+
+    path: str
+    equals: list[str]
+    candidates: list[Candidate]
+    is_dry: bool
+
+
+@dataclass(frozen=True)
+class Source:
+    """Who kills: a ruleset by number and name, its action (None for a plugin among the detectors),
+    the plugin, and the drop-in file that the ruleset is from."""
+
+    ruleset: int
+    ruleset_name: str
+    action: int | None
+    plugin: str
+    drop_in: str = ""
+
+    def text(self) -> str:
+        action = "among the detectors" if self.action is None else f"action {self.action}"
+        text = f"ruleset {self.ruleset} {quoted(self.ruleset_name)}, {action} {quoted(self.plugin)}"
+        return f"{text}, of {self.drop_in}" if self.drop_in else text
+
+
+@dataclass(frozen=True)
+class Decision:
+    """A kill at a time (ns): who, whom, and what the detectors of the group that fired found."""
+
+    moment: int
+    source: Source
+    victim: Victim
+    why: list[str] = field(default_factory=list)
+
+    def kill(self) -> Kill:
+        """The kill as replays have it."""
+        action = -1 if self.source.action is None else self.source.action
+        return Kill(self.moment, self.source.ruleset, action, self.victim.path)
+
+    def may_kill(self, path: str) -> bool:
+        """Whether oomd may choose this group: it is the victim, or equal in rank."""
+        return path == self.victim.path or path in self.victim.equals
+
+    def lines(self, is_all: bool) -> list[str]:
+        """For people."""
+        when = f"{seconds(self.moment)} s"
+        gap = " " * (len(when) + 2)
+        path = self.victim.path
+        lines = [f"{when}  would kill {path}", f"{gap}by {self.source.text()}"]
+        lines += [f"{gap}{it}" for it in self.why]
+        if self.victim.is_dry:
+            lines.append(f"{gap}dry: oomd would only log this kill")
+        chosen = next((it for it in self.victim.candidates if it.path == path), None)
+        if chosen:
+            lines.append(f"{gap}chosen: {chosen.text()}")
+        if self.victim.equals:
+            lines.append(f"{gap}equal in rank, so oomd may kill it instead: {listed(self.victim.equals, 'or')}")
+        others = [it for it in self.victim.candidates if it.path != path]
+        shown = others if is_all else others[:MOST_CANDIDATES]
+        lines += [f"{gap}not {it.path}: {it.text()}" for it in shown]
+        if others[len(shown) :]:
+            lines.append(f"{gap}not {len(others) - len(shown)} more, which --all shows")
+        return lines
+
+    def record(self) -> dict[str, object]:
+        """For programs."""
+        candidates = [
+            {"path": it.path, "rank": it.rank, "preference": it.preference,
+             "passed_over": it.passed_over or None}
+            for it in self.victim.candidates
+        ]  # fmt: skip
+        source = self.source
+        return {
+            "moment_ns": self.moment, "victim": self.victim.path, "equal": self.victim.equals,
+            "ruleset": source.ruleset, "ruleset_name": source.ruleset_name, "action": source.action,
+            "plugin": source.plugin, "drop_in": source.drop_in or None, "dry": self.victim.is_dry,
+            "why": self.why, "candidates": candidates,
+        }  # fmt: skip

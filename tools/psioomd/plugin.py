@@ -1,0 +1,88 @@
+"""What all plugins of oomd have in common."""
+from __future__ import annotations
+
+from abc import ABC, abstractmethod
+from dataclasses import dataclass, field
+from enum import Enum
+from typing import TYPE_CHECKING, Any
+
+from psioomd.configuration import PluginUse
+from psioomd.machine import Machine
+from psisystemd.world import Group
+
+if TYPE_CHECKING:
+    from psioomd.outcome import Victim
+
+SECOND = 10**9
+
+
+class Result(Enum):
+    """What a plugin returns. A detector is true if it returns CONTINUE or PAUSED."""
+
+    CONTINUE = "CONTINUE"
+    STOP = "STOP"
+    PAUSED = "ASYNC_PAUSED"
+
+
+class Pauses(ABC):
+    """A ruleset, as its actions see it."""
+
+    @abstractmethod
+    def pause(self, seconds: int) -> None:
+        """Sets the pause after this chain, in place of the ruleset's own."""
+
+
+@dataclass
+class Look:
+    """A look at the machine: its time (ns), its number from 1, and what oomd keeps between looks."""
+
+    now: int
+    number: int
+    machine: Machine
+    scanned: dict[Group, int] = field(default_factory=dict)
+    """Pages scanned at the look before."""
+    average: dict[Group, int] = field(default_factory=dict)
+    """Decaying average of memory (bytes), up to this look."""
+    ruleset: Pauses | None = None
+    """The ruleset whose detectors fired at this look."""
+    victims: list["Victim"] = field(default_factory=list)
+    """Whom plugins killed, until the ruleset has taken them."""
+
+
+class Plugin(ABC):
+    """A plugin with the values of its arguments."""
+
+    def __init__(self, use: PluginUse, args: dict[str, Any]) -> None:
+        self.name, self.place, self.args = use.name, use.place, args
+
+    @abstractmethod
+    def run(self, look: Look) -> Result:
+        """Looks, or acts."""
+
+    def why(self) -> str:
+        """What it found at its last look, for people."""
+        return self.name
+
+    def nearest(self) -> str:
+        """How near it came in all looks, for people; empty if nothing is measured."""
+        return ""
+
+
+def result(is_true: bool) -> Result:
+    return Result.CONTINUE if is_true else Result.STOP
+
+
+class Duration:
+    """Whether a condition holds for a number of whole seconds."""
+
+    def __init__(self, seconds: int) -> None:
+        self.seconds = seconds
+        self.since: int | None = None
+
+    def holds(self, now: int, is_true: bool) -> bool:
+        """Takes the condition at a time (ns), and returns whether it has held long enough."""
+        if not is_true:
+            self.since = None
+            return False
+        self.since = now if self.since is None else self.since
+        return (now - self.since) // SECOND >= self.seconds

@@ -1,0 +1,117 @@
+"""The sandboxes in which oomd runs: bwrap, or unshare with a root of its own, or none."""
+from __future__ import annotations
+
+import functools
+import os
+import shutil
+import subprocess
+import tempfile
+from dataclasses import dataclass
+
+from psirules.wording import Fault, quoted
+
+SANDBOXES = ("bwrap", "unshare", "none")
+PATIENCE = 20
+SYSTEM = ("lib", "lib64", "lib32", "bin", "sbin")
+NAMES = {
+    "bwrap": "bwrap (no network, nothing of the machine but /usr, read-only)",
+    "unshare": "unshare (no network, nothing of the machine but /usr, read-only)",
+    "none": "no sandbox (the preloaded clock alone refuses kills, sockets and writes)",
+}
+# In a mount namespace of its own: a new root with /usr read-only, the folder, and nothing else; then
+# no way back to the old root, and no capability.
+ENTER = """set -e
+new=$1 folder=$2 binary=$3; shift 3
+mount -t tmpfs tmpfs "$new"
+cd "$new"
+mkdir -p usr proc dev old ".$folder" ".$(dirname "$binary")"
+for name in lib lib64 lib32 bin sbin; do
+    if [ -L "/$name" ]; then ln -s "usr/$name" "$name"
+    elif [ -d "/$name" ]; then mkdir "$name"; mount --bind "/$name" "$name"; mount -o remount,bind,ro "$name"; fi
+done
+mount --bind /usr usr
+mount -o remount,bind,ro usr
+if [ ! -e ".$binary" ]; then
+    : >".$binary"; mount --bind "$binary" ".$binary"; mount -o remount,bind,ro ".$binary"
+fi
+for name in null urandom; do : >"dev/$name"; mount --bind "/dev/$name" "dev/$name"; done
+mount --bind "$folder" ".$folder"
+mount -t proc proc proc
+pivot_root . old
+cd /
+umount -l /old
+exec setpriv --no-new-privs --inh-caps=-all --bounding-set=-all -- "$@"
+"""
+
+
+@dataclass(frozen=True)
+class Sandbox:
+    """A way to run oomd: the folder that it may write, and its program."""
+
+    kind: str
+    folder: str
+    binary: str
+
+    def text(self) -> str:
+        return NAMES[self.kind]
+
+    def words(self, inside: list[str]) -> list[str]:
+        """The words that run these inside."""
+        if self.kind == "bwrap":
+            return [*self.bwrap(), *inside]
+        if self.kind == "unshare":
+            new = os.path.join(self.folder, "root")
+            os.makedirs(new, exist_ok=True)
+            shut = ["unshare", "--user", "--map-root-user", "--mount", "--pid", "--net", "--ipc"]
+            shut += ["--uts", "--fork", "--kill-child", "sh", "-c", ENTER, "sh"]
+            return [*shut, new, self.folder, self.binary, *inside]
+        return inside
+
+    def bwrap(self) -> list[str]:
+        words = ["bwrap", "--unshare-all", "--die-with-parent", "--new-session", "--cap-drop", "ALL"]
+        words += ["--ro-bind", "/usr", "/usr", "--proc", "/proc", "--dev", "/dev"]
+        for name in SYSTEM:
+            if os.path.islink(f"/{name}"):
+                words += ["--symlink", f"usr/{name}", f"/{name}"]
+            elif os.path.isdir(f"/{name}"):
+                words += ["--ro-bind", f"/{name}", f"/{name}"]
+        if not self.binary.startswith("/usr/"):
+            words += ["--ro-bind", self.binary, self.binary]
+        return [*words, "--bind", self.folder, self.folder, "--"]
+
+    def fault(self) -> str:
+        """Why it doesn't work here; empty if it does."""
+        try:
+            done = subprocess.run(
+                self.words(["/usr/bin/env", "true"]),
+                capture_output=True,
+                stdin=subprocess.DEVNULL,
+                timeout=PATIENCE,
+            )
+        except (OSError, subprocess.TimeoutExpired) as fault:
+            return str(fault)
+        if done.returncode:
+            return done.stderr.decode(errors="replace").strip().rpartition("\n")[2] or "it fails"
+        return ""
+
+
+@functools.lru_cache(maxsize=None)
+def fault_of(kind: str, binary: str) -> str:
+    """Why a kind of sandbox doesn't work here for a program; empty if it does."""
+    with tempfile.TemporaryDirectory(prefix="psioomd-") as folder:
+        return Sandbox(kind, os.path.realpath(folder), binary).fault()
+
+
+def sandbox(kind: str | None, folder: str, binary: str) -> Sandbox:
+    """The sandbox that was asked for, or the first that works."""
+    faults = []
+    for it in (kind,) if kind else SANDBOXES[:-1]:
+        if it != "none" and not shutil.which(it):
+            faults.append(f"{it} isn't installed")
+            continue
+        fault = fault_of(it, binary)
+        if not fault:
+            return Sandbox(it, folder, binary)
+        faults.append(f"{it}: {fault}")
+    advice = "install the package bubblewrap, or trust the program by --sandbox none"
+    raise Fault(f"no sandbox for {quoted(binary)}: {'; '.join(faults)}: {advice}")

@@ -1,0 +1,41 @@
+"""What oomd 0.5.0 would have done, by its own configuration: a part of the page."""
+from __future__ import annotations
+
+import json
+from typing import Any
+
+from psichart.svg import add
+from psireplay.times import seconds
+
+from .facts import Facts
+from .html import Element, say, table
+from .runs import Runs
+from .sections import rest, source
+
+SHOWN = 8
+
+
+def section(page: Element, facts: Facts, runs: Runs) -> None:
+    """Whom tools/oomd says that oomd would have killed, if a configuration is given."""
+    given = facts.given
+    if given.oomd is None:
+        return
+    interval = [f"--interval-s={given.interval_s}"] if given.interval_s is not None else []
+    run = runs.tool("oomd", f"--config={given.oomd}", *interval, "--json", "--", given.trace)
+    told: dict[str, Any] = json.loads(run.text())
+    part = add(page, "section")
+    say(part, "h2", "What oomd would have done")
+    say(part, "p", f"By the algorithm of oomd {told['oomd']}, which looked {told['looks']} times ", source(run), ".")
+    kills = told["decisions"]
+    if not kills:
+        say(part, "p", "It would have killed nobody.")
+    if told["crash"]:
+        say(part, "p", told["crash"])
+    rows = [
+        [f"{seconds(it['moment_ns'])} s", it["victim"], it["ruleset_name"], it["plugin"], "; ".join(it["why"])] for it in kills[:SHOWN]
+    ]
+    if rows:
+        table(part, "Kills, each as if the ones before it had freed nothing", ["at", "victim", "ruleset", "by", "because"], rows, 5)
+        rest(part, len(kills), "kills")
+    for note in told["notes"]:
+        say(part, "p", note, class_="soft")

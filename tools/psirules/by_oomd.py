@@ -1,0 +1,46 @@
+"""Kills by oomd 0.5.0, in place of those by psi_oomd's own rules."""
+import functools
+import json
+
+from psioomd.configuration import Configuration
+from psioomd.emulation import Run, emulate, read_configuration
+from psirules import telling
+from psirules.program import Kill, Program
+from psirules.replays import Traces
+from psirules.rules_file import RulesFile
+from psirules.wording import Fault
+from psisystemd.replayed import kept_trace
+
+NAME = "oomd"
+INTERVAL = 5
+
+
+def names_of(read: Configuration) -> bytes:
+    """The names of a configuration's rulesets and actions, as rules."""
+    rulesets = [
+        {"name": it.name, "detectors": [], "actions": [{"name": action.name} for action in it.actions]}
+        for it in read.rulesets
+    ]
+    return json.dumps({"rulesets": rulesets}).encode()
+
+
+class ByOomd(RulesFile):
+    """The names in a configuration of oomd."""
+
+    def __init__(self, name: str) -> None:
+        super().__init__(name, names_of(read_configuration(name)))
+
+
+def replay(program: Program, run: Run, trace: str, threads: int) -> list[Kill]:
+    """The kills of a trace by oomd's algorithm."""
+    with kept_trace(trace) as file:
+        found = emulate(program, Run(file, run.config, interval=run.interval), threads)
+    for text in found.notes.texts:
+        telling.complain(f"{trace}: {text}")
+    return [it.kill() for it in found.decisions]
+
+
+def replays(program: Program, name: str, interval: int | None, traces: Traces) -> list[list[Kill] | Fault]:
+    """The kills of each trace."""
+    run = Run("", name, interval=interval or INTERVAL)
+    return traces.each(functools.partial(replay, program, run))

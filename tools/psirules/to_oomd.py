@@ -1,0 +1,123 @@
+"""tools/rules to-oomd: rules of psi_oomd as a configuration of oomd."""
+import argparse
+import json
+import sys
+from typing import Any
+
+from psirules import telling
+from psirules.forms import UNITS
+from psirules.lint import written
+from psirules.oomd_notes import AT_ZERO, SWAP, WAITS
+from psirules.program import Program, Refusal
+from psirules.wording import quoted
+
+ABOUT = """Prints the rules of FILE, which psi_oomd takes, as a configuration of oomd 0.5.0: sizes with letters, names with their
+backslashes escaped, every argument as oomd reads it. For what oomd says otherwise a line is on standard error, which ends in
+LOST if somebody else may be killed, or at another time. docs/RULES.md has what differs for all rules."""
+STATUS = "The status is 0 if the configuration says all of it, 1 if some of that is lost, and 2 if FILE can't be read."
+WHOLE_RATIO, DEFAULT_RATIO = ".000", "1.250"
+MOST_PERCENTILE = "99"
+RECURSES = "in oomd a group with children is never killed itself, and each level has to pass the thresholds"
+CONTINUE = {"name": "continue", "args": {}}
+
+
+def oomd_size(text: str) -> str:
+    """A size as oomd reads it: a letter, or a sum, since a bare number counts MiB there."""
+    if text.endswith("%"):
+        return text
+    count = int(text)
+    for letter, unit in reversed(UNITS.items()):
+        if letter and count and count % unit == 0:
+            return f"{count // unit}{letter}"
+    return f"0K {count}" if count else "0"
+
+
+class Converter:
+    """The configuration that is made, and what is lost."""
+
+    def __init__(self, data: Any) -> None:
+        self.told: list[tuple[str, bool]] = []
+        made = [self.ruleset(number, it) for number, it in enumerate(data["rulesets"])]
+        self.data = {"rulesets": [it for it in made if it]}
+
+    def tell(self, place: str, what: str, is_lost: bool = True) -> None:
+        self.told.append((f"{place}: {what}", is_lost))
+
+    def ruleset(self, number: int, ruleset: dict[str, Any]) -> dict[str, Any] | None:
+        name = ruleset["name"] or f"ruleset {number}"
+        place = f"ruleset {number} {quoted(ruleset['name'])}"
+        if not ruleset["detectors"] or not ruleset["actions"]:
+            what = "detectors" if not ruleset["detectors"] else "actions"
+            self.tell(place, f"it has no {what}, so it kills nobody: it is left out", False)
+            return None
+        groups = [self.group(f"{place}, group {at}", at, it) for at, it in enumerate(ruleset["detectors"])]
+        actions = [self.plugin(f"{place}, action {at}", it) for at, it in enumerate(ruleset["actions"])]
+        return {"name": name, "detectors": groups, "actions": actions}
+
+    def group(self, place: str, number: int, group: list[Any]) -> list[Any]:
+        """A group without detectors always holds, as `continue` does."""
+        name, *detectors = group
+        made = [self.plugin(f"{place}, item {at}", it) for at, it in enumerate(detectors)]
+        return [name or f"group {number}", *(made or [CONTINUE])]
+
+    def plugin(self, place: str, plugin: dict[str, Any]) -> dict[str, Any]:
+        name, args = plugin["name"], dict(plugin["args"])
+        here = f"{place} {quoted(name)}"
+        if "cgroup" in args:
+            args["cgroup"] = args["cgroup"].replace("\\", "\\\\")
+        if "threshold" in args and name in ("memory_above", "kill_by_swap_usage"):
+            args["threshold"] = oomd_size(args["threshold"])
+        self.ratio(here, args)
+        self.losses(here, name, args)
+        return {"name": name, "args": args}
+
+    def ratio(self, place: str, args: dict[str, Any]) -> None:
+        """oomd reads whole numbers, and has 1.25 if nothing is said."""
+        text = args.pop("min_growth_ratio", None)
+        if text is None or text == DEFAULT_RATIO:
+            return
+        whole = text.partition(".")[0]
+        args["min_growth_ratio"] = whole
+        if not text.endswith(WHOLE_RATIO):
+            self.tell(place, f"min_growth_ratio {text}: oomd reads whole numbers alone: it is written {whole}")
+
+    def losses(self, place: str, name: str, args: dict[str, Any]) -> None:
+        """What oomd does otherwise by the same words."""
+        if args.get("growing_size_percentile") == "100":
+            args["growing_size_percentile"] = MOST_PERCENTILE
+            self.tell(place, "growing_size_percentile 100 makes oomd crash: it is written 99, the same up to 100 candidates", False)
+        if name == "kill_by_swap_usage" and args["threshold"].endswith("%"):
+            self.tell(place, SWAP)
+        if name == "kill_by_pg_scan":
+            self.tell(place, WAITS)
+        if name == "kill_by_pressure":
+            self.tell(place, AT_ZERO)
+        if args.get("recursive") == "true":
+            self.tell(place, f"recursive: {RECURSES}")
+
+
+def canonical(program: Program, name: str) -> Any:
+    """The rules of a file with every argument, as psi_oomd prints them."""
+    with program.started(["rules", "--", name], None) as child:
+        assert child.stdout is not None
+        said = child.stdout.read()
+    if child.returncode:
+        raise Refusal(name, "", child.returncode)
+    return json.loads(said)
+
+
+def print_made(data: Any, told: list[tuple[str, bool]]) -> int:
+    """Prints what was made, and on standard error what is said of it. Answers the status."""
+    for what, is_lost in told:
+        telling.complain(f"{what}{' (LOST)' if is_lost else ''}")
+    sys.stdout.flush()
+    sys.stdout.buffer.write(written(data))
+    sys.stdout.buffer.flush()
+    return telling.FAILED if any(is_lost for _, is_lost in told) else telling.OK
+
+
+def run(given: argparse.Namespace) -> int:
+    program = Program()
+    program.prepare()
+    converter = Converter(canonical(program, given.file))
+    return print_made(converter.data, converter.told)
