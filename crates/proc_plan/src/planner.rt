@@ -137,18 +137,26 @@ impl Planner {
     /// Takes one event more: it is judged, then room is made for what it adds, and then it is done.
     /// `Refused` with the first cause against it, where it isn't legal, and `NoMemory` only where
     /// it is. Nothing changes then.
-    // Apart from its callers, so that the fast path is small enough to be inlined whole.
-    #[inline(never)]
+    #[inline(always)]
     pub fn take(&mut self, event: &Event) -> Result<(), Fault<Cause>>
         requires { Fits event.now }
         ensures takes { PlannerTakes self.old self.new event.now result }
         ensures same { OnErr result (self.new ≡ self.old) }
     {
-        if let Some(act) = TaskAct::of(&event.act) {
-            if !act.exits() {
-                return self.take_task(event.at, act);
-            }
+        match TaskAct::of(&event.act) {
+            Some(act) if !act.exits() => self.take_task(event.at, act),
+            _ => self.take_other(event),
         }
+    }
+
+    /// What [`Planner::take`] does with any other event: apart from it, so that the fast path is
+    /// small enough to be inlined.
+    #[inline(never)]
+    pub(crate) fn take_other(&mut self, event: &Event) -> Result<(), Fault<Cause>>
+        requires { Fits event.now }
+        ensures takes { PlannerTakes self.old self.new event.now result }
+        ensures same { OnErr result (self.new ≡ self.old) }
+    {
         let finding = self.table.judge(event)?;
         let told = told_by(event, finding.before, finding.slot());
         make_room(

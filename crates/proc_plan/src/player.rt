@@ -17,7 +17,7 @@ impl Player for Planner {
 
     #[inline(always)]
     fn take(&mut self, event: &Event) -> Result<(), Fault<Cause>> {
-        Planner::take(self, event)
+        self.take_other(event)
     }
 
     #[inline(always)]

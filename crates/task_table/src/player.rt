@@ -16,7 +16,7 @@ impl Player for Table {
 
     #[inline(always)]
     fn take(&mut self, event: &Event) -> Result<(), Fault<Cause>> {
-        self.play(event)
+        Table::play(self, event)
     }
 
     #[inline(always)]

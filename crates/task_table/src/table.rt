@@ -282,14 +282,23 @@ impl Table {
     /// The world after the event. Where it is refused, or there is no memory for a new task or
     /// group, nothing changes: `Refused` with the first cause, and `NoMemory` for a legal fork or a
     /// legal new group alone.
-    // Apart from its callers, so that the fast path is small enough to be inlined whole.
-    #[inline(never)]
+    #[inline(always)]
     pub fn play(&mut self, event: &Event) -> Result<(), Fault<Cause>>
         ensures { PlaysEvent self.old event.now self.new result }
     {
-        if let Some(act) = TaskAct::of(&event.act) {
-            return self.play_task(event.at, act);
+        match TaskAct::of(&event.act) {
+            Some(act) => self.play_task(event.at, act),
+            None => self.play_other(event),
         }
+    }
+
+    /// What [`Table::play`] does with an act that isn't of tasks alone: apart from it, so that the
+    /// fast path is small enough to be inlined.
+    #[inline(never)]
+    fn play_other(&mut self, event: &Event) -> Result<(), Fault<Cause>>
+        requires { is_task_act event.now.act ≡ false }
+        ensures { PlaysEvent self.old event.now self.new result }
+    {
         let finding = self.judge(event)?;
         self.advance(event, finding)?;
         Ok(())

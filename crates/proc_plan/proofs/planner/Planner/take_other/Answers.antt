@@ -13,7 +13,7 @@ use Rattle.task_table.proofs.CauseLaws.{slot_found}
 use Rattle.proc_plan.specs.Plans.{HasTaken, changes_at, planner_view}
 use Rattle.proc_plan.specs.Room.{ChangesView, changes_in, lists_of, no_room}
 use Rattle.proc_plan.proofs.Taking.{HasStepped, account_slots_fit, room_for, room_for_all, slots_fit, taken_more, written}
-use Rattle.proc_plan.proofs.planner.Planner.take.Goals as goal
+use Rattle.proc_plan.proofs.planner.Planner.take_other.Goals as goal
 
 pub add_changes-requires-clause-room : goal.add_changes-requires-clause-room
 add_changes-requires-clause-room c =
