@@ -1,5 +1,4 @@
--- Generated traces: large valid ones, each from the few numbers of its shape, and the same at each
--- time.
+-- Generated traces: large valid traces. A trace depends only on the few numbers of its shape.
 use Rattle.std.specs.Prelude.{ℕ, zero, suc, ◌+◌, ◌-◌, ◌*◌, ◌/◌, ◌%◌, ◌^◌, ◌==◌}
 use Rattle.std.specs.Prelude.{List, [], ◌∷◌, ◌++◌, map, codes, decimal, is_some}
 use Rattle.std.specs.Prelude.{Option, None, Some, if◌then◌else◌}
@@ -19,18 +18,18 @@ use Rattle.run_spec.specs.declared.command.Shape.{Shape}
 
 -- ---- random numbers
 
--- the state behind one of the random numbers: a linear congruence of 64 bits, with the constants of
--- Knuth's MMIX
+-- the state after one random number: a linear congruential generator of 64 bits, with the constants
+-- of Knuth's MMIX
 abbrev pub next_state : ℕ → ℕ
 next_state state = (state * 6364136223846793005 + 1442695040888963407) % 2 ^ 64
 
--- the number below a bound that a state gives, by its 31 high bits
+-- the number below a bound that a state gives, from its 31 high bits
 abbrev pub drawn : ℕ → ℕ → ℕ
 drawn state bound = (state / 2 ^ 33) % bound
 
 -- ---- groups and tasks
 
--- how many tasks there are: four a processor, numbered from 1
+-- the number of tasks: four a processor, numbered from 1
 abbrev pub task_count : Shape → ℕ
 task_count shape = 4 * shape.cpus
 
@@ -38,25 +37,25 @@ task_count shape = 4 * shape.cpus
 abbrev pub numbered_path : ℕ → List ℕ
 numbered_path number = codes "/g" ++ decimal number
 
--- the path of a task's group: tasks go to the groups in turn, or to the root where there are none
+-- the path of a task's group: tasks go to the groups in turn, or to the root if there are no groups
 abbrev pub home_of : Shape → ℕ → List ℕ
 home_of shape pid =
     if shape.groups == 0 then codes "/" else numbered_path ((pid - 1) % shape.groups)
 
--- the act that makes a group, by its number
+-- the act that creates a group, by its number
 abbrev pub made_group : ℕ → Act
 made_group number = act.Group (numbered_path number)
 
--- the act that makes a task, by its number: on the first processor the first four, and so on
+-- the act that creates a task, by its number: tasks 1 to 4 on the first processor, and so on
 abbrev pub made_task : Shape → ℕ → Act
 made_task shape pid =
     act.Fork (record { 0 = pid }) (home_of shape pid) (record { 0 = (pid - 1) / 4 })
 
--- an act at the moment 0
+-- an act at time 0
 abbrev pub at_start : Act → Event
 at_start what = record { at = 0; act = what }
 
--- the events that make all groups and tasks, at the moment 0
+-- the events that create all groups and tasks, at time 0
 abbrev pub first_events : Shape → List Event
 first_events shape =
     map (λ number. at_start (made_group number)) (range_with_len 0 shape.groups)
@@ -64,7 +63,7 @@ first_events shape =
 
 -- ---- what a task does next
 
--- an act that was drawn, and the state behind the random numbers that it took
+-- a random act, and the state after the random numbers that it used
 pub record Drawn : Type 0 where
   pub act : Act
   pub state : ℕ
@@ -76,13 +75,14 @@ woken shape state pid = record {
   state = next_state state;
 }
 
--- how the running task makes way, by a number below 4: half of them wait for IO
+-- how the running task leaves its processor, by a number below 4: half of the ways wait for IO
 abbrev pub way_of : ℕ → How
 way_of zero = Preempt
 way_of (suc zero) = Sleep
 way_of (suc (suc more)) = IoWait
 
--- a ready task runs next on its processor: where that idles nothing more is drawn
+-- a ready task runs next on its processor; if the processor is idle, no further random number is
+-- used
 abbrev pub started : Tasks → ℕ → ℕ → Task → Drawn
 started tasks state pid task =
     if is_some (running_on tasks task.cpu.0)
@@ -92,18 +92,18 @@ started tasks state pid task =
     }
     else record { act = act.Switch task.cpu (Some (record { 0 = pid })) Idle; state = state }
 
--- a task's stall on memory ends where it is in one, and else begins
+-- ends a task's memory stall if it is in one, and begins one otherwise
 abbrev pub stall_turn : ℕ → Task → Act
 stall_turn pid task =
     if task.stalled then act.Unstall (record { 0 = pid }) else act.Stall (record { 0 = pid })
 
--- a running task sleeps or waits for IO, or a stall of its begins or ends, by a number below 4
+-- a running task sleeps or waits for IO, or its memory stall begins or ends, by a number below 4
 abbrev pub running_act : ℕ → Task → ℕ → Act
 running_act pid task zero = act.Switch task.cpu None Sleep
 running_act pid task (suc zero) = act.Switch task.cpu None IoWait
 running_act pid task (suc (suc more)) = stall_turn pid task
 
--- what a task with a number does next, by its mode
+-- the next act of a task with this number, by its mode
 abbrev pub next_of : Shape → Tasks → ℕ → ℕ → Task → Mode → Drawn
 next_of shape tasks state pid task Blocked = woken shape state pid
 next_of shape tasks state pid task Waiting = woken shape state pid
@@ -113,29 +113,30 @@ next_of shape tasks state pid task Running = record {
   state = next_state state;
 }
 
--- what the task with a number does next; a task that isn't there would be woken, but each is
+-- the next act of the task with this number; a task that doesn't exist would be woken, but every
+-- task exists
 abbrev pub next_if : Shape → Tasks → ℕ → ℕ → Option Task → Drawn
 next_if shape tasks state pid None = woken shape state pid
 next_if shape tasks state pid (Some task) = next_of shape tasks state pid task task.mode
 
--- the task that does something next, by a state
+-- the task that acts next, by a state
 abbrev pub chosen : Shape → ℕ → ℕ
 chosen shape state = 1 + drawn state (task_count shape)
 
--- what happens next: the first number gives the time (ns) to it, the second the task
+-- the next act: the first random number gives the time (ns) until it, the second the task
 unfoldable pub next_drawn : Shape → Tasks → ℕ → Drawn
 next_drawn shape tasks state =
     next_if shape tasks (next_state (next_state state)) (chosen shape (next_state (next_state state)))
     (task_of tasks (chosen shape (next_state (next_state state))))
 
--- the event that comes next in a world: less than 2 ms later
+-- the next event in a world: less than 2 ms later
 abbrev pub next_event : Shape → World → ℕ → Event
 next_event shape w state = record {
   at = w.last + drawn (next_state state) 2000000;
   act = (next_drawn shape w.tasks state).act;
 }
 
--- so many events from a world and a state on, and the end at the moment of the last
+-- the next n events from a world and a state, and the end at the time of the last
 unfoldable pub drawn_events : Shape → ℕ → World → ℕ → List Event
 drawn_events shape zero w state = record { at = w.last; act = act.End } ∷ []
 drawn_events shape (suc left) w state =
@@ -145,7 +146,7 @@ drawn_events shape (suc left) w state =
 
 -- ---- the trace
 
--- the trace of a shape: its groups and tasks are made, and then there are its events
+-- the trace of a shape: its groups and tasks are created, then come its events
 abbrev pub generated : Shape → Trace
 generated shape = record {
   version = One;

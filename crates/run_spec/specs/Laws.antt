@@ -1,4 +1,4 @@
--- What follows from what a run promises: laws of the words of commands, of missing files, and of
+-- Consequences of what a run promises: laws of the words of commands, of missing files, and of
 -- traces without kills.
 use Rattle.std.specs.Prelude.{◌≡◌, ◌≢◌, ℕ, ◌≤◌, ◌<◌, List, [], ◌∷◌, ◌++◌, length, false, codes, Option, None, Some, Ok, Err, slice_get, ◌⊎◌}
 use Rattle.std.specs.List.{list_any}
@@ -35,14 +35,14 @@ assigned_word name value = codes "--" ++ name ++ 61 ∷ value
 abbrev pub HasNoEquals : List ℕ → Type 0
 HasNoEquals text = list_any is_equals text ≡ false
 
--- two options of different names may change places
+-- two options with different names may be swapped
 abbrev pub OrderIsFree : Type 0
 OrderIsFree = (before after : List (List ℕ)) (name value other another : List ℕ)
     → HasNoEquals name → HasNoEquals other → name ≢ other
     → command_of (before ++ assigned_word name value ∷ assigned_word other another ∷ after)
     ≡ command_of (before ++ assigned_word other another ∷ assigned_word name value ∷ after)
 
--- where no `--` came before, an option's value may be a word of its own, if it isn't taken for an
+-- if no `--` came before, an option's value may be a word of its own, unless it would be read as an
 -- option
 abbrev pub ValueMayFollow : Type 0
 ValueMayFollow = (before after : List (List ℕ)) (name value : List ℕ)
@@ -52,23 +52,22 @@ ValueMayFollow = (before after : List (List ℕ)) (name value : List ℕ)
 
 -- ---- files that are missing
 
--- where the rules file of a command is told to be missing, a run says that it is, or tells of a
--- failure
+-- if the rules file of a command is known to be missing, a run reports that, or another failure
 abbrev pub MissingRulesTell : Type 0
 MissingRulesTell = (command : Command) (files : Option Files) (old new : Option (List ℕ)) (result : Status) (name : List ℕ)
     → Ends command files old new result → rules_name command ≡ Some name → Lacks files name
     → (result ≡ status.NoFile RulesFile) ⊎ (result ≡ status.ReadFault) ⊎ (result ≡ status.NoMemory no_memory)
 
--- where the drop-in file over it is, a run says that one of the two is, or tells of a failure, or
--- of a fault of the rules file, which comes first
+-- if the drop-in file is known to be missing, a run reports that one of the two files is missing,
+-- or another failure, or an error in the rules file, which comes first
 abbrev pub MissingDropInTells : Type 0
 MissingDropInTells = (command : Command) (files : Option Files) (old new : Option (List ℕ)) (result : Status) (name : List ℕ)
     → Ends command files old new result → drop_in_name command ≡ Some name → Lacks files name
     → (result ≡ status.NoFile RulesFile) ⊎ (result ≡ status.NoFile DropInFile) ⊎ (result ≡ status.ReadFault)
     ⊎ (result ≡ status.NoMemory no_memory) ⊎ ((fault : RulesFault) × (result ≡ status.Rules fault))
 
--- where the file is that it takes its trace from, a run says that a file is, or tells of a failure,
--- or of a fault of the rules or of the drop-in file over them, which come first
+-- if the file of the trace is known to be missing, a run reports that a file is missing, or another
+-- failure, or an error in the rules or in the drop-in file, which come first
 abbrev pub MissingSourceTells : Type 0
 MissingSourceTells = (command : Command) (files : Option Files) (old new : Option (List ℕ)) (result : Status) (name : List ℕ)
     → Ends command files old new result → source_name command ≡ Some name → Lacks files name
@@ -77,20 +76,20 @@ MissingSourceTells = (command : Command) (files : Option Files) (old new : Optio
 
 -- ---- traces without kills
 
--- Where a round finds no kill with its number, no later one does: what is left then is the last
--- trace.
+-- If a round finds no kill with its number, no later round does: the trace after that round is the
+-- last trace.
 abbrev pub LastWithoutKill : Type 0
 LastWithoutKill = (trace left : Trace) (pace : Pace) (rules : List Rule) (count : ℕ) → count ≤ most_rounds
     → length left.events ≤ most_events
     → after_rounds trace pace rules count ≡ Ok left → slice_get (all_kills left pace rules) count ≡ None
     → last_trace trace pace rules ≡ Ok left
 
--- Where a round leaves too much, that is how many events the last trace would have.
+-- If a round leaves too many events, that number of events is the result.
 abbrev pub LastOutgrown : Type 0
 LastOutgrown = (trace : Trace) (pace : Pace) (rules : List Rule) (count events : ℕ) → count ≤ most_rounds
     → after_rounds trace pace rules count ≡ Err events → last_trace trace pace rules ≡ Err events
 
--- So it is exactly where some round leaves more events than a trace may have.
+-- The result is such a number exactly if some round leaves more events than a trace may have.
 abbrev pub OutgrownAtRound : Type 0
 OutgrownAtRound = (trace : Trace) (pace : Pace) (rules : List Rule) (events : ℕ) → last_trace trace pace rules ≡ Err events
     → (number : ℕ) × (left : Trace) × (number < most_rounds) × (after_rounds trace pace rules number ≡ Ok left)

@@ -1,7 +1,7 @@
 -- What `--live` prints: at each tick at which its path is live, samples of that group's clocks on
--- each processor, which readers took while the workers ran. A sample is of some number of the
--- processor's changes, from how many there were at the tick before to how many there are at this
--- one: of which, its line says.
+-- each processor, taken by readers while the workers ran. A sample is taken after some number of
+-- the processor's changes, between the number at the previous tick and the number at this tick; its
+-- line contains that number.
 use Rattle.std.specs.Prelude.{◌≡◌, ℕ, ◌-◌, ◌<◌, zero, suc, List, [], length, Option, None, Some}
 use Rattle.std.specs.List.{flat_map, range_with_len}
 use Rattle.psi_base.specs.declared.event.Event.{Event}
@@ -11,39 +11,39 @@ use Rattle.psi_spec.specs.Trace.{Trace}
 use Rattle.pressure_spec.specs.Ticks.{tick_moment}
 use Rattle.run_spec.specs.Lines.{live_line}
 
--- what is watched: the group with a path, by so many samples of each processor in each interval
+-- what is watched: the group with a path, with n samples of each processor in each interval
 pub record LiveWatch : Type 0 where
   pub path : List ℕ
   pub count : ℕ
 
--- the slot that a path has at a moment (ns), if it is live then
+-- the slot that a path has at a time (ns), if it is live then
 abbrev pub live_slot_at : List Event → List ℕ → ℕ → Option ℕ
 live_slot_at events path at = slot_of (after (up_to events at)).groups path
 
--- How many changes of a processor come up to a tick (ns its length). Before the first tick there is
--- none: what happens at the moment 0 belongs to the first interval.
+-- The number of changes of a processor up to a tick (ns its length). Before the first tick the
+-- number is 0: what happens at time 0 belongs to the first interval.
 abbrev pub changes_until : Trace → ℕ → ℕ → ℕ → ℕ
 changes_until trace tick cpu zero = 0
 changes_until trace tick cpu (suc i) = count_at cpu trace.events (tick_moment tick (suc i))
 
--- Samples of a processor in the interval that ends with a tick: so many, after numbers of its
--- changes that never fall, from those up to the tick before to those up to this one.
+-- Samples of a processor in the interval that ends with a tick: `asked` of them, after numbers of
+-- changes that never fall, between the number at the previous tick and the number at this tick.
 pub record AreCounts (trace : Trace) (tick i cpu asked : ℕ) (counts : List ℕ) : Type 0 where
   pub many : length counts ≡ asked
   pub rise : RiseWithin (changes_until trace tick cpu (i - 1)) counts (changes_until trace tick cpu i)
 
--- the lines of samples of a slot on a processor at a moment (ns): each tells the slot's times after
--- so many changes of the processor, opened to the moment
+-- the lines of samples of a slot on a processor at a tick (ns): each has the slot's times after
+-- that number of the processor's changes, up to the tick
 abbrev pub sample_lines : Trace → ℕ → ℕ → ℕ → List ℕ → List ℕ
 sample_lines trace slot at cpu counts =
     flat_map (λ count. live_line at cpu count (times_after cpu slot trace.events count at)) counts
 
--- the lines of samples of a slot at a moment (ns), processor by processor
+-- the lines of samples of a slot at a tick (ns), in order of processors
 abbrev pub live_lines : Trace → ℕ → ℕ → (ℕ → List ℕ) → List ℕ
 live_lines trace slot at counts = flat_map (λ cpu. sample_lines trace slot at cpu (counts cpu)) (range_with_len 0 trace.cpus)
 
--- A text is the lines of samples of a slot at a tick, which may be any of these: there is none
--- where no slot is watched.
+-- A text is the lines of samples of a slot at a tick, with any valid numbers of changes; it is
+-- empty if no slot is watched.
 abbrev pub IsLiveOf : Trace → ℕ → ℕ → ℕ → Option ℕ → List ℕ → Type 0
 IsLiveOf trace tick i asked None text = text ≡ []
 IsLiveOf trace tick i asked (Some slot) text =

@@ -1,5 +1,5 @@
--- Which files a command reads, how long its ticks are, which trace it takes from a file, and what
--- it prints of that.
+-- The files that a command reads, the length of its ticks, the trace that it gets from a file, and
+-- its output.
 use Rattle.std.specs.Prelude.{◌≡◌, ℕ, ◌*◌, List, [], ◌∷◌, ◌++◌, codes, Option, None, Some, Result, Ok, Err}
 use Rattle.psi_base.specs.declared.event.Event.{Event}
 use Rattle.psi_base.specs.declared.event.Refusal.{Refusal}
@@ -27,7 +27,7 @@ use Rattle.run_spec.specs.Live.{LiveWatch}
 use Rattle.run_spec.specs.Replay.{IsReplayText, Pace, stress_text}
 use Rattle.run_spec.specs.Whatif.{last_trace}
 
--- the name of the trace that a command reads, if it reads one
+-- the name of the trace that a command reads, if any
 abbrev pub trace_name : Command → Option (List ℕ)
 trace_name (Stall trace) = Some trace
 trace_name (Check trace tick_ms) = Some trace
@@ -38,21 +38,21 @@ trace_name (Import file cpus) = None
 trace_name (Rules file drop_in) = None
 trace_name (Whatif trace options) = Some trace
 
--- the name of the rules file that a command reads, if it reads one
+-- the name of the rules file that a command reads, if any
 abbrev pub rules_name : Command → Option (List ℕ)
 rules_name (Replay trace options) = options.rules
 rules_name (Rules file drop_in) = Some file
 rules_name (Whatif trace options) = options.rules
 rules_name _ = None
 
--- the name of the drop-in file over it that a command reads, if it reads one
+-- the name of the drop-in file that a command reads, if any
 abbrev pub drop_in_name : Command → Option (List ℕ)
 drop_in_name (Replay trace options) = options.drop_in
 drop_in_name (Rules file drop_in) = drop_in
 drop_in_name (Whatif trace options) = options.drop_in
 drop_in_name _ = None
 
--- the name of the text of ftrace that a command imports, if it imports one
+-- the name of the ftrace text that a command imports, if any
 abbrev pub import_name : Command → Option (List ℕ)
 import_name (Import file cpus) = Some file
 import_name _ = None
@@ -64,28 +64,28 @@ file_of command TraceFile = trace_name command
 file_of command ImportFile = import_name command
 file_of command DropInFile = drop_in_name command
 
--- what kind of file a command takes its trace from
+-- the kind of file that contains a command's trace
 abbrev pub source_of : Command → Which
 source_of (Import file cpus) = ImportFile
 source_of _ = TraceFile
 
--- the name of this file, if it reads one
+-- the name of that file, if the command reads one
 abbrev pub source_name : Command → Option (List ℕ)
 source_name command = file_of command (source_of command)
 
--- a number of ms in ns
+-- ms in ns
 abbrev pub of_ms : ℕ → ℕ
 of_ms n = n * 1000000
 
--- the length of a tick (ns), and so the latest moment of a trace, which is a million ticks
+-- the length of a tick (ns); the latest time of a trace is a million ticks
 abbrev pub tick_length : Command → ℕ
 tick_length (Check trace tick_ms) = of_ms tick_ms
 tick_length (Replay trace options) = of_ms options.tick_ms
 tick_length (Whatif trace options) = of_ms options.tick_ms
 tick_length _ = of_seconds 2
 
--- the versions of traces that a command takes: `stall`, `check`, `replay` and `whatif` any, and
--- each other the first alone
+-- the trace versions that a command accepts: any for `stall`, `check`, `replay` and `whatif`, and
+-- only the first for each other command
 abbrev pub versions_of : Command → List Version
 versions_of (Stall trace) = versions
 versions_of (Check trace tick_ms) = versions
@@ -93,60 +93,60 @@ versions_of (Replay trace options) = versions
 versions_of (Whatif trace options) = versions
 versions_of _ = One ∷ []
 
--- what a command accepts of a trace: one of a version that it takes, with all the verbs of that, at
--- the length of its ticks
+-- what a command accepts as a trace: a version that it accepts, with all the verbs of that version,
+-- at the length of its ticks
 abbrev pub accepts_of : Command → Accepts
 accepts_of command = accepts_with (versions_of command) (tick_length command)
 
--- a trace that was read, or the status that tells of its first refused line
+-- a trace, or the status for its first rejected line
 abbrev pub or_refused_trace : Result Trace Refusal → Result Trace Status
 or_refused_trace (Ok trace) = Ok trace
 or_refused_trace (Err refusal) = Err (status.Trace refusal.line refusal.cause)
 
--- the trace of imported events, on so many processors, or the status that tells of the first
--- refused line of their text
+-- the trace of imported events, on n processors, or the status for the first rejected line of their
+-- text
 abbrev pub or_not_imported : ℕ → Result (List Event) Refused → Result Trace Status
 or_not_imported cpus (Ok events) = Ok (import_trace cpus events)
 or_not_imported cpus (Err refusal) = Err (status.Import refusal.line refusal.cause)
 
--- The trace that a command takes from the bytes of its file, or the status that tells of the first
--- refused line: `import` makes it of a text of ftrace, and each other command reads it.
+-- The trace that a command gets from the bytes of its file, or the status for the first rejected
+-- line: `import` converts an ftrace text, and each other command parses a trace.
 abbrev pub taken_of : Command → List ℕ → Result Trace Status
 taken_of (Import file cpus) bytes = or_not_imported cpus (import_of cpus bytes)
 taken_of command bytes = or_refused_trace (trace_of (accepts_of command) bytes)
 
--- rules that were read, or the status that tells of the first fault of the rules file
+-- parsed rules, or the status for the first error in the rules file
 abbrev pub or_rules_fault : Result types.Rules RulesFault → Result types.Rules Status
 or_rules_fault (Ok rules) = Ok rules
 or_rules_fault (Err fault) = Err (status.Rules fault)
 
--- rules with a drop-in file over them, or the status that tells of the first fault of that
+-- rules with a drop-in file applied, or the status for the first error in the drop-in file
 abbrev pub or_drop_fault : Result types.Rules DropFault → Result types.Rules Status
 or_drop_fault (Ok rules) = Ok rules
 or_drop_fault (Err fault) = Err (status.DropIn fault)
 
--- rules that were read, with the bytes of a drop-in file over them, if there is one
+-- parsed rules, with the bytes of a drop-in file applied (None: no drop-in file)
 abbrev pub with_drop_in : Option (List ℕ) → Result types.Rules Status → Result types.Rules Status
 with_drop_in drop_in (Err why) = Err why
 with_drop_in None (Ok base) = Ok base
 with_drop_in (Some bytes) (Ok base) = or_drop_fault (dropped_in base bytes)
 
--- The rules that a command has: those that the bytes of its rules file give, with the bytes of its
--- drop-in file over them, if it has one; or the status that tells of the first fault, and in which
--- of the two files it is.
+-- The rules of a command: those of the bytes of its rules file, with the bytes of its drop-in file
+-- applied, if it has one; or the status for the first error, which says in which of the two files
+-- it is.
 abbrev pub rules_from : List ℕ → Option (List ℕ) → Result types.Rules Status
 rules_from bytes drop_in = with_drop_in drop_in (or_rules_fault (rules_of bytes))
 
--- what is watched, if there is a path
+-- what is watched, if a path is given
 abbrev pub watch_of_path : ℕ → Option (List ℕ) → Option LiveWatch
 watch_of_path count None = None
 watch_of_path count (Some path) = Some (record { path = path; count = count })
 
--- what options have watched
+-- what the options watch
 abbrev pub watch_of : Options → Option LiveWatch
 watch_of options = watch_of_path options.live_count options.live
 
--- how options have a trace replayed
+-- how the options replay a trace
 abbrev pub pace_of : Options → Pace
 pace_of options = record {
   length = of_ms options.tick_ms;
@@ -155,8 +155,8 @@ pace_of options = record {
   watch = watch_of options;
 }
 
--- with what options `stress` replays: the defaults, but for reports at the last tick alone, and its
--- own number of threads
+-- the options with which `stress` replays: the defaults, except that only the last tick has a
+-- report, and with its own number of threads
 abbrev pub stress_options : ℕ → Options
 stress_options workers = record {
   rules = None;
@@ -169,12 +169,12 @@ stress_options workers = record {
   live_count = 1;
 }
 
--- A text is the whole output of a command for an accepted trace and rulesets. Of `replay` there may
--- be more than one where a group is watched, since a live sample may be of any number of changes
--- from that of the tick before to that of its own. `gen` and `stress` read no file: theirs is the
--- trace that their shape gives. `import` prints its trace, which has as many processors as it was
--- told. `rules` has no trace, and prints its rulesets. `whatif` prints what `replay` prints of the
--- last trace, from which the victims of its kills were taken out.
+-- A text is the whole output of a command for an accepted trace and rulesets. `replay` may have
+-- several outputs if a group is watched, because a live sample may be taken after any number of
+-- changes between the previous tick's and its own. `gen` and `stress` read no file: their trace is
+-- the one of their shape. `import` prints its trace, which has the number of processors in its
+-- options. `rules` has no trace, and prints its rulesets. `whatif` prints what `replay` prints for
+-- the last trace, from which the victims of its kills were removed.
 abbrev pub IsOutput : Command → Trace → List Rule → List ℕ → Type 0
 IsOutput (Stall name) trace rules text = text ≡ stall_text trace
 IsOutput (Check name tick_ms) trace rules text = text ≡ check_text trace
@@ -188,13 +188,13 @@ IsOutput (Rules file drop_in) trace rules text = text ≡ rules_text rules ++ co
 IsOutput (Whatif name options) trace rules text =
     (last : Trace) × (last_trace trace (pace_of options) rules ≡ Ok last) × IsReplayText last (pace_of options) rules text
 
--- the status where a last trace is left, or where a round left more events than a trace may have
+-- the status for a last trace, or for a round that left more events than a trace may have
 abbrev pub status_of_last : Result Trace ℕ → Status
 status_of_last (Ok last) = status.Done
 status_of_last (Err events) = status.TooLarge events
 
--- How a command ends for an accepted trace and rulesets, where nothing else is against it: it is
--- done, unless a round of `whatif` leaves more events than a trace may have.
+-- How a command ends for an accepted trace and rulesets if nothing fails: Done, unless a round of
+-- `whatif` leaves more events than a trace may have.
 abbrev pub outcome_of : Command → Trace → List Rule → Status
 outcome_of (Whatif name options) trace rules = status_of_last (last_trace trace (pace_of options) rules)
 outcome_of command trace rules = status.Done

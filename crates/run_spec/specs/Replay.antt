@@ -1,5 +1,5 @@
--- What `replay` prints: at each tick live lines, the signals of triggers, where an evaluation is
--- due the kills of rules, and where a report is due the pressure files of all live groups.
+-- What `replay` prints: at each tick live lines, the signals of triggers, the kills of rules if an
+-- evaluation is due, and the pressure files of all live groups if a report is due.
 use Rattle.std.specs.Prelude.{◌≡◌, ℕ, ◌-◌, ◌≤◌, List, [], ◌++◌, length, sum_by, ◌==◌, Option, None, Some, if◌then◌else◌, slice_get, slice_index, slice_index_or, codes}
 use Rattle.std.specs.List.{flat_map, range_with_len}
 use Rattle.psi_base.specs.declared.event.TriggerSpec.{TriggerSpec}
@@ -21,16 +21,16 @@ use Rattle.run_spec.specs.Lines.{end_line, event_line, irq_report, kill_line, re
 use Rattle.run_spec.specs.Text.{end_of}
 use Rattle.run_spec.specs.Live.{IsLiveText, LiveWatch}
 
--- How a trace is replayed: the length of a tick (ns), the period of reports (ns), 0 for none, the
--- interval of evaluations (ns), and which group is watched, if one is.
+-- How a trace is replayed: the length of a tick (ns), the period of reports (ns; 0 for none), the
+-- interval of evaluations (ns), and the watched group, if any.
 pub record Pace : Type 0 where
   pub length : ℕ
   pub report : ℕ
   pub interval : ℕ
   pub watch : Option LiveWatch
 
--- What a replay has beside its trace: the lines of live samples at the tick with a number, and
--- rulesets.
+-- A replay's inputs apart from its trace: the lines of live samples at each tick, by its number,
+-- and rulesets.
 pub record Beside : Type 0 where
   pub live : ℕ → List ℕ
   pub rules : List Rule
@@ -39,11 +39,11 @@ pub record Beside : Type 0 where
 abbrev pub with_rules : List Rule → Beside
 with_rules rules = record { live = λ _. []; rules = rules }
 
--- how many ticks a trace has
+-- the number of ticks of a trace
 abbrev pub tick_count : Trace → Pace → ℕ
 tick_count trace pace = ticks_until pace.length (end_of trace.events)
 
--- all groups that a trace ever makes
+-- all groups that a trace ever creates
 abbrev pub lives_of : Trace → List GroupLife
 lives_of trace = (after trace.events).groups
 
@@ -55,23 +55,23 @@ fired_in trace pace i =
     fired_at trace.cpus (lives_of trace) (triggers_of trace.events) (ticks_of trace.cpus trace.events pace.length (i - 1))
     (tick_of trace.cpus trace.events pace.length i)
 
--- the line of a trigger that signals at a moment (ns), if there is such a trigger
+-- the line of a trigger that signals at a tick (ns), if there is such a trigger
 abbrev pub signal_line : ℕ → List GroupLife → ℕ → Option TriggerSpec → List ℕ
 signal_line at lives number None = []
 signal_line at lives number (Some trigger) = event_line at number (path_at lives trigger.slot.0) trigger
 
--- the lines of signals at a moment (ns): of the triggers with these numbers
+-- the lines of signals at a tick (ns), for the triggers with these numbers
 abbrev pub signal_lines : ℕ → List GroupLife → List TriggerSpec → List ℕ → List ℕ
 signal_lines at lives triggers numbers = flat_map (λ number. signal_line at lives number (slice_get triggers number)) numbers
 
--- how many signals there are at the first so many ticks
+-- the number of signals at the first n ticks
 abbrev pub signals_until : Trace → Pace → ℕ → ℕ
 signals_until trace pace count = sum_by (λ i. length (fired_in trace pace i)) (range_with_len 1 count)
 
 -- ---- kills
 
--- the kills at a tick: those of the rulesets at an evaluation, after the readings of all
--- evaluations before it
+-- the kills at a tick: those of the rulesets at an evaluation, after the readings of all earlier
+-- evaluations
 abbrev pub kills_in : Trace → Pace → List Rule → ℕ → List Kill
 kills_in trace pace rules i =
     if is_evaluation pace.interval pace.length i
@@ -84,17 +84,17 @@ abbrev pub kill_lines : List GroupLife → List Kill → List ℕ
 kill_lines lives kills =
     flat_map (λ (kill : Kill). kill_line kill.at kill.rule kill.action (path_at lives kill.victim.0)) kills
 
--- how many kills there are at the first so many ticks
+-- the number of kills at the first n ticks
 abbrev pub kills_until : Trace → Pace → List Rule → ℕ → ℕ
 kills_until trace pace rules count = sum_by (λ i. length (kills_in trace pace rules i)) (range_with_len 1 count)
 
 -- ---- reports
 
--- the reports on the resources of a group at a moment (ns), by its totals (ns) and averages
+-- the reports on the resources of a group at a tick (ns), from its totals (ns) and averages
 abbrev pub resource_files : ℕ → List ℕ → ℕ → List ℕ → List (List ℕ) → List ℕ
 resource_files at path slot totals averages = flat_map (λ res. report_text at path res (slot == 0) totals averages) resources
 
--- its report on interrupts, in a version that tells of them
+-- its report on interrupts, in a version that has them
 abbrev pub irq_files : Version → ℕ → List ℕ → List ℕ → List (List ℕ) → List ℕ
 irq_files One at path totals averages = []
 irq_files Two at path totals averages = irq_report at path (slice_index_or averages irq_quantity []) (slice_index totals irq_quantity)
@@ -111,7 +111,7 @@ group_report trace pace i group =
     (totals_after trace.cpus (lives_of trace) (ticks_of trace.cpus trace.events pace.length i) group.1)
     (group_averages trace.cpus (lives_of trace) (ticks_of trace.cpus trace.events pace.length i) group.1).averages
 
--- the groups that are live at a tick, in the byte order of their paths, each with its slot
+-- the groups that are live at a tick, sorted by the bytes of their paths, each with its slot
 abbrev pub live_groups_at : Trace → Pace → ℕ → List (List ℕ × ℕ)
 live_groups_at trace pace i = live_groups (after (up_to trace.events (tick_moment pace.length i))).groups
 
@@ -121,7 +121,7 @@ reports trace pace i = flat_map (group_report trace pace i) (live_groups_at trac
 
 -- ---- the whole output
 
--- the lines of a tick: of live samples, of signals, of kills, and of the report where it is due
+-- the lines of a tick: live samples, signals, kills, and the report if one is due
 unfoldable pub tick_text : Trace → Pace → Beside → ℕ → List ℕ
 tick_text trace pace beside i =
     beside.live i
@@ -129,11 +129,11 @@ tick_text trace pace beside i =
     ++ kill_lines (lives_of trace) (kills_in trace pace beside.rules i)
     ++ (if is_report pace.report pace.length (tick_count trace pace) i then reports trace pace i else [])
 
--- the lines of the first so many ticks
+-- the lines of the first n ticks
 abbrev pub ticks_text : Trace → Pace → Beside → ℕ → List ℕ
 ticks_text trace pace beside count = flat_map (tick_text trace pace beside) (range_with_len 1 count)
 
--- the last line: the end moment (ns), and how many ticks, signals and kills there were
+-- the last line: the end time (ns), and the numbers of ticks, signals and kills
 abbrev pub last_line : Trace → Pace → Beside → List ℕ
 last_line trace pace beside =
     end_line (end_of trace.events) (tick_count trace pace) (signals_until trace pace (tick_count trace pace))
@@ -143,7 +143,7 @@ last_line trace pace beside =
 unfoldable pub replay_text : Trace → Pace → Beside → List ℕ
 replay_text trace pace beside = ticks_text trace pace beside (tick_count trace pace) ++ last_line trace pace beside
 
--- A text is the whole output of `replay`: at each tick it has live lines that the tick may have.
+-- A text is the whole output of `replay`: at each tick its live lines are valid for that tick.
 abbrev pub IsReplayText : Trace → Pace → List Rule → List ℕ → Type 0
 IsReplayText trace pace rules text =
     (live : ℕ → List ℕ) × ((i : ℕ) → 1 ≤ i → i ≤ tick_count trace pace → IsLiveText trace pace.length pace.watch i (live i))

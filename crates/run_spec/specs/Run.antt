@@ -1,5 +1,5 @@
--- What a run of a command promises: what each status says of the files and of the output, and which
--- counts of failures rose.
+-- What a run of a command promises: what each status means for the files and the output, and which
+-- counts of failures increase.
 use Rattle.std.specs.Prelude.{◌≡◌, ℕ, List, [], Option, None, Some, IsSome, MatchOption, option_map, Ok, Err, ⊤}
 use Rattle.std.specs.Io.KnownBytes.{Appends, Keeps}
 use Rattle.outside.specs.Outside.{Files, told, Lacks, Rose, AppendsFront, ShelfCounts, counts_of}
@@ -19,26 +19,26 @@ use Rattle.run_spec.specs.Outputs.{IsOutput, accepts_of, drop_in_name, file_of, 
 
 -- ---- counts
 
--- how often reads failed, names weren't there, and writes failed
+-- the numbers of failed reads, of missing files, and of failed writes
 pub record RunCounts : Type 0 where
   pub shelf : ShelfCounts
   pub writes : ℕ
 
--- the counts of a run, from the three
+-- the counts of a run, from the three numbers
 abbrev pub run_counts : ℕ → ℕ → ℕ → RunCounts
 run_counts faults absent writes = record { shelf = counts_of faults absent; writes = writes }
 
--- a count rose where this happened, and else is as it was
+-- a count increased if this happened, and is unchanged otherwise
 pub record RisesWhere (Happened : Type 0) (before now : ℕ) : Type 0 where
   pub rose : Happened → Rose before now
   pub same : ¬ Happened → now ≡ before
 
--- the status says that a file isn't there
+-- the status says that a file is missing
 abbrev pub IsNoFile : Status → Type 0
 IsNoFile result = (which : Which) × (result ≡ status.NoFile which)
 
--- Each count rose exactly where the status tells of its failure: so no failure is passed over in
--- silence.
+-- Each count increased exactly if the status reports its failure: so no failure is silently
+-- ignored.
 pub record FailuresAreCounted (before now : RunCounts) (result : Status) : Type 0 where
   pub faults : RisesWhere (result ≡ status.ReadFault) before.shelf.faults now.shelf.faults
   pub absent : RisesWhere (IsNoFile result) before.shelf.absent now.shelf.absent
@@ -46,27 +46,29 @@ pub record FailuresAreCounted (before now : RunCounts) (result : Status) : Type 
 
 -- ---- files
 
--- the bytes of a command's file of this kind are these, where it reads one and the shelf tells them
+-- the bytes of a command's file of this kind are known to be these: the command reads such a file,
+-- and the shelf's contents are known
 abbrev pub IsTold : Command → Which → Option Files → List ℕ → Type 0
 IsTold command which files bytes = (name : List ℕ) × (file_of command which ≡ Some name) × (told files name ≡ Some bytes)
 
--- the bytes of a file that may be named: that none is named is told as well
+-- the bytes of an optional file, if known; that no file is named is known too
 abbrev pub told_if_named : Option Files → Option (List ℕ) → Option (Option (List ℕ))
 told_if_named files None = Some None
 told_if_named files (Some name) = option_map (λ bytes. Some bytes) (told files name)
 
--- the bytes of a command's drop-in file are told to be these, or it reads no such file, and there
--- are none
+-- the bytes of a command's drop-in file are known to be these, or it reads no such file and there
+-- are no bytes
 abbrev pub DropInTold : Command → Option Files → Option (List ℕ) → Type 0
 DropInTold command files drop_in = told_if_named files (drop_in_name command) ≡ Some drop_in
 
--- a command has a trace, which it reads, imports or makes: each but `rules`
+-- a command has a trace, which it reads, imports or generates: every command except `rules`
 abbrev pub HasTrace : Command → Type 0
 HasTrace (words.Rules file drop_in) = ⊥
 HasTrace _ = ⊤
 
--- A command takes a trace: its version and the verbs of its events are accepted, the events make up
--- a trace, and it is the one that the command takes from its file's bytes, where these are told.
+-- A command takes a trace: its version and the verbs of its events are accepted, and the events are
+-- a legal trace. If the bytes of the command's file are known, it is the trace that the command
+-- gets from them.
 pub record TakesTrace (command : Command) (files : Option Files) (trace : Trace) : Type 0 where
   pub version : IsAmong trace.version (accepts_of command).versions
   pub cpus : IsCpuCount trace.cpus
@@ -74,20 +76,20 @@ pub record TakesTrace (command : Command) (files : Option Files) (trace : Trace)
   pub accepted : IsAccepted (limits_of (accepts_of command).tick trace.cpus) trace.events
   pub read : (bytes : List ℕ) → IsTold command (source_of command) files bytes → taken_of command bytes ≡ Ok trace
 
--- A command takes rulesets: each in its ranges, those of the bytes of its rules file and of the
--- drop-in file over it, where these are told, and none where it reads no rules file.
+-- A command takes rulesets: each is in its ranges. They are those of the bytes of its rules file
+-- and of the drop-in file, if these are known, and there are none if it reads no rules file.
 pub record TakesRules (command : Command) (files : Option Files) (rules : List Rule) : Type 0 where
   pub fit : FitsRules rules
   pub none : rules_name command ≡ None → rules ≡ []
   pub read : (bytes : List ℕ) (drop_in : Option (List ℕ)) → IsTold command RulesFile files bytes → DropInTold command files drop_in
       → rules_from bytes drop_in ≡ Ok (record { rules = rules })
 
--- a command takes these rules from its rules file, before a drop-in file is put over them
+-- a command takes these rules from its rules file, before a drop-in file is applied
 abbrev pub TakesBase : Command → Option Files → Rules → Type 0
 TakesBase command files base = (bytes : List ℕ) → IsTold command RulesFile files bytes → rules_of bytes ≡ Ok base
 
--- the rulesets of a command are told to be these: those of its rules file with the drop-in file
--- over it, if it reads one, or none where it reads no rules file
+-- the rulesets of a command are known to be these: those of its rules file with the drop-in file
+-- applied, if it reads one, or none if it reads no rules file
 abbrev pub RulesTold : Command → Option Files → List Rule → Type 0
 RulesTold command files rules = MatchOption (rules_name command) (rules ≡ [])
     (λ name. (bytes : List ℕ) × (drop_in : Option (List ℕ)) × (told files name ≡ Some bytes) × DropInTold command files drop_in
@@ -95,24 +97,24 @@ RulesTold command files rules = MatchOption (rules_name command) (rules ≡ [])
 
 -- ---- statuses
 
--- no file of a command of this kind is told to be missing
+-- no file of a command of this kind is known to be missing
 abbrev pub IsThere : Command → Option Files → Which → Type 0
 IsThere command files which = (name : List ℕ) → file_of command which ≡ Some name → Lacks files name → ⊥
 
--- neither the rules file of a command nor the drop-in file over it is told to be missing
+-- neither the rules file of a command nor its drop-in file is known to be missing
 abbrev pub RulesAreThere : Command → Option Files → Type 0
 RulesAreThere command files = IsThere command files RulesFile × IsThere command files DropInFile
 
--- A command's whole output for an accepted trace and rulesets has some property, and no file of it
--- is missing. Where a command has no trace, its output says nothing of one.
+-- A command's whole output for an accepted trace and rulesets has a property, and none of its files
+-- is missing. The output of a command without a trace doesn't depend on one.
 abbrev pub HasOutput : Command → Option Files → (List ℕ → Type 0) → Type 0
 HasOutput command files IsSo =
     (trace : Trace) × (rules : List Rule) × (HasTrace command → TakesTrace command files trace) × TakesRules command files rules
     × RulesAreThere command files × IsThere command files (source_of command)
     × ((text : List ℕ) × IsOutput command trace rules text × IsSo text)
 
--- Where nothing else is against it, a command ends with this status for an accepted trace and
--- rulesets, and no file of it is missing.
+-- If nothing fails, a command ends with this status for an accepted trace and rulesets, and none of
+-- its files is missing.
 pub record ComesTo (command : Command) (files : Option Files) (result : Status) : Type 0 where
   pub trace : Trace
   pub rules : List Rule
@@ -123,7 +125,7 @@ pub record ComesTo (command : Command) (files : Option Files) (result : Status) 
   pub outcome : outcome_of command trace rules ≡ result
 
 -- What comes before a command reads its file of this kind is in order: the rules file comes first,
--- then the drop-in file over it, then any other. The files before it are there.
+-- then the drop-in file, then any other. The files before it exist.
 abbrev pub IsPassed : Command → Option Files → Which → Type 0
 IsPassed command files RulesFile = ⊤
 IsPassed command files DropInFile =
@@ -134,18 +136,18 @@ IsPassed command files _ = (rules : List Rule) × TakesRules command files rules
 abbrev pub ReadsFiles : Command → Type 0
 ReadsFiles command = (which : Which) × IsSome (file_of command which)
 
--- Nothing was written, and a status tells of the first refused line of a command's file of this
--- kind, behind what comes before it.
+-- Nothing was written, and a status reports the first rejected line of a command's file of this
+-- kind, after everything before it was in order.
 abbrev pub Refuses : Command → Option Files → Option (List ℕ) → Option (List ℕ) → Which → Status → Type 0
 Refuses command files old new which result =
     Keeps old new × IsSome (file_of command which) × IsPassed command files which × IsThere command files which
     × ((bytes : List ℕ) → IsTold command which files bytes → taken_of command bytes ≡ Err result)
 
--- What a status says of a command, whose files the shelf may tell, and of what the sink held before
--- and holds now: the whole output or a front of it, for an accepted trace and rulesets; the first
--- fault of the rules file, or of the drop-in file over it; behind the rules the first refused line
--- of the trace, or of a text of ftrace; that what a round left of the trace is too large; or a name
--- that isn't there. Where it isn't Done or WriteFault, the sink is as it was.
+-- What a status says about a command, with the files of the shelf if known, and with the sink's
+-- bytes before and after: the whole output or a prefix of it, for an accepted trace and rulesets;
+-- the first error in the rules file or in the drop-in file; after the rules, the first rejected
+-- line of the trace or of an ftrace text; that what a round left of the trace is too large; or a
+-- missing file. Unless the status is Done or WriteFault, the sink is unchanged.
 abbrev pub Ends : Command → Option Files → Option (List ℕ) → Option (List ℕ) → Status → Type 0
 Ends command files old new status.Done = HasOutput command files (λ text. Appends old new text)
 Ends command files old new status.WriteFault = HasOutput command files (λ text. AppendsFront old new text)

@@ -1,4 +1,4 @@
--- The codes of statuses, and the text that tells of each.
+-- The exit codes of statuses, and the text that reports each status.
 use Rattle.std.specs.Prelude.{ℕ, List, [], ◌++◌, codes, decimal, Option, None, Some}
 use Rattle.psi_base.specs.declared.event.Cause.{Cause}
 use Rattle.import_spec.specs.declared.cause.ImportCause.{ImportCause}
@@ -35,15 +35,15 @@ abbrev pub name_text : Option Command → Which → List ℕ
 name_text None which = []
 name_text (Some command) which = name_or_none (file_of command which)
 
--- the line that tells of a refused line of a trace
+-- the line that reports a rejected line of a trace
 abbrev pub refusal_text : ℕ → Cause → List ℕ
 refusal_text line why = codes "trace line " ++ (decimal line ++ (codes ": " ++ (cause_text why ++ codes "\n")))
 
--- the line that tells of a refused line of a text of ftrace
+-- the line that reports a rejected line of an ftrace text
 abbrev pub import_refusal_text : ℕ → ImportCause → List ℕ
 import_refusal_text line why = codes "import line " ++ (decimal line ++ (codes ": " ++ (import_cause_text why ++ codes "\n")))
 
--- the line that tells of a status, with its newline; of Done nothing is told
+-- the line that reports a status, with its newline; nothing for Done
 abbrev pub status_text : Option Command → Status → List ℕ
 status_text command status.Done = []
 status_text command status.Usage = codes "usage: psi_oomd stall or check or replay or gen or stress or import or rules or whatif\n"

@@ -1,4 +1,4 @@
--- Where a command stops reading: at the first refused line of its trace, or of a text of ftrace.
+-- How far a command reads: up to the first rejected line of its trace, or of an ftrace text.
 use Rattle.std.specs.Prelude.{◌≡◌, ℕ, ◌+◌, ◌-◌, ◌≤◌, List, length, take, Option, None, Some, Err, ⊤}
 use Rattle.outside.specs.Outside.{Files, told}
 use Rattle.psi_base.specs.Path.{parts_at}
@@ -9,37 +9,36 @@ use Rattle.run_spec.specs.Outputs.{drop_in_name, rules_name, source_of, taken_of
 use Rattle.run_spec.specs.Run.{IsTold}
 use Rattle.run_spec.specs.MostRead.{most_of_rules, most_until}
 
--- how many bytes there are, or else this number
+-- the number of bytes, or this number if they are unknown
 abbrev pub length_or : ℕ → Option (List ℕ) → ℕ
 length_or number None = number
 length_or number (Some bytes) = length bytes
 
--- the most bytes that are read of a rules file or of a drop-in file, if one is named: as many as it
--- has, where its bytes are told
+-- the most bytes read of a rules file or drop-in file, if one is named: its length, if its bytes
+-- are known
 abbrev pub read_of_rules : Option Files → Option (List ℕ) → ℕ
 read_of_rules files None = 0
 read_of_rules files (Some name) = length_or most_of_rules (told files name)
 
--- the most bytes that a command reads before its trace, or a text of ftrace: those of its rules
--- file and of the drop-in file over that
+-- the most bytes that a command reads before its trace or ftrace text: those of its rules file and
+-- of the drop-in file
 abbrev pub rules_read : Command → Option Files → ℕ
 rules_read command files = read_of_rules files (rules_name command) + read_of_rules files (drop_in_name command)
 
--- the number of the refused line that a status tells of, and 0 where it tells of none
+-- the number of the rejected line that a status reports, or 0 if it reports none
 abbrev pub refused_line : Status → ℕ
 refused_line (status.Trace line why) = line
 refused_line (status.Import line why) = line
 refused_line _ = 0
 
--- the line with this number isn't whole in the first so many of these bytes: its newline isn't
--- among them
+-- the line with this number is incomplete in the first n bytes: its newline isn't among them
 abbrev pub IsNotWhole : ℕ → ℕ → List ℕ → Type 0
 IsNotWhole line count bytes = length (parts_at 10 (take count bytes)) ≤ line
 
--- Reading stops at the first refused line, if these are the numbers of bytes that were given before
--- a run and up to its end. Where it ends with that line, no more was read than files of rules, and
--- what is held behind the lines before it. Where it ends with a failed read, that line wasn't whole
--- in what was read after the files of rules.
+-- Reading stops at the first rejected line, if these are the numbers of bytes read before a run and
+-- up to its end. If the run ends with that line, only the files of rules, the lines before it and
+-- the buffered bytes were read. If it ends with a failed read, that line was incomplete in what was
+-- read after the files of rules.
 abbrev pub StopsAtRefusal : Command → Option Files → ℕ → ℕ → Status → Type 0
 StopsAtRefusal command files given given_now (status.Trace line why) = given_now ≤ given + (rules_read command files + most_until line)
 StopsAtRefusal command files given given_now (status.Import line why) = given_now ≤ given + (rules_read command files + most_until line)

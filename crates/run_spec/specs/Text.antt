@@ -1,4 +1,4 @@
--- What `stall` and `check` print as a whole, byte for byte, and how causes are told.
+-- What `stall` and `check` print, byte for byte, and the names of causes.
 use Rattle.std.specs.Prelude.{ℕ, List, [], ◌∷◌, ◌++◌, length, map, Option, None, Some, codes, decimal}
 use Rattle.std.specs.List.{flat_map, range_with_len}
 use Rattle.psi_base.specs.declared.event.Event.{Event}
@@ -15,7 +15,7 @@ use Rattle.run_spec.specs.Lines.{check_line, stall_line}
 
 -- ---- stall sums
 
--- the moment of the last event (ns), which ends a trace
+-- the time of the last event (ns), which ends a trace
 abbrev pub end_of : List Event → ℕ
 end_of events = (after events).last
 
@@ -23,8 +23,8 @@ end_of events = (after events).last
 abbrev pub stall_times : ℕ → ℕ → List Event → List ℕ
 stall_times cpu slot events = map (λ state. stall state cpu slot events (end_of events)) states
 
--- the times (ns) that are told of a group on a processor: the stall times and, in version 2, behind
--- them the interrupt time
+-- the times (ns) that are printed for a group on a processor: the stall times and, in version 2,
+-- the interrupt time after them
 abbrev pub told_times : Version → ℕ → ℕ → List Event → List ℕ
 told_times One cpu slot events = stall_times cpu slot events
 told_times Two cpu slot events = stall_times cpu slot events ++ irq_time cpu slot events ∷ []
@@ -79,21 +79,21 @@ cause_name cause.IrqTooLong = codes "IrqTooLong"
 cause_name cause.RootPressure = codes "RootPressure"
 cause_name cause.TooManyPressures = codes "TooManyPressures"
 
--- the number, from 1, of the field that a cause speaks of, if it speaks of one
+-- the number, from 1, of the field that a cause names, if any
 abbrev pub field_number : Cause → Option ℕ
 field_number (cause.BadField field) = Some field
 field_number _ = None
 
--- a number behind a space, or nothing
+-- a number after a space, or nothing
 abbrev pub field_text : Option ℕ → List ℕ
 field_text None = []
 field_text (Some field) = codes " " ++ decimal field
 
--- a cause as it is told: its name, and the number of the field that it speaks of
+-- a cause as it is printed: its name, and the number of the field that it names
 abbrev pub cause_text : Cause → List ℕ
 cause_text why = cause_name why ++ field_text (field_number why)
 
--- a cause against a line of a text of ftrace, as it is told: its name
+-- the cause of a rejected ftrace line as it is printed: its name
 abbrev pub import_cause_text : ImportCause → List ℕ
 import_cause_text import_cause.LineTooLong = codes "LineTooLong"
 import_cause_text import_cause.Cut = codes "Cut"

@@ -1,5 +1,4 @@
--- What is left of a trace where the victims of its kills are taken out of it, one kill after the
--- other.
+-- The trace that remains if the victims of its kills are removed from it, one kill at a time.
 use Rattle.std.specs.Prelude.{ℕ, zero, suc, List, length, nat_lt, if◌then◌else◌, Option, None, Some, Result, Ok, Err, slice_get}
 use Rattle.std.specs.List.{flat_map, range_with_len}
 use Rattle.psi_spec.specs.World.{most_events}
@@ -9,11 +8,11 @@ use Rattle.kill_spec.specs.declared.kill.Kill.{Kill}
 use Rattle.whatif_spec.specs.Without.{trace_without}
 use Rattle.run_spec.specs.Replay.{Pace, kills_in, tick_count}
 
--- how many kills are taken at most
+-- the largest number of kills that are removed
 abbrev pub most_rounds : ℕ
 most_rounds = 64
 
--- the kills at the first so many ticks, by tick, ruleset and action
+-- the kills at the first n ticks, by tick, ruleset and action
 abbrev pub kills_by : Trace → Pace → List Rule → ℕ → List Kill
 kills_by trace pace rules count = flat_map (kills_in trace pace rules) (range_with_len 1 count)
 
@@ -21,33 +20,33 @@ kills_by trace pace rules count = flat_map (kills_in trace pace rules) (range_wi
 abbrev pub all_kills : Trace → Pace → List Rule → List Kill
 all_kills trace pace rules = kills_by trace pace rules (tick_count trace pace)
 
--- a trace without the tasks of a kill's victim from the kill on, where there is a kill
+-- a trace without the tasks of a kill's victim from the kill on, if there is a kill
 abbrev pub without_kill : Trace → Option Kill → Trace
 without_kill trace None = trace
 without_kill trace (Some kill) = trace_without trace kill.at kill.victim.0
 
--- a trace, or how many events it has where those are more than a trace may have
+-- a trace, or the number of its events if that is more than a trace may have
 abbrev pub bounded_trace : Trace → Result Trace ℕ
 bounded_trace trace = if nat_lt most_events (length trace.events) then Err (length trace.events) else Ok trace
 
--- What one round leaves of a trace: it takes out the kill with this number, from 0, where the trace
--- has so many.
+-- What one round leaves of a trace: it removes the kill with this number (from 0), if the trace has
+-- one.
 abbrev pub round : Pace → List Rule → ℕ → Trace → Result Trace ℕ
 round pace rules number trace = bounded_trace (without_kill trace (slice_get (all_kills trace pace rules) number))
 
--- a round behind others, unless one of these left too much
+-- a round after others, unless one of them left too much
 abbrev pub then_round : Pace → List Rule → ℕ → Result Trace ℕ → Result Trace ℕ
 then_round pace rules number (Err events) = Err events
 then_round pace rules number (Ok trace) = round pace rules number trace
 
--- What the first so many rounds leave of a trace, each of what the one before it left: the first
--- takes out the first kill, the second the second kill of what is left then, and so on. Where one
--- leaves more events than a trace may have, it is how many.
+-- What the first n rounds leave of a trace: the first round removes the first kill, the second
+-- round removes the second kill of what remains, and so on. If a round leaves more events than a
+-- trace may have, the result is that number of events.
 unfoldable pub after_rounds : Trace → Pace → List Rule → ℕ → Result Trace ℕ
 after_rounds trace pace rules zero = Ok trace
 after_rounds trace pace rules (suc count) = then_round pace rules count (after_rounds trace pace rules count)
 
--- the trace that is left when all kills were taken, 64 at most, or how many events a round left
--- that left too many
+-- the trace that remains after all kills, at most 64, were removed, or the number of events of a
+-- round that left too many
 abbrev pub last_trace : Trace → Pace → List Rule → Result Trace ℕ
 last_trace trace pace rules = after_rounds trace pace rules most_rounds

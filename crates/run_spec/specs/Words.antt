@@ -1,5 +1,5 @@
--- The command that words spell: they say options and a positional, read from left to right, and
--- then each command has one table.
+-- The command that words spell: options and a positional are read from left to right, then one
+-- table per command gives the command.
 use Rattle.std.specs.Prelude.{ℕ, ◌-◌, ◌^◌, List, [], ◌∷◌, length, drop}
 use Rattle.std.specs.Prelude.{find, nat_eq, nat_lt, nat_le, ◌==◌, ◌&&◌, not, Bool}
 use Rattle.std.specs.Prelude.{false, if◌then◌else◌, codes, Option, None, Some}
@@ -22,7 +22,7 @@ pub data Word : Type 0 where
   assigned : List ℕ → List ℕ → Word
   -- `--name`, an option whose value is the next word
   opened : List ℕ → Word
-  -- `--`, behind which no word is an option
+  -- `--`: no later word is an option
   end : Word
   -- a word that doesn't begin with `-`, or is `-` itself
   plain : Word
@@ -35,7 +35,7 @@ is_dashed [] = false
 is_dashed (first ∷ []) = false
 is_dashed (first ∷ second ∷ rest) = first == 45
 
--- a text is one of these
+-- a text is in a list
 abbrev pub is_among : List ℕ → List (List ℕ) → Bool
 is_among text texts = list_any (λ other. bytes_eq other text) texts
 
@@ -43,7 +43,7 @@ is_among text texts = list_any (λ other. bytes_eq other text) texts
 abbrev pub is_equals : ℕ → Bool
 is_equals byte = byte == 61
 
--- the option that stands behind `--`, where options have these names: the first `=` ends its name
+-- the option after `--`, given the names of options: the first `=` ends its name
 abbrev pub option_of : List (List ℕ) → List ℕ → Word
 option_of names text =
     if not (is_among (before_first is_equals text) names) then unknown
@@ -51,7 +51,7 @@ option_of names text =
     then assigned (before_first is_equals text) (after_first is_equals text)
     else opened (before_first is_equals text)
 
--- what a word is, where options have these names
+-- what a word is, given the names of options
 abbrev pub word_of : List (List ℕ) → List ℕ → Word
 word_of names word =
     if not (is_dashed word) then plain
@@ -61,38 +61,38 @@ word_of names word =
 
 -- ---- all words
 
--- what words say: the names of options with their values, and the positional if there is one
+-- the content of words: the names of options with their values, and the positional, if any
 pub record Given : Type 0 where
   pub options : List (List ℕ × List ℕ)
   pub positional : Option (List ℕ)
 
--- what no words say
+-- the content of no words
 abbrev pub nothing : Given
 nothing = record { options = []; positional = None }
 
--- the value that an option of this name has
+-- the value of the option with this name
 abbrev pub value_given : List ℕ → Given → Option (List ℕ)
 value_given name given =
     option_map (λ option. option.1) (find (λ option. bytes_eq option.0 name) given.options)
 
--- an option ahead of the others: it comes once, so they don't have it
+-- adds an option to the content of the other words, which must not have it: an option comes once
 abbrev pub with_option : List ℕ → List ℕ → Given → Option Given
 with_option name value given =
     if is_some (value_given name given) then None
     else Some (record given { options = (name, value) ∷ given.options })
 
--- the positional ahead of the others: there is one at most, so they have none
+-- adds the positional to the content of the other words, which must not have one
 abbrev pub with_positional : List ℕ → Given → Option Given
 with_positional word given =
     if is_some given.positional then None else Some (record given { positional = Some word })
 
--- where the reading of words stands: at a word, at the value of an option, or behind `--`
+-- the state of the parser: before a word, before the value of an option, or after `--`
 pub data Stand : Type 0 where
   at_word : Stand
   at_value : List ℕ → Stand
   behind : Stand
 
--- what a word says, and those behind it, which are read from a stand on
+-- the content of a word and of the words after it, which are read from a state
 abbrev pub by_word : Word → List ℕ → (Stand → Option Given) → Option Given
 by_word (assigned name value) word rest = rest at_word >>= with_option name value
 by_word (opened name) word rest = rest (at_value name)
@@ -100,7 +100,7 @@ by_word end word rest = rest behind
 by_word plain word rest = rest at_word >>= with_positional word
 by_word unknown word rest = None
 
--- what words say from a stand on, where options have these names
+-- the content of words, read from a state, given the names of options
 abbrev pub said : List (List ℕ) → Stand → List (List ℕ) → Option Given
 said names at_word [] = Some nothing
 said names (at_value name) [] = None
@@ -113,46 +113,46 @@ said names behind (word ∷ words) = said names behind words >>= with_positional
 
 -- ---- values
 
--- a number in its one spelling, from the least to the most
+-- a number in its one spelling, between the least and the greatest
 abbrev pub number_within : ℕ → ℕ → List ℕ → Option ℕ
 number_within least most text = do
   number ← number_of text
   if nat_le least number && nat_le number most then Some number else None
 
--- such a number, or where the option isn't given its default
+-- such a number, or the default if the option is absent
 abbrev pub number_or : ℕ → ℕ → ℕ → Option (List ℕ) → Option ℕ
 number_or default least most None = Some default
 number_or default least most (Some text) = number_within least most text
 
--- such a number, where the option is needed
+-- such a number, for an option that is required
 abbrev pub needed : ℕ → ℕ → Option (List ℕ) → Option ℕ
 needed least most None = None
 needed least most (Some text) = number_within least most text
 
--- a file's name: it isn't empty
+-- a file name isn't empty
 abbrev pub is_name : List ℕ → Bool
 is_name name = nat_lt 0 (length name)
 
--- the name of the file that the trace is taken from, which may be `-`, the standard input
+-- the name of the trace's file, which may be `-`, the standard input
 abbrev pub trace_given : Given → Option (List ℕ)
 trace_given given = do
   name ← given.positional
   if is_name name then Some name else None
 
--- the name of a rules file or a drop-in file, which isn't `-`, or that there is none
+-- the name of a rules file or drop-in file, which isn't `-`; Some(None) if the option is absent
 abbrev pub rules_given : Option (List ℕ) → Option (Option (List ℕ))
 rules_given None = Some None
 rules_given (Some name) =
     if is_name name && not (bytes_eq name (codes "-")) then Some (Some name) else None
 
--- the name of the drop-in file over a rules file, or that there is none: without rules there is
--- nothing that it could change
+-- the name of the drop-in file; Some(None) if the option is absent. It is only valid with a rules
+-- file.
 abbrev pub drop_in_given : Option (List ℕ) → Option (List ℕ) → Option (Option (List ℕ))
 drop_in_given rules None = Some None
 drop_in_given None (Some name) = None
 drop_in_given (Some rules) (Some name) = rules_given (Some name)
 
--- a group's path, or that there is none
+-- a group's path; Some(None) if the option is absent
 abbrev pub live_given : Option (List ℕ) → Option (Option (List ℕ))
 live_given None = Some None
 live_given (Some path) = if is_path path then Some (Some path) else None
@@ -163,7 +163,7 @@ live_given (Some path) = if is_path path then Some (Some path) else None
 abbrev pub tick_given : Given → Option ℕ
 tick_given given = number_or 2000 1 60000 (value_given (codes "tick-ms") given)
 
--- how many threads replay
+-- the number of threads
 abbrev pub workers_given : Given → Option ℕ
 workers_given given = number_or 64 1 64 (value_given (codes "workers") given)
 
@@ -173,14 +173,14 @@ stall_of given = do
   trace ← trace_given given
   Some (Stall trace)
 
--- `check` needs a trace, and has the length of a tick
+-- `check` needs a trace, and may have the length of a tick
 unfoldable pub check_of : Given → Option Command
 check_of given = do
   trace ← trace_given given
   tick_ms ← tick_given given
   Some (Check trace tick_ms)
 
--- what the options of `replay` and `whatif` say, with the default of each
+-- the options of `replay` and `whatif`, with the default of each
 unfoldable pub options_of : Given → Option Options
 options_of given = do
   rules ← rules_given (value_given (codes "rules") given)
@@ -202,14 +202,14 @@ options_of given = do
     live_count = live_count;
   })
 
--- `replay` needs a trace, and has its options
+-- `replay` needs a trace, and may have options
 unfoldable pub replay_of : Given → Option Command
 replay_of given = do
   trace ← trace_given given
   options ← options_of given
   Some (Replay trace options)
 
--- what is generated: no positional is given, and each of these options is
+-- the shape of a generated trace: no positional is given, and each of these options is
 unfoldable pub shape_of : Given → Option Shape
 shape_of given = do
   options ← if is_some given.positional then None else Some given
@@ -219,35 +219,35 @@ shape_of given = do
   events ← needed 0 3900000 (value_given (codes "events") options)
   Some (record { seed = seed; cpus = cpus; groups = groups; events = events })
 
--- `gen` needs what is generated
+-- `gen` needs a shape
 unfoldable pub gen_of : Given → Option Command
 gen_of given = do
   shape ← shape_of given
   Some (Gen shape)
 
--- `stress` needs what is generated, and has the number of threads
+-- `stress` needs a shape, and may have the number of threads
 unfoldable pub stress_of : Given → Option Command
 stress_of given = do
   shape ← shape_of given
   workers ← workers_given given
   Some (Stress shape workers)
 
--- `import` needs a file, and how many processors the machine has
+-- `import` needs a file, and the number of processors of the machine
 unfoldable pub import_command_of : Given → Option Command
 import_command_of given = do
   file ← trace_given given
   cpus ← needed 1 64 (value_given (codes "cpus") given)
   Some (Import file cpus)
 
--- `rules` needs a rules file, and may have a drop-in file over it
+-- `rules` needs a rules file, and may have a drop-in file
 unfoldable pub rules_command_of : Given → Option Command
 rules_command_of given = do
   file ← trace_given given
   drop_in ← rules_given (value_given (codes "drop-in") given)
   Some (Rules file drop_in)
 
--- `whatif` needs a trace and rules, and has the other options of `replay` but those on what is
--- watched
+-- `whatif` needs a trace and rules, and may have the other options of `replay` except those of live
+-- samples
 unfoldable pub whatif_of : Given → Option Command
 whatif_of given = do
   trace ← trace_given given
@@ -255,7 +255,7 @@ whatif_of given = do
   if is_some options.rules && not (is_some options.live) then Some (Whatif trace options) else None
 
 -- how a command is spelled: its own word, the names of its options, and its table, which gives the
--- command by what the words behind its own say
+-- command from the content of the words after its own
 pub record CommandForm : Type 0 where
   pub word : List ℕ
   pub options : List (List ℕ)
@@ -279,7 +279,7 @@ replay_names =
 abbrev pub replay_form : CommandForm
 replay_form = record { word = codes "replay"; options = replay_names; command = replay_of }
 
--- the names of the options that say what is generated
+-- the names of the options of a shape
 abbrev pub shape_names : List (List ℕ)
 shape_names = codes "seed" ∷ codes "cpus" ∷ codes "groups" ∷ codes "events" ∷ []
 
@@ -317,13 +317,13 @@ abbrev pub forms : List CommandForm
 forms =
     stall_form ∷ check_form ∷ replay_form ∷ gen_form ∷ stress_form ∷ import_form ∷ rules_form ∷ whatif_form ∷ []
 
--- the command of this form that the words behind its own spell
+-- the command of this form that the words after its own spell
 abbrev pub spelled : CommandForm → List (List ℕ) → Option Command
 spelled form words = do
   given ← said form.options at_word words
   form.command given
 
--- the command that words spell, or none: the first word is the command's own
+-- the command that words spell, if any: the first word is the command's own
 unfoldable pub command_of : List (List ℕ) → Option Command
 command_of [] = None
 command_of (first ∷ words) = do

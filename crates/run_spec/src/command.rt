@@ -1,114 +1,116 @@
-//! What the command line asks for.
+//! Commands: what the command line requests.
 ghost use Rattle.run_spec.specs.Laws.{OrderIsFree, SpelledInRange, ValueMayFollow};
 
 use psi_base::{Path, Text};
 
-/// A command with all that its words say: what words don't say has its default.
+/// A command with everything that its words say; what the words leave out has its default.
 #[derive(Drop)]
 pub enum Command {
-    /// Print for how long each state held.
+    /// Prints how long each state lasted.
     Stall {
         /// The name of the trace's file, or `-` for standard input.
         trace: Text,
     },
-    /// Print whether the trace is accepted.
+    /// Prints whether the trace is accepted.
     Check {
         /// The name of the trace's file, or `-` for standard input.
         trace: Text,
-        /// The length of a tick in ms, which bounds the moments of a trace: 1 to 60,000, by default
+        /// The length of a tick in ms, which bounds the times of a trace: 1 to 60,000, by default
         /// 2,000.
         tick_ms: u32,
     },
-    /// Replay the trace tick by tick.
+    /// Replays the trace tick by tick.
     Replay {
         /// The name of the trace's file, or `-` for standard input.
         trace: Text,
-        /// What the options say.
+        /// The options.
         options: Options,
     },
-    /// Print a generated trace.
+    /// Prints a generated trace.
     Gen {
-        /// What is generated.
+        /// The shape of the trace.
         shape: Shape,
     },
-    /// Replay a generated trace, which is stored nowhere.
+    /// Replays a generated trace, which is never stored.
     Stress {
-        /// What is generated.
+        /// The shape of the trace.
         shape: Shape,
-        /// How many threads replay at most: 1 to 64, by default 64.
+        /// The largest number of threads: 1 to 64, by default 64.
         workers: u32,
     },
-    /// Print the trace that a text of the kernel's ftrace is.
+    /// Prints the trace of a text of the kernel's ftrace.
     Import {
         /// The name of the text's file, or `-` for standard input.
         file: Text,
-        /// How many processors the machine has: 1 to 64.
+        /// The number of processors of the machine: 1 to 64.
         cpus: u32,
     },
-    /// Print rules as one line of JSON, with every default filled in.
+    /// Prints rules as one line of JSON, with every default filled in.
     Rules {
         /// The name of the rules file, or `-` for standard input.
         file: Text,
-        /// The name of the drop-in file over it, by default none.
+        /// The name of the drop-in file, by default none.
         drop_in: Option<Text>,
     },
-    /// Replay what is left of the trace where the victims of its kills are taken out of it, one
-    /// kill after the other.
+    /// Replays what remains of the trace if the victims of its kills are removed, one kill at a
+    /// time.
     Whatif {
         /// The name of the trace's file, or `-` for standard input.
         trace: Text,
-        /// What the options say: those of `replay`, with rules, and nothing is watched.
+        /// The options: those of `replay`, with rules, and without a watched group.
         options: Options,
     },
 }
 
-/// What the options of `replay` and `whatif` say.
+/// The options of `replay` and `whatif`.
 #[derive(Drop)]
 pub struct Options {
     /// The name of the rules file, by default none.
     pub rules: Option<Text>,
-    /// The name of the drop-in file over the rules file, by default none.
+    /// The name of the drop-in file, by default none.
     pub drop_in: Option<Text>,
     /// The length of a tick in ms: 1 to 60,000, by default 2,000.
     pub tick_ms: u32,
-    /// The interval of evaluations in seconds: one comes at the first tick at or after each
-    /// multiple. 1 to 3,600, by default 5.
+    /// The interval of evaluations in seconds: an evaluation is due at the first tick at or after
+    /// each multiple. 1 to 3,600, by default 5.
     pub interval_s: u32,
-    /// The period of reports in seconds: one comes at the first tick at or after each multiple. 0
-    /// to 3,600, by default 10. The last tick always has one, and with 0 no other.
+    /// The period of reports in seconds: a report is due at the first tick at or after each
+    /// multiple. 0 to 3,600, by default 10. The last tick always has a report; with 0 it is the
+    /// only one.
     pub report_s: u32,
-    /// How many threads replay at most: 1 to 64, by default 64.
+    /// The largest number of threads: 1 to 64, by default 64.
     pub workers: u32,
     /// The group whose clocks are sampled while the replay runs, by default none.
     pub live: Option<Path>,
-    /// How many samples are taken of each processor in each interval: 1 to 16, by default 1.
+    /// The number of samples of each processor in each interval: 1 to 16, by default 1.
     pub live_count: u32,
 }
 
-/// What trace is generated.
+/// The shape of a generated trace.
 #[derive(Clone, Copy, Debug, PartialEq, Eq)]
 pub struct Shape {
-    /// Where the random numbers begin: any number of 64 bits.
+    /// The seed of the random numbers: any 64-bit number.
     pub seed: u64,
-    /// How many processors the machine has: 1 to 64.
+    /// The number of processors of the machine: 1 to 64.
     pub cpus: u32,
-    /// How many groups there are beside the root: 0 to 1,000.
+    /// The number of groups besides the root: 0 to 1,000.
     pub groups: u32,
-    /// How many events follow those that make the groups and tasks: 0 to 3,900,000.
+    /// The number of events after those that create the groups and tasks: 0 to 3,900,000.
     pub events: u32,
 }
 
-/// What words spell is in range: each number is within its bounds, and no name is empty.
+/// Every command that words spell is in range: each number is within its bounds, and no name is
+/// empty.
 pub fn law_ranges()
     ensures { SpelledInRange }
 {}
 
-/// Options may stand in any order: two neighbours of different names may change places.
+/// Options may come in any order: two neighbours with different names may be swapped.
 pub fn law_option_order()
     ensures { OrderIsFree }
 {}
 
-/// `--name=value` may be two words, where no `--` came before and the value isn't taken for an
+/// `--name=value` may be two words, if no `--` came before and the value wouldn't be read as an
 /// option.
 pub fn law_option_value()
     ensures { ValueMayFollow }

@@ -1,11 +1,12 @@
 //! What a run of the program promises: its command words, what each command prints, and what each
-//! status says.
+//! status means. This crate has definitions and laws; the code that meets them is in the crates
+//! above.
 //!
-//! In `specs/`, in the order of reading: `Words` (which words are a command), `Lines`, `Text`,
-//! `Generated`, `Live` and `Replay` (what is printed), `Whatif` (what is left of a trace without
+//! Read the files of `specs/` in this order: `Words` (which words are a command), `Lines`, `Text`,
+//! `Generated`, `Live` and `Replay` (what is printed), `Whatif` (what remains of a trace without
 //! the victims of its kills), `Outputs` (which files a command reads, and its whole output),
-//! `MostRead` (how many bytes are read), `Status` (exit status and note), `Run` (what a run
-//! promises), `Stops` (where it stops reading); and `Laws`, what follows.
+//! `MostRead` (how many bytes are read), `Status` (exit status and message), `Run` (what a run
+//! promises), `Stops` (how far it reads); and `Laws`, their consequences.
 #![tactic(auto)]
 
 mod command;

@@ -8,16 +8,16 @@ use import_spec::ImportCause;
 use psi_base::{Cause, NoMemory};
 use ruleset_json::RulesFault;
 
-/// Which file of a command a name stood for.
+/// Which of a command's files a status is about.
 #[derive(Clone, Copy, Debug, PartialEq, Eq)]
 pub enum Which {
     /// The rules.
     RulesFile,
     /// The trace.
     TraceFile,
-    /// The text of ftrace that is imported.
+    /// The ftrace text that is imported.
     ImportFile,
-    /// The drop-in file over the rules.
+    /// The drop-in file.
     DropInFile,
 }
 
@@ -26,25 +26,25 @@ pub enum Which {
 pub enum Status {
     /// The whole output was written.
     Done,
-    /// The words aren't those of a command.
+    /// The words aren't a command.
     Usage,
-    /// The trace is refused at this line, counted from 1, for this cause.
+    /// The trace is rejected at this line (from 1), for this cause.
     Trace { line: u32, cause: Cause },
-    /// The rules file is refused, for this fault at its place.
+    /// The rules file is rejected, for this error at its place.
     Rules { fault: RulesFault },
-    /// There is no file of this name.
+    /// There is no file with this name.
     NoFile { which: Which },
     /// A read failed.
     ReadFault,
-    /// A write failed, after a front of the output.
+    /// A write failed, after a prefix of the output.
     WriteFault,
-    /// There was no memory.
+    /// Out of memory.
     NoMemory(NoMemory),
-    /// The text of ftrace is refused at this line, counted from 1, for this cause.
+    /// The ftrace text is rejected at this line (from 1), for this cause.
     Import { line: u32, cause: ImportCause },
-    /// The drop-in file is refused, for this fault at its place.
+    /// The drop-in file is rejected, for this error at its place.
     DropIn { fault: DropFault },
-    /// A round left so many events, more than a trace may have.
+    /// A round left this many events, more than a trace may have.
     TooLarge { events: u64 },
 }
 
@@ -69,9 +69,9 @@ impl Status {
     }
 }
 
-/// Where a file of a command is told to be missing, a run says so, or tells of a failure. Where it
-/// is the one that the trace is taken from, a run may also tell of a fault of the rules, or of the
-/// drop-in file over them, which come first; and where it is the drop-in file, of one of the rules.
+/// If a file of a command is known to be missing, a run reports that, or another failure. If it is
+/// the trace's file, a run may also report an error in the rules or in the drop-in file, which come
+/// first; if it is the drop-in file, an error in the rules file.
 pub fn law_missing_files()
     ensures rules { MissingRulesTell }
     ensures drop_in { MissingDropInTells }
