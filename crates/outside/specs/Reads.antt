@@ -1,9 +1,9 @@
--- The log of a shelf's reads, and what it means that files are read in order.
+-- The log of a shelf's reads, and a definition of reading files in order.
 use Rattle.std.specs.Prelude.{◌≡◌, ◌⊎◌, ℕ, zero, suc, ◌+◌, ◌<◌, List, [], ◌∷◌, ◌++◌, Option, None, Some, Result, Ok, Err}
 use Rattle.outside.specs.declared.shelf.ShelfFault.{ShelfFault}
 
--- one read: the name, the place where it begins (in bytes), how many bytes it asks for, and how
--- many it returned, or why it failed
+-- one read: the name, its first byte's place (in bytes), how many bytes it requests, and how many
+-- it returned, or why it failed
 pub record ReadCall : Type 0 where
   pub name : List ℕ
   pub at : ℕ
@@ -17,7 +17,7 @@ read_call name at size outcome = record { name = name; at = at; size = size; out
 -- ---- one file
 
 -- How far a file was read: the next read begins at this place; or there is no next read, because
--- the last one returned no byte or had this fault.
+-- the last read returned no byte or had this fault.
 pub data Progress : Type 0 where
   Next : ℕ → Progress
   Over : Option ShelfFault → Progress
@@ -28,13 +28,13 @@ after_read at (Ok zero) = Over None
 after_read at (Ok (suc n)) = Next (at + suc n)
 after_read at (Err fault) = Over (Some fault)
 
--- the fault that ended the reads of a file, if one did
+-- the fault that ended the reads of a file, if any
 abbrev pub fault_in : Progress → Option ShelfFault
 fault_in (Next at) = None
 fault_in (Over fault) = fault
 
--- Calls read a file in order, from one progress to another: each asks for at least one byte, and
--- begins where the one before it ended. None follows one that returned no byte or failed.
+-- Calls read a file in order, from one progress to another: each requests at least one byte, and
+-- begins where the previous call ended. No call follows one that returned no byte or failed.
 abbrev pub AreReads : List ℕ → Progress → List ReadCall → Progress → Type 0
 AreReads name from [] to = to ≡ from
 AreReads name (Next at) (call ∷ calls) to =
@@ -47,7 +47,7 @@ pub record ReadsFrom (name : List ℕ) (from : Progress) (before now : List Read
   pub grown : now ≡ before ++ calls
   pub in_order : AreReads name from calls to
 
--- a log grew by the reads of a file from a place on, which ended with this fault, if with any
+-- a log grew by the reads of a file from a place on, which ended with this fault, if any
 pub record ReadsFile (name : List ℕ) (at : ℕ) (before now : List ReadCall) (fault : Option ShelfFault) : Type 0 where
   pub progress : Progress
   pub reads : ReadsFrom name (Next at) before now progress
@@ -69,8 +69,8 @@ abbrev pub failure_in : List ℕ → Option ShelfFault → Option ReadFailure
 failure_in name None = None
 failure_in name (Some fault) = Some (failure_at name fault)
 
--- A log grew by reads of these files, one after the other, each from its first byte on. Where one
--- has a fault, nothing more is read.
+-- A log grew by reads of these files in order, each from its first byte. If one has a fault,
+-- nothing more is read.
 abbrev pub ReadsEach : List (List ℕ) → List ReadCall → List ReadCall → Option ReadFailure → Type 0
 ReadsEach [] before now failure = (now ≡ before) × (failure ≡ None)
 ReadsEach (name ∷ names) before now failure =

@@ -1,4 +1,4 @@
-//! A sink that collects bytes for another one.
+//! A sink that buffers bytes for another sink.
 ghost use Rattle.std.specs.Prelude.{◌≡◌, ◌+◌, ◌++◌, ◌≤◌, ℕ, List, length, drop, IfOk, OnOk, []};
 ghost use Rattle.std.specs.Io.KnownBytes.{Keeps, append_known};
 ghost use Rattle.outside.specs.Outside.{HasCause, StaysOver, below_of};
@@ -9,11 +9,11 @@ use psi_base::NoMemory;
 use std::alloc::Global;
 use std::marker::Model;
 
-/// How many bytes wait at most.
+/// The largest number of pending bytes.
 const ROOM: usize = 65536;
 
-/// Bytes that wait to be sent on, which contracts see as a list: at most 65,536. Their memory is
-/// taken when it is made.
+/// Pending bytes of a buffered sink, which contracts see as a list: at most 65,536. Their memory is
+/// allocated at creation.
 #[derive(Drop)]
 pub struct Pending {
     bytes: Vec<u8>,
@@ -30,7 +30,7 @@ impl Model for Pending {
 }
 
 impl Pending {
-    /// Memory for bytes, and none yet.
+    /// Allocates the memory for pending bytes. Nothing is pending.
     pub fn new(alloc: Global) -> Result<Pending, NoMemory>
         ensures { IfOk result (λ p. p ≡ []) }
     {
@@ -39,21 +39,20 @@ impl Pending {
         })
     }
 
-    // Its bytes.
     fn bytes(&self) -> &[u8]
         ensures { result.now ≡ self.now }
     {
         &self.bytes
     }
 
-    // For how many more bytes there is room.
+    // The number of bytes for which there is capacity left.
     fn room(&self) -> usize
         ensures { result + length self.now ≡ ROOM }
     {
         ROOM - self.bytes.len()
     }
 
-    // Adds bytes for which there is room.
+    // Appends bytes, which must fit.
     fn append(&mut self, piece: &[u8])
         requires { length self.old + length piece.now ≤ ROOM }
         ensures { self.new ≡ self.old ++ piece.now }
@@ -63,7 +62,7 @@ impl Pending {
         }
     }
 
-    // Lets so many bytes go, from the front.
+    // Removes the first `count` bytes.
     fn remove_front(&mut self, count: usize)
         requires { count ≤ length self.old }
         ensures { self.new ≡ drop count self.old }
@@ -74,14 +73,13 @@ impl Pending {
     }
 }
 
-/// A sink that collects bytes for another one, which it borrows, and sends them on in large writes:
-/// what is pending where a piece finds no room behind it, and a piece of more than 65,536 bytes
-/// with no copy. It takes no memory.
+/// A sink that buffers bytes for another sink, which it borrows, and forwards them in large writes:
+/// the pending bytes if a piece doesn't fit after them, and a piece of more than 65,536 bytes
+/// without a copy. Does not allocate.
 ///
-/// What it has is what the other one has, with what is pending behind it, so nothing that was put
-/// is ever missing; its count of faults is the other's. A write that fails has taken nothing of its
-/// piece. What is pending at the end reaches the other one by [`BufferedSink::flush`], and is lost
-/// without it.
+/// Its content is the other sink's followed by the pending bytes, so nothing that was put is ever
+/// missing; its count of faults is the other's. A failed write has taken nothing of its piece.
+/// [`BufferedSink::flush`] forwards the pending bytes; without it they are lost.
 #[derive(Drop)]
 pub struct BufferedSink<'a, K> {
     out: &'a mut K,
@@ -89,7 +87,7 @@ pub struct BufferedSink<'a, K> {
 }
 
 impl<'a, K: Sink> BufferedSink<'a, K> {
-    /// A sink over this one. Nothing is pending yet.
+    /// A buffered sink over `out`. `pending` must be empty.
     pub fn new(out: &'a mut K, pending: &'a mut Pending) -> BufferedSink<'a, K>
         requires { pending.old ≡ [] }
         ensures same_reference { result.out.ghost_name ≡ out.entry.ghost_name }
@@ -98,7 +96,8 @@ impl<'a, K: Sink> BufferedSink<'a, K> {
         BufferedSink { out, pending }
     }
 
-    /// Sends on all that is pending. A failure leaves pending what the other sink hasn't taken.
+    /// Forwards all pending bytes. After a failure, the bytes that the other sink hasn't taken are
+    /// still pending.
     pub fn flush(&mut self) -> Result<(), WriteFailed>
         ensures bytes { Keeps (append_known (K.has self.old.out.now) self.old.pending.now)
             (append_known (K.has self.new.out.now) self.new.pending.now) }

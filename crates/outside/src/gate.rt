@@ -1,13 +1,13 @@
-//! Points at which a run can be held.
+//! Points at which tests can pause a run.
 use psi_base::Cpu;
 
-/// Points of a run at which a test may make one thread wait for another. No call changes an answer.
+/// Points of a run at which a test may make one thread wait for another. No call changes a result.
 pub trait Gate: Sync {
-    /// A worker has written a change of this processor, and `count` of its changes stand now.
+    /// A worker has written a change of this processor; `count` of its changes are done.
     fn moved(&self, cpu: Cpu, count: u64);
 
-    /// A live sample of this processor is about to be taken, the one with this number in the
-    /// interval, from 0.
+    /// A live sample of this processor is about to be taken; `index` is its number in the interval,
+    /// from 0.
     fn before_sample(&self, cpu: Cpu, index: u32);
 
     /// A live sample of this processor was taken, after `count` of its changes.

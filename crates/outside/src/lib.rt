@@ -1,9 +1,10 @@
-//! The traits through which a replay meets the outside, and what writes to it.
+//! The traits for a replay's input and output, and functions that read and write through them. The
+//! traits are implemented elsewhere: for real files in `host_files`, for tests in `outside_fakes`.
 //!
 //! [`Shelf`] (files by name), [`Sink`] (places to write to) and [`Gate`] (points at which a test
-//! may hold a thread); [`BufferedSink`], which collects bytes for another sink; [`read_behind`];
-//! [`put_all`], [`put_each`] and [`put_number`]; and [`Tally`]
-//! and [`ReadLog`], a count and a log that only proofs read.
+//! may pause a thread); [`BufferedSink`], which buffers bytes for another sink; [`read_behind`];
+//! [`put_all`], [`put_each`] and [`put_number`]; and [`Tally`] and [`ReadLog`], a count and a log
+//! that only proofs read.
 #![tactic(auto)]
 
 mod buffer;

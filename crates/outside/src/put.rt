@@ -1,4 +1,4 @@
-//! Whole texts and numbers to a sink.
+//! Writes whole texts and numbers to a sink.
 ghost use Rattle.std.specs.Prelude.{◌≡◌, ◌≤◌, length, take, OnOk, decimal};
 ghost use Rattle.std.specs.Io.KnownBytes.{Appends};
 ghost use Rattle.std.specs.List.{flat_map};
@@ -7,8 +7,8 @@ ghost use Rattle.outside.specs.Calls.{PutsAll};
 
 use crate::sink::{Sink, WriteFailed};
 
-// Sends bytes from the front until all are taken or a write fails: how many were taken, and whether
-// that was all.
+// Writes the bytes in order until all are taken or a write fails: returns how many were taken, and
+// whether that was all.
 #[tactic(auto, using(crate::proofs::Grows::growth))]
 pub(crate) fn send<K: Sink>(out: &mut K, bytes: &[u8]) -> (usize, Result<(), WriteFailed>)
     ensures bound { result.0 ≤ length bytes.now }
@@ -27,8 +27,8 @@ pub(crate) fn send<K: Sink>(out: &mut K, bytes: &[u8]) -> (usize, Result<(), Wri
     (sent, Ok(()))
 }
 
-/// Sends all the bytes in order, in as many writes as the sink needs. A failure leaves a prefix of
-/// them in the sink.
+/// Writes all the bytes in order, in as many writes as the sink needs. After a failure the sink has
+/// a prefix of them.
 pub fn put_all<K: Sink>(out: &mut K, bytes: &[u8]) -> Result<(), WriteFailed>
     ensures bytes { PutsAll (K.has out.old) (K.has out.new) result bytes.now }
     ensures cause { HasCause (K.faults out.old) (K.faults out.new) result }
@@ -38,7 +38,7 @@ pub fn put_all<K: Sink>(out: &mut K, bytes: &[u8]) -> Result<(), WriteFailed>
     result
 }
 
-/// Sends all the pieces in order. A failure leaves a prefix of their joined bytes in the sink.
+/// Writes all the pieces in order. After a failure the sink has a prefix of their joined bytes.
 #[tactic(auto, using(crate::proofs::Grows::growth))]
 pub fn put_each<K: Sink>(out: &mut K, pieces: &[&[u8]]) -> Result<(), WriteFailed>
     ensures bytes { PutsAll (K.has out.old) (K.has out.new) result
@@ -52,8 +52,8 @@ pub fn put_each<K: Sink>(out: &mut K, pieces: &[&[u8]]) -> Result<(), WriteFaile
     Ok(())
 }
 
-/// Writes a number in its one spelling, as [`psi_base::read_number`] reads it. A failure leaves a
-/// prefix of the digits in the sink.
+/// Writes a number in its one spelling, as [`psi_base::read_number`] reads it. After a failure the
+/// sink has a prefix of the digits.
 pub fn put_number<K: Sink>(out: &mut K, n: u64) -> Result<(), WriteFailed>
     ensures bytes { PutsAll (K.has out.old) (K.has out.new) result (decimal n) }
     ensures cause { HasCause (K.faults out.old) (K.faults out.new) result }

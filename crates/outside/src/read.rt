@@ -1,4 +1,4 @@
-//! Reads of a shelf into a buffer that holds bytes.
+//! Reads of a shelf into a partly filled buffer.
 ghost use Rattle.std.specs.Prelude.{◌≡◌, ◌⊎◌, ◌+◌, ◌<◌, ◌≤◌, ℕ, List, Some, None, length, drop, take, IfOk, IsErrOf};
 ghost use Rattle.outside.specs.Outside.{HasCauses, Lacks, ReadsBytes, counts_of, given_by, told};
 ghost use Rattle.outside.specs.Reads.{ReadsFrom, after_read};
@@ -6,8 +6,8 @@ ghost use Rattle.outside.specs.Reads.Progress.{Next};
 
 use crate::shelf::{Shelf, ShelfFault};
 
-/// Reads once, from the place `at` on, behind the first `held` bytes of a buffer, which stay. No
-/// byte is the end.
+/// Reads once from the place `at` (in bytes), into the buffer after its first `held` bytes, which
+/// stay unchanged. Returning 0 means the end of the file.
 pub fn read_behind<S: Shelf>(
     shelf: &mut S,
     name: &str,

@@ -3,40 +3,39 @@ ghost use Rattle.std.specs.Prelude.{◌≡◌, ◌⊎◌, ◌+◌, ◌++◌, ◌
 ghost use Rattle.outside.specs.Outside.{Files, HasCauses, Lacks, ReadsBytes, counts_of, given_by, told};
 ghost use Rattle.outside.specs.Reads.{ReadCall, read_call};
 
-/// Why a shelf gave no bytes.
+/// Why a shelf returned no bytes.
 #[derive(Clone, Copy, Debug, PartialEq, Eq)]
 pub enum ShelfFault {
-    /// There is no such name. The shelf counts it as absent.
+    /// There is no file with this name. The shelf counts it as absent.
     NoFile,
     /// The read failed. The shelf counts it as a fault.
     Failed,
 }
 
-/// Files that are read by their names. What they hold never changes. Each of the two counts
-/// `faults` and `absent` has 64 bits, starts at 0, never falls, and stops at its last value. The
-/// count `given` and the log `reads` stand in proofs alone, and have no greatest value.
+/// Files that are read by name. Their contents never change. Each of the counts `faults` and
+/// `absent` has 64 bits, starts at 0, never falls, and stays at its maximum. The count `given` and
+/// the log `reads` exist only in proofs, and are unbounded.
 pub trait Shelf {
-    /// The names with their bytes, where the shelf tells them: of two pairs with one name the first
-    /// counts.
+    /// The names with their bytes, if known: if two pairs have one name, the first counts.
     ghost holds: { Self → Option Files };
 
-    /// How many reads have failed.
+    /// The number of failed reads.
     ghost faults: { Self → ℕ };
 
-    /// How many times a name wasn't there.
+    /// How often a name was missing.
     ghost absent: { Self → ℕ };
 
-    /// How many bytes its reads have given in all.
+    /// The number of bytes returned by all reads.
     ghost given: { Self → ℕ };
 
     /// All its reads, in order.
     ghost reads: { Self → List ReadCall };
 
-    /// Reads the name's bytes from the place `at` (in bytes, from 0) on into the front of `into`,
-    /// and says how many. No byte for a buffer that isn't empty is the end of the input.
+    /// Reads the name's bytes from the place `at` (in bytes, from 0) into the start of `into`, and
+    /// returns how many. Returning 0 for a nonempty buffer means the end of the input.
     ///
-    /// Where the shelf tells what it holds, `NoFile` is the answer only for a name that isn't held,
-    /// and such a name has no other answer than `NoFile` and `Failed`.
+    /// If the contents are known, the result is `NoFile` only for a name that doesn't exist, and
+    /// for such a name it is always `NoFile` or `Failed`.
     fn read_at(&mut self, name: &str, at: u64, into: &mut [u8]) -> Result<usize, ShelfFault>
         ensures kept { holds self.new ≡ holds self.old }
         ensures bound { IfOk result (λ n. n ≤ length into.new) }

@@ -8,22 +8,22 @@ ghost use Rattle.outside.specs.Outside.{Below, HasCause, StaysOver, nothing_belo
 #[derive(Clone, Copy, Debug, PartialEq, Eq)]
 pub struct WriteFailed;
 
-/// A place to write to. Its count has 64 bits, starts at 0, never falls, and stops at its last
-/// value.
+/// A place to write to. Its count of faults has 64 bits, starts at 0, never falls, and stays at its
+/// maximum.
 pub trait Sink {
-    /// The bytes taken so far, where the sink tells them.
+    /// The bytes taken so far, if known.
     ghost has: { Self → Option (List ℕ) };
 
-    /// How many writes have failed.
+    /// The number of failed writes.
     ghost faults: { Self → ℕ };
 
-    /// What stands below a sink that sends its bytes on to one that it borrows. No call changes
-    /// which one it is, and none takes bytes away from it: so a caller knows what that one has in
-    /// the end.
+    /// The inner sink of a sink that forwards its bytes to another, which it borrows. No call
+    /// replaces it or removes bytes from it: so a caller knows what the inner sink contains in the
+    /// end.
     ghost below: { Self → Below } = { λ _. nothing_below };
 
-    /// Takes bytes from the front of the piece, at least one where it isn't empty, and says how
-    /// many. `WriteFailed` has taken nothing.
+    /// Takes a prefix of the piece, at least one byte unless the piece is empty, and returns its
+    /// length. After `WriteFailed` nothing was taken.
     fn write(&mut self, piece: &[u8]) -> Result<usize, WriteFailed>
         ensures bound { WritesAtMost result piece.now }
         ensures progress { IfOk result (λ n. 0 < length piece.now → 0 < n) }

@@ -1,4 +1,4 @@
-//! A count and a log that only proofs read. They take no memory, and their calls do nothing at run
+//! A count and a log that only proofs read. They do not allocate, and their calls do nothing at run
 //! time.
 ghost use Rattle.std.specs.Prelude.{◌≡◌, ◌+◌, ◌++◌, ◌∷◌, [], ℕ, List};
 ghost use Rattle.std.specs.Borrow.{ftrue};
@@ -7,7 +7,7 @@ ghost use Rattle.outside.specs.Reads.{ReadCall, read_call};
 use crate::shelf::ShelfFault;
 use std::marker::Model;
 
-/// How much was counted in all. A clause reads it as `count`, which has no greatest value.
+/// A sum. A clause reads it as `count`, which is unbounded.
 #[derive(Drop)]
 pub struct Tally {
     pub ghost count: { ℕ },
@@ -18,14 +18,14 @@ impl Model for Tally {
 }
 
 impl Tally {
-    /// Nothing was counted yet.
+    /// A sum of 0.
     pub fn new() -> Tally
         ensures { result.count ≡ 0 }
     {
         Tally {}
     }
 
-    /// So much more was counted.
+    /// Adds an amount.
     #[inline(always)]
     pub fn and(&self, more: usize) -> Tally
         ensures { result.count ≡ self.now.count + more }
@@ -34,14 +34,14 @@ impl Tally {
     }
 }
 
-/// A read, as a log takes it.
+/// A read, as it is logged.
 #[derive(Drop)]
 pub struct Call<'a> {
     /// The name that was read.
     pub name: &'a str,
-    /// Where it began, in bytes.
+    /// The place of its first byte.
     pub at: u64,
-    /// How many bytes it asked for.
+    /// How many bytes it requested.
     pub size: usize,
     /// How many bytes it returned, or why it failed.
     pub outcome: Result<usize, ShelfFault>,
@@ -58,14 +58,14 @@ impl Model for ReadLog {
 }
 
 impl ReadLog {
-    /// No read yet.
+    /// An empty log.
     pub fn new() -> ReadLog
         ensures { result.calls ≡ [] }
     {
         ReadLog {}
     }
 
-    /// One more read.
+    /// Adds a read.
     #[inline(always)]
     pub fn and(&self, call: &Call<'_>) -> ReadLog
         ensures { result.calls ≡ self.now.calls ++ read_call call.now.name.now
