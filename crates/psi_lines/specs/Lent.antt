@@ -1,4 +1,4 @@
--- What reading the next line gives, where its bytes are lent.
+-- The result of reading the next line as borrowed bytes.
 use Rattle.std.specs.Prelude.{◌≡◌, ℕ, ◌+◌, ◌≤◌, List, [], OnErr, Option, None, Some, Result, Ok, Err}
 use Rattle.std.specs.Borrow.{Bor}
 use Rattle.outside.specs.Outside.{told, Lacks, Files}
@@ -7,14 +7,14 @@ use Rattle.psi_lines.specs.Next.{NextOf, ReadsOn, furthest, number_after}
 use Rattle.psi_lines.specs.declared.lines.Line.{Line}
 use Rattle.psi_lines.specs.declared.lines.LineFault.{LineFault}
 
--- the answer with a line in place of the bytes that are lent
+-- the result with a line in place of the borrowed bytes
 abbrev pub lent_line : ℕ → Result (Option (Bor (List ℕ))) LineFault → Result (Option Line) LineFault
 lent_line number (Ok (Some bytes)) = Ok (Some (record { number = number; bytes = bytes.now }))
 lent_line number (Ok None) = Ok None
 lent_line number (Err fault) = Err fault
 
--- what the reader is once the answer's loan is over: all that is said of it behind a line that owns
--- its bytes; the first number is what the shelf had given before, the second what it has given now
+-- the reader after the borrow ends, with all properties that reading an owned line has; the numbers
+-- are the bytes that the shelf had returned before, and has returned now
 pub record LendsLine (files : Option Files) (given given_now : ℕ) (old new : Reader)
     (result : Result (Option (Bor (List ℕ))) LineFault) : Type 0 where
   pub name : new.name ≡ old.name

@@ -2,15 +2,15 @@
 use Rattle.std.specs.Prelude.{◌≡◌, ◌≢◌, ℕ, ◌≤◌, ◌<◌, List, ◌∷◌, ◌++◌, length, drop, slice_index}
 use Rattle.psi_base.specs.Path.{parts_at}
 
--- a reader: the name, the number of the next line, the bytes that were read and not handed out, and
--- the place behind them
+-- a reader: the name, the number of the next line, the buffered bytes (read, and not returned yet),
+-- and the place after them
 pub record Reader : Type 0 where
   pub name : List ℕ
   pub number : ℕ
   pub held : List ℕ
   pub at : ℕ
 
--- the bytes of the file that aren't handed out
+-- the bytes of the file that weren't returned yet
 abbrev pub left : Reader → List ℕ → List ℕ
 left reader bytes = reader.held ++ drop reader.at bytes
 
@@ -18,7 +18,7 @@ left reader bytes = reader.held ++ drop reader.at bytes
 abbrev pub HasNoNewline : List ℕ → ℕ → Type 0
 HasNoNewline bytes n = (k : ℕ) → k < n → slice_index bytes k ≢ 10
 
--- how many lines bytes have, with what stands behind the last newline, which isn't a whole one
+-- the number of lines in bytes, including an incomplete line after the last newline
 abbrev pub line_count : List ℕ → ℕ
 line_count bytes = length (parts_at 10 bytes)
 
@@ -33,7 +33,7 @@ pub record IsTooLong (bytes : List ℕ) : Type 0 where
   pub long : 513 ≤ length bytes
   pub none : HasNoNewline bytes 513
 
--- a line that the input cuts short
+-- a line that the end of the input cuts off
 pub record IsCut (bytes : List ℕ) : Type 0 where
   pub some : 0 < length bytes
   pub short : length bytes ≤ 512

@@ -1,4 +1,4 @@
-//! The bytes that were read and not handed out.
+//! A buffer of bytes that were read and not returned yet.
 ghost use Rattle.std.specs.Prelude.{◌≡◌, ◌+◌, ◌-◌, ◌<◌, ◌≤◌, ◌⊎◌, [], ℕ, List, length, drop, take, IfOk, OnErr, IsErrOf, Some, None};
 ghost use Rattle.outside.specs.Outside.{told, Lacks, counts_of, given_by};
 ghost use Rattle.outside.specs.Reads.{ReadsFrom};
@@ -11,14 +11,14 @@ use psi_base::NoMemory;
 use std::alloc::Global;
 use std::marker::Model;
 
-/// The greatest line with its newline, in bytes: fewer are held whenever a read is due.
+/// The longest line with its newline, in bytes: fewer are buffered whenever a read is needed.
 pub(crate) const LINE: usize = 513;
 
-/// How much a buffer can hold, in bytes: a line that is begun, and behind it room for at least
-/// 65,536 that a read gives.
+/// The capacity of a buffer in bytes: a line that is begun, and at least 65,536 bytes after it for
+/// a read.
 pub(crate) const ROOM: usize = 66048;
 
-// Moves the bytes from `start` to `end` to the front.
+// Moves the bytes from `start` to `end` to the start of the buffer.
 fn move_to_front(bytes: &mut [u8], start: usize, end: usize)
     requires order { start ≤ end }
     requires inside { end ≤ length bytes.old }
@@ -29,9 +29,9 @@ fn move_to_front(bytes: &mut [u8], start: usize, end: usize)
     }
 }
 
-/// Bytes that were read and not handed out, which contracts see as a list. They stand in one piece
-/// of memory that never grows, from `start` to `end`, and are moved to its front only when a read
-/// is due.
+/// Bytes that were read and not returned yet, which contracts see as a list. They are in one piece
+/// of memory that never grows, from `start` to `end`, and are moved to its start only when a read
+/// is needed.
 #[derive(Drop)]
 pub(crate) struct Buffer {
     bytes: Vec<u8>,
@@ -55,7 +55,7 @@ impl Buffer {
     ghost use Rattle.std.specs.Io.BufRead.{Rests};
     ghost use Rattle.psi_lines.specs.contracts.buffer.Buffer.{the_row};
 
-    /// An empty buffer.
+    /// An empty buffer. Allocates everything at the start.
     pub(crate) fn new(alloc: Global) -> Result<Buffer, NoMemory>
         ensures { IfOk result (λ b. b ≡ []) }
     {
@@ -66,7 +66,7 @@ impl Buffer {
         })
     }
 
-    /// The bytes that it holds.
+    /// The buffered bytes.
     #[inline(always)]
     pub(crate) fn held(&self) -> &[u8]
         ensures held { result.now ≡ self.now }
@@ -75,7 +75,7 @@ impl Buffer {
         &self.bytes[self.start..self.end]
     }
 
-    /// Hands out so many bytes, and lets the one behind them go.
+    /// Returns the first bytes, and discards the byte after them.
     #[inline(always)]
     pub(crate) fn take_line(&mut self, count: usize) -> &[u8]
         requires { count < length self.old }
@@ -88,7 +88,8 @@ impl Buffer {
         &self.bytes[start..start + count]
     }
 
-    /// Reads once, from the place `at` on. No byte is the end. A fault leaves what it holds.
+    /// Reads once, from the place `at` (in bytes). Returning 0 means the end. A fault leaves the
+    /// buffer unchanged.
     pub(crate) fn read_more<S: Shelf>(
         &mut self,
         shelf: &mut S,

@@ -1,9 +1,10 @@
-//! The lines of a file that a shelf holds, however its reads cut them.
+//! The lines of a shelf's file, however its reads split them. This crate doesn't parse lines:
+//! `psi_trace` and `ftrace_import` do.
 //!
-//! A line ends with a newline (byte 10) and has at most 512 bytes before it. [`Lines::next`] hands
-//! out one line after the other, [`Lines::next_bytes`] lends each where it was read, and
-//! [`Lines::is_at_end`] looks one byte ahead. Who finds a line at the front of what is held
-//! ([`Lines::held`]) takes it by its length ([`Lines::pass`]), with no read.
+//! A line ends with a newline (byte 10) and has at most 512 bytes before it. [`Lines::next`]
+//! returns the lines in order, [`Lines::next_bytes`] borrows each from the buffer, and
+//! [`Lines::is_at_end`] looks one byte ahead. A caller who finds a line at the start of the
+//! buffered bytes ([`Lines::held`]) takes it by its length ([`Lines::pass`]), without a read.
 #![tactic(auto)]
 
 mod buffer;

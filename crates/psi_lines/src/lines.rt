@@ -1,4 +1,4 @@
-//! Lines of a name's bytes, however the shelf cuts them.
+//! The lines of a file, however the shelf's reads split them.
 ghost use Rattle.std.specs.Prelude.{◌≡◌, ◌≢◌, ◌+◌, ◌-◌, ◌*◌, ◌<◌, ◌≤◌, ◌^◌, ◌↔◌, [], ◌++◌, ℕ, List, length, drop, IfOk, OnErr, IsErrOf, IsTrue, MatchOption, slice_index, Ok, Some, None, false};
 ghost use Rattle.psi_base.specs.Memory.{no_memory};
 ghost use Rattle.outside.specs.Outside.{told, Lacks, counts_of};
@@ -23,18 +23,18 @@ pub struct Line {
     pub bytes: Text,
 }
 
-/// Why a call gives no answer.
+/// Why a call returns no line.
 #[derive(Clone, Copy, Debug, PartialEq, Eq)]
 pub enum LineFault {
     /// The line with this number has more than 512 bytes before its newline.
     TooLong(u32),
-    /// The input ends inside the line with this number, of which there are 1 to 512 bytes.
+    /// The input ends inside the line with this number, after 1 to 512 of its bytes.
     Cut(u32),
-    /// The shelf has no such name.
+    /// The shelf has no file with this name.
     NoFile,
     /// A read failed.
     ReadFault,
-    /// There was no memory.
+    /// Out of memory.
     NoMemory(NoMemory),
 }
 
@@ -63,12 +63,12 @@ impl From<ShelfFault> for LineFault {
     }
 }
 
-/// A reader of a name's lines, at the start of a line. Contracts see it as a `Reader`: the name,
-/// the number of the next line, the bytes that were read and not handed out, and the place behind
-/// these.
+/// A reader of a file's lines, at the start of a line. Contracts see it as a `Reader`: the name,
+/// the number of the next line, the buffered bytes (read, and not returned yet), and the place
+/// after these.
 ///
-/// A fault leaves it at the start of the same line, with all bytes that it has; a further call goes
-/// on from there.
+/// A fault leaves it at the start of the same line, with all buffered bytes; a further call goes on
+/// from there.
 #[derive(Drop)]
 pub struct Lines {
     alloc: Global,
@@ -91,7 +91,7 @@ impl Model for Lines {
         × (l.at + 513 ≤ 513 * l.number + length l.held) × (length l.held ≤ 66048) };
 }
 
-// Where the first newline stands among the bytes that a line and its newline can have.
+// The place of the first newline among the bytes that a line and its newline can have.
 fn newline_in(held: &[u8]) -> Option<usize>
     ensures { MatchOption result ((k : ℕ) → k < length held.now → k < LINE
         → slice_index held.now k ≢ 10) (λ i. (i < length held.now) × (i < LINE)
@@ -100,8 +100,8 @@ fn newline_in(held: &[u8]) -> Option<usize>
     memchr(b'\n', &held[..held.len().min(LINE)])
 }
 
-// Reads on until the line with this number stands whole at the front of what is held: its bytes
-// before the newline. None at the end of the input.
+// Reads until the buffered bytes begin with a complete line, the one with this number: returns its
+// length without the newline. None at the end of the input.
 fn find_line<S: Shelf>(
     shelf: &mut S,
     name: &str,
@@ -157,7 +157,8 @@ impl Lines {
     ghost use Rattle.psi_lines.specs.Lent.{LendsLine, lent_line};
     ghost use Rattle.psi_lines.specs.contracts.lines.Lines.{the_row};
 
-    /// A reader at the first byte of the name, before line 1. Nothing is read yet.
+    /// A reader at the first byte of the file, before line 1. Nothing is read yet. Allocates its
+    /// buffer.
     pub fn new(alloc: Global, name: &str) -> Result<Lines, NoMemory>
         ensures { IfOk result (λ l.
             l ≡ record { name = name.now; number = 1; held = []; at = 0 }) }
@@ -171,7 +172,7 @@ impl Lines {
         })
     }
 
-    // As [`find_line`], for the line with the reader's number: the reader stays before it.
+    // As [`find_line`], for the line with the reader's number: the reader doesn't advance.
     #[inline(always)]
     fn find<S: Shelf>(&mut self, shelf: &mut S) -> Result<Option<usize>, LineFault>
         requires { self.old.number < 2 ^ 32 }
@@ -206,19 +207,17 @@ impl Lines {
         )
     }
 
-    /// The bytes up to the next newline, without it; the reader then stands behind it. None exactly
-    /// at the end of the input, with no byte of a further line.
+    /// Returns the bytes up to the next newline, without it, and advances past the newline. None
+    /// exactly at the end of the input, after the last line.
     ///
-    /// It reads no further than a whole buffer behind the lines that were handed out, each with its
-    /// newline.
+    /// It reads at most a full buffer beyond the lines that were returned, each with its newline.
     ///
-    /// Where what it holds tells of the line, it doesn't read: then neither a failing shelf nor a
-    /// slow one holds it up.
+    /// If the buffered bytes determine the line, it doesn't read: then neither a failing shelf nor
+    /// a slow one matters.
     ///
-    /// `TooLong` exactly where 513 bytes stand without a newline, `Cut` exactly where the input
-    /// ends inside a line of at most 512 bytes. `NoFile` and `ReadFault` only where the shelf
-    /// counted an absent name or a fault in this call, and `ReadFault` only where no whole line is
-    /// held.
+    /// `TooLong` exactly if there are 513 bytes without a newline, `Cut` exactly if the input ends
+    /// inside a line of at most 512 bytes. `NoFile` and `ReadFault` only if the shelf counted an
+    /// absent name or a fault in this call, and `ReadFault` only if no complete line is buffered.
     pub fn next<S: Shelf>(&mut self, shelf: &mut S) -> Result<Option<Line>, LineFault>
         requires { self.old.number < 2 ^ 32 }
         ensures kept { S.holds shelf.new ≡ S.holds shelf.old }
@@ -251,8 +250,8 @@ impl Lines {
         Ok(Some(Line { number, bytes }))
     }
 
-    /// As [`Lines::next`], but the bytes are lent from where they were read, up to the next call.
-    /// It takes no memory, so its answer is never `NoMemory`.
+    /// As [`Lines::next`], but borrows the bytes from the buffer, until the next call. Does not
+    /// allocate, so it never returns `NoMemory`.
     pub fn next_bytes<S: Shelf>(&mut self, shelf: &mut S) -> Result<Option<&[u8]>, LineFault>
         requires { self.old.number < 2 ^ 32 }
         ensures kept { S.holds shelf.new ≡ S.holds shelf.old }
@@ -288,7 +287,7 @@ impl Lines {
         self.number as u32
     }
 
-    /// The bytes that were read and not handed out. It reads nothing.
+    /// The buffered bytes, which were read and not returned yet. Does not read.
     #[inline(always)]
     pub fn held(&self) -> &[u8]
         ensures { result.now ≡ self.now.held }
@@ -296,8 +295,8 @@ impl Lines {
         self.held.held()
     }
 
-    /// Hands out the line at the front of the bytes that it holds, which has so many bytes before
-    /// its newline. It reads nothing, and the caller has seen the line in [`Lines::held`].
+    /// Advances past the first line of the buffered bytes, which has this many bytes before its
+    /// newline. Does not read; the caller has seen the line in [`Lines::held`].
     #[inline(always)]
     pub fn pass(&mut self, count: usize)
         requires number { self.old.number < 2 ^ 32 }
@@ -315,8 +314,8 @@ impl Lines {
         self.held.take_line(count);
     }
 
-    /// Whether nothing is left behind the lines that were handed out. Where bytes are held, that is
-    /// known with no read; else it takes exactly one. No byte is handed out.
+    /// Whether nothing is left after the lines that were returned. If bytes are buffered, it
+    /// doesn't read; otherwise it reads exactly once. No byte is removed.
     pub fn is_at_end<S: Shelf>(&mut self, shelf: &mut S) -> Result<bool, LineFault>
         ensures kept { S.holds shelf.new ≡ S.holds shelf.old }
         ensures same { (self.new.name ≡ self.old.name) × (self.new.number ≡ self.old.number) }
