@@ -1,4 +1,4 @@
--- What follows from what a run with observers promises, and from which samples are taken.
+-- Consequences of what a run with observers promises, and of which samples are taken.
 use Rattle.std.specs.Prelude.{◌≡◌, ℕ, ◌<◌, ◌≤◌, List, [], ◌∷◌, length, slice_get, Option, None, Some, ◌⊎◌, codes, true}
 use Rattle.psi_spec.specs.Changes.{changes_of}
 use Rattle.psi_spec.specs.Trace.{Trace, trace_of}
@@ -16,13 +16,13 @@ use Rattle.observe_spec.specs.declared.status.ObserveStatus.TheVariants as statu
 
 -- ---- samples
 
--- Each sample is after so many changes as its processor has, or fewer.
+-- Each sample is taken after at most as many changes as its processor has.
 abbrev pub CountsAreOfChanges : Type 0
 CountsAreOfChanges = (trace : Trace) (pace : Pace) (path : List ℕ) (observers : ℕ) (looks : List Look) →
     AreObserved trace pace path observers looks → (k : ℕ) (look : Look) → slice_get looks k ≡ Some look →
     look.count ≤ length (changes_of look.cpu trace.events)
 
--- Each observer took as many as were due.
+-- Each observer took exactly the samples that were due.
 abbrev pub EachTakesItsShare : Type 0
 EachTakesItsShare = (trace : Trace) (pace : Pace) (path : List ℕ) (observers : ℕ) (looks : List Look) →
     AreObserved trace pace path observers looks → (observer : ℕ) → observer < observers →
@@ -30,16 +30,17 @@ EachTakesItsShare = (trace : Trace) (pace : Pace) (path : List ℕ) (observers :
 
 -- ---- runs
 
--- `replay` with the name of a trace and no option has these options, with no path.
+-- `replay` with the name of a trace and no option has these options, without a path.
 abbrev pub ReplayHasThese : Type 0
 ReplayHasThese = (name : List ℕ) → is_trace_name name ≡ true →
     command_of (codes "replay" ∷ name ∷ []) ≡ Some (Replay name (options_on None))
 
--- The trace is the one that `replay` takes with no option, and refused where and as it is there.
+-- The trace is the same as for `replay` without options, and is rejected in the same cases with the
+-- same status.
 abbrev pub TracesAreThoseOfReplay : Type 0
 TracesAreThoseOfReplay = (name bytes : List ℕ) → or_refused_trace (trace_of accepts bytes) ≡ taken_of (Replay name (options_on None)) bytes
 
--- Where the trace's file is told to be missing, a run says that it is, or tells of a failure.
+-- If the trace's file is known to be missing, a run reports that, or another failure.
 abbrev pub MissingTraceTells : Type 0
 MissingTraceTells = (request : Request) (files : Option Files) (old new : Option (List ℕ)) (result : ObserveStatus) →
     ObservingEnds request files old new result → Lacks files request.trace →

@@ -1,4 +1,4 @@
--- What observers of one group print of a trace: their samples, the last state of the board that
+-- What observers of one group print for a trace: their samples, the last state of the board that
 -- each read, and the end.
 use Rattle.std.specs.Prelude.{◌≡◌, ℕ, List, [], ◌∷◌, ◌++◌, length, map, slice_index_or, codes, decimal}
 use Rattle.std.specs.List.{flat_map, range_with_len}
@@ -10,45 +10,46 @@ use Rattle.run_spec.specs.Replay.{Pace, signals_until, tick_count}
 use Rattle.run_spec.specs.Text.{end_of}
 use Rattle.observe_spec.specs.Samples.{AreObserved, Look}
 
--- the moment (ns) of an event with a number from 1, and 0 for 0
+-- the time (ns) of the event with this number (from 1), and 0 for 0
 abbrev pub moment_at : ℕ → List Event → ℕ
 moment_at i events = slice_index_or (0 ∷ map (λ (event : Event). event.at) events) i 0
 
--- the moment (ns) of a processor's change with a number from 1, and 0 for 0
+-- the time (ns) of a processor's change with this number (from 1), and 0 for 0
 abbrev pub moment_after : Trace → ℕ → ℕ → ℕ
 moment_after trace cpu count = moment_at (event_of_change cpu trace.events count) trace.events
 
--- the times (ns) of a sample: those of its slot after its number of changes, at the moment of the
+-- the times (ns) of a sample: those of its slot after its number of changes, at the time of the
 -- last of them
 abbrev pub times_of : Trace → Look → List ℕ
 times_of trace look = times_after look.cpu look.slot trace.events look.count (moment_after trace look.cpu look.count)
 
--- the line of a sample: its observer, processor, number of changes, moment (ns) and times (ns)
+-- the line of a sample: its observer, processor, number of changes, time (ns) and times in the
+-- states (ns)
 abbrev pub sample_line : Trace → Look → List ℕ
 sample_line trace look =
     line_of (codes "sample" ∷ labelled (codes "observer=") look.observer ∷ labelled (codes "cpu=") look.cpu
     ∷ labelled (codes "count=") look.count ∷ labelled (codes "at=") (moment_after trace look.cpu look.count)
     ∷ map decimal (times_of trace look))
 
--- the line of an observer's last look at the board: the last tick, the signals up to it, and no
--- kill
+-- the line of an observer's last read of the board: the last tick, the signals up to it, and 0
+-- kills
 abbrev pub board_line : Trace → Pace → ℕ → List ℕ
 board_line trace pace observer =
     line_of (codes "board" ∷ labelled (codes "observer=") observer ∷ labelled (codes "tick=") (tick_count trace pace)
     ∷ labelled (codes "events=") (signals_until trace pace (tick_count trace pace)) ∷ labelled (codes "kills=") 0 ∷ [])
 
--- the last line: the end moment (ns), and how many samples there were
+-- the last line: the end time (ns), and the number of samples
 abbrev pub observed_last_line : Trace → List Look → List ℕ
 observed_last_line trace looks =
     line_of (codes "end" ∷ decimal (end_of trace.events) ∷ labelled (codes "samples=") (length looks) ∷ [])
 
--- the text of samples that so many observers took
+-- the text of samples that n observers took
 unfoldable pub observed_text : Trace → Pace → ℕ → List Look → List ℕ
 observed_text trace pace observers looks =
     flat_map (sample_line trace) looks ++ flat_map (board_line trace pace) (range_with_len 0 observers) ++ observed_last_line trace looks
 
--- A text is one that so many observers of the group with a path may print: of samples that they may
--- have taken.
+-- A text is valid output of n observers of the group with a path: it has samples that they may have
+-- taken.
 abbrev pub IsObservedText : Trace → Pace → List ℕ → ℕ → List ℕ → Type 0
 IsObservedText trace pace path observers text =
     (looks : List Look) × AreObserved trace pace path observers looks × (text ≡ observed_text trace pace observers looks)

@@ -1,5 +1,5 @@
--- What a run of psi_observe promises: what each status says of the trace and of the output, and
--- which counts of failures rose.
+-- What a run of psi_observe promises: what each status means for the trace and the output, and
+-- which counts of failures increase.
 use Rattle.std.specs.Prelude.{◌≡◌, ℕ, ◌+◌, ◌-◌, ◌*◌, ◌<◌, ◌≤◌, List, Option, None, Some, Ok, Err, ⊤}
 use Rattle.std.specs.Io.KnownBytes.{Appends, Keeps}
 use Rattle.outside.specs.Outside.{AppendsFront, Files, Lacks, told}
@@ -19,7 +19,7 @@ use Rattle.observe_spec.specs.Words.{Request}
 
 -- ---- how a trace is replayed
 
--- the options of `replay` where none is given, but that a path may be watched
+-- the options of `replay` at their defaults, except that a path may be watched
 abbrev pub options_on : Option (List ℕ) → Options
 options_on path = record {
   rules = None;
@@ -32,20 +32,20 @@ options_on path = record {
   live_count = 1;
 }
 
--- the pace of a replay beside observers of a path
+-- the timing of a replay with observers of a path
 abbrev pub pace_on : List ℕ → Pace
 pace_on path = pace_of (options_on (Some path))
 
--- the length of its ticks (ns), and so the latest moment of a trace, which is a million ticks
+-- the length of its ticks (ns); the latest time of a trace is a million ticks
 abbrev pub observed_tick_length : ℕ
 observed_tick_length = 2000000000
 
--- what is accepted of a trace: one of any version, at the length of these ticks
+-- what is accepted as a trace: any version, at the length of these ticks
 abbrev pub accepts : Accepts
 accepts = accepts_with versions observed_tick_length
 
--- A trace is taken as it is asked for: its verbs are those of its version, its events make up a
--- trace, and it is the one that the bytes of the file are, where these are told.
+-- A trace is valid for the request: its verbs are those of its version, and its events are a legal
+-- trace. If the bytes of the file are known, it is the trace that they spell.
 pub record TakesAskedTrace (request : Request) (files : Option Files) (trace : Trace) : Type 0 where
   pub cpus : IsCpuCount trace.cpus
   pub known : AreKnown (verbs_of trace.version) trace.events
@@ -58,27 +58,27 @@ pub record TakesAskedTrace (request : Request) (files : Option Files) (trace : T
 abbrev pub most_samples : ℕ
 most_samples = 1000000
 
--- how many samples there are at most: one at each tick, of each observer, on each processor
+-- the largest possible number of samples: one at each tick, for each observer and each processor
 abbrev pub samples_asked : Request → Trace → ℕ
 samples_asked request trace = tick_count trace (pace_on request.path) * request.observers * trace.cpus
 
 -- ---- statuses
 
--- the trace's file isn't told to be missing
+-- the trace's file isn't known to be missing
 abbrev pub IsTraceThere : Request → Option Files → Type 0
 IsTraceThere request files = Lacks files request.trace → ⊥
 
--- The whole output has some property: it is of samples that the observers may have taken of an
--- accepted trace, which aren't too many. The file isn't missing.
+-- The whole output has a property: its samples are some that the observers may have taken of an
+-- accepted trace, and they aren't too many. The file isn't missing.
 abbrev pub HasObservedOutput : Request → Option Files → (List ℕ → Type 0) → Type 0
 HasObservedOutput request files IsSo =
     (trace : Trace) × TakesAskedTrace request files trace × IsTraceThere request files × (samples_asked request trace ≤ most_samples)
     × ((text : List ℕ) × IsObservedText trace (pace_on request.path) request.path request.observers text × IsSo text)
 
--- What a status says of what was asked for, where the shelf may tell files, and of what the sink
--- held before and holds now: the whole output or a front of it; the first refused line of the
--- trace; that its samples would be too many, and how many; or that the file isn't there. Where it
--- isn't Done or WriteFault, the sink is as it was.
+-- What a status says about a request, with the files of the shelf if known, and with the sink's
+-- bytes before and after: the whole output or a prefix of it; the first rejected line of the trace;
+-- that there would be too many samples, and how many; or that the file is missing. Unless the
+-- status is Done or WriteFault, the sink is unchanged.
 abbrev pub ObservingEnds : Request → Option Files → Option (List ℕ) → Option (List ℕ) → ObserveStatus → Type 0
 ObservingEnds request files old new status.Done = HasObservedOutput request files (λ text. Appends old new text)
 ObservingEnds request files old new status.WriteFault = HasObservedOutput request files (λ text. AppendsFront old new text)
@@ -93,14 +93,14 @@ ObservingEnds request files old new status.ReadFault = Keeps old new
 ObservingEnds request files old new (status.NoMemory _) = Keeps old new
 ObservingEnds request files old new status.Usage = ⊥
 
--- Each count rose exactly where the status tells of its failure: so no failure is passed over in
--- silence.
+-- Each count increased exactly if the status reports its failure: so no failure is silently
+-- ignored.
 pub record ObserverFailuresAreCounted (before now : RunCounts) (result : ObserveStatus) : Type 0 where
   pub faults : RisesWhere (result ≡ status.ReadFault) before.shelf.faults now.shelf.faults
   pub absent : RisesWhere (result ≡ status.NoFile) before.shelf.absent now.shelf.absent
   pub writes : RisesWhere (result ≡ status.WriteFault) before.writes now.writes
 
--- A run of what was asked for: what its status says, and the counts.
+-- A run of a request: what its status says, and the counts.
 pub record Observes (request : Request) (files : Option Files) (before now : RunCounts) (old new : Option (List ℕ))
     (result : ObserveStatus) : Type 0 where
   pub ends : ObservingEnds request files old new result
@@ -108,10 +108,10 @@ pub record Observes (request : Request) (files : Option Files) (before now : Run
 
 -- ---- where reading stops
 
--- Reading the trace stops at its first refused line, if these are the numbers of bytes that were
--- given before a run and up to its end. Where it ends with that line, no more was read than what is
--- held behind the lines before it. Where it ends with a failed read, that line wasn't whole in what
--- was read.
+-- Reading the trace stops at its first rejected line, if these are the numbers of bytes read before
+-- a run and up to its end. If the run ends with that line, only the lines before it and the
+-- buffered bytes were read. If it ends with a failed read, that line was incomplete in what was
+-- read.
 abbrev pub StopsObserving : Request → Option Files → ℕ → ℕ → ObserveStatus → Type 0
 StopsObserving request files given given_now (status.Trace line why) = given_now ≤ given + most_until line
 StopsObserving request files given given_now status.ReadFault =

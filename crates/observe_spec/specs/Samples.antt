@@ -16,7 +16,7 @@ pub record Look : Type 0 where
   pub slot : ℕ
   pub count : ℕ
 
--- the sample is an observer's, of a processor
+-- the sample is from this observer, of this processor
 abbrev pub is_of : ℕ → ℕ → Look → Bool
 is_of observer cpu look = look.observer == observer && look.cpu == cpu
 
@@ -24,34 +24,34 @@ is_of observer cpu look = look.observer == observer && look.cpu == cpu
 abbrev pub looks_by : ℕ → List Look → List Look
 looks_by observer looks = filter (λ (look : Look). look.observer == observer) looks
 
--- after how many changes an observer's samples of a processor are
+-- the numbers of changes of an observer's samples of a processor
 abbrev pub counts_by : ℕ → ℕ → List Look → List ℕ
 counts_by observer cpu looks = map (λ (look : Look). look.count) (filter (is_of observer cpu) looks)
 
 -- ---- when they are due
 
--- a sample that is due of each observer: its processor, its slot, and after how many changes it is
--- at least
+-- a sample that is due for each observer: its processor, its slot, and a lower bound on its number
+-- of changes
 pub record Due : Type 0 where
   pub cpu : ℕ
   pub slot : ℕ
   pub least : ℕ
 
--- The samples of the interval that ends with a tick (ns its length), where the path has this slot
--- then: one on each processor, no earlier than after the changes up to the tick before.
+-- The samples of the interval that ends with a tick (ns its length), if the path has this slot
+-- then: one on each processor, after at least the changes up to the previous tick.
 abbrev pub due_at : Trace → ℕ → ℕ → Option ℕ → List Due
 due_at trace tick i None = []
 due_at trace tick i (Some slot) =
     map (λ cpu. record { cpu = cpu; slot = slot; least = changes_until trace tick cpu (i - 1) }) (range_with_len 0 trace.cpus)
 
--- all samples that are due of each observer: those of a tick at which the path is live, tick by
--- tick
+-- all samples that are due for each observer: those of the ticks at which the path is live, in
+-- order
 abbrev pub all_due : Trace → Pace → List ℕ → List Due
 all_due trace pace path =
     flat_map (λ i. due_at trace pace.length i (live_slot_at trace.events path (tick_moment pace.length i)))
     (range_with_len 1 (tick_count trace pace))
 
--- these samples are those that were due, in their order
+-- these samples are those that were due, in order
 abbrev pub AreDone : List Due → List Look → Type 0
 AreDone [] [] = Unit {0}
 AreDone [] (look ∷ looks) = ⊥
@@ -59,10 +59,10 @@ AreDone (due ∷ dues) [] = ⊥
 AreDone (due ∷ dues) (look ∷ looks) =
     (look.cpu ≡ due.cpu) × (look.slot ≡ due.slot) × (due.least ≤ look.count) × AreDone dues looks
 
--- Samples that so many observers may have taken. Each took those that were due of it, in their
--- order, and there are no others. The counts of an observer's samples of a processor never fall,
--- and are at most the processor's changes. In which order samples of different observers stand, and
--- after which changes they are, is open.
+-- Samples that n observers may have taken. Each took those that were due for it, in order, and
+-- there are no others. The counts of an observer's samples of a processor never fall, and are at
+-- most the number of the processor's changes. The order of different observers' samples and the
+-- exact counts are left open.
 pub record AreObserved (trace : Trace) (pace : Pace) (path : List ℕ) (observers : ℕ) (looks : List Look) : Type 0 where
   pub done : (observer : ℕ) → observer < observers → AreDone (all_due trace pace path) (looks_by observer looks)
   pub none : (observer : ℕ) → observers ≤ observer → looks_by observer looks ≡ []

@@ -1,4 +1,4 @@
--- The codes of statuses, and the text that tells of each.
+-- The exit codes of statuses, and the text that reports each status.
 use Rattle.std.specs.Prelude.{ℕ, List, [], ◌++◌, codes, Option, None, Some}
 use Rattle.run_spec.specs.Status.{refusal_text}
 use Rattle.observe_spec.specs.declared.status.ObserveStatus.{ObserveStatus}
@@ -16,12 +16,12 @@ code_of status.WriteFault = 6
 code_of (status.NoMemory _) = 7
 code_of (status.TooManySamples samples) = 8
 
--- the name of the trace's file, where words ask for one
+-- the name of the trace's file, if the words are a request
 abbrev pub trace_text : Option Request → List ℕ
 trace_text None = []
 trace_text (Some request) = request.trace
 
--- the line that tells of a status, with its newline; of Done nothing is told
+-- the line that reports a status, with its newline; nothing for Done
 abbrev pub observe_status_text : Option Request → ObserveStatus → List ℕ
 observe_status_text request status.Done = []
 observe_status_text request status.Usage = codes "usage: psi_observe TRACE OBSERVERS PATH\n"

@@ -1,10 +1,10 @@
--- What the words of psi_observe ask for.
+-- The request that the words of psi_observe spell.
 use Rattle.std.specs.Prelude.{ℕ, List, [], ◌∷◌, ◌&&◌, not, Bool, if◌then◌else◌, Option, None, Some}
 use Rattle.psi_base.specs.Path.{is_path}
 use Rattle.run_spec.specs.Words.{is_dashed, is_name, number_within}
 
--- What is asked for: the name of the trace's file, how many observers there are, and the path of
--- the group that they observe.
+-- A request: the name of the trace's file, the number of observers, and the path of the group that
+-- they observe.
 pub record Request : Type 0 where
   pub trace : List ℕ
   pub observers : ℕ
@@ -15,14 +15,14 @@ pub record Request : Type 0 where
 abbrev pub is_trace_name : List ℕ → Bool
 is_trace_name name = is_name name && not (is_dashed name)
 
--- what is asked for by a name and a path, where the number of observers was read
+-- the request with a name and a path, if the number of observers was read
 abbrev pub request_by : List ℕ → List ℕ → Option ℕ → Option Request
 request_by trace path None = None
 request_by trace path (Some observers) =
     if is_trace_name trace && is_path path then Some (record { trace = trace; observers = observers; path = path }) else None
 
--- What words ask for: they are exactly three, the name of a trace, a number from 1 to 8, and a
--- path.
+-- The request that words spell: exactly three words, the name of a trace, a number from 1 to 8, and
+-- a path.
 unfoldable pub request_of : List (List ℕ) → Option Request
 request_of (trace ∷ observers ∷ path ∷ []) = request_by trace path (number_within 1 8 observers)
 request_of words = None

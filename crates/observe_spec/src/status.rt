@@ -11,15 +11,15 @@ pub enum ObserveStatus {
     Done,
     /// The words aren't a name, a number and a path.
     Usage,
-    /// The trace is refused at this line, counted from 1, for this cause.
+    /// The trace is rejected at this line (from 1), for this cause.
     Trace { line: u32, cause: Cause },
-    /// There is no file of this name.
+    /// There is no file with this name.
     NoFile,
     /// A read failed.
     ReadFault,
-    /// A write failed, after a front of the output.
+    /// A write failed, after a prefix of the output.
     WriteFault,
-    /// There was no memory.
+    /// Out of memory.
     NoMemory(NoMemory),
     /// There would be more than 1,000,000 samples: this many, if the group were live at each tick.
     TooManySamples { samples: u64 },
