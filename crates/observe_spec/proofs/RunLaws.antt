@@ -1,4 +1,4 @@
--- Laws of a run: it takes a trace as `replay` does, and tells of a missing one.
+-- Laws of a run: it accepts the same traces as `replay`, and reports a missing trace.
 use Rattle.std.proofs.Common.{◌≡◌, ◌⊎◌, inl, inr, ℕ, Bool, true, false, true≢false, List, [], ◌∷◌, refl, sym, ◌∙◌, Option, None, Some}
 use Rattle.std.specs.Prelude.{codes, ◌==◌, ◌&&◌, not}
 use Rattle.psi_base.specs.Memory.{no_memory}

@@ -7,7 +7,7 @@ use Rattle.std.proofs.Math.ListN.{drop_of_length-le}
 use Rattle.std.specs.Prelude.{Result, Ok, Err, IfOk}
 use Rattle.outside.specs.Outside.{ReadsBytes}
 
--- a read into the end of a buffer, which begins behind the bytes that are held
+-- a read into the end of a buffer, after its held bytes
 reads_behind : (bytes : List ℕ) (at held n : ℕ) (buffer into : List ℕ) → held ≤ length buffer
     → ReadsBytes bytes at n (take (length buffer - held) (drop held buffer)) into → ReadsBytes bytes at n (drop held buffer) (drop held (put_mid held (length buffer - held) buffer into))
 reads_behind bytes at held n buffer into inside reads =

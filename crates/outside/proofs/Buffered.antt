@@ -1,4 +1,4 @@
--- What stands below a buffered sink, from what it has.
+-- The inner sink of a buffered sink, from the buffered sink's content.
 use Rattle.std.proofs.Common.{◌≡◌, ℕ, ◌+◌, ◌-◌, ◌≤◌, List, [], ◌++◌, length, take, sym, ap, ◌∙◌, arith, append-nil, length-append, length-take}
 use Rattle.std.specs.Prelude.{Option, None, Some, Result, Ok, Err, OnOk}
 use Rattle.std.specs.Io.KnownBytes.{Appends, Keeps, append_known}
@@ -7,7 +7,7 @@ use Rattle.std.proofs.Math.Seq.{take-append_seam, take-append-add, take-length}
 use Rattle.outside.specs.Outside.{AppendsFront, known_count}
 use Rattle.outside.specs.Calls.{PutsAll}
 
--- of bytes that grew by a front of a text, the first grew by a front of it too, as far as they
+-- if bytes grew by a prefix of a text, the first of them grew by a prefix of it too, as far as they
 -- reach
 front_below : (had below pending text : List ℕ) (n : ℕ) → length had ≤ length below → below ++ pending ≡ had ++ take n text → below ≡ had ++ take (length below - length had) text
 front_below had below pending text n more same =
@@ -18,7 +18,7 @@ front_below had below pending text n more same =
     let first : below ≡ take (length had + k) (had ++ take n text) = rw reaches (sym (take-append_seam below pending) ∙ ap (take (length below)) same) in
     first ∙ take-append-add had (take n text) k ∙ ap (λ xs. had ++ xs) (take-take k n text short)
 
--- a writer over a buffered sink failed: below stands a front of what it was to put
+-- a writer to a buffered sink failed: the inner sink has a prefix of its text
 pub put_failed : (had below : Option (List ℕ)) (pending text : List ℕ) → AppendsFront (append_known had []) (append_known below pending) text → known_count had ≤ known_count below → AppendsFront had below text
 put_failed None below pending text front more = tt
 put_failed (Some had) None pending text front more = absurd front
@@ -35,7 +35,7 @@ flushed (Some had) (Some mid) None pending left text put kept sent = absurd kept
 flushed (Some had) (Some mid) (Some below) pending left text put kept sent =
     sym (append-nil below) ∙ ap (λ xs. below ++ xs) (sym sent) ∙ kept ∙ put ∙ ap (λ xs. xs ++ text) (append-nil had)
 
--- a part of what a writer put wasn't sent on: below stands a front of it
+-- a part of a writer's bytes wasn't forwarded: the inner sink has a prefix of them
 pub flush_failed : (had mid below : Option (List ℕ)) (pending left text : List ℕ) → Appends (append_known had []) (append_known mid pending) text → Keeps (append_known mid pending) (append_known below left)
     → known_count had ≤ known_count below → AppendsFront had below text
 flush_failed None mid below pending left text put kept more = tt
@@ -45,7 +45,7 @@ flush_failed (Some had) (Some mid) (Some below) pending left text put kept more 
     let grew : below ++ left ≡ had ++ take (length text) text = kept ∙ put ∙ ap (λ xs. xs ++ text) (append-nil had) ∙ ap (λ xs. had ++ xs) (sym (take-length text)) in
     front_below had below left text (length text) more grew
 
--- what a flush behind a writer that put all leaves below
+-- the inner sink after a writer that put everything, and a flush
 pub puts_flushed : {T E : Type 0} → (had mid below : Option (List ℕ)) (pending left text : List ℕ) (result : Result T E) → Appends (append_known had []) (append_known mid pending) text
     → Keeps (append_known mid pending) (append_known below left) → OnOk result (left ≡ []) → known_count had ≤ known_count below → PutsAll had below result text
 puts_flushed had mid below pending left text (Ok done) put kept sent more = flushed had mid below pending left text put kept sent

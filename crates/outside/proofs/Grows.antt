@@ -28,19 +28,19 @@ pub Appends-more : (old mid new : Option (List ℕ)) (bytes piece : List ℕ) (a
 Appends-more old mid new bytes piece at n a same b =
     rw (take-add at n bytes) (Appends-then old mid new (take at bytes) (take n (drop at bytes)) a (rw same at b))
 
--- what stands behind the first bytes, where these grew by a front of all
+-- the rest after the first bytes, if these grew by a prefix of all
 front_of : (had front rest has : List ℕ) → has ≡ had ++ front → has ≡ had ++ take (length has - length had) (front ++ rest)
 front_of had front rest has same =
     let long : length has - length had ≡ length front = omega (arith, length-append had front, ap length same) in
     rw long (rw take-append_seam same)
 
--- known bytes that grew by what stands at the front of these grew by a front of these
+-- known bytes that grew by a prefix of these bytes
 pub AppendsFront-of : (old new : Option (List ℕ)) (front rest whole : List ℕ) → Appends old new front → whole ≡ front ++ rest → AppendsFront old new whole
 AppendsFront-of None new front rest whole a same = tt
 AppendsFront-of (Some had) None front rest whole a same = absurd a
 AppendsFront-of (Some had) (Some has) front rest whole a same = rw same (front_of had front rest has a)
 
--- a front of what follows the first bytes is a front of all
+-- a prefix of the rest after the first bytes makes a prefix of all
 pub front_after : (had xs ys rest has : List ℕ) → has ≡ (had ++ xs) ++ take (length has - length (had ++ xs)) ys → has ≡ had ++ take (length has - length had) ((xs ++ ys) ++ rest)
 front_after had xs ys rest has grew =
     let n = length has - length (had ++ xs) in
@@ -48,7 +48,7 @@ front_after had xs ys rest has grew =
     ap (λ zs. (xs ++ zs) ++ rest) (sym (take-append-drop n ys)) ∙ simp append_assoc in
     rw split (front_of had (xs ++ take n ys) (drop n ys ++ rest) has (grew ∙ append_assoc had xs (take n ys)))
 
--- what was sent first, and then a front of what follows, is a front of all
+-- the part that was sent first, followed by a prefix of the rest, is a prefix of all
 pub AppendsFront-then : (old mid new : Option (List ℕ)) (xs ys rest : List ℕ) → Appends old mid xs → AppendsFront mid new ys → AppendsFront old new (xs ++ (ys ++ rest))
 AppendsFront-then None mid new xs ys rest a front = tt
 AppendsFront-then (Some had) None new xs ys rest a front = absurd a
@@ -57,7 +57,7 @@ AppendsFront-then (Some had) (Some mid) (Some has) xs ys rest a front =
     let moved : has ≡ (had ++ xs) ++ take (length has - length (had ++ xs)) ys = rw a at front in
     rw (sym (append_assoc xs ys rest)) (front_after had xs ys rest has moved)
 
--- a front of the first bytes is a front of all
+-- a prefix of the first bytes is a prefix of all
 pub front_first : (had ys rest has : List ℕ) → has ≡ had ++ take (length has - length had) ys → has ≡ had ++ take (length has - length had) (ys ++ rest)
 front_first had ys rest has grew =
     let n = length has - length had in
@@ -65,12 +65,12 @@ front_first had ys rest has grew =
     ap (λ zs. zs ++ rest) (sym (take-append-drop n ys)) ∙ simp append_assoc in
     rw split (front_of had (take n ys) (drop n ys ++ rest) has grew)
 
--- a front of the last bytes, behind those before them, is a front of all
+-- the first bytes followed by a prefix of the last bytes are a prefix of all
 pub front_last : (had xs ys has : List ℕ) → has ≡ (had ++ xs) ++ take (length has - length (had ++ xs)) ys → has ≡ had ++ take (length has - length had) (xs ++ ys)
 front_last had xs ys has grew =
     rw (sym (append-nil (xs ++ ys))) (front_after had xs ys [] has grew)
 
--- what was sent first, and then a front of the rest, is a front of all
+-- the part that was sent first, followed by a prefix of the remaining bytes, is a prefix of all
 pub AppendsFront-last : (old mid new : Option (List ℕ)) (xs ys : List ℕ) → Appends old mid xs → AppendsFront mid new ys → AppendsFront old new (xs ++ ys)
 AppendsFront-last old mid new xs ys a front =
     let all : AppendsFront old new (xs ++ (ys ++ [])) = AppendsFront-then old mid new xs ys [] a front in
@@ -81,7 +81,7 @@ pub PutsAll-failed : {T E : Type 0} → (old new : Option (List ℕ)) (result : 
 PutsAll-failed old new (Ok value) bytes failed front = cc
 PutsAll-failed old new (Err fault) bytes failed front = front
 
--- the pieces before one, that piece, and those behind it
+-- the pieces before one, that piece, and the pieces after it
 pub flat_map-at : {X : Type 0} → (f : X → List ℕ) (xs : List X) (i : ℕ) (d : X) → i < length xs → flat_map f xs ≡ flat_map f (take i xs) ++ (f (get_or xs i d) ++ flat_map f (drop (i + 1) xs))
 flat_map-at f xs i d inside =
     ap (flat_map f) (sym (take-append-drop i xs)) ∙ flat_map-append f (take i xs) (drop i xs) ∙ ap (λ ys. flat_map f (take i xs) ++ flat_map f ys) (drop_more xs i d inside)

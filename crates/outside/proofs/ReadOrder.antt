@@ -33,7 +33,7 @@ reads_then name from middle to before between now first then = record {
   in_order = calls_then name from middle to first.calls then.calls first.in_order then.in_order;
 }
 
--- a read that returned bytes goes on behind them
+-- after a read that returned bytes, the next read begins after them
 pub goes_on : (at n : ℕ) → 0 < n → after_read at (Ok n) ≡ Next (at + n)
 goes_on at zero some = absurd (omega (arith, some))
 goes_on at (suc n) some = refl
@@ -54,13 +54,13 @@ pub file_then : (name : List ℕ) (at place : ℕ) (before between now : List Re
 file_then name at place before between now fault first then =
     record { progress = then.progress; reads = reads_then name (Next at) (Next place) then.progress before between now first then.reads; ended = then.ended }
 
--- a file's reads end with one that returned no byte
+-- a file's reads end with a read that returned no byte
 pub file_ends : (name : List ℕ) (at place : ℕ) (before between now : List ReadCall) (n : ℕ) → ReadsFrom name (Next at) before between (Next place) → ReadsFrom name (Next place) between now (after_read place (Ok n)) → n ≡ 0
     → ReadsFile name at before now None
 file_ends name at place before between now zero first then none = file_read name at before now (Over None) (reads_then name (Next at) (Next place) (Over None) before between now first then)
 file_ends name at place before between now (suc n) first then none = absurd (omega (arith, none))
 
--- or with one that had a fault
+-- or with a read that had a fault
 pub file_fails : (name : List ℕ) (at place : ℕ) (before between now : List ReadCall) (fault : ShelfFault) → ReadsFrom name (Next at) before between (Next place)
     → ReadsFrom name (Next place) between now (after_read place (Err fault)) → ReadsFile name at before now (Some fault)
 file_fails name at place before between now fault first then = file_read name at before now (Over (Some fault)) (reads_then name (Next at) (Next place) (Over (Some fault)) before between now first then)

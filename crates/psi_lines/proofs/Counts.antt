@@ -66,8 +66,8 @@ lines_stay bytes old new (Err NoFile) next number = rw (number, next) refl
 lines_stay bytes old new (Err ReadFault) next number = rw (number, next.0) refl
 lines_stay bytes old new (Err (NoMemory none)) next number = rw (number, next) refl
 
--- where no whole line is held, the line with the reader's number is the last of those that were
--- read, and isn't whole
+-- if no complete line is buffered, the line with the reader's number is the last that was read, and
+-- is incomplete
 pub lines_read : (bytes : List ℕ) (reader : Reader) → reader.number + line_count (left reader bytes) ≡ 1 + line_count bytes → HasNoNewline reader.held (length reader.held) → line_count (take reader.at bytes) ≡ reader.number
 lines_read bytes reader stay none =
     let seam = count-append reader.held (drop reader.at bytes) in

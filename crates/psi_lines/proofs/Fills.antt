@@ -9,12 +9,12 @@ use Rattle.std.proofs.Math.Seq.{take-add}
 use Rattle.outside.specs.Outside.{ReadsBytes}
 use Rattle.psi_lines.specs.Next.{FillsBytes}
 
--- bytes that were read at a place stand before those behind it
+-- bytes that were read at a place come before the rest
 read_on : (old chunk bytes : List ℕ) (at n : ℕ) → take n chunk ≡ take n (drop at bytes) → (old ++ take n chunk) ++ drop (at + n) bytes ≡ old ++ drop at bytes
 read_on old chunk bytes at n same =
     append_assoc old (take n chunk) (drop (at + n) bytes) ∙ ap (λ xs. old ++ xs) (ap (λ xs. xs ++ drop (at + n) bytes) same ∙ ap (λ xs. take n (drop at bytes) ++ xs) (sym (drop-drop n at bytes)) ∙ take-append-drop n (drop at bytes))
 
--- a buffer that holds these bytes at its front, and behind them those that were read
+-- a buffer that begins with these bytes, followed by those that were read
 pub fills : (bytes : List ℕ) (at held n : ℕ) (old new before buffer : List ℕ) → new ≡ take (held + n) buffer → take held buffer ≡ old → held < length buffer
     → ReadsBytes bytes at n before (drop held buffer) → FillsBytes bytes at old new n
 fills bytes at held n old new before buffer grew front room reads =
@@ -30,18 +30,18 @@ takes buffer start end count inside =
     let same : start + count - start ≡ count = omega arith in
     rw same (sym (take-take count (end - start) (drop start buffer) (omega arith)))
 
--- what a buffer holds behind the bytes that were handed out
+-- the buffered bytes after those that were returned
 pub skips : (buffer : List ℕ) (start end count : ℕ) → start + count ≤ end → take (end - (start + count)) (drop (start + count) buffer) ≡ drop count (take (end - start) (drop start buffer))
 skips buffer start end count inside =
     let more : end - start ≡ count + (end - (start + count)) = omega arith in
     rw more (rw drop-take (rw drop-drop refl))
 
--- where bytes are held, something is left
+-- if bytes are buffered, something remains
 pub some_left : (held rest : List ℕ) → 0 < length held → held ++ rest ≡ [] → ⊥
 some_left [] rest some none = absurd (omega arith)
 some_left (byte ∷ held) rest some none = cc
 
--- a line that was found at the front of what is held is the first of what is left
+-- a line found at the start of the buffered bytes is the first of the rest
 pub line_begins : (held rest whole line after : List ℕ) (count : ℕ) → count < length held → count ≤ 512 → slice_index held count ≡ 10 → HasNoNewline held count → held ++ rest ≡ whole
     → line ≡ take count held → after ≡ drop (count + 1) held → BeginsWithLine whole line (after ++ rest)
 line_begins held rest whole line after count inside short newline none same is goes =

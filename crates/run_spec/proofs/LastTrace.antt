@@ -1,4 +1,4 @@
--- Rounds that take kills out of a trace, one after another.
+-- Rounds that remove kills from a trace, in order.
 use Rattle.std.proofs.Common.{◌≡◌, ◌⊎◌, inl, inr, ℕ, zero, suc, ◌<◌, ◌≤◌, List, length, nat_lt, refl, ap, ◌∙◌, subst, arith, None, Some, Bool, true, false, if◌then◌else◌, get_or}
 use Rattle.std.specs.Prelude.{Result, Ok, Err, slice_get}
 use Rattle.std.proofs.lemmas.Option.{slice_get_cases, slice_get_past}
@@ -19,7 +19,7 @@ past_if xs i is (inr past) = past.0
 past_none : {A : Type 0} (xs : List A) (i : ℕ) → slice_get xs i ≡ None → length xs ≤ i
 past_none xs i is = past_if xs i is (slice_get_cases xs i).1
 
--- where there is none with a number, there is none with a greater one
+-- if there is no element at a place, there is none at a later place
 none_behind : {A : Type 0} (xs : List A) (i j : ℕ) → i ≤ j → slice_get xs i ≡ None → slice_get xs j ≡ None
 none_behind xs i j low is = slice_get_past xs j (omega (arith, past_none xs i is, low))
 
@@ -31,7 +31,7 @@ within_bounds trace few =
     let not : nat_lt most_events (length trace.events) ≡ false = grind (arith, nat_tests) in
     rw not refl
 
--- and one that is too large tells of its events
+-- and a trace that is too large gives the number of its events
 pub beyond_bounds : (trace : Trace) → most_events < length trace.events → bounded_trace trace ≡ Err (length trace.events)
 beyond_bounds trace many =
     let is : nat_lt most_events (length trace.events) ≡ true = grind (arith, nat_tests) in
@@ -43,13 +43,13 @@ pub one_round : (trace left : Trace) (pace : Pace) (rules : List Rule) (count : 
 unfolding after_rounds
 one_round trace left pace rules count is = ap (then_round pace rules count) is
 
--- behind one that left too much
+-- after a round that left too much
 no_round : (trace : Trace) (pace : Pace) (rules : List Rule) (count events : ℕ) → after_rounds trace pace rules count ≡ Err events
     → after_rounds trace pace rules (suc count) ≡ Err events
 unfolding after_rounds
 no_round trace pace rules count events is = ap (then_round pace rules count) is
 
--- a number is at most another, or at most the one before it
+-- a number is at most another, or at most its predecessor
 or_before : (i n : ℕ) → i ≤ suc n → (i ≡ suc n) ⊎ (i ≤ n)
 or_before i n low = elim (nat_lt n i) as (λ b. nat_lt n i ≡ b → (i ≡ suc n) ⊎ (i ≤ n)) [
   | true ↦ λ is. inl (grind (arith, nat_tests))

@@ -1,4 +1,4 @@
--- What is left to a run where a file of its command is told to be missing.
+-- The possible statuses of a run if a file of its command is known to be missing.
 use Rattle.std.proofs.Common.{◌≡◌, ◌⊎◌, inl, inr, ℕ, List, refl, sym, ap, ◌∙◌, Option, true≢false, Some}
 use Rattle.std.specs.Prelude.{IsSome, is_some}
 use Rattle.psi_base.specs.Memory.{no_memory}
@@ -61,7 +61,7 @@ from_trace (words.Import file cpus) reads = absurd (true≢false (sym reads))
 from_trace (words.Rules file drop_in) reads = absurd (true≢false (sym reads))
 from_trace (words.Whatif trace options) reads = refl
 
--- and one that imports a text of ftrace from that
+-- and a command that imports an ftrace text reads its trace from that
 pub from_import : (command : Command) → IsSome (file_of command ImportFile) → source_of command ≡ ImportFile
 from_import (words.Stall trace) reads = absurd (true≢false (sym reads))
 from_import (words.Check trace tick_ms) reads = absurd (true≢false (sym reads))

@@ -75,7 +75,7 @@ rules_ranges (Some name) rules is =
           (true≢false (sym both.1 ∙ ap not ((bytes_eq-Decides name (codes "-")).1 dash))),
     )
 
--- a drop-in file has such a name, and stands over rules
+-- a drop-in file has such a name, and comes with a rules file
 drop_in_ranges : (rules given : Option (List ℕ)) (drop_in : Option (List ℕ)) → drop_in_given rules given ≡ Some drop_in
     → IsOptionName drop_in × (rules ≡ None → drop_in ≡ None)
 drop_in_ranges rules None drop_in is =

@@ -33,7 +33,7 @@ pub or_false : (a b : Bool) → a || b ≡ false → (a ≡ false) × (b ≡ fal
 or_false false b is = (refl, is)
 or_false true b is = absurd (true≢false is)
 
--- the first `=` stands behind a text that has none
+-- the first `=` comes after a text that has none
 first_equals : (name value : List ℕ) → HasNoEquals name
     → position_or_len is_equals (name ++ 61 ∷ value) ≡ length name
 first_equals [] value none = refl
@@ -102,7 +102,7 @@ pub record SaysSame (one other : Given) : Type 0 where
   pub values : (name : List ℕ) → value_given name one ≡ value_given name other
   pub positional : one.positional ≡ other.positional
 
--- both are refused, or say the same
+-- both are rejected, or have the same content
 abbrev pub Same : Option Given → Option Given → Type 0
 Same None None = ⊤
 Same None (Some other) = ⊥
@@ -200,7 +200,7 @@ swapped name value other another differ (Some given) =
 
 -- ---- two options in either order
 
--- two words are too many where none is an option
+-- two words are too many if neither is an option
 two_positionals : (one other : List ℕ) (r : Option Given)
     → (r >>= with_positional other) >>= with_positional one ≡ None
 two_positionals one other None = refl
@@ -239,7 +239,7 @@ options_either names after name value other another false true differ is is_othe
 options_either names after name value other another false false differ is is_other =
     rw (is, is_other) tt
 
--- behind a word, what says the same goes on so
+-- a word before two lists with the same content doesn't make them differ
 word_either : (names : List (List ℕ)) (word : List ℕ) (one other : List (List ℕ))
     → SameFrom names one other → SameFrom names (word ∷ one) (word ∷ other)
 word_either names word one other same (at_value name) = go (is_dashed word)

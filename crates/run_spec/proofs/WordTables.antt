@@ -99,7 +99,7 @@ same_read read None (Some other) respects same = absurd same
 same_read read (Some one) None respects same = absurd same
 same_read read (Some one) (Some other) respects same = respects one other same
 
--- what is behind the command's word decides by what it says
+-- the content of the words after the command's word determines the command
 same_command : (first : List ℕ) (one other : List (List ℕ))
     → ((names : List (List ℕ)) → Same (said names at_word one) (said names at_word other))
     → command_of (first ∷ one) ≡ command_of (first ∷ other)
@@ -164,7 +164,7 @@ record IsEqual (names one other : List (List ℕ)) : Type 0 where
   word : said names at_word one ≡ said names at_word other
   value : (name : List ℕ) → said names (at_value name) one ≡ said names (at_value name) other
 
--- behind a word that isn't `--`, what says the same goes on so
+-- a word other than `--` before two lists with the same content doesn't make them differ
 word_equal : (names : List (List ℕ)) (word : List ℕ) (one other : List (List ℕ))
     → bytes_eq word (codes "--") ≡ false → IsEqual names one other
     → IsEqual names (word ∷ one) (word ∷ other)
