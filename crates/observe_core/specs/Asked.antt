@@ -1,4 +1,4 @@
--- What words ask for, as it was read.
+-- Requests, as they were parsed from words.
 use Rattle.std.specs.Prelude.{◌≡◌, Option, None, Some, IsSome}
 use Rattle.std.specs.Borrow.{Bor}
 use Rattle.psi_base.specs.declared.event.Fault.{Fault}
@@ -7,17 +7,16 @@ use Rattle.observe_spec.specs.Words as spec
 use Rattle.observe_core.specs.declared.words.Request.{Request}
 use Rattle.observe_core.specs.declared.words.BadWords.{BadWords}
 
--- what is asked for
+-- the request of the specification
 abbrev pub request_in : Request → spec.Request
 request_in request = record { trace = request.trace.now; observers = request.observers; path = request.path }
 
--- words are refused where they ask for nothing, and memory is wanting only where they ask for
--- something
+-- words are rejected only if they aren't a request, and memory runs out only if they are one
 abbrev pub RefusesWords : Fault BadWords → Option spec.Request → Type 0
 RefusesWords (Refused why) asked = asked ≡ None
 RefusesWords (NoMemory _) asked = IsSome asked
 
--- what is asked for, if anything is
+-- the request of the specification, if there is a request
 abbrev pub asked_in : Option (Bor Request) → Option spec.Request
 asked_in None = None
 asked_in (Some request) = Some (request_in request.now)

@@ -1,4 +1,4 @@
--- Observers beside a replay: how they are readied for an interval, and what they have seen after
+-- Observers during a replay: how they are prepared for an interval, and what they have seen after
 -- some ticks.
 use Rattle.std.specs.Prelude.{◌≡◌, ℕ, ◌+◌, ◌<◌, ◌≤◌, false, List, [], ◌∷◌, length, map, slice_get, slice_index_or, Option, Some}
 use Rattle.std.specs.List.{All, flat_map, range_with_len}
@@ -26,7 +26,7 @@ use Rattle.observe_core.specs.Observing.{ObserverView, last_at}
 
 -- ---- the start
 
--- A watcher of all processors that an observer with a number begins with, beside a replay: it has
+-- The initial watcher of all processors of the observer with this number, during a replay: it has
 -- no entry.
 pub record IsNewWatcher (number : ℕ) (replay : ReplayView) (watcher : WatcherView) : Type 0 where
   pub number_is : watcher.observer ≡ number
@@ -37,8 +37,8 @@ pub record IsNewWatcher (number : ℕ) (replay : ReplayView) (watcher : WatcherV
 
 -- ---- before an interval
 
--- A watcher with these last samples may be readied for a slot by a replay: they are of the same
--- plans, and its readers are of the rows of the replay's clocks.
+-- A watcher with these last samples may be prepared for a slot by a replay: they have the same
+-- plans, and its readers belong to the rows of the replay's clocks.
 pub record MayReady (replay : ReplayView) (slot : ℕ) (watcher : WatcherView) (lasts : List Sample) : Type 0 where
   pub some : IsSomeReplay replay
   pub few : length replay.plans.plans ≤ 64
@@ -48,12 +48,12 @@ pub record MayReady (replay : ReplayView) (slot : ℕ) (watcher : WatcherView) (
   pub rows_are : (cpu : ℕ) → cpu < length replay.plans.plans → Some (reader_at watcher.readers cpu).row ≡ row_at replay.crew.rows cpu
   pub lasts_are : length lasts ≡ length replay.plans.plans
 
--- how many changes of a processor a crew has made
+-- the number of changes of a processor that a pool's clocks have made
 abbrev pub made_by : CrewView → ℕ → ℕ
 made_by crew cpu = (clocks_at crew.clocks cpu).made
 
--- The clocks of a processor met the reader of a watcher there: it has seen what they made, which
--- isn't less than it saw before.
+-- The clocks of a processor notified the watcher's reader there: it has seen the changes that they
+-- made, at least as many as it saw before.
 pub record HasMet (cpu made : ℕ) (old new : WatcherView) : Type 0 where
   pub reader : ReaderEnd
   pub are : new ≡ with_reader old cpu reader
@@ -61,8 +61,8 @@ pub record HasMet (cpu made : ℕ) (old new : WatcherView) : Type 0 where
   pub knows : reader.knows ≡ count_shown made (reader_at old.readers cpu).knows
   pub before : (reader_at old.readers cpu).knows.seen ≤ made
 
--- A watcher is readied on the first of the processors: its readers there have seen what was made,
--- which isn't less than they saw before. Nothing else of it changed.
+-- A watcher is prepared on the first `cpus` processors: its readers there have seen the changes
+-- that were made, at least as many as they saw before. Nothing else of it changed.
 pub record IsReadied (made : ℕ → ℕ) (cpus : ℕ) (old new : WatcherView) : Type 0 where
   pub observer_is : new.observer ≡ old.observer
   pub plans_are : new.plans ≡ old.plans
@@ -74,7 +74,8 @@ pub record IsReadied (made : ℕ → ℕ) (cpus : ℕ) (old new : WatcherView) :
   pub before : (cpu : ℕ) → cpu < cpus → (reader_at old.readers cpu).knows.seen ≤ made cpu
   pub later : (cpu : ℕ) → cpus ≤ cpu → reader_at new.readers cpu ≡ reader_at old.readers cpu
 
--- The last samples of the first processors are the clocks of a slot there, after what was made.
+-- The last samples of the first `cpus` processors are the clocks of a slot there, after the changes
+-- that were made.
 pub record AreLasts (plans : PlansView) (slot : ℕ) (made : ℕ → ℕ) (cpus : ℕ) (lasts : List Sample) : Type 0 where
   pub counts : (cpu : ℕ) → cpu < cpus → (last_at lasts cpu).count ≡ made cpu
   pub clocks : (cpu : ℕ) → cpu < cpus → IsClock (last_at lasts cpu).clock (plan_at plans cpu) slot (last_at lasts cpu).count
@@ -90,7 +91,7 @@ pub record IsReady (plans : PlansView) (slot : ℕ) (made : ℕ → ℕ) (old ne
   pub readied : IsReadied made (length old.lasts) old.watcher new.watcher
   pub lasts_are : AreLasts plans slot made (length old.lasts) new.lasts
 
--- so are all
+-- all observers are ready
 pub record AreReady (plans : PlansView) (slot : ℕ) (made : ℕ → ℕ) (old new : List ObserverView) : Type 0 where
   pub many : length new ≡ length old
   pub each : (number : ℕ) (d : ObserverView) → number < length old
@@ -98,26 +99,26 @@ pub record AreReady (plans : PlansView) (slot : ℕ) (made : ℕ → ℕ) (old n
 
 -- ---- after some ticks
 
--- the sample that an entry is
+-- the sample of an entry
 abbrev pub look_of : Entry → Look
 look_of entry = record { observer = entry.observer; cpu = entry.cpu.0; slot = entry.slot.0; count = entry.count }
 
--- the samples that entries are
+-- the samples of entries
 abbrev pub looks_of : List Entry → List Look
 looks_of entries = map look_of entries
 
--- an entry is of a processor and a group that there are, and has the processor's plan
+-- an entry has an existing processor and group, and the processor's plan
 pub record IsOn (plans : PlansView) (entry : Entry) : Type 0 where
   pub cpu : entry.cpu.0 < length plans.plans
   pub plan : entry.plan.now ≡ plan_at plans entry.cpu.0
 
--- so are all
+-- the same for all entries
 abbrev pub AreOn : PlansView → List Entry → Type 0
 AreOn plans [] = Unit {0}
 AreOn plans (entry ∷ entries) = IsOn plans entry × AreOn plans entries
 
--- What stays the same while a trace is replayed beside observers: the plans, the rows of all
--- processors, the board, the trace, its pace, and the path that is observed.
+-- What stays the same while a trace is replayed with observers: the plans, the rows of all
+-- processors, the board, the trace, its timing, and the observed path.
 pub record Setting : Type 0 where
   pub plans : PlansView
   pub rows : List (Option TableId)
@@ -130,17 +131,17 @@ pub record Setting : Type 0 where
 abbrev pub slot_in : Setting → ℕ → Option ℕ
 slot_in set i = live_slot_at set.trace.events set.path (tick_moment set.pace.length i)
 
--- the samples that are due of each observer at a tick
+-- the samples that are due for each observer at a tick
 abbrev pub due_in : Setting → ℕ → List Due
 due_in set i = due_at set.trace set.pace.length i (slot_in set i)
 
--- those of the first so many ticks
+-- the samples that are due at the first n ticks
 abbrev pub due_until : Setting → ℕ → List Due
 due_until set count = flat_map (due_in set) (range_with_len 1 count)
 
--- What holds of each observer, by its number: it is of the plans and of the board, its readers are
--- of the rows, and it has a place for the last sample of each processor, and one part of the
--- journal's ledger. Memory wasn't wanting.
+-- The constant properties of each observer, by its number: it has the plans and the board, its
+-- readers belong to the rows, and it has an entry for the last sample of each processor, and one
+-- part of the journal's ledger. It didn't run out of memory.
 pub record IsPlaced (set : Setting) (number : ℕ) (observer : ObserverView) : Type 0 where
   pub number_is : observer.watcher.observer ≡ number
   pub plans_are : observer.watcher.plans ≡ set.plans
@@ -151,92 +152,92 @@ pub record IsPlaced (set : Setting) (number : ℕ) (observer : ObserverView) : T
   pub backed : observer.parts ≡ 1
   pub whole : observer.failed ≡ false
 
--- A list has the samples of an observer, by its number, that were due at the first so many ticks;
--- and their counts on a processor never fall, up to what its reader has seen.
+-- A list has the samples of an observer, by its number, that were due at the first `i` ticks; their
+-- counts on a processor never fall, and are at most what its reader has seen.
 pub record HasTaken (set : Setting) (i number : ℕ) (readers : List ReaderEnd) (own : List Entry) : Type 0 where
   pub by : AreBy number own
   pub on : AreOn set.plans own
   pub done : AreDone (due_until set i) (looks_of own)
   pub rise : (cpu : ℕ) → RiseWithin 0 (counts_by number cpu (looks_of own)) (reader_at readers cpu).knows.seen
 
--- The journal refused no entry of an observer.
+-- The journal rejected no entry of an observer.
 abbrev pub IsIn : ObserverView → Type 0
 IsIn observer = observer.fell ≡ false
 
--- nor of any
+-- The journal rejected no entry of any observer.
 abbrev pub AreIn : List ObserverView → Type 0
 AreIn observers = All IsIn observers
 
--- An observer's share counts all its entries, unless the journal refused one.
+-- An observer's share counts all its entries, unless the journal rejected one.
 abbrev pub IsCounted : ObserverView → Type 0
 IsCounted observer = IsIn observer → observer.amount ≡ length observer.watcher.own
 
--- so do the shares of all
+-- the same for all observers
 abbrev pub AreCounted : List ObserverView → Type 0
 AreCounted observers = All IsCounted observers
 
--- An observer with a number has taken the samples that were due at the first so many ticks, and
+-- The observer with this number has taken the samples that were due at the first `i` ticks, and
 -- added them to the journal.
 pub record HasObserved (set : Setting) (i number : ℕ) (observer : ObserverView) : Type 0 where
   pub placed : IsPlaced set number observer
   pub taken : HasTaken set i number observer.watcher.readers observer.watcher.own
   pub counted : IsCounted observer
 
--- So have all observers, by their numbers.
+-- The same for all observers, by their numbers.
 abbrev pub HaveObserved : Setting → ℕ → List ObserverView → Type 0
 HaveObserved set i observers =
     (number : ℕ) (d : ObserverView) → number < length observers → HasObserved set i number (slice_index_or observers number d)
 
--- A new observer has taken nothing.
+-- A new observer has taken no sample.
 pub record IsNew (set : Setting) (number : ℕ) (observer : ObserverView) : Type 0 where
   pub placed : IsPlaced set number observer
   pub none : observer.watcher.own ≡ []
   pub nothing : observer.amount ≡ 0
 
--- Observers may begin in a setting beside a replay: it has these plans and rows.
+-- Observers may begin in a setting with a replay: it has these plans and rows.
 pub record MayBegin (set : Setting) (replay : ReplayView) : Type 0 where
   pub plans_are : replay.plans ≡ set.plans
   pub rows_are : replay.crew.rows ≡ set.rows
 
--- A replay, which watches the path, has made the first so many ticks.
+-- A replay that watches the path, after its first `i` ticks.
 pub record IsReached (set : Setting) (replay : ReplayView) (i : ℕ) : Type 0 where
   pub plans_are : replay.plans ≡ set.plans
   pub rows_are : replay.crew.rows ≡ set.rows
   pub replayed : IsReplay replay set.trace set.pace [] i
   pub watch : set.pace.watch ≡ Some (record { path = set.path; count = 1 })
 
--- A replay has made the first so many ticks, and observers have taken their samples beside it.
+-- A replay after its first `i` ticks, during which observers have taken their samples.
 pub record IsObserved (set : Setting) (replay : ReplayView) (observers : List ObserverView) (i : ℕ) : Type 0 where
   pub reached : IsReached set replay i
   pub observed : HaveObserved set i observers
 
--- so it is beside this board, before the first tick
+-- observers with this board, before the first tick of the replay
 abbrev pub IsToBegin : TableId → ReplayView → List ObserverView → Type 0
 IsToBegin board replay observers = (set : Setting) × (set.board ≡ board) × IsObserved set replay observers 0
 
--- so it is beside this board, with a tick left
+-- observers with this board, and at least one tick remains
 abbrev pub IsToGo : TableId → ReplayView → List ObserverView → Type 0
 IsToGo board replay observers =
     (set : Setting) × (i : ℕ) × (set.board ≡ board) × IsObserved set replay observers i × (i < tick_count set.trace set.pace)
 
--- memory wasn't wanting to any
+-- no observer ran out of memory
 abbrev pub AreWhole : List ObserverView → Type 0
 AreWhole observers = All (λ (observer : ObserverView). observer.failed ≡ false) observers
 
 -- ---- the board
 
--- the state of a tick
+-- the state after a tick
 abbrev pub state_at : Trace → Pace → ℕ → BoardState
 state_at trace pace i = record { tick = i; events = signals_until trace pace i; kills = 0 }
 
--- the states of tick 0 and of the first so many ticks were on the board, each in its turn
+-- the board showed the states of tick 0 and of the first `i` ticks, in order
 pub record AreShown (trace : Trace) (pace : Pace) (i : ℕ) (states : List BoardState) : Type 0 where
   pub many : length states ≡ i + 1
   pub each : (k : ℕ) → k ≤ i → slice_get states k ≡ Some (state_at trace pace k)
 
 -- ---- one tick of the replay
 
--- a replay made its next tick, over the same plans and rows
+-- a replay made its next tick, with the same plans and rows
 pub record HasPassed (old new : ReplayView) : Type 0 where
   pub plans_are : new.plans ≡ old.plans
   pub rows_are : new.crew.rows ≡ old.crew.rows

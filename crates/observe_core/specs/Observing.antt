@@ -1,4 +1,4 @@
--- Observers: what each has, when it may watch a slot, and what it did then.
+-- Observers: the state of each, when it may watch a slot, and what watching does.
 use Rattle.std.specs.Prelude.{◌≡◌, Bool, false, ℕ, ◌+◌, ◌<◌, ◌≤◌, List, ◌++◌, length, slice_get, slice_index_or, Some}
 use Rattle.atomic_table.specs.Seated.{TableId}
 use Rattle.psi_counts.specs.Clock.{zero_clock}
@@ -19,7 +19,7 @@ no_sample = record { count = 0; clock = zero_clock }
 abbrev pub last_at : List Sample → ℕ → Sample
 last_at lasts cpu = slice_index_or lasts cpu no_sample
 
--- A watcher may look at a slot on each processor: it has a reader and a last sample of each, which
+-- A watcher may sample a slot on each processor: it has a reader and a last sample for each, which
 -- is the slot's clock after as many changes as the reader has seen.
 pub record CanLook (slot : ℕ) (lasts : List Sample) (watcher : WatcherView) : Type 0 where
   pub few : length watcher.plans.plans ≤ 64
@@ -30,15 +30,15 @@ pub record CanLook (slot : ℕ) (lasts : List Sample) (watcher : WatcherView) : 
       → IsClock (last_at lasts cpu).clock (plan_at watcher.plans cpu) slot (last_at lasts cpu).count
   pub seen : (cpu : ℕ) → cpu < length watcher.plans.plans → (last_at lasts cpu).count ≡ (reader_at watcher.readers cpu).knows.seen
 
--- These entries are one of each of the first processors, in their order, none earlier than the last
--- sample there.
+-- These entries are one for each of the first `cpus` processors, in order, none earlier than the
+-- last sample there.
 pub record AreTaken (observer : ℕ) (plans : PlansView) (slot : ℕ) (lasts : List Sample) (cpus : ℕ) (taken : List Entry) : Type 0 where
   pub many : length taken ≡ cpus
   pub each : (cpu : ℕ) (entry : Entry) → slice_get taken cpu ≡ Some entry
       → IsTakenBy observer plans cpu slot (last_at lasts cpu).count entry
 
--- A watcher looked at a slot on each of the first processors: the entries stand at the end of its
--- list, and each of these readers has seen as many changes as its entry is after.
+-- A watcher sampled a slot on each of the first `cpus` processors: the entries are at the end of
+-- its list, and each of these readers has seen as many changes as its entry's count.
 pub record HaveLooked (slot : ℕ) (lasts : List Sample) (cpus : ℕ) (old new : WatcherView) : Type 0 where
   pub observer_is : new.observer ≡ old.observer
   pub plans_are : new.plans ≡ old.plans
@@ -53,9 +53,9 @@ pub record HaveLooked (slot : ℕ) (lasts : List Sample) (cpus : ℕ) (old new :
 
 -- ---- observers
 
--- An observer: its watcher, its pass of the board, the parts of its share of the journal, how many
--- entries that counts, its last sample on each processor, whether the journal refused an entry, and
--- whether memory was wanting for one.
+-- An observer: its watcher, its pass of the board, the parts of its share of the journal, the
+-- number of entries that the share counts, its last sample on each processor, whether the journal
+-- rejected an entry, and whether it ran out of memory for one.
 pub record ObserverView : Type 0 where
   pub watcher : WatcherView
   pub pass : BoardEnd
@@ -65,14 +65,14 @@ pub record ObserverView : Type 0 where
   pub fell : Bool
   pub failed : Bool
 
--- The observer may watch a slot beside this board.
+-- The observer may watch a slot with this board.
 pub record CanWatch (board : TableId) (slot : ℕ) (observer : ObserverView) : Type 0 where
   pub board_is : observer.pass.board ≡ board
   pub backed : 0 < observer.parts
   pub can : CanLook slot observer.lasts observer.watcher
 
--- An observer watched a slot: it read the board once, and looked at the slot on each processor,
--- unless memory was wanting. It added each entry to the journal, unless that refused one.
+-- An observer watched a slot: it read the board once, and sampled the slot on each processor,
+-- unless it ran out of memory. It added each entry to the journal, unless the journal rejected one.
 pub record HasWatched (slot : ℕ) (old new : ObserverView) : Type 0 where
   pub board_is : new.pass.board ≡ old.pass.board
   pub parts_are : new.parts ≡ old.parts

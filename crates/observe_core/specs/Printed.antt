@@ -1,4 +1,4 @@
--- What is printed of entries and of states of the board.
+-- The text printed for entries and for states of the board.
 use Rattle.std.specs.Prelude.{ℕ, ◌+◌, List, [], ◌∷◌, ◌++◌, length, map, codes, decimal}
 use Rattle.std.specs.List.{flat_map}
 use Rattle.run_spec.specs.Lines.{labelled, line_of}
@@ -17,7 +17,7 @@ state_line observer state =
     line_of (codes "board" ∷ labelled (codes "observer=") observer ∷ labelled (codes "tick=") state.tick
     ∷ labelled (codes "events=") state.events ∷ labelled (codes "kills=") state.kills ∷ [])
 
--- the lines of states that observers read, whose numbers are counted from this one on
+-- the lines of states that observers read; the observers' numbers start at `observer`
 abbrev pub states_text : ℕ → List BoardState → List ℕ
 states_text observer [] = []
 states_text observer (state ∷ states) = state_line observer state ++ states_text (observer + 1) states
@@ -26,6 +26,6 @@ states_text observer (state ∷ states) = state_line observer state ++ states_te
 abbrev pub end_line : ℕ → ℕ → List ℕ
 end_line finish samples = line_of (codes "end" ∷ decimal finish ∷ labelled (codes "samples=") samples ∷ [])
 
--- all lines: of the entries in their order, of the states by observer, and of the end (ns)
+-- all lines: the entries in order, the states by observer, and the end (ns)
 abbrev pub printed : List Entry → List BoardState → ℕ → List ℕ
 printed entries states finish = flat_map entry_line entries ++ states_text 0 states ++ end_line finish (length entries)

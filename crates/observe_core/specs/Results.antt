@@ -1,4 +1,4 @@
--- What reading a trace, observing it and writing come to as the status of a run.
+-- The status of a run, from the results of reading a trace, observing it and writing.
 use Rattle.std.specs.Prelude.{◌≡◌, ℕ, ◌<◌, ◌≤◌, List, Option}
 use Rattle.std.specs.Io.KnownBytes.{Appends, Keeps}
 use Rattle.outside.specs.Outside.{AppendsFront, Rose}
@@ -14,7 +14,7 @@ use Rattle.observe_spec.specs.Observed.{IsObservedText}
 use Rattle.observe_spec.specs.Run.{most_samples, pace_on, samples_asked}
 use Rattle.observe_spec.specs.Words.{Request}
 
--- plans stand for an accepted trace of the version with a number, which is to be replayed beside
+-- plans represent an accepted trace of the version with this number, which is to be replayed with
 -- observers of a path
 pub record IsPlannedFor (plans : PlansView) (trace : Trace) (number : ℕ) (path : List ℕ) : Type 0 where
   pub numbered : IsVersion number
@@ -28,16 +28,16 @@ IsStatusOf fault.NoFile result = result ≡ status.NoFile
 IsStatusOf fault.ReadFault result = result ≡ status.ReadFault
 IsStatusOf (fault.NoMemory none) result = result ≡ status.NoMemory none
 
--- What writing a text gave: all of it, or a front of it where a write failed. The count of failed
--- writes rose where one failed, and else is as it was.
+-- The result of writing a text: all of it was written, or a prefix of it if a write failed. The
+-- count of failed writes increased if one failed, and is unchanged otherwise.
 abbrev pub WritesText : List ℕ → ℕ → ℕ → Option (List ℕ) → Option (List ℕ) → ObserveStatus → Type 0
 WritesText text before now had has status.Done = Appends had has text × (now ≡ before)
 WritesText text before now had has status.WriteFault = AppendsFront had has text × Rose before now
 WritesText text before now had has _ = ⊥
 
--- What observing a trace as it is asked for, and writing what was observed, gave: so for a text of
--- it, which has no more samples than there may be; or nothing was written, since there would be
--- more, or for want of memory.
+-- The result of observing a trace as requested, and of writing what was observed: the result of
+-- writing a text of it, which has at most the allowed number of samples; or nothing was written,
+-- because there would be more samples, or memory ran out.
 abbrev pub WritesObserved : Request → Trace → ℕ → ℕ → Option (List ℕ) → Option (List ℕ) → ObserveStatus → Type 0
 WritesObserved request trace before now had has (status.TooManySamples samples) =
     Keeps had has × (now ≡ before) × (samples ≡ samples_asked request trace) × (most_samples < samples)

@@ -1,4 +1,4 @@
-//! All observers, each in a thread of its own.
+//! All observers, each in its own thread.
 ghost use Rattle.std.specs.List.{All};
 ghost use Rattle.observe_core.specs.Observing.{CanWatch, HasWatched, HaveAllWatched};
 
@@ -11,7 +11,7 @@ use std::sync::ledger::Ledger;
 use std::thread;
 use std::thread::Threads;
 
-/// Each observer watches a slot in a thread of its own, or in the caller's where none can be
+/// Makes each observer watch a slot in its own thread, or in the caller's if no thread can be
 /// started.
 pub(crate) fn watch_all<L: Ledger + Send + Sync, R: Threads + Wait + Sync, G: Gate>(
     rt: &R,

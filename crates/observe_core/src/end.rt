@@ -1,4 +1,4 @@
-//! Observers end, and their lists are put in the order of the journal.
+//! Ends observers, and merges their lists in the journal's order.
 ghost use Rattle.std.specs.Prelude.{◌≡◌, ◌+◌, ℕ, IfOk, length, map};
 ghost use Rattle.std.specs.List.{All};
 ghost use Rattle.observer_log.specs.Board.{IsLast};
@@ -14,17 +14,17 @@ use std::alloc::Global;
 use std::sync::Wait;
 use std::sync::ledger::{Ledger, Share};
 
-/// What observers leave behind, by their numbers.
+/// The results of observers, by their numbers.
 #[derive(Drop)]
 pub(crate) struct Ended<'a> {
     /// Their lists.
     pub(crate) own: Vec<Own<'a>>,
-    /// What each read of the board last.
+    /// The last state of the board that each observer read.
     pub(crate) states: Vec<BoardState>,
 }
 
-/// Ends all observers, one after the other. Their shares go to the others, and count all entries of
-/// the lists, unless the journal refused one. NoMemory where there was none for an entry.
+/// Ends all observers, in order, and merges their shares into `all`. These count all entries of the
+/// lists, unless the journal rejected one. NoMemory if an observer ran out of memory.
 pub(crate) fn end_all<'a, L: Ledger, R: Wait>(
     rt: &R,
     alloc: Global,
@@ -58,8 +58,8 @@ pub(crate) fn end_all<'a, L: Ledger, R: Wait>(
     Ok(Ended { own, states })
 }
 
-/// The entries of the lists, in the order of the journal, which has as many as the shares count.
-/// All of these have come back.
+/// The entries of the lists, in the journal's order. `all` has all shares, which count these
+/// entries.
 pub(crate) fn ordered<'a, L: Ledger>(
     mut journal: Journal<'a, L>,
     all: &mut Share<L>,
@@ -71,7 +71,7 @@ pub(crate) fn ordered<'a, L: Ledger>(
     ensures own { IfOk result (λ entries. (observer : ℕ) →
         by observer entries.items ≡ list_of own.now observer) }
 {
-    // There are as many entries as were added by the shares.
+    // The journal has as many entries as were added with the shares.
     journal.audit(all);
     journal.order(own)
 }

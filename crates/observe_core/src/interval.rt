@@ -1,4 +1,4 @@
-//! One tick of a replay, beside its observers.
+//! One tick of a replay with observers.
 ghost use Rattle.std.specs.Prelude.{◌≡◌, ◌+◌, ◌<◌, ℕ, length};
 ghost use Rattle.std.specs.List.{All};
 ghost use Rattle.std.specs.Thread.{IsSync};
@@ -18,7 +18,7 @@ use std::sync::Wait;
 use std::sync::ledger::Ledger;
 use std::thread::{Threads, join_mut};
 
-// A replay after its next tick, and the observers, after each watched a slot beside it.
+// Runs the next tick of a replay, while each observer watches a slot.
 fn interval<'j, 'a, L: Ledger + Send + Sync, R: Threads + Wait + Sync, G: Gate>(
     rt: &R,
     mut replay: Replay<'a>,
@@ -48,8 +48,8 @@ fn interval<'j, 'a, L: Ledger + Send + Sync, R: Threads + Wait + Sync, G: Gate>(
     (replay, observers)
 }
 
-/// A replay after its next tick, and its observers. Where the path is live at the tick, each of
-/// them watched its slot beside the changes up to it.
+/// Runs the next tick of a replay. If the path is live at the tick, each observer watches its slot
+/// during the changes up to it.
 pub(crate) fn tick<'j, 'a, L: Ledger + Send + Sync, R: Threads + Wait + Sync, G: Gate>(
     rt: &R,
     mut replay: Replay<'a>,

@@ -1,5 +1,9 @@
-//! Observers of a trace that is replayed: the one public call [`observe`] reads the words, replays
-//! the trace tick by tick beside observers in threads of their own, and prints what they saw.
+//! Observers of a trace that is replayed: the only public call [`observe`] reads the words, replays
+//! the trace tick by tick while observers take samples in their own threads, and prints what they
+//! saw.
+//!
+//! What it prints is specified in `observe_spec`; the board, the journal and the watchers are in
+//! `observer_log`.
 #![tactic(auto)]
 
 mod all;

@@ -1,4 +1,4 @@
-//! The lines that are printed.
+//! Writes the printed lines.
 ghost use Rattle.std.specs.Prelude.{◌≤◌, length};
 ghost use Rattle.std.specs.List.{flat_map};
 ghost use Rattle.outside.specs.Outside.{HasCause, StaysOver};
@@ -10,8 +10,8 @@ use outside::{Sink, WriteFailed};
 use pressure_text::{Piece, put_pieces, put_timed};
 use psi_base::Ns;
 
-// Writes the line of a sample: its observer and processor, after how many changes it is, at which
-// moment (ns), and its times (ns) in the seven states, in their order.
+// Writes the line of a sample: its observer and processor, the number of changes, the time (ns),
+// and its times (ns) in the seven states, in order.
 #[tactic(auto, using(pressure_text::proofs::Puts::times))]
 fn put_entry<K: Sink>(out: &mut K, entry: &Entry<'_>) -> Result<(), WriteFailed>
     ensures bytes { PutsAll (K.has out.old) (K.has out.new) result (entry_line entry.now) }
@@ -34,7 +34,7 @@ fn put_entry<K: Sink>(out: &mut K, entry: &Entry<'_>) -> Result<(), WriteFailed>
     )
 }
 
-// Writes the line of what an observer read of the board.
+// Writes the line of the board's state that an observer read last.
 #[tactic(auto, using(outside::proofs::Grows::chain))]
 fn put_state<K: Sink>(out: &mut K, observer: u32, state: &BoardState) -> Result<(), WriteFailed>
     ensures bytes { PutsAll (K.has out.old) (K.has out.new) result
@@ -58,7 +58,6 @@ fn put_state<K: Sink>(out: &mut K, observer: u32, state: &BoardState) -> Result<
     )
 }
 
-// Writes the last line: the end moment (ns), and how many samples there were.
 #[tactic(auto, using(outside::proofs::Grows::chain))]
 fn put_end<K: Sink>(out: &mut K, finish: Ns, samples: u64) -> Result<(), WriteFailed>
     ensures bytes { PutsAll (K.has out.old) (K.has out.new) result (end_line finish samples) }
@@ -77,7 +76,6 @@ fn put_end<K: Sink>(out: &mut K, finish: Ns, samples: u64) -> Result<(), WriteFa
     )
 }
 
-// Writes the lines of samples.
 #[tactic(auto, using(outside::proofs::Grows::growth))]
 fn put_entries<K: Sink>(out: &mut K, entries: &[Entry<'_>]) -> Result<(), WriteFailed>
     ensures bytes { PutsAll (K.has out.old) (K.has out.new) result
@@ -91,7 +89,7 @@ fn put_entries<K: Sink>(out: &mut K, entries: &[Entry<'_>]) -> Result<(), WriteF
     Ok(())
 }
 
-// Writes the lines of what each observer read of the board, by their numbers.
+// Writes the lines of the board's states that the observers read last, by their numbers.
 #[tactic(auto, using(outside::proofs::Grows::growth))]
 fn put_states<K: Sink>(out: &mut K, states: &[BoardState]) -> Result<(), WriteFailed>
     requires { length states.now ≤ 8 }
@@ -105,8 +103,8 @@ fn put_states<K: Sink>(out: &mut K, states: &[BoardState]) -> Result<(), WriteFa
     Ok(())
 }
 
-/// Writes all lines: those of the samples in this order, of what each observer read of the board
-/// last, and of the end (ns).
+/// Writes all lines: the samples in this order, the last state of the board that each observer
+/// read, and the end (ns).
 #[tactic(auto, using(outside::proofs::Grows::chain))]
 pub(crate) fn put_observed<K: Sink>(
     out: &mut K,

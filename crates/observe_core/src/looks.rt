@@ -1,4 +1,4 @@
-//! Looks at all processors, one after the other.
+//! Takes samples of all processors, in order.
 ghost use Rattle.std.specs.Prelude.{◌≡◌, ◌+◌, ◌<◌, None, length, IfOk};
 ghost use Rattle.observe_core.specs.Observing.{CanLook, HaveLooked};
 
@@ -9,7 +9,7 @@ use psi_base::{Cpu, NoMemory, Slot};
 use std::sync::ledger::{Ledger, Share};
 use std::sync::{Mutex, Wait};
 
-// Adds an entry to the journal, unless it falls.
+// Adds an entry to the journal, unless the journal rejects it.
 fn enter<'a, L: Ledger, R: Wait>(
     rt: &R,
     journal: &Mutex<Journal<'a, L>>,
@@ -28,9 +28,9 @@ fn enter<'a, L: Ledger, R: Wait>(
     }
 }
 
-/// Looks at a slot on each processor, after the last sample there, and adds each entry to the
-/// journal: one that falls stays out of it, and the last fall comes back. Tells the gate once an
-/// entry was added.
+/// Samples a slot on each processor, after the last sample there, and adds each entry to the
+/// journal. If the journal rejects entries, the last rejection is returned. Calls the gate after
+/// each sample.
 pub(crate) fn look_at_all<'a, L: Ledger, R: Wait, G: Gate>(
     rt: &R,
     journal: &Mutex<Journal<'a, L>>,

@@ -1,4 +1,4 @@
-//! What tells of a status.
+//! Messages for statuses.
 ghost use Rattle.std.specs.Prelude.{◌≡◌};
 ghost use Rattle.outside.specs.Outside.{HasCause};
 ghost use Rattle.outside.specs.Calls.{PutsAll};
@@ -10,7 +10,7 @@ use observe_spec::ObserveStatus;
 use outside::{Sink, WriteFailed, put_all, put_each};
 use trace_file::put_refusal;
 
-// The name of the trace's file, where one is asked for.
+// The name of the trace's file, if there is a request.
 fn trace_name<'a>(request: Option<&Request<'a>>) -> &'a [u8]
     ensures { result.now ≡ trace_text (asked_in request.entry) }
 {
@@ -20,7 +20,7 @@ fn trace_name<'a>(request: Option<&Request<'a>>) -> &'a [u8]
     }
 }
 
-/// Tells of a status in one line, and of `Done` in none. Takes no memory.
+/// Writes the message of a status in one line, and nothing for `Done`. Does not allocate.
 pub(crate) fn put_status<N: Sink>(
     note: &mut N,
     request: Option<&Request<'_>>,

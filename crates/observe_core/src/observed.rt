@@ -1,4 +1,4 @@
-//! A trace that was taken apart is replayed, and observed beside the replay.
+//! Replays a trace from its plans, while observers sample it.
 ghost use Rattle.std.specs.Prelude.{◌≡◌, [], Some, IfOk, length};
 ghost use Rattle.psi_spec.specs.Header.{version_of};
 ghost use Rattle.psi_spec.specs.Trace.{Trace};
@@ -27,16 +27,16 @@ use std::sync::ledger::{Blank, Ledger};
 use std::sync::{Mutex, Wait};
 use std::thread::Threads;
 
-/// What was observed of a trace.
+/// The result of observing a trace.
 #[derive(Drop)]
 pub(crate) struct Observed<'a> {
     /// The samples.
     pub(crate) entries: Vec<Entry<'a>>,
-    /// What each observer read of the board last, by their numbers.
+    /// The last state of the board that each observer read, by their numbers.
     pub(crate) states: Vec<BoardState>,
 }
 
-// The options of a replay beside observers of a path.
+// The options of a replay with observers of a path.
 fn options(alloc: Global, path: &Path) -> Result<Options, NoMemory>
     ensures { IfOk result (λ options. options ≡ options_on (Some path.now)) }
 {
@@ -52,7 +52,7 @@ fn options(alloc: Global, path: &Path) -> Result<Options, NoMemory>
     })
 }
 
-// A replay of a trace of a version beside observers of a path, before its first tick.
+// A replay of a trace of a version with observers of a path, before its first tick.
 fn prepared<'a>(
     alloc: Global,
     version: u32,
@@ -71,8 +71,8 @@ fn prepared<'a>(
     prepare(alloc, version, plans, None, &options)
 }
 
-/// What so many observers observe of a trace of a version that was taken apart, each in a thread of
-/// its own where one can be started. The blank ledger has a part for each.
+/// Replays a trace from its plans with observers, each in its own thread if one can be started. The
+/// blank ledger has one part for each observer.
 pub(crate) fn observe_trace<'a, L: Ledger + Send + Sync, R: Threads + Wait + Sync, G: Gate>(
     rt: &R,
     alloc: Global,

@@ -12,9 +12,9 @@ use std::marker::Model;
 use std::sync::ledger::{Ledger, Share};
 use std::sync::{Mutex, Wait};
 
-/// One observer. It may go to another thread. Contracts see its watcher, its pass of the board, the
-/// parts and the amount of its share of the journal, its last samples, whether the journal refused
-/// an entry, and whether memory was wanting.
+/// One observer. It may be sent to another thread. Contracts see its watcher, its pass of the
+/// board, the parts and the amount of its share of the journal, its last samples, whether the
+/// journal rejected an entry, and whether it ran out of memory.
 #[derive(Drop)]
 pub struct Observer<'j, 'a, L: Ledger> {
     pub(crate) journal: &'j Mutex<Journal<'a, L>>,
@@ -23,9 +23,9 @@ pub struct Observer<'j, 'a, L: Ledger> {
     pub(crate) share: Share<L>,
     /// The last sample on each processor: the writer's own clock, before an interval.
     pub(crate) lasts: Vec<Sample>,
-    /// The journal refused an entry.
+    /// The journal's last rejection of an entry, if any.
     pub(crate) fell: Option<Fall>,
-    /// There was no memory for an entry.
+    /// Whether memory ran out for an entry.
     pub(crate) failed: Option<NoMemory>,
 }
 
@@ -47,7 +47,7 @@ impl<'j, 'a, L: Ledger> Model for Observer<'j, 'a, L> {
 }
 
 impl<'j, 'a, L: Ledger> Observer<'j, 'a, L> {
-    /// An observer of these parts.
+    /// An observer with these parts.
     pub fn new(
         journal: &'j Mutex<Journal<'a, L>>,
         watcher: Watcher<'a>,
@@ -74,7 +74,7 @@ impl<'j, 'a, L: Ledger> Observer<'j, 'a, L> {
         }
     }
 
-    /// Reads the board once, and looks at a slot on each processor.
+    /// Reads the board once, and samples a slot on each processor.
     pub(crate) fn watch<R: Wait, G: Gate>(&mut self, rt: &R, board: &Board, slot: Slot, gate: &G)
         requires { CanWatch board.now slot.0 self.old }
         ensures { HasWatched slot.0 self.old self.new }
@@ -95,16 +95,16 @@ impl<'j, 'a, L: Ledger> Observer<'j, 'a, L> {
         }
     }
 
-    /// Whether memory was wanting for an entry.
+    /// Whether memory ran out for an entry.
     pub fn failed(&self) -> Option<NoMemory>
         ensures { is_some result ≡ self.now.failed }
     {
         self.failed
     }
 
-    /// Ends an observer: it is told all that was published, reads the board for the last time, and
-    /// is told again. Its list and what it read come back, and its share goes to the others.
-    /// NoMemory where there was none for an entry.
+    /// Ends an observer: it is notified of all published states, reads the board for the last time,
+    /// and is notified again. Returns its list and the state that it read, and merges its share
+    /// into `all`. NoMemory if memory ran out for an entry.
     pub fn end<R: Wait>(
         self,
         rt: &R,

@@ -1,5 +1,5 @@
-//! Observers are readied for an interval: their readers learn how many changes were made, and their
-//! last samples are the clocks themselves.
+//! Prepares observers for an interval: their readers are notified of the changes made so far, and
+//! their last samples become copies of the clocks.
 ghost use Rattle.std.specs.Prelude.{◌≡◌, ◌<◌, Some, length};
 ghost use Rattle.std.specs.List.{All};
 ghost use Rattle.replay_ticks.specs.Replays.{IsSomeReplay};
@@ -15,8 +15,8 @@ use psi_base::{Cpu, Slot};
 use replay_ticks::Replay;
 use std::sync::ledger::Ledger;
 
-// The clocks of a processor learn what a watcher's reader has seen there, and tell it how many
-// changes they made.
+// Notifies a processor's clocks of what the watcher's reader has seen there, and the reader of the
+// changes made so far.
 fn meet(replay: &mut Replay<'_>, watcher: &mut Watcher<'_>, cpu: Cpu)
     requires replay { IsSomeReplay replay.old }
     requires cpu { cpu.0 < length replay.old.plans.plans }
@@ -31,7 +31,7 @@ fn meet(replay: &mut Replay<'_>, watcher: &mut Watcher<'_>, cpu: Cpu)
     replay.meet(cpu, reader);
 }
 
-// Readies a watcher for a slot: its last samples are those of the clocks.
+// Prepares a watcher for a slot: its last samples become copies of the clocks.
 fn ready(replay: &mut Replay<'_>, watcher: &mut Watcher<'_>, lasts: &mut Vec<Sample>, slot: Slot)
     requires { MayReady replay.old slot.0 watcher.old lasts.old.items }
     ensures same { replay.new ≡ replay.old }
@@ -49,7 +49,6 @@ fn ready(replay: &mut Replay<'_>, watcher: &mut Watcher<'_>, lasts: &mut Vec<Sam
 }
 
 impl<'j, 'a, L: Ledger> Observer<'j, 'a, L> {
-    // Readies the observer for a slot.
     fn ready(&mut self, replay: &mut Replay<'_>, slot: Slot)
         requires { MayReady replay.old slot.0 self.old.watcher self.old.lasts }
         ensures same { replay.new ≡ replay.old }
@@ -60,7 +59,7 @@ impl<'j, 'a, L: Ledger> Observer<'j, 'a, L> {
     }
 }
 
-/// Readies all observers for a slot.
+/// Prepares all observers for a slot.
 pub(crate) fn ready_all<L: Ledger>(
     replay: &mut Replay<'_>,
     observers: &mut [Observer<'_, '_, L>],

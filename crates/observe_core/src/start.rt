@@ -1,4 +1,4 @@
-//! Observers are made.
+//! Creates observers.
 ghost use Rattle.std.specs.Prelude.{◌≡◌, ◌<◌, ℕ, Some, IfOk, length, slice_index_or};
 ghost use Rattle.replay_ticks.specs.Replays.{IsSomeReplay};
 ghost use Rattle.replay_workers.specs.Crew.{AreInRows, row_at};
@@ -38,7 +38,7 @@ fn readers_of(
     Ok(readers)
 }
 
-// A place for the last sample of each processor.
+// A new entry for the last sample of each processor.
 fn places(alloc: Global, cpus: u32) -> Result<Vec<Sample>, NoMemory>
     ensures { IfOk result (λ lasts. length lasts.items ≡ cpus) }
 {
@@ -49,7 +49,7 @@ fn places(alloc: Global, cpus: u32) -> Result<Vec<Sample>, NoMemory>
     Ok(vec![in alloc; none; cpus as usize]?)
 }
 
-// A watcher of all processors, for the observer with a number.
+// A watcher of all processors, for the observer with this number.
 fn watcher_of<'a>(
     alloc: Global,
     number: u32,
@@ -66,7 +66,7 @@ fn watcher_of<'a>(
     Ok(Watcher::make(alloc, number, plans, readers))
 }
 
-// The observer with a number.
+// Creates the observer with this number.
 fn observer_of<'j, 'a, L: Ledger>(
     alloc: Global,
     number: u32,
@@ -90,8 +90,8 @@ fn observer_of<'j, 'a, L: Ledger>(
     Ok(Observer::new(journal, watcher, pass, share, lasts))
 }
 
-/// So many observers, 1 to 8, before the first tick of a replay. Each gets one part of the
-/// journal's ledger.
+/// Creates 1 to 8 observers, before the first tick of a replay. Each gets one part of the journal's
+/// ledger.
 pub(crate) fn make_observers<'j, 'a, L: Ledger, R: Wait>(
     rt: &R,
     alloc: Global,

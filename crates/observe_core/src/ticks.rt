@@ -1,4 +1,4 @@
-//! All ticks of a replay, beside its observers.
+//! All ticks of a replay with observers.
 ghost use Rattle.std.specs.Prelude.{◌≡◌, None, IfOk, ◌∷◌, [], length};
 ghost use Rattle.run_spec.specs.Replay.{tick_count};
 ghost use Rattle.observer_log.specs.Board.{first_state};
@@ -14,7 +14,7 @@ use std::sync::Wait;
 use std::sync::ledger::Ledger;
 use std::thread::Threads;
 
-// That memory was wanting, if it was to any.
+// The first observer's out-of-memory failure, if any had one.
 fn failure<L: Ledger>(observers: &[Observer<'_, '_, L>]) -> Option<NoMemory>
     ensures { result ≡ None → AreWhole observers.now }
 {
@@ -26,7 +26,8 @@ fn failure<L: Ledger>(observers: &[Observer<'_, '_, L>]) -> Option<NoMemory>
     None
 }
 
-/// The observers, after all ticks of a replay. The board shows each tick once it was made.
+/// Runs all ticks of a replay, and returns the observers. Each tick is published on the board after
+/// it was made.
 pub(crate) fn all_ticks<'j, 'a, L: Ledger + Send + Sync, R: Threads + Wait + Sync, G: Gate>(
     rt: &R,
     mut replay: Replay<'a>,

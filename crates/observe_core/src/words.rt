@@ -1,4 +1,4 @@
-//! What the words ask for.
+//! Parses the words.
 ghost use Rattle.std.specs.Prelude.{◌≡◌, IfOk, IfSome, MatchResult, Some, map, string_bytes};
 ghost use Rattle.observe_spec.specs.Words.{is_trace_name, request_of};
 ghost use Rattle.run_spec.specs.Words.{number_within};
@@ -12,18 +12,19 @@ use std::alloc::Global;
 #[derive(Clone, Copy, Debug, PartialEq, Eq)]
 pub(crate) struct BadWords;
 
-/// What is asked for.
+/// A request.
 #[derive(Drop)]
 pub(crate) struct Request<'a> {
     /// The name of the trace's file, or `-` for standard input.
     pub(crate) trace: &'a str,
-    /// How many observers there are: 1 to 8.
+    /// The number of observers: 1 to 8.
     pub(crate) observers: u32,
     /// The path of the group that they observe.
     pub(crate) path: Path,
 }
 
-// A name that a trace's file may have: it isn't empty, and doesn't begin with `-` unless it is `-`.
+// Whether a trace's file may have this name: it isn't empty, and doesn't begin with `-` unless it
+// is `-`.
 fn is_trace_name(name: &str) -> bool
     ensures { result ≡ is_trace_name name.now }
 {
@@ -46,8 +47,8 @@ fn observers_in(word: &str) -> Option<u32>
     }
 }
 
-/// What the words ask for, the program's name not among them. Only for a path memory is wanted, so
-/// refused are exactly the words that ask for nothing.
+/// The request that the words spell; they don't include the program's name. Only a path needs
+/// memory, so exactly the words that aren't a request are rejected.
 #[tactic(auto, unfolding(observe_spec::specs::Words::request_of))]
 pub(crate) fn read_request(alloc: Global, words: &[String]) -> Result<Request<'_>, Fault<BadWords>>
     ensures exact { MatchResult result
