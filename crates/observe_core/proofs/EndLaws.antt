@@ -1,4 +1,4 @@
--- Observers end one after the other.
+-- Observers are ended in order.
 use Rattle.std.proofs.Common.{◌≡◌, ℕ, suc, ◌+◌, ◌<◌, List, [], ◌∷◌, ◌++◌, length, map, get_or, refl, sym, ap, ◌∙◌, subst, arith, append_assoc}
 use Rattle.std.specs.List.{All}
 use Rattle.std.proofs.lemmas.List.{append-nil, length-append}
@@ -11,7 +11,7 @@ use Rattle.observe_core.proofs.ReadyLaws.{each_pushed}
 abbrev pub own_of : ObserverView → List Entry
 own_of observer = observer.watcher.own
 
--- the list of the first of those that are left comes behind the lists before it
+-- the list of the first remaining observer comes after the earlier lists
 pub own_next : (own : List (List Entry)) (list : List Entry) (observer : ObserverView) (before after : List ObserverView) (whole : List (List Entry)) → before ≡ observer ∷ after → list ≡ observer.watcher.own
     → own ++ map own_of before ≡ whole → (own ++ list ∷ []) ++ map own_of after ≡ whole
 own_next own list observer before after whole step is was =

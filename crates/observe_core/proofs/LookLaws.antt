@@ -1,4 +1,4 @@
--- Looks, one after the other.
+-- Samples of all processors, in order.
 use Rattle.std.proofs.Common.{◌≡◌, ⊎_elim, ◌⊎◌, inl, inr, ℕ, zero, suc, ◌+◌, ◌<◌, ◌≤◌, Bool, true, false, List, [], ◌∷◌, ◌++◌, length, get_or, set, sym, refl, ap, ◌∙◌, subst, arith, eqb, Some}
 use Rattle.std.specs.Prelude.{slice_get}
 use Rattle.std.proofs.lemmas.Bool.{eqb-false, eqb-true}
@@ -40,7 +40,7 @@ field_kept field readers k r inside same q true e =
     subst (λ (n : ℕ). field (reader_at (set readers k r) n) ≡ field (reader_at readers n)) (sym here) (ap field (get_or-set_same readers k r _ inside) ∙ same)
 field_kept field readers k r inside same q false e = ap field (get_or-set_other readers k q r _ (eqb-false q k e))
 
--- the readers have seen what the entries are after, where one more entry is taken
+-- the readers have seen as many changes as their entries' counts, after one more entry
 seen_push : (readers : List ReaderEnd) (new : List ReaderEnd) (k : ℕ) (r : ReaderEnd) (taken : List Entry) (e : Entry) → k < length readers → length taken ≡ k → new ≡ set readers k r → r.knows.seen ≡ e.count
     → ((cpu : ℕ) (entry : Entry) → slice_get taken cpu ≡ Some entry → (reader_at readers cpu).knows.seen ≡ entry.count)
     → (cpu : ℕ) (entry : Entry) → slice_get (taken ++ e ∷ []) cpu ≡ Some entry → (reader_at new cpu).knows.seen ≡ entry.count

@@ -1,10 +1,10 @@
--- The lines of states, one after another.
+-- The lines of states, in order.
 use Rattle.std.proofs.Common.{◌≡◌, ℕ, zero, suc, ◌+◌, ◌<◌, List, [], ◌∷◌, ◌++◌, length, take, drop, get_or, refl, sym, ap, ◌∙◌, arith, subst, append_assoc}
 use Rattle.std.proofs.lemmas.List.{append-nil}
 use Rattle.observer_log.specs.declared.board.BoardState.{BoardState}
 use Rattle.observe_core.specs.Printed.{state_line, states_text}
 
--- the lines up to a state, that of the state, and those behind it
+-- the lines before a state, that state's line, and the lines after it
 at_place : (first : ℕ) (states : List BoardState) (i observer : ℕ) (d : BoardState) → observer ≡ first + i → i < length states →
     states_text first states
     ≡ states_text first (take i states) ++ (state_line observer (get_or states i d) ++ states_text (observer + 1) (drop (suc i) states))

@@ -1,4 +1,4 @@
--- A watcher is readied processor by processor, and observers one after the other.
+-- A watcher is prepared processor by processor, and observers in order.
 use Rattle.std.proofs.Common.{◌≡◌, ◌⊎◌, inl, inr, ⊎_elim, ℕ, zero, suc, ◌+◌, ◌<◌, ◌≤◌, max, List, [], ◌∷◌, ◌++◌, length, get_or, set, refl, sym, ap, ◌∙◌, subst, arith, eqb, Option, Some}
 use Rattle.std.proofs.lemmas.List.{get_or-set_other, get_or-set_same, length-set}
 use Rattle.plan_laws.specs.Plan.{IsClock, PlanView}
@@ -11,7 +11,7 @@ use Rattle.observe_core.specs.Observing.{last_at, no_sample}
 use Rattle.observe_core.specs.Driving.{AreLasts, HasMet, IsReadied}
 use Rattle.observe_core.proofs.LookLaws.{field_kept}
 
--- no processor is readied
+-- no processor is prepared yet
 pub readied_none : (made : ℕ → ℕ) (watcher : WatcherView) → IsReadied made 0 watcher watcher
 readied_none made watcher = record {
   observer_is = refl;
@@ -28,7 +28,7 @@ readied_none made watcher = record {
 pub either_next : (cpu k : ℕ) → cpu < k + 1 → (cpu < k) ⊎ (cpu ≡ k)
 either_next cpu k below = grind (arith, below)
 
--- what was met has seen what was made
+-- a notified reader has seen all changes that were made
 seen_met : (made : ℕ) (old new : ReaderView) → old.seen ≤ made → new.seen ≡ max old.seen made → new.seen ≡ made
 seen_met made old new before is = is ∙ grind (arith, before)
 
@@ -87,7 +87,7 @@ lasts_more plans slot made k lasts last all inside count clock =
 
 -- ---- lists, element by element
 
--- what holds of all elements before a place, and of the one there, where that alone changed
+-- a property of all elements before a place and at that place, if only that element changed
 pub each_next : {X : Type 0} → (R : ℕ → X → X → Type 0) (start now : List X) (place : ℕ) (x : X) → place < length now → ((k : ℕ) (d : X) → k < place → R k (get_or start k d) (get_or now k d)) → ((d : X) → R place (get_or start place d) x)
     → (k : ℕ) (d : X) → k < place + 1 → R k (get_or start k d) (get_or (set now place x) k d)
 each_next R start now place x inside before here k d below =

@@ -1,4 +1,4 @@
--- What reading a trace, observing it and writing come to as a run, and what a status tells then.
+-- The results of reading a trace, observing it and writing, as a run and its status.
 use Rattle.std.proofs.Common.{◌≡◌, ◌≢◌, ◌⊎◌, inl, inr, ℕ, ◌<◌, ◌≤◌, List, arith, refl, sym, ap, ◌∙◌, subst, Option, None, Some, Ok, Err}
 use Rattle.std.specs.Prelude.{IsErrOf, Result}
 use Rattle.std.specs.Io.KnownBytes.{Appends, Keeps}
@@ -48,7 +48,7 @@ takes_trace request files plans number read = record {
   read = read.read;
 }
 
--- its end is no later than the last moment
+-- its end is at most the last possible time
 pub finish_early : (plans : PlansView) (trace : Trace) (number : ℕ) (path : List ℕ) → IsPlannedFor plans trace number path → plans.finish ≤ last_moment
 finish_early plans trace number path is =
     let legal = legal_after (limits_of observed_tick_length trace.cpus) trace.events is.planned.accepted.legal in
@@ -56,7 +56,7 @@ finish_early plans trace number path is =
 
 -- ---- counts
 
--- the counts of a shelf stay where nothing failed there
+-- the counts of a shelf are unchanged if nothing failed there
 counts_same : (before now : RunCounts) (result : ObserveStatus) → now.shelf.faults ≡ before.shelf.faults → now.shelf.absent ≡ before.shelf.absent
     → (result ≡ status.ReadFault → ⊥) → (result ≡ status.NoFile → ⊥) → RisesWhere (result ≡ status.WriteFault) before.writes now.writes → ObserverFailuresAreCounted before now result
 counts_same before now result faults absent no_read no_file writes = record {
@@ -65,7 +65,7 @@ counts_same before now result faults absent no_read no_file writes = record {
   writes = writes;
 }
 
--- all stay where nothing was done
+-- all counts are unchanged if nothing was done
 pub none_counted : (counts : RunCounts) (result : ObserveStatus) → (result ≡ status.ReadFault → ⊥) → (result ≡ status.NoFile → ⊥) → (result ≡ status.WriteFault → ⊥) → ObserverFailuresAreCounted counts counts result
 none_counted counts result no_read no_file no_write = counts_same counts counts result refl refl no_read no_file (stays (result ≡ status.WriteFault) counts.writes counts.writes no_write refl)
 
@@ -131,7 +131,7 @@ runs_refused request files before now had (fault.NoMemory _) result refused lack
 
 -- ---- where reading stops
 
--- where a trace was observed, no line was refused, and no read failed
+-- if a trace was observed, no line was rejected, and no read failed
 pub observed_stops : (request : Request) (files : Option Files) (given given_now : ℕ) (trace : Trace) (before now : ℕ) (had has : Option (List ℕ)) (result : ObserveStatus) → WritesObserved request trace before now had has result → StopsObserving request files given given_now result
 observed_stops request files given given_now trace before now had has status.Done wrote = tt
 observed_stops request files given given_now trace before now had has status.WriteFault wrote = tt
@@ -142,7 +142,7 @@ observed_stops request files given given_now trace before now had has status.NoF
 observed_stops request files given given_now trace before now had has status.ReadFault wrote = absurd wrote.1.2
 observed_stops request files given given_now trace before now had has (status.Trace line why) wrote = absurd wrote.1.2
 
--- and where it couldn't be read, it stops where reading it does
+-- if it couldn't be read, the run stops where the reads stop
 pub refused_stops : (request : Request) (files : Option Files) (given given_now : ℕ) (found : TraceFault) (result : ObserveStatus) → StopsAtRefusal {A = Unit {0}} observed_tick_length (told files request.trace) given given_now (Err found)
     → IsStatusOf found result → StopsObserving request files given given_now result
 refused_stops request files given given_now (fault.Refused refusal) result stops is = subst (StopsObserving request files given given_now) (sym is) (omega (arith, stops))
@@ -168,7 +168,7 @@ pub observed : (request : Request) (files : Option Files) (old new : Option (Lis
     → (trace : Trace) × (trace_of accepts bytes ≡ Ok trace) × ((text : List ℕ) × IsObservedText trace (pace_on request.path) request.path request.observers text × Appends old new text)
 observed request files old new bytes tells ends = (ends.0, ends.1.read bytes tells, ends.4)
 
--- the trace that was taken is the one that the bytes are
+-- the trace that was read is the one that the bytes spell
 same_trace : (request : Request) (files : Option Files) (bytes : List ℕ) (one other : Trace) → told files request.trace ≡ Some bytes → TakesAskedTrace request files one → trace_of accepts bytes ≡ Ok other → one ≡ other
 same_trace request files bytes one other tells takes read = let both : Ok one ≡ Ok other = sym (takes.read bytes tells) ∙ read in cc both
 

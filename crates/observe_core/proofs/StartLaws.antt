@@ -16,7 +16,7 @@ use Rattle.observe_core.specs.Driving.{AreCounted, HaveObserved, IsNew, IsObserv
 use Rattle.observe_core.specs.Results.{IsPlannedFor}
 use Rattle.observe_core.proofs.TickLaws.{observed_first}
 
--- what stays the same beside a new replay of a trace, on a board
+-- the setting of a new replay of a trace, with a board
 abbrev pub setting_of : PlansView → ReplayView → TableId → Trace → List ℕ → Setting
 setting_of plans replay board trace path = record { plans = plans; rows = replay.crew.rows; board = board; trace = trace; pace = pace_on path; path = path }
 
@@ -36,7 +36,7 @@ reached_first options replay plans board trace version path is same planned new 
       watch = refl;
     }
 
--- and so many new observers have observed nothing yet, where making them left the replay as it was
+-- n new observers have observed nothing yet, if creating them left the replay unchanged
 pub begun : (options : Options) (old new : ReplayView) (plans : PlansView) (board : TableId) (trace : Trace) (version : ℕ) (path : List ℕ) (observers : List ObserverView) (count : ℕ) → options ≡ options_on (Some path) → old.plans ≡ plans
     → IsPlannedFor plans trace version path → ((trace : Trace) → IsPlanned plans trace (pace_of options) → version_of version ≡ trace.version → IsReplay old trace (pace_of options) [] 0) → new ≡ old → length observers ≡ count
     → ((set : Setting) → MayBegin set old → set.board ≡ board → (number : ℕ) (d : ObserverView) → number < count → IsNew set number (slice_index_or observers number d)) → IsObserved (setting_of plans old board trace path) new observers 0

@@ -1,4 +1,4 @@
--- What an observer took in one interval, behind what it took before.
+-- An observer's samples of one interval, after its earlier samples.
 use Rattle.std.proofs.Common.{◌≡◌, ◌⊎◌, inl, inr, ⊎_elim, ℕ, zero, suc, ◌+◌, ◌-◌, ◌<◌, ◌≤◌, Bool, true, false, List, [], ◌∷◌, ◌++◌, length, map, refl, sym, ap, ◌∙◌, subst, arith, rules, Option, None, Some}
 use Rattle.std.specs.Prelude.{cond, filter, slice_get}
 use Rattle.std.specs.List.{flat_map, range_with_len}
@@ -18,7 +18,7 @@ use Rattle.observe_core.specs.Driving.{AreLasts, AreOn, HasTaken, IsReadied, Set
 
 -- ---- lists
 
--- what was due, and what was due behind it
+-- the samples that were due, and those due after them
 done_append : (dues more : List Due) (looks others : List Look) → AreDone dues looks → AreDone more others → AreDone (dues ++ more) (looks ++ others)
 done_append [] more [] others first rest = rest
 done_append [] more (look ∷ looks) others first rest = absurd first
@@ -53,7 +53,7 @@ range_more a (suc n) =
     let same : a + 1 + n ≡ a + suc n = omega arith in
     ap (λ xs. a ∷ xs) (range_more (a + 1) n) ∙ ap (λ (x : ℕ). a ∷ (range_with_len (a + 1) n ++ x ∷ [])) same
 
--- what is due of one more tick stands behind what was due before
+-- the samples due at one more tick come after the earlier ones
 pub due_more : (set : Setting) (i : ℕ) → due_until set (i + 1) ≡ due_until set i ++ due_in set (i + 1)
 due_more set i =
     let next : i + 1 ≡ suc i = omega arith in
@@ -64,7 +64,7 @@ due_more set i =
     ∙ ap (λ (dues : List Due). due_until set i ++ dues) (append-nil (due_in set (1 + i)))
     ∙ ap (λ (n : ℕ). due_until set i ++ due_in set n) here
 
--- an entry stands at each place of a list
+-- a list has an entry at each place
 there : (entries : List Entry) (k : ℕ) → k < length entries → (entry : Entry) × (slice_get entries k ≡ Some entry)
 there [] k below = absurd (omega (arith, below))
 there (entry ∷ entries) zero below = (entry, refl)
@@ -72,7 +72,7 @@ there (entry ∷ entries) (suc k) below = there entries k (omega (arith, below))
 
 -- ---- one interval
 
--- the entries were taken on processors one after the other, from this one on
+-- the entries were taken on consecutive processors, starting with this one
 abbrev AreFrom : ℕ → PlansView → ℕ → List Sample → ℕ → List Entry → Type 0
 AreFrom observer plans slot lasts k taken =
     (j : ℕ) (entry : Entry) → slice_get taken j ≡ Some entry → IsTakenBy observer plans (k + j) slot (last_at lasts (k + j)).count entry
@@ -118,7 +118,7 @@ from_done observer plans slot lasts least k (entry ∷ taken) from low =
 of_cpu : (observer cpu : ℕ) (look : Look) → is_of observer cpu look ≡ true → look.cpu ≡ cpu
 of_cpu observer cpu look is = grind (arith, is)
 
--- and where it is of observer and processor, it is chosen
+-- if an entry has this observer and processor, it is chosen
 is_chosen : (observer cpu : ℕ) (look : Look) → look.observer ≡ observer → look.cpu ≡ cpu → is_of observer cpu look ≡ true
 is_chosen observer cpu look by on = grind (arith, by, on)
 
@@ -161,8 +161,8 @@ from_one observer plans slot lasts cpu k (entry ∷ taken) found from (suc j) pl
         ap (λ b. map (λ (look : Look). look.count) (cond b (look_of entry ∷ filter (is_of observer cpu) (looks_of taken)) (filter (is_of observer cpu) (looks_of taken)))) is
         ∙ rest
 
--- What a watcher took in an interval, between two of its states: readied it was for the processors
--- of the setting, and looked at all.
+-- The samples that a watcher took in an interval, between two of its states: it was prepared for
+-- the processors of the setting, and sampled all of them.
 pub record Took (set : Setting) (slot number : ℕ) (made : ℕ → ℕ) (lasts : List Sample) (old mid new : WatcherView) : Type 0 where
   pub number_is : old.observer ≡ number
   pub plans_are : old.plans ≡ set.plans

@@ -48,7 +48,7 @@ changes_above : (cpu : ℕ) (events : List Event) → AreAbove 1 (changes_of cpu
 unfolding changes_of
 changes_above cpu events = above_chosen (is_change cpu events) 1 1 (length events) (omega arith)
 
--- the moment of an event, counted from one
+-- the time of an event, numbered from 1
 moment_is : (events : List Event) (number : ℕ) → 1 ≤ number → moment_of events 0 number ≡ moment_at number events
 moment_is events zero above = absurd (omega (arith, above))
 moment_is events (suc before) above =
@@ -60,7 +60,7 @@ moments_are events [] k above below = absurd (omega (arith, below))
 moments_are events (number ∷ numbers) zero above below = moment_is events number above.0
 moments_are events (number ∷ numbers) (suc k) above below = moments_are events numbers k above.1 (omega (arith, below))
 
--- the moment of a change is that of its event
+-- the time of a change is the time of its event
 change_moment : (trace : Trace) (cpu k : ℕ) → k ≤ length (changes_of cpu trace.events) → last_change (plan_of cpu trace.events) k ≡ moment_after trace cpu k
 change_moment trace cpu zero within = refl
 change_moment trace cpu (suc k) within =
@@ -169,7 +169,7 @@ counts_own observer cpu (look ∷ looks) = go (look.observer == observer) refl (
         ∙ rest
         ∙ sym (ap (λ b. counts_by observer cpu (cond b (look ∷ looks_by observer looks) (looks_by observer looks))) is)
 
--- the counts rise, where the first entry is among those that are chosen or isn't
+-- the counts rise, whether or not the first entry is chosen
 abbrev Rises : ℕ → ℕ → ℕ → Entry → List Entry → Bool → ℕ → Type 0
 Rises observer cpu low entry own b top =
     RiseWithin low (map (λ (look : Look). look.count) (cond b (look_of entry ∷ filter (is_of observer cpu) (looks_of own)) (filter (is_of observer cpu) (looks_of own)))) top
@@ -192,7 +192,7 @@ counts_within plans trace pace observer cpu low high (entry ∷ own) planned on 
         let all : Rises observer cpu low entry own false high = subst (λ b. Rises observer cpu low entry own b high) is rise in
         subst (λ b. Rises observer cpu low entry own b (length (changes_of cpu trace.events))) (sym is) (rest low below all)
 
--- entries are on the plans where those of each observer are
+-- entries are on the plans if those of each observer are
 all_on : (plans : PlansView) (entries : List Entry) → ((observer : ℕ) → AreOn plans (by observer entries)) → AreOn plans entries
 all_on plans [] each = tt
 all_on plans (entry ∷ entries) each =

@@ -1,4 +1,4 @@
--- Observers beside a replay, from tick to tick.
+-- Observers during a replay, from tick to tick.
 use Rattle.std.proofs.Common.{◌≡◌, ⊎_elim, ℕ, ◌+◌, ◌<◌, ◌≤◌, false, zero, suc, List, [], ◌∷◌, ◌++◌, drop, length, get_or, take, refl, sym, ap, ◌∙◌, subst, arith, Option, None, Some}
 use Rattle.std.specs.Prelude.{slice_get, slice_index_or}
 use Rattle.std.specs.List.{All}
@@ -31,7 +31,7 @@ use Rattle.observe_core.proofs.TakenLaws.{Took, taken_more, taken_none, taken_st
 pub some_replay : (set : Setting) (i : ℕ) (replay : ReplayView) → IsReached set replay i → IsSomeReplay replay
 some_replay set i replay is = (set.trace, set.pace, [], i, is.replayed)
 
--- it may pass on, where a tick is left
+-- it may advance if a tick remains
 pub can_pass : (set : Setting) (i : ℕ) (replay : ReplayView) → IsReached set replay i → i < tick_count set.trace set.pace → IsTickLeft replay
 can_pass set i replay is left = (set.trace, set.pace, [], i, is.replayed, left)
 
@@ -56,7 +56,7 @@ plan_groups set i replay is = λ cpu below.
     subst (λ (plans : PlansView). length (plan_at plans cpu).parents ≡ length plans.lives) same
     (on.slots cpu (let many : length replay.plans.plans ≡ length set.plans.plans = ap (λ (plans : PlansView). length plans.plans) same in omega (arith, below, each, many)))
 
--- the slot that was found for the next tick is the one that the path has
+-- the slot found for the next tick is the slot that the path has
 pub slot_found : (set : Setting) (i : ℕ) (replay : ReplayView) (slot : Option Slot) → IsReached set replay i
     → number_of_slot slot ≡ watched_at set.trace (watched_path set.pace.watch) (tick_moment set.pace.length (i + 1)) → slot_in set (i + 1) ≡ number_of_slot slot
 slot_found set i replay slot is found =
@@ -73,7 +73,7 @@ reached_next set i old new is left passed = record {
 
 -- ---- one observer
 
--- it may be readied
+-- it may be prepared
 pub may_ready : (set : Setting) (i number slot : ℕ) (replay : ReplayView) (observer : ObserverView) → IsReached set replay i → IsPlaced set number observer → slot < length replay.plans.lives → MayReady replay slot observer.watcher observer.lasts
 may_ready set i number slot replay observer is placed inside =
     let plans : set.plans ≡ replay.plans = sym is.plans_are in
@@ -122,7 +122,7 @@ can_watch set i number slot replay old mid is placed inside ready =
       };
     }
 
--- what it took, where it watched
+-- the samples that it took, if it watched
 took : (set : Setting) (i number slot : ℕ) (replay : ReplayView) (old mid new : ObserverView) → IsReached set replay i → IsPlaced set number old → IsReady replay.plans slot (made_by replay.crew) old mid
     → HasWatched slot mid new → new.failed ≡ false → Took set slot number (made_by replay.crew) mid.lasts old.watcher mid.watcher new.watcher
 took set i number slot replay old mid new is placed ready watched whole = record {
@@ -134,7 +134,7 @@ took set i number slot replay old mid new is placed ready watched whole = record
   looked = watched.looked whole;
 }
 
--- it stays where it was placed
+-- it is still placed
 placed_next : (set : Setting) (number slot : ℕ) (replay : ReplayView) (old mid new : ObserverView) → IsPlaced set number old → IsReady replay.plans slot (made_by replay.crew) old mid → HasWatched slot mid new → new.failed ≡ false → IsPlaced set number new
 placed_next set number slot replay old mid new placed ready watched whole =
     let looked = watched.looked whole in
@@ -180,7 +180,7 @@ observed_next set i number slot replay old mid new is here was ready watched who
 pub written_back : {X : Type 0} (xs new : List X) (n : ℕ) → n ≡ length new → take n (new ++ drop (length new) xs) ≡ new
 written_back xs new n size = rw size (take-append_seam new (drop (length new) xs))
 
--- all may be readied
+-- all may be prepared
 pub all_may_ready : (set : Setting) (i slot : ℕ) (replay : ReplayView) (observers : List ObserverView) → IsObserved set replay observers i → slot < length replay.plans.lives
     → All (λ (observer : ObserverView). MayReady replay slot observer.watcher observer.lasts) observers
 all_may_ready set i slot replay observers is inside = λ k d below. may_ready set i k slot replay (get_or observers k d) is.reached (is.observed k d below).placed inside
@@ -193,7 +193,7 @@ all_can_watch set i slot replay old mid is inside ready = λ k d below.
     let before : k < length old = omega (arith, below, many) in
     can_watch set i k slot replay (get_or old k d) (get_or mid k d) is.reached (is.observed k d before).placed inside (ready.each k d before)
 
--- one more tick was made, at which all watched
+-- after one more tick, at which all watched
 pub watched_next : (set : Setting) (i slot : ℕ) (replay passed : ReplayView) (old mid new : List ObserverView) → IsObserved set replay old i → i < tick_count set.trace set.pace → slot_in set (i + 1) ≡ Some slot
     → AreReady replay.plans slot (made_by replay.crew) old mid → HasPassed replay passed → HaveAllWatched slot mid new → AreWhole new → IsObserved set passed new (i + 1)
 watched_next set i slot replay passed old mid new is left here ready has all whole = record {
@@ -206,7 +206,7 @@ watched_next set i slot replay passed old mid new is left here ready has all who
       observed_next set i k slot replay (get_or old k d) (get_or mid k d) (get_or new k d) is.reached here (is.observed k d before) (ready.each k d before) (all.each k d between) (whole k d below);
 }
 
--- one more tick was made, at which the path isn't live
+-- after one more tick, at which the path isn't live
 pub passed_next : (set : Setting) (i : ℕ) (replay passed : ReplayView) (observers : List ObserverView) → IsObserved set replay observers i → i < tick_count set.trace set.pace → slot_in set (i + 1) ≡ None → HasPassed replay passed → IsObserved set passed observers (i + 1)
 passed_next set i replay passed observers is left none has = record {
   reached = reached_next set i replay passed is.reached left has;
@@ -250,7 +250,7 @@ state_before [] state k below = absurd (omega (arith, below))
 state_before (first ∷ states) state zero below = refl
 state_before (first ∷ states) state (suc k) below = state_before states state k (omega (arith, below))
 
--- and that of the next tick behind the others
+-- and the state of the next tick after the others
 pub shown_next : (trace : Trace) (pace : Pace) (i tick events : ℕ) (old new : List BoardState) → AreShown trace pace i old → tick ≡ i + 1 → events ≡ signals_until trace pace (i + 1) → new ≡ old ++ record { tick = tick; events = events; kills = 0 } ∷ []
     → AreShown trace pace (i + 1) new
 shown_next trace pace i tick events old new shown ticks signals is =

@@ -77,7 +77,7 @@ ordered-requires-clause-own g c =
     let lists = c.deref.ensures.value ∙ c.in_ok-ended.ensures.own in
     subst AreOwn (sym lists) (are_own set (tick_count set.trace set.pace) c.in_ok-observers-2.observers.items all)
 
--- what is printed is a text of each trace that the plans stand for
+-- the printed text is a text of each trace that the plans represent
 pub returns-clause-observed : goal.returns-clause-observed
 returns-clause-observed g c = λ trace planned.
     let path = c.args.request.now.path in
