@@ -1,4 +1,4 @@
-//! What tells of a status.
+//! Messages for statuses.
 ghost use Rattle.std.specs.Prelude.{◌≡◌, ◌++◌, codes, option_map};
 ghost use Rattle.dropin_rules.specs.FaultText.{drop_fault_text};
 ghost use Rattle.ruleset_json.specs.FaultText.{fault_text};
@@ -16,7 +16,7 @@ use ruleset_json::RulesFault;
 use run_spec::{Command, Status, Which};
 use trace_file::put_refusal;
 
-// The name of a cause against a line of a text of ftrace.
+// The name of the cause of a rejected ftrace line.
 fn import_cause_name(cause: ImportCause) -> &'static [u8]
     ensures { result.now ≡ import_cause_text cause }
 {
@@ -32,7 +32,7 @@ fn import_cause_name(cause: ImportCause) -> &'static [u8]
     }
 }
 
-// Tells of a refused line of a text of ftrace.
+// Writes the message for a rejected ftrace line.
 fn put_import_refusal<N: Sink>(
     note: &mut N,
     line: u32,
@@ -56,7 +56,7 @@ fn put_import_refusal<N: Sink>(
     )
 }
 
-// Tells of a fault of a rules file.
+// Writes the message for an error in a rules file.
 fn put_rules_fault<N: Sink>(note: &mut N, fault: RulesFault) -> Result<(), WriteFailed>
     ensures bytes { PutsAll (N.has note.old) (N.has note.new) result
         (fault_text fault ++ codes "\n") }
@@ -66,7 +66,7 @@ fn put_rules_fault<N: Sink>(note: &mut N, fault: RulesFault) -> Result<(), Write
     put_all(note, b"\n")
 }
 
-// Tells of a fault of a drop-in file.
+// Writes the message for an error in a drop-in file.
 fn put_drop_in_fault<N: Sink>(note: &mut N, fault: DropFault) -> Result<(), WriteFailed>
     ensures bytes { PutsAll (N.has note.old) (N.has note.new) result
         (drop_fault_text fault ++ codes "\n") }
@@ -76,7 +76,7 @@ fn put_drop_in_fault<N: Sink>(note: &mut N, fault: DropFault) -> Result<(), Writ
     put_all(note, b"\n")
 }
 
-// The name of a command's file of a kind.
+// The name of a command's file of this kind.
 fn file_name(command: Option<&Command>, which: Which) -> &[u8]
     ensures { result.now ≡ name_text (option_map (λ command. command.now) command.entry) which }
 {
@@ -100,7 +100,7 @@ fn file_name(command: Option<&Command>, which: Which) -> &[u8]
     }
 }
 
-/// Tells of a status in one line, and of `Done` in none. Takes no memory.
+/// Writes the message of a status in one line, and nothing for `Done`. Does not allocate.
 pub(crate) fn put_status<N: Sink>(
     note: &mut N,
     command: Option<&Command>,
