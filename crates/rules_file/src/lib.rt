@@ -1,7 +1,8 @@
-//! The rules of a command from a shelf, and the command `rules`, which prints them.
+//! Reads the rules of a command from a shelf, and runs the command `rules`, which prints them.
+//! Parsing is left to `ruleset_json` and `dropin_rules`.
 //!
 //! [`read_rules`] reads the files that the options of a replay name, [`read_joined`] a rules file
-//! with a drop-in file over it. [`put_fault`] and [`put_drop_fault`] write why one was refused.
+//! with a drop-in file applied. [`put_fault`] and [`put_drop_fault`] write why one was rejected.
 #![tactic(auto)]
 
 mod name;

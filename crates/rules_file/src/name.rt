@@ -3,7 +3,7 @@ ghost use Rattle.std.specs.Prelude.{◌≡◌, IsUtf8};
 
 use psi_base::Text;
 
-/// A name as the system takes it.
+/// A file name as a string.
 pub fn name_of(text: &Text) -> &str
     requires { IsUtf8 text.now }
     ensures { result.now ≡ text.now }

@@ -1,4 +1,4 @@
-//! The texts of the faults of a rules file and of a drop-in file.
+//! The messages for errors in a rules file or a drop-in file.
 ghost use Rattle.std.specs.Prelude.{◌≡◌};
 ghost use Rattle.outside.specs.Outside.{HasCause};
 ghost use Rattle.outside.specs.Calls.{PutsAll};
@@ -10,7 +10,6 @@ use itoa::Buffer;
 use outside::{Sink, WriteFailed, put_each};
 use ruleset_json::{Place, RulesCause, RulesFault};
 
-// The name of a cause.
 fn cause_name(cause: RulesCause) -> &'static [u8]
     ensures { result.now ≡ rules_cause_name cause }
 {
@@ -25,9 +24,9 @@ fn cause_name(cause: RulesCause) -> &'static [u8]
     }
 }
 
-// Writes what is reported of a fault in a file: the word for the file, the place by the numbers of
-// its ruleset, its group and its item or its action, which is nothing for the whole file, then `: `
-// and the name of the cause.
+// Writes the message for an error in a file: the word for the file, the place by the numbers of its
+// ruleset, its group and its item or its action (nothing for the whole file), then `: ` and the
+// name of the cause.
 fn put_placed<K: Sink>(
     out: &mut K,
     file: &[u8],
@@ -92,8 +91,8 @@ fn put_placed<K: Sink>(
     }
 }
 
-/// Writes what is reported of a fault of a rules file: `rules`, its place and its cause. Takes no
-/// memory.
+/// Writes the message for an error in a rules file: `rules`, its place and its cause. Does not
+/// allocate.
 pub fn put_fault<K: Sink>(out: &mut K, fault: RulesFault) -> Result<(), WriteFailed>
     ensures bytes { PutsAll (K.has out.old) (K.has out.new) result (fault_text fault) }
     ensures cause { HasCause (K.faults out.old) (K.faults out.new) result }
@@ -101,7 +100,6 @@ pub fn put_fault<K: Sink>(out: &mut K, fault: RulesFault) -> Result<(), WriteFai
     put_placed(out, b"rules", fault.place, cause_name(fault.what))
 }
 
-// The name of a cause of a drop-in file.
 fn drop_cause_name(cause: DropCause) -> &'static [u8]
     ensures { result.now ≡ drop_cause_name cause }
 {
@@ -112,8 +110,8 @@ fn drop_cause_name(cause: DropCause) -> &'static [u8]
     }
 }
 
-/// Writes what is reported of a fault of a drop-in file: `drop-in`, its place as in a rules file,
-/// and its cause. Takes no memory.
+/// Writes the message for an error in a drop-in file: `drop-in`, its place as in a rules file, and
+/// its cause. Does not allocate.
 pub fn put_drop_fault<K: Sink>(out: &mut K, fault: DropFault) -> Result<(), WriteFailed>
     ensures bytes { PutsAll (K.has out.old) (K.has out.new) result (drop_fault_text fault) }
     ensures cause { HasCause (K.faults out.old) (K.faults out.new) result }

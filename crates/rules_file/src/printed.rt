@@ -16,7 +16,7 @@ use ruleset_json::Rules;
 use run_spec::{Command, Status};
 use std::alloc::Global;
 
-// The line that rules are.
+// The line that rules print as.
 fn rules_line(alloc: Global, rules: &Rules) -> Result<Vec<u8>, NoMemory>
     ensures { IfOk result (λ line. line.items ≡ rules_text rules.now.rules ++ codes "\n") }
 {
@@ -26,7 +26,6 @@ fn rules_line(alloc: Global, rules: &Rules) -> Result<Vec<u8>, NoMemory>
     Ok(line)
 }
 
-// Writes a line.
 fn put_line<K: Sink>(line: &[u8], out: &mut K) -> Status
     ensures writes { WritesText line.now (K.faults out.old) (K.faults out.new)
         (K.has out.old) (K.has out.new) result }
@@ -38,7 +37,7 @@ fn put_line<K: Sink>(line: &[u8], out: &mut K) -> Status
     }
 }
 
-// Writes rules. Where memory is wanting, nothing is written.
+// Writes rules. If out of memory, nothing is written.
 fn print_rules<K: Sink>(alloc: Global, rules: &Rules, out: &mut K) -> Status
     ensures writes { WritesText (rules_text rules.now.rules ++ codes "\n")
         (K.faults out.old) (K.faults out.new) (K.has out.old) (K.has out.new) result }
@@ -50,7 +49,7 @@ fn print_rules<K: Sink>(alloc: Global, rules: &Rules, out: &mut K) -> Status
     }
 }
 
-/// Runs `rules` over a rules file, and the drop-in file over it, if one is named.
+/// Runs `rules` for a rules file, and a drop-in file, if one is named.
 pub fn run_rules<S: Shelf, K: Sink>(
     alloc: Global,
     name: &str,

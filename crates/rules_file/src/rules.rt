@@ -1,4 +1,4 @@
-//! The rules of a command from a shelf: those of its rules file, with the drop-in file over it.
+//! The rules of a command from a shelf: those of its rules file, with a drop-in file applied.
 ghost use Rattle.std.specs.Prelude.{◌≡◌, ◌+◌, ◌≤◌, None, Some, IfSome, IsUtf8, MatchResult, ⊤};
 ghost use Rattle.psi_base.specs.Gives.{Gives};
 ghost use Rattle.outside.specs.Outside.{counts_of};
@@ -21,11 +21,12 @@ use ruleset_json::{RuleList, Rules, read, read_parts};
 use run_spec::{Options, Status, Which};
 use std::alloc::Global;
 
-/// How many bytes of a rules file or a drop-in file are read at most: one more than it may have, so
-/// that a longer one is refused.
+/// The largest number of bytes that are read of a rules file or a drop-in file: one more than the
+/// size limit, so that a longer file is rejected.
 const MOST: usize = 1_048_577;
 
-// Rules as they are: their lists keep that each ruleset is in its ranges.
+// The same rules. By the type of their list each ruleset is in its ranges, which the contract
+// states.
 fn in_ranges(rules: Rules) -> Rules
     ensures same { result ≡ rules }
     ensures fit { FitsRules result.rules }
@@ -35,8 +36,7 @@ fn in_ranges(rules: Rules) -> Rules
     }
 }
 
-// The bytes of a rules file or a drop-in file, which is of this kind, or a front that is too long
-// already.
+// The bytes of a rules file or a drop-in file of this kind, or a prefix that is already too long.
 fn read_bytes<S: Shelf>(
     alloc: Global,
     name: &str,
@@ -63,7 +63,6 @@ fn read_bytes<S: Shelf>(
     }
 }
 
-// Reads the rules of a rules file.
 fn read_base<S: Shelf>(alloc: Global, name: &str, shelf: &mut S) -> Result<Rules, Status>
     ensures kept { S.holds shelf.new ≡ S.holds shelf.old }
     ensures answer { let before = counts_of (S.faults shelf.old) (S.absent shelf.old) in
@@ -88,7 +87,7 @@ fn read_base<S: Shelf>(alloc: Global, name: &str, shelf: &mut S) -> Result<Rules
     }
 }
 
-// Rules with a drop-in file of these bytes over them.
+// Rules with the drop-in file with these bytes applied.
 #[tactic(auto, unfolding(dropin_rules::specs::Joined::dropped_in))]
 fn dropped(alloc: Global, base: Rules, bytes: &[u8]) -> Result<Rules, Fault<DropFault>>
     ensures { Gives result (dropped_in base bytes.now) }
@@ -100,7 +99,7 @@ fn dropped(alloc: Global, base: Rules, bytes: &[u8]) -> Result<Rules, Fault<Drop
     }
 }
 
-// Reads a drop-in file, and puts it over rules.
+// Reads a drop-in file, and applies it to rules.
 fn read_over<S: Shelf>(
     alloc: Global,
     base: Rules,
@@ -130,8 +129,8 @@ fn read_over<S: Shelf>(
     }
 }
 
-/// Reads the rules of a rules file, with the drop-in file over it, if one is named. The drop-in
-/// file is read only behind rules that are accepted. A status tells why there are none.
+/// Reads the rules of a rules file, and applies a drop-in file, if one is named. The drop-in file
+/// is read only if the rules are accepted. On failure, the status says why.
 pub fn read_joined<S: Shelf>(
     alloc: Global,
     name: &str,
@@ -170,8 +169,7 @@ pub fn read_joined<S: Shelf>(
     }
 }
 
-/// Reads the rules that the options of a replay name, if they name any. A status tells why there
-/// are none.
+/// Reads the rules that the options of a replay name, if any. On failure, the status says why.
 pub fn read_rules<S: Shelf>(
     alloc: Global,
     options: &Options,
