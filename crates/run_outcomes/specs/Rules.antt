@@ -1,5 +1,4 @@
--- The rules that a command was given, where the bytes of its rules file, and of the drop-in file
--- over it, are told.
+-- The rules of a command, given the bytes of its rules file and drop-in file if these are known.
 use Rattle.std.specs.Prelude.{◌≡◌, ℕ, List, [], Option, None, Some, Ok}
 use Rattle.outside.specs.Outside.{Files, Lacks, told}
 use Rattle.ruleset_json.specs.declared.types.Rule.{Rule}
@@ -7,9 +6,9 @@ use Rattle.ruleset_json.specs.RuleRanges.{FitsRules}
 use Rattle.run_spec.specs.Outputs.{rules_from}
 use Rattle.run_spec.specs.Run.{told_if_named}
 
--- Rulesets are those of the rules file with a name, if one is named, with the drop-in file over it,
--- if that is: each is in its ranges; where no rules file is named there are none; they are those of
--- the files' bytes, where these are told; and neither file is known to be missing.
+-- Rulesets are those of the rules file with this name, with the drop-in file applied, if these are
+-- named. Each ruleset is in its ranges. Without a rules file there are none. If the files' bytes
+-- are known, they give these rulesets, and neither file is known to be missing.
 pub record RulesGiven (named drop_in : Option (List ℕ)) (files : Option Files) (rules : List Rule) : Type 0 where
   pub fit : FitsRules rules
   pub none : named ≡ None → rules ≡ []

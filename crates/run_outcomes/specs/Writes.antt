@@ -1,4 +1,4 @@
--- What reading and writing come to as the status of a run.
+-- The status of a run, from the results of reading and writing.
 use Rattle.std.specs.Prelude.{◌≡◌, ◌≤◌, ℕ, List, Option, Result, Ok, Err}
 use Rattle.std.specs.Io.KnownBytes.{Appends, Keeps}
 use Rattle.outside.specs.Outside.{AppendsFront, Rose}
@@ -22,24 +22,25 @@ use Rattle.whatif_trace.specs.declared.removal.TooLarge.{TooLarge}
 use Rattle.trace_file.specs.declared.trace.TraceFault.{TraceFault}
 use Rattle.trace_file.specs.declared.trace.TraceFault.TheVariants as fault
 
--- What writing a text gave: all of it, a front of it where a write failed, or nothing for want of
--- memory. The count of failed writes rose where one failed, and else is as it was.
+-- The result of writing a text: all of it was written, or a prefix of it if a write failed, or
+-- nothing if memory ran out. The count of failed writes increased if one failed, and is unchanged
+-- otherwise.
 abbrev pub WritesText : List ℕ → ℕ → ℕ → Option (List ℕ) → Option (List ℕ) → Status → Type 0
 WritesText text before now had has status.Done = Appends had has text × (now ≡ before)
 WritesText text before now had has status.WriteFault = AppendsFront had has text × Rose before now
 WritesText text before now had has (status.NoMemory _) = Keeps had has × (now ≡ before)
 WritesText text before now had has _ = ⊥
 
--- What writing some text of a kind gave: one of them was to be written.
+-- The result of writing some text with a property: any such text may have been written.
 abbrev pub WritesSome : (List ℕ → Type 0) → ℕ → ℕ → Option (List ℕ) → Option (List ℕ) → Status → Type 0
 WritesSome IsSo before now had has result = (text : List ℕ) × IsSo text × WritesText text before now had has result
 
--- so it is as far as the text itself goes
+-- the same for the bytes written, without the counts
 abbrev pub PutsSome : {T E : Type 0} → (List ℕ → Type 0) → Option (List ℕ) → Option (List ℕ) → Result T E → Type 0
 PutsSome IsSo had has result = (text : List ℕ) × IsSo text × PutsAll had has result text
 
--- What `whatif` wrote of a trace: some output of `replay` for the last trace, or none where a round
--- left too many events.
+-- The output of `whatif` for a trace: some output of `replay` for the last trace, or none if a
+-- round left too many events.
 abbrev pub WritesLast : Trace → Pace → List Rule → ℕ → ℕ → Option (List ℕ) → Option (List ℕ) → Status → Type 0
 WritesLast trace pace rules before now had has (status.TooLarge events) =
     (last_trace trace pace rules ≡ Err events) × Keeps had has × (now ≡ before)
@@ -59,8 +60,7 @@ abbrev pub IsStatusOfRounds : Fault TooLarge → Status → Type 0
 IsStatusOfRounds (of_rounds.Refused large) result = result ≡ status.TooLarge large.events
 IsStatusOfRounds (of_rounds.NoMemory none) result = result ≡ status.NoMemory none
 
--- a trace that was taken apart is to be replayed with options: it is accepted at their length of a
--- tick
+-- a planned trace is to be replayed with options: it is accepted at their length of a tick
 pub record IsToReplay (planner : PlannerView) (options : Options) (limits : Limits) (events : List Event) : Type 0 where
   pub taken : HasTaken planner limits events
   pub ended : IsAccepted limits events
