@@ -1,4 +1,4 @@
-//! The front of a file, however the shelf's reads cut it.
+//! Reads a prefix of a file, however the shelf's reads split it.
 ghost use Rattle.std.specs.Prelude.{◌≡◌, ◌+◌, ◌<◌, ◌≤◌, ℕ, List, length, take, IfOk, IsErrOf, Some, None};
 ghost use Rattle.outside.specs.Outside.{Lacks, counts_of, told};
 ghost use Rattle.outside.specs.Reads.{ReadsFile};
@@ -11,11 +11,11 @@ use std::alloc::Global;
 /// Why a file wasn't read.
 #[derive(Clone, Copy, Debug, PartialEq, Eq)]
 pub enum FileFault {
-    /// The shelf has no such name.
+    /// The shelf has no file with this name.
     NoFile,
     /// A read failed.
     ReadFault,
-    /// There was no memory.
+    /// Out of memory.
     NoMemory(NoMemory),
 }
 
@@ -44,15 +44,15 @@ impl From<NoMemory> for FileFault {
     }
 }
 
-// So many zeros.
+// `count` zeros.
 fn zeros(alloc: Global, count: usize) -> Result<Vec<u8>, NoMemory>
     ensures { IfOk result (λ bytes. length bytes.items ≡ count) }
 {
     Ok(vec![in alloc; 0; count]?)
 }
 
-// Reads from the start of a file on until the buffer is full or the file ends, and says how many
-// bytes.
+// Reads from the start of a file until the buffer is full or the file ends, and returns the number
+// of bytes.
 fn fill<S: Shelf>(shelf: &mut S, name: &str, bytes: &mut [u8]) -> Result<usize, FileFault>
     requires some { 0 < length bytes.old }
     ensures kept { S.holds shelf.new ≡ S.holds shelf.old }
@@ -82,9 +82,9 @@ fn fill<S: Shelf>(shelf: &mut S, name: &str, bytes: &mut [u8]) -> Result<usize, 
     Ok(held)
 }
 
-/// The bytes of a name, or the first `most` of them where it has more. It takes the memory for
-/// `most` bytes before it reads, and reads no more bytes than these, nor than the name has, also
-/// where it fails. `NoFile` and `ReadFault` come from the shelf, which counts them.
+/// The bytes of a file, or the first `most` of them if it has more. Allocates memory for `most`
+/// bytes before it reads, and reads at most that many bytes, even if it fails. `NoFile` and
+/// `ReadFault` come from the shelf, which counts them.
 pub fn read_front<S: Shelf>(
     alloc: Global,
     shelf: &mut S,

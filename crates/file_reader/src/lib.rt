@@ -1,4 +1,6 @@
-//! The bytes of a file that a shelf holds, in one piece.
+//! Reads a prefix of a shelf's file into one piece of memory.
+//!
+//! It is for small files such as rules; a trace is read line by line, with `psi_lines`.
 #![tactic(auto)]
 
 mod front;
