@@ -1,4 +1,4 @@
--- What reading a trace gives, where its bytes are told.
+-- The result of reading a trace, given its bytes if these are known.
 use Rattle.std.specs.Prelude.{◌≡◌, ◌≢◌, ℕ, ◌+◌, ◌<◌, ◌≤◌, ◌-◌, List, [], ◌∷◌, ◌++◌, length, take, Option, None, Some, Result, Ok, Err, IsErrOf, OnOk, ⊤, true, false}
 use Rattle.outside.specs.Outside.{HasCauses, ShelfCounts}
 use Rattle.outside.specs.Reads.{ReadCall, ReadsFile, ReadsFrom}
@@ -29,27 +29,27 @@ use Rattle.trace_file.specs.declared.trace.TraceFault.TheVariants.{Refused, NoFi
 
 -- ---- players
 
--- a keeper's table has played events, and it keeps them, and how many processors they are on
+-- a keeper's table has played events, and the keeper has stored them, and the number of processors
 pub record HasKept (cpus : ℕ) (kept : List Event) (limits_now : Limits) (w : World) (limits : Limits) (events : List Event) : Type 0 where
   pub played : IsPlayed limits_now w limits events
   pub kept_are : kept ≡ events
   pub cpus_are : cpus ≡ limits.cpus
 
--- a player has played events that can each be spelled, by one of these verbs, and are legal in
--- their turn
+-- a player has played events that can each be spelled, with these verbs, and are legal in their
+-- order
 abbrev pub Legally : List Verb → Plays → Plays
 Legally verbs Played limits events = Played limits events × AllFit events × AreKnown verbs events × AreLegal limits first_world events
 
--- what was read of a line does to a player: an event is taken, and a fault is handed on
+-- the effect of a parsed line on a player: an event is played, and a fault is returned
 abbrev pub TakesRead : Plays → Plays → Result Event (Fault Cause) → Result (Unit {0}) (Fault Cause) → Type 0
 TakesRead Before After (Ok event) result = PlayerTakes Before After event result
 TakesRead Before After (Err why) result = result ≡ Err why
 
 -- ---- one line
 
--- What a line, read by these verbs, does to a player that has played any events and whose trace
--- hasn't ended: its event is played behind them, and there were fewer than 4,000,000 before it; or
--- the line is refused.
+-- The effect of a line, parsed with these verbs, on a player that has played any events and whose
+-- trace hasn't ended: its event is played after them, and there were fewer than 4,000,000 before
+-- it; or the line is rejected.
 abbrev pub TakesLine : List Verb → Plays → Plays → List ℕ → Result (Unit {0}) (Fault Cause) → Type 0
 TakesLine verbs Before After line (Ok x) =
     (limits : Limits) (events : List Event) → Before limits events → (after events).ended ≡ false
@@ -60,12 +60,12 @@ TakesLine verbs Before After line (Err (fault.Refused why)) =
     → line_event verbs limits (after events) line ≡ Err why
 TakesLine verbs Before After line (Err (fault.NoMemory _)) = ⊤
 
--- the events of what is left of the input, read by these verbs, in a world, from the line with a
--- number on
+-- the events of the rest of the input, parsed with these verbs, in a world, starting with the line
+-- with this number
 abbrev pub rest_from : List Verb → Limits → World → ℕ → List ℕ → Result (List Event) Refusal
 rest_from verbs limits w line bytes = events_from verbs limits w line (parts_at 10 bytes)
 
--- a refusal is the definition's; the other faults have clauses of their own
+-- a rejection is the one that the definition gives; the other faults have clauses of their own
 abbrev pub RefusalOf : {A : Type 0} → TraceFault → Result A Refusal → Type 0
 RefusalOf (Refused refusal) read = read ≡ Err refusal
 RefusalOf NoFile read = ⊤
@@ -77,8 +77,8 @@ abbrev pub IsTraceFault : ℕ → Fault Cause → TraceFault → Type 0
 IsTraceFault line (fault.Refused why) result = result ≡ Refused (refused line why)
 IsTraceFault line (fault.NoMemory none) result = result ≡ NoMemory none
 
--- why there is no trace where a line isn't read: one that the input cuts short is refused with this
--- cause
+-- why there is no trace if a line isn't read: a line that the end of the input cuts off is rejected
+-- with this cause
 abbrev pub trace_fault : Cause → LineFault → TraceFault
 trace_fault cut (lines.TooLong line) = Refused (refused line cause.LineTooLong)
 trace_fault cut (lines.Cut line) = Refused (refused line cut)
@@ -86,8 +86,8 @@ trace_fault cut lines.NoFile = NoFile
 trace_fault cut lines.ReadFault = ReadFault
 trace_fault cut (lines.NoMemory none) = NoMemory none
 
--- an event was played behind those before; where the bytes that were left are told, it is theirs,
--- and others are left
+-- an event was played after the earlier ones; if the remaining bytes were known, it is their first
+-- event, and the other bytes are left
 pub record NextPlayed (verbs : List Verb) (After : Plays) (limits : Limits) (events : List Event) (line : ℕ)
     (before after_bytes : List ℕ → List ℕ) (known : Option (List ℕ)) : Type 0 where
   pub event : Event
@@ -96,7 +96,7 @@ pub record NextPlayed (verbs : List Verb) (After : Plays) (limits : Limits) (eve
   pub read : (bytes : List ℕ) → known ≡ Some bytes → rest_from verbs limits (after events) line (before bytes)
       ≡ followed (event ∷ []) (rest_from verbs limits (after (events ++ event ∷ [])) (line + 1) (after_bytes bytes))
 
--- what the next line gives
+-- the result of the next line
 abbrev pub NextGives : List Verb → Plays → Plays → ℕ → (List ℕ → List ℕ) → (List ℕ → List ℕ) → Option (List ℕ)
     → Result (Unit {0}) TraceFault → Type 0
 NextGives verbs Before After line before after_bytes known (Ok x) =
@@ -106,7 +106,7 @@ NextGives verbs Before After line before after_bytes known (Err fault) =
     (limits : Limits) (events : List Event) → Before limits events → (after events).ended ≡ false → (bytes : List ℕ)
     → known ≡ Some bytes → RefusalOf fault (rest_from verbs limits (after events) line (before bytes))
 
--- nothing stands behind the end, or its line is refused
+-- nothing comes after the `end` line, or the next line is rejected
 abbrev pub TailGives : {A : Type 0} → ℕ → List ℕ → Result A TraceFault → Type 0
 TailGives line bytes (Ok x) = bytes ≡ []
 TailGives line bytes (Err (Refused refusal)) = (bytes ≢ []) × (refusal ≡ refused line cause.AfterEnd)
@@ -116,8 +116,7 @@ TailGives line bytes (Err (NoMemory _)) = ⊤
 
 -- ---- all lines
 
--- a player has played all events of what was left of the input behind the header, to the end of the
--- trace
+-- a player has played all events of the input after the header, up to the end of the trace
 pub record RestPlayed (verbs : List Verb) (Played : Plays) (limits : Limits) (before : List ℕ → List ℕ)
     (known : Option (List ℕ)) : Type 0 where
   pub events : List Event
@@ -125,24 +124,24 @@ pub record RestPlayed (verbs : List Verb) (Played : Plays) (limits : Limits) (be
   pub ended : (after events).ended ≡ true
   pub read : (bytes : List ℕ) → known ≡ Some bytes → rest_from verbs limits first_world 2 (before bytes) ≡ Ok events
 
--- what the lines behind the header give
+-- the result of the lines after the header
 abbrev pub RestGives : List Verb → Plays → Limits → (List ℕ → List ℕ) → Option (List ℕ) → Result (Unit {0}) TraceFault → Type 0
 RestGives verbs Played limits before known (Ok x) = RestPlayed verbs Played limits before known
 RestGives verbs Played limits before known (Err fault) =
     (bytes : List ℕ) → known ≡ Some bytes → RefusalOf fault (rest_from verbs limits first_world 2 (before bytes))
 
--- the verbs of the version with a number
+-- the verbs of the version with this number
 abbrev pub verbs_in : ℕ → List Verb
 verbs_in number = verbs_of (version_of number)
 
--- a header was read from the bytes before, and those after are left
+-- a header was read from the bytes `before`, and the bytes `after` remain
 abbrev pub HeadGives : ℕ → List ℕ → List ℕ → Result Header TraceFault → Type 0
 HeadGives tick before after (Ok head) =
     trace_of (accepts_with versions tick) before ≡ with_events (header_with head.version head.cpus)
     (rest_from (verbs_in head.version) (limits_of tick head.cpus) first_world 2 after)
 HeadGives tick before after (Err fault) = RefusalOf fault (trace_of (accepts_with versions tick) before)
 
--- a header that was read has the number of a version, and as many processors as there may be
+-- a header that was read has the number of a version, and a valid number of processors
 pub record IsHead (head : Header) : Type 0 where
   pub numbered : IsVersion head.version
   pub counted : IsCpuCount head.cpus
@@ -155,8 +154,8 @@ trace_with version cpus events = record { version = version; cpus = cpus; events
 abbrev pub plain_trace : ℕ → List Event → Trace
 plain_trace cpus events = trace_with One cpus events
 
--- A player has played all events of an accepted trace of the version with a number, which is that
--- of the bytes where they are told.
+-- A player has played all events of an accepted trace of the version with this number. If the bytes
+-- are known, they spell that trace.
 pub record TracePlayed (Played : Plays) (number tick : ℕ) (known : Option (List ℕ)) : Type 0 where
   pub numbered : IsVersion number
   pub cpus : ℕ
@@ -168,8 +167,8 @@ pub record TracePlayed (Played : Plays) (number tick : ℕ) (known : Option (Lis
   pub read : (bytes : List ℕ) → known ≡ Some bytes → trace_of (accepts_with versions tick) bytes
       ≡ Ok (trace_with (version_of number) cpus events)
 
--- Plans stand for an accepted trace of the version with a number, which is that of the bytes where
--- they are told.
+-- Plans represent an accepted trace of the version with this number. If the bytes are known, they
+-- spell that trace.
 pub record PlansRead (plans : PlansView) (number tick : ℕ) (known : Option (List ℕ)) : Type 0 where
   pub numbered : IsVersion number
   pub trace : Trace
@@ -180,22 +179,22 @@ pub record PlansRead (plans : PlansView) (number tick : ℕ) (known : Option (Li
   pub accepted : IsAccepted (limits_of tick trace.cpus) trace.events
   pub read : (bytes : List ℕ) → known ≡ Some bytes → trace_of (accepts_with versions tick) bytes ≡ Ok trace
 
--- a trace that can't be read has its first refusal
+-- a trace that can't be read has the rejection that the definition gives
 abbrev pub TraceRefused : TraceFault → ℕ → Option (List ℕ) → Type 0
 TraceRefused fault tick known = (bytes : List ℕ) → known ≡ Some bytes → RefusalOf fault (trace_of (accepts_with versions tick) bytes)
 
--- A shelf counted this fault of a trace and nothing else: a failed read, or a name that it hasn't.
+-- A shelf counted exactly this fault of a trace: a failed read, or a missing name.
 abbrev pub CausesTraceFault : {A : Type 0} → ShelfCounts → ShelfCounts → Result A TraceFault → Type 0
 CausesTraceFault before now result = HasCauses before now (IsErrOf result ReadFault) (IsErrOf result NoFile)
 
--- the fault of a shelf that a fault of a trace is, if it is one
+-- the shelf's fault in a trace's fault, if any
 abbrev pub shelf_fault : TraceFault → Option ShelfFault
 shelf_fault (Refused refusal) = None
 shelf_fault NoFile = Some shelf.NoFile
 shelf_fault ReadFault = Some shelf.Failed
 shelf_fault (NoMemory _) = None
 
--- the fault of a shelf that an answer has, if it has one
+-- the shelf's fault in a result, if any
 abbrev pub shelf_fault_in : {A : Type 0} → Result A TraceFault → Option ShelfFault
 shelf_fault_in (Ok x) = None
 shelf_fault_in (Err found) = shelf_fault found
@@ -205,8 +204,8 @@ abbrev pub LineInOrder : {A : Type 0} → List ℕ → ℕ → ℕ → List Read
 LineInOrder name at place before now (Ok x) = ReadsFrom name (Next at) before now (Next place)
 LineInOrder name at place before now (Err found) = ReadsFile name at before now (shelf_fault found)
 
--- What reading the next line does to the reader and to the shelf, whatever stands on the line: the
--- numbers are how many bytes the shelf had given before, and has given now.
+-- The effect of reading the next line on the reader and the shelf, whatever the line is. The
+-- numbers are the bytes that the shelf had returned before, and has returned now.
 pub record ReadsLine {A : Type 0} (known : Option (List ℕ)) (old new : Reader) (counts counts_now : ShelfCounts) (given given_now : ℕ)
     (result : Result A TraceFault) : Type 0 where
   pub name : new.name ≡ old.name
@@ -216,31 +215,31 @@ pub record ReadsLine {A : Type 0} (known : Option (List ℕ)) (old new : Reader)
   pub counted : given_now + old.at ≡ given + new.at
   pub place : new.at ≤ furthest old.number
 
--- What reading the next line does to how many lines are left. Where a read failed, no line was
--- taken, and no whole one is held; and a refused line is the next one.
+-- The effect of reading the next line on the number of remaining lines. If a read failed, no line
+-- was consumed, and no complete line is buffered. A rejected line is the next line.
 pub record KeepsLines {A : Type 0} (known : Option (List ℕ)) (old new : Reader) (result : Result A TraceFault) : Type 0 where
   pub lines : (bytes : List ℕ) → known ≡ Some bytes → new.number + line_count (left new bytes) ≡ old.number + line_count (left old bytes)
   pub failed : IsErrOf result ReadFault → (new.number ≡ old.number)
       × ((bytes : List ℕ) → known ≡ Some bytes → HasNoNewline new.held (length new.held))
   pub refused : (refusal : Refusal) → IsErrOf result (Refused refusal) → refusal.line ≡ old.number
 
--- A read failed at the line with the reader's number, of which the newline isn't held: a line that
--- is refused is none before it.
+-- A read failed at the line with the reader's number, whose newline isn't buffered: no earlier line
+-- is rejected.
 pub record FailsAt {A : Type 0} (bytes : List ℕ) (old new : Reader) (read : Result A Refusal) : Type 0 where
   pub lines : new.number + line_count (left new bytes) ≡ old.number + line_count (left old bytes)
   pub none : HasNoNewline new.held (length new.held)
   pub later : (refusal : Refusal) → read ≡ Err refusal → new.number ≤ refusal.line
 
--- Reading lines stops at the first that is refused: no further is read than what is held behind the
--- lines before it, and no read fails behind it.
+-- Reading lines stops at the first rejected line: only the lines before it and the buffered bytes
+-- are read, and no later read fails.
 pub record StopsReading {A B : Type 0} (known : Option (List ℕ)) (old new : Reader) (given given_now : ℕ)
     (read : List ℕ → Result B Refusal) (result : Result A TraceFault) : Type 0 where
   pub counted : given_now + old.at ≡ given + new.at
   pub refused : (refusal : Refusal) → IsErrOf result (Refused refusal) → new.at ≤ furthest refusal.line
   pub failed : IsErrOf result ReadFault → (bytes : List ℕ) → known ≡ Some bytes → FailsAt bytes old new (read bytes)
 
--- Reading a trace stops at the first line that is refused: no more is read than what is held behind
--- the lines before it, and a read fails only where that line isn't whole in what was read.
+-- Reading a trace stops at the first rejected line: only the lines before it and the buffered bytes
+-- are read, and a read fails only if that line was incomplete in what was read.
 abbrev pub StopsAtRefusal : {A : Type 0} → ℕ → Option (List ℕ) → ℕ → ℕ → Result A TraceFault → Type 0
 StopsAtRefusal tick known given given_now (Ok x) = ⊤
 StopsAtRefusal tick known given given_now (Err (Refused refusal)) = given_now ≤ given + furthest refusal.line
@@ -250,7 +249,7 @@ StopsAtRefusal tick known given given_now (Err ReadFault) =
     → line_count (take (given_now - given) bytes) ≤ refusal.line
 StopsAtRefusal tick known given given_now (Err (NoMemory _)) = ⊤
 
--- nothing is said of any bytes
+-- says nothing about any bytes
 abbrev pub TellsNothing : {A : Type 0} → Result A TraceFault → Type 0
 TellsNothing (Ok x) = ⊥
 TellsNothing (Err (Refused refusal)) = ⊥

@@ -1,14 +1,14 @@
-//! The player that keeps the events of a trace.
+//! A player that stores the events of a trace.
 use psi_base::{Cause, Event, Fault, NoMemory, Ns};
 use std::alloc::Global;
 use task_table::Table;
 use trace_player::{Player, TaskAct};
 use whatif_trace::copy_event;
 
-/// What plays a trace on the table of tasks, and keeps its events.
+/// Plays a trace on the table of tasks, and stores its events.
 #[derive(Drop)]
 pub struct Keeper {
-    /// How many processors the trace has.
+    /// The number of processors of the trace.
     pub cpus: u32,
     /// The events that were played.
     pub events: Vec<Event>,
@@ -16,7 +16,7 @@ pub struct Keeper {
     alloc: Global,
 }
 
-/// To take kills out of a trace its events are kept.
+/// Used to remove kills from a trace, which needs its events.
 impl Player for Keeper {
     ghost use Rattle.trace_file.specs.Reads.{HasKept};
 

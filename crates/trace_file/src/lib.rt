@@ -1,7 +1,8 @@
-//! Traces from a shelf: a trace is read line by line and played as it is read.
+//! Reads traces from a shelf line by line, and plays each event as it is read. Parsing a line is
+//! left to `psi_trace`.
 //!
-//! [`play_trace`] plays it on any player, [`read_plans`] takes it apart by processor, and a
-//! [`Keeper`] keeps its events. [`put_refusal`] says of a refused line which it is and why.
+//! [`play_trace`] plays a trace on any player, [`read_plans`] splits it by processor into plans,
+//! and a [`Keeper`] stores its events. [`put_refusal`] writes which line was rejected and why.
 #![tactic(auto)]
 
 mod keeper;

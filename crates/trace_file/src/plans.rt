@@ -1,4 +1,4 @@
-//! A trace read into plans.
+//! Reads a trace into plans.
 ghost use Rattle.std.specs.Prelude.{◌≡◌, ◌+◌, ◌≤◌, None, IsErrOf, MatchResult};
 ghost use Rattle.outside.specs.Outside.{Lacks, counts_of, told};
 ghost use Rattle.outside.specs.Reads.{ReadsFile};
@@ -11,8 +11,8 @@ use proc_plan::{Planner, Plans};
 use psi_base::Ns;
 use std::alloc::Global;
 
-/// Reads a trace of any version, and takes it apart by processor: the number of its version, and
-/// its plans. No event is later than a million ticks (ns).
+/// Reads a trace of any version, and splits it by processor. Returns the number of its version, and
+/// its plans. No event is later than a million ticks (`tick` in ns).
 pub fn read_plans<S: Shelf>(
     alloc: Global,
     name: &str,

@@ -1,4 +1,4 @@
-//! What is said of a refused line of a trace.
+//! Messages for rejected lines of a trace.
 ghost use Rattle.std.specs.Prelude.{◌≡◌};
 ghost use Rattle.outside.specs.Outside.{HasCause};
 ghost use Rattle.outside.specs.Calls.{PutsAll};
@@ -9,7 +9,6 @@ use itoa::Buffer;
 use outside::{Sink, WriteFailed, put_each};
 use psi_base::Cause;
 
-// The name of a cause.
 fn cause_name(cause: Cause) -> &'static [u8]
     ensures { result.now ≡ cause_name cause }
 {
@@ -47,7 +46,7 @@ fn cause_name(cause: Cause) -> &'static [u8]
     }
 }
 
-// The number of the field that a cause speaks of, if it speaks of one.
+// The number of the field that a cause names, if any.
 fn field_of(cause: Cause) -> Option<u8>
     ensures { result ≡ field_number cause }
 {
@@ -57,7 +56,8 @@ fn field_of(cause: Cause) -> Option<u8>
     }
 }
 
-/// Tells of the refused line of a trace: its number, from 1, and the cause. Takes no memory.
+/// Writes the message for the rejected line of a trace: its number, from 1, and the cause. Does not
+/// allocate.
 pub fn put_refusal<N: Sink>(note: &mut N, line: u32, cause: Cause) -> Result<(), WriteFailed>
     ensures bytes { PutsAll (N.has note.old) (N.has note.new) result (refusal_text line cause) }
     ensures cause { HasCause (N.faults note.old) (N.faults note.new) result }

@@ -1,4 +1,4 @@
-//! Traces from a shelf.
+//! Reads and plays traces from a shelf.
 ghost use Rattle.std.specs.Prelude.{◌≡◌, ◌+◌, ◌*◌, ◌<◌, ◌≤◌, ◌^◌, ℕ, List, [], IfOk, IsErrOf, Some, None, Ok, MatchResult, false, length};
 ghost use Rattle.outside.specs.Outside.{told, Lacks, counts_of};
 ghost use Rattle.outside.specs.Reads.{ReadsFile};
@@ -22,13 +22,13 @@ use trace_player::Player;
 /// Why there is no trace.
 #[derive(Clone, Copy, Debug, PartialEq, Eq)]
 pub enum TraceFault {
-    /// A line of it was refused.
+    /// One of its lines was rejected.
     Refused(Refusal),
-    /// The shelf has no such file.
+    /// The shelf has no file with this name.
     NoFile,
     /// A read failed.
     ReadFault,
-    /// Memory was wanting.
+    /// Out of memory.
     NoMemory(NoMemory),
 }
 
@@ -43,14 +43,12 @@ impl From<NoMemory> for TraceFault {
     }
 }
 
-// A refused line.
 fn refused(line: u32, cause: Cause) -> TraceFault
     ensures { result ≡ TraceFault.Refused (refused line cause) }
 {
     TraceFault::Refused(Refusal { line, cause })
 }
 
-// The fault of a line.
 fn fault_at(line: u32, fault: Fault<Cause>) -> TraceFault
     ensures { IsTraceFault line fault result }
 {
@@ -60,8 +58,8 @@ fn fault_at(line: u32, fault: Fault<Cause>) -> TraceFault
     }
 }
 
-// Why there is no trace where a line isn't read: where the input ends inside it, it is refused with
-// this cause.
+// Why there is no trace if a line isn't read. If the input ends inside the line, the line is
+// rejected with the cause `cut`.
 fn trace_fault(fault: LineFault, cut: Cause) -> TraceFault
     ensures { result ≡ trace_fault cut fault }
 {
@@ -74,7 +72,7 @@ fn trace_fault(fault: LineFault, cut: Cause) -> TraceFault
     }
 }
 
-// Plays what was read of a line: the event is played where it was read, and a fault is handed on.
+// Plays a parsed line: an event is played in place, and a fault is returned.
 fn take_read<P: Player>(
     player: &mut P,
     read: &Result<Event, Fault<Cause>>,
@@ -88,8 +86,8 @@ fn take_read<P: Player>(
     }
 }
 
-// Plays a line of at most 512 bytes of a trace of a version, where that hasn't ended. Its event
-// stays where it was read, which spares a copy.
+// Plays a line of at most 512 bytes of a trace of a version, if the trace hasn't ended. Its event
+// is played in place, to avoid a copy.
 fn take_line<P: Player>(
     alloc: Global,
     version: u32,
@@ -104,8 +102,8 @@ fn take_line<P: Player>(
     take_read(player, &read_event(alloc, version, line))
 }
 
-// Reads and plays the next event line of a trace of a version, whichever it is, where the trace
-// hasn't ended.
+// Reads and plays the next event line of a trace of a version, of any kind, if the trace hasn't
+// ended.
 fn next_event<S: Shelf, P: Player>(
     alloc: Global,
     version: u32,
@@ -141,9 +139,9 @@ fn next_event<S: Shelf, P: Player>(
     }
 }
 
-// Plays the next event line, where the trace hasn't ended: as it stands in what is held, if it is
-// whole there and of the kinds that a trace has most of, and else read from the shelf as any line
-// is.
+// Plays the next event line, if the trace hasn't ended. If the line is complete in the buffer and
+// of the most frequent kinds, it is played from there; otherwise it is read from the shelf like any
+// line.
 #[inline(always)]
 fn play_next<S: Shelf, P: Player>(
     alloc: Global,
@@ -180,7 +178,7 @@ fn play_next<S: Shelf, P: Player>(
     }
 }
 
-// Looks behind the end, where nothing may stand, with at most one read.
+// Checks that nothing follows the `end` line, with at most one read.
 fn close<S: Shelf>(lines: &mut Lines, shelf: &mut S) -> Result<(), TraceFault>
     requires number { lines.old.number < 2 ^ 32 }
     ensures kept { S.holds shelf.new ≡ S.holds shelf.old }
@@ -205,8 +203,8 @@ fn close<S: Shelf>(lines: &mut Lines, shelf: &mut S) -> Result<(), TraceFault>
     }
 }
 
-// Reads and plays the event lines of a trace with this header. A player takes at most 4,000,000
-// events, so this ends.
+// Reads and plays the event lines of a trace with this header. It ends, because a player takes at
+// most 4,000,000 events.
 fn play_events<S: Shelf, P: Player>(
     alloc: Global,
     lines: &mut Lines,
@@ -244,7 +242,6 @@ fn play_events<S: Shelf, P: Player>(
     }
 }
 
-// Reads the header line.
 fn read_head<S: Shelf>(lines: &mut Lines, shelf: &mut S, tick: Ns) -> Result<Header, TraceFault>
     requires { lines.old.number ≡ 1 }
     ensures kept { S.holds shelf.new ≡ S.holds shelf.old }
@@ -273,8 +270,8 @@ fn read_head<S: Shelf>(lines: &mut Lines, shelf: &mut S, tick: Ns) -> Result<Hea
     }
 }
 
-/// Reads a trace, and plays its events on a new player: the number of its version, and the player.
-/// No event is later than a million ticks (ns).
+/// Reads a trace, and plays its events on a new player. Returns the number of the trace's version,
+/// and the player. No event is later than a million ticks (`tick` in ns).
 pub fn play_trace<S: Shelf, P: Player + Drop>(
     alloc: Global,
     name: &str,
