@@ -1,4 +1,4 @@
-//! The system's files and streams. They tell nothing of their content: here trust begins.
+//! The system's files and streams. Nothing is known about their content: here trust begins.
 ghost use Rattle.std.specs.Prelude.{◌≡◌, ◌≢◌, ◌<◌, ◌≤◌, ℕ, List, None, Some, IfErr, IfOk, IfSome, IsErrOf, OnOk, codes, length};
 ghost use Rattle.std.specs.Io.KnownBytes.{Keeps, ReadConsumes};
 ghost use Rattle.host_files.specs.Host.{GoesOn, LeavesFromPlace, ReadsFront, StandsAt};
@@ -9,8 +9,8 @@ use std::fs;
 use std::io::{AsBytes, Cursor, ErrorKind, Read, Seek, SeekFrom, Write};
 use std::rt::Files;
 
-// What it means that a file can't be opened: there is none only where the system says that it isn't
-// there.
+// The fault for a file that can't be opened: `NoFile` only if the system says that the file doesn't
+// exist.
 fn open_fault(kind: ErrorKind) -> ShelfFault
     ensures missing { kind ≡ ErrorKind.NotFound → result ≡ ShelfFault.NoFile }
     ensures other { kind ≢ ErrorKind.NotFound → result ≡ ShelfFault.Failed }
@@ -22,7 +22,7 @@ fn open_fault(kind: ErrorKind) -> ShelfFault
     }
 }
 
-// Reads on, and keeps count of the place.
+// Reads at the stream's place, and advances `place`.
 fn read_next<I: Read>(stream: &mut I, place: &mut u64, into: &mut [u8]) -> Result<usize, ShelfFault>
     ensures bound { IfOk result (λ n. n ≤ length into.new) }
     ensures bytes { ReadConsumes (I.remaining stream.old) (I.remaining stream.new) result into.new }
@@ -37,7 +37,7 @@ fn read_next<I: Read>(stream: &mut I, place: &mut u64, into: &mut [u8]) -> Resul
     }
 }
 
-// Reads the input in order. Another place is a failure.
+// Reads the input in order. A read at any other place fails.
 fn read_input<I: Read>(
     input: &mut I,
     place: &mut u64,
@@ -55,7 +55,6 @@ fn read_input<I: Read>(
     read_next(input, place, into)
 }
 
-// Goes to a place of a file.
 fn seek_to<F: Seek>(file: &mut F, at: u64) -> Result<(), ShelfFault>
     ensures bytes { Keeps (F.stream_bytes file.old) (F.stream_bytes file.new) }
     ensures place { (from : ℕ) → F.stream_position file.old ≡ Some from
@@ -68,7 +67,7 @@ fn seek_to<F: Seek>(file: &mut F, at: u64) -> Result<(), ShelfFault>
     Ok(())
 }
 
-/// A file that stays open, so that one that can't seek, as a pipe, is read in order.
+/// An open file. It stays open, so that a file that can't seek (a pipe) is read in order.
 #[derive(Drop)]
 struct Opened<F> {
     name: Name,
@@ -77,7 +76,7 @@ struct Opened<F> {
 }
 
 impl<F: Read + Seek> Opened<F> {
-    // Reads from a place on. It is sought only where the last read ended elsewhere.
+    // Reads at a place. It seeks only if the last read ended elsewhere.
     fn read_at(&mut self, at: u64, into: &mut [u8]) -> Result<usize, ShelfFault>
         ensures bound { IfOk result (λ n. n ≤ length into.new) }
         ensures bytes { (bytes : List ℕ)
@@ -96,7 +95,7 @@ impl<F: Read + Seek> Opened<F> {
     }
 }
 
-// Opens a file at its first byte. The system opens no name that is too long to be kept.
+// Opens a file at its first byte. The system opens no name that is too long to store.
 fn open<R: Files>(rt: &R, name: &str) -> Result<Opened<R::File>, ShelfFault>
     ensures name { IfOk result (λ opened. opened.name ≡ name.now) }
     ensures place { IfOk result (λ opened. opened.place ≡ 0) }
@@ -115,7 +114,7 @@ fn open<R: Files>(rt: &R, name: &str) -> Result<Opened<R::File>, ShelfFault>
     }
 }
 
-// Reads a file, and keeps it open.
+// Reads a file, and leaves it open.
 fn read_file<R: Files>(
     rt: &R,
     opened: &mut Option<Opened<R::File>>,
@@ -137,7 +136,7 @@ fn read_file<R: Files>(
     Ok(count)
 }
 
-/// Files by name, and an input under the name `-`, which is read in order. It takes no memory.
+/// Files by name, and an input with the name `-`, which is read in order. Does not allocate.
 #[derive(Drop)]
 pub struct HostShelf<'a, R: Files, I> {
     rt: &'a R,
@@ -151,7 +150,7 @@ pub struct HostShelf<'a, R: Files, I> {
 }
 
 impl<'a, R: Files, I: Read> HostShelf<'a, R, I> {
-    /// A shelf over the system's files, with this input.
+    /// A shelf of the system's files, with this input.
     pub fn new(rt: &'a R, input: I) -> Self {
         HostShelf {
             rt,
@@ -165,7 +164,7 @@ impl<'a, R: Files, I: Read> HostShelf<'a, R, I> {
         }
     }
 
-    // Reads from a place on: the input, where the name is its own, and else the file of the name.
+    // Reads at a place: from the input if the name is `-`, otherwise from the file with this name.
     fn read_named(&mut self, name: &str, at: u64, into: &mut [u8]) -> Result<usize, ShelfFault>
         ensures bound { IfOk result (λ n. n ≤ length into.new) }
         ensures order { name.now ≡ codes "-" → at ≢ self.old.place →
@@ -225,8 +224,8 @@ impl<'a, R: Files, I: Read> Shelf for HostShelf<'a, R, I> {
     }
 }
 
-/// Standard output or standard error, which has what its stream tells: the system's tell nothing. A
-/// write that takes nothing of a piece that isn't empty has failed.
+/// Standard output or standard error. Its content is known only if its stream's is, which is never
+/// so for the system's streams. A write fails if it takes nothing of a nonempty piece.
 #[derive(Drop)]
 pub struct HostSink<W> {
     stream: W,
@@ -234,7 +233,7 @@ pub struct HostSink<W> {
 }
 
 impl<W: Write> HostSink<W> {
-    /// A sink over a stream.
+    /// A sink that writes to a stream.
     pub fn new(stream: W) -> Self {
         HostSink { stream, faults: 0 }
     }
@@ -256,7 +255,7 @@ impl<W: Write> Sink for HostSink<W> {
     }
 }
 
-/// A cursor over bytes is such a stream as reading at a place speaks of.
+/// A cursor over bytes is a stream whose remaining bytes are those after its place.
 pub fn law_cursors_leave_from_place<T: AsBytes>()
     ensures { LeavesFromPlace ⟦<Cursor<T> as Read>⟧.remaining
         ⟦<Cursor<T> as Seek>⟧.stream_position

@@ -1,4 +1,7 @@
-//! The system's files and streams, and the words of a command line, as programs take them.
+//! The system's files and streams as a shelf and sinks, and the words of a command line.
+//!
+//! Programs use this crate; everything below them uses only the traits of `outside`. What a file
+//! contains is not known here, so no contract says it.
 #![tactic(auto)]
 
 mod host;

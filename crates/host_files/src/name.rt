@@ -1,4 +1,4 @@
-//! Names that are kept.
+//! File names that are stored without allocation.
 ghost use Rattle.std.specs.Prelude.{◌≡◌, ◌<◌, ◌↔◌, IsTrue, MatchOption, length};
 
 use std::marker::Model;
@@ -6,7 +6,7 @@ use std::marker::Model;
 /// The length of the longest name that the system opens, in bytes.
 const LONGEST: usize = 4095;
 
-/// A name that the system opens. It stands in place, so that keeping it takes no memory.
+/// A name that the system can open. It is stored in place, so it does not allocate.
 #[derive(Drop)]
 pub(crate) struct Name {
     bytes: [u8; LONGEST],
@@ -24,7 +24,7 @@ impl Model for Name {
 }
 
 impl Name {
-    /// The same name, or none where it is too long.
+    /// A copy of the name, or None if it is too long.
     pub(crate) fn new(name: &str) -> Option<Name>
         ensures { MatchOption result (4095 < length name.now) (λ kept. kept ≡ name.now) }
     {

@@ -9,15 +9,15 @@ use std::env::Args;
 use std::io;
 use std::io::ErrorKind;
 
-// All but the first, which is the program's name.
+// All words but the first, which is the program's name.
 fn behind_the_name(alloc: Global, words: Args) -> Result<Vec<String>, AllocError>
     ensures { IfOk result (λ kept. kept.items ≡ drop 1 (into_iter_items words)) }
 {
     words.skip(1).collect(alloc)
 }
 
-/// The words of a command line, of which the first is the program's name. Where one isn't UTF-8
-/// there are none: that is no command either.
+/// The words of a command line without the first, which is the program's name. If a word isn't
+/// UTF-8, there are no words: that is never a command.
 pub fn words_of(alloc: Global, given: io::Result<Args>) -> Result<Vec<String>, NoMemory>
     ensures words { IfOk given
         (λ args. IfOk result (λ words. words.items ≡ drop 1 (into_iter_items args))) }
