@@ -1,4 +1,4 @@
--- How the program ends.
+-- The end of the program.
 use Rattle.std.specs.Prelude.{◌≡◌, ◌⊎◌, ℕ, List, Option, None, Some}
 use Rattle.std.specs.Io.KnownBytes.{Appends}
 use Rattle.psi_base.specs.Memory.{no_memory}
@@ -9,16 +9,17 @@ use Rattle.run_spec.specs.Status.{code_of, status_text}
 use Rattle.run_spec.specs.declared.status.Status.{Status}
 use Rattle.run_spec.specs.declared.status.Status.TheVariants as status
 
--- The program ends with the code of a status, and the note grew by the line that tells of it, or by
--- a front of the line where a write to the note failed.
+-- The program ends with the code of a status. Standard error grew by the line that reports the
+-- status, or by a prefix of the line if a write to standard error failed.
 pub record EndsAs (command : Option Command) (status : Status) (exit faults_before faults_now : ℕ)
     (old new : Option (List ℕ)) : Type 0 where
   pub code : exit ≡ code_of status
   pub front : AppendsFront old new (status_text command status)
   pub whole : (Rose faults_before faults_now → ⊥) → Appends old new (status_text command status)
 
--- A status is that of a run of some words: of a command it says what a run of it promises, of its
--- files, of the counts and of the output; words of no command are a faulty use.
+-- A status is that of a run of some words: the promises of a run hold for the command, that is for
+-- its files, the counts and the output. If the words aren't a command, the status is Usage or
+-- NoMemory.
 pub record RanAs (command : Option Command) (ended : Status) (files : Option Files) (before now : RunCounts)
     (old new : Option (List ℕ)) : Type 0 where
   pub runs : (given : Command) → command ≡ Some given → Runs given files before now old new ended

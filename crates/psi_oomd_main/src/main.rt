@@ -1,4 +1,7 @@
-//! The program: it makes the real files and streams, calls `run`, and ends with its status.
+//! The program `psi_oomd`: opens the real files and streams, calls `run`, and exits with its
+//! status.
+//!
+//! It has no logic of its own; `replay_core` does the work.
 #![tactic(auto)]
 
 ghost use Rattle.std.specs.Prelude.{◌≡◌, IfOk, None, OnErr, map, string_bytes};
@@ -26,7 +29,7 @@ fn exit_code(status: Status) -> ExitCode
     ExitCode::from(status.code())
 }
 
-// Ends where there was no memory for the words.
+// Ends the program if memory ran out for the words.
 fn end_without_words<N: Sink>(none: NoMemory, note: &mut N) -> ExitCode
     ensures { EndsAs None (Status.NoMemory no_memory) (exit_status result)
         (N.faults note.old) (N.faults note.new) (N.has note.old) (N.has note.new) }
@@ -35,8 +38,8 @@ fn end_without_words<N: Sink>(none: NoMemory, note: &mut N) -> ExitCode
     exit_code(Status::NoMemory(none))
 }
 
-// Runs the words and ends as the run did: what a run promises of a status, of files, output and
-// counts, holds of the status that the exit and the note tell of.
+// Runs the words and ends as the run did: what a run promises about a status, the files, the output
+// and the counts holds for the status that the exit code and the message report.
 fn end_of<R: Threads + Sync, S: Shelf, K: Sink, N: Sink>(
     rt: &R,
     alloc: Global,
