@@ -1,4 +1,4 @@
--- How the program ends.
+-- The end of the program.
 use Rattle.std.specs.Prelude.{◌≡◌, ◌↔◌, ℕ, List, Option, None, Some}
 use Rattle.std.specs.Io.KnownBytes.{Appends}
 use Rattle.outside.specs.Outside.{AppendsFront, Files, Rose}
@@ -9,17 +9,17 @@ use Rattle.observe_spec.specs.Words.{Request}
 use Rattle.observe_spec.specs.declared.status.ObserveStatus.{ObserveStatus}
 use Rattle.observe_spec.specs.declared.status.ObserveStatus.TheVariants.{Usage}
 
--- The program ends with the code of a status, and the note grew by the line that tells of it, or by
--- a front of the line where a write to the note failed.
+-- The program ends with the code of a status. Standard error grew by the line that reports the
+-- status, or by a prefix of the line if a write to standard error failed.
 pub record EndsAs (request : Option Request) (status : ObserveStatus) (exit faults_before faults_now : ℕ)
     (old new : Option (List ℕ)) : Type 0 where
   pub code : exit ≡ code_of status
   pub front : AppendsFront old new (observe_status_text request status)
   pub whole : (Rose faults_before faults_now → ⊥) → Appends old new (observe_status_text request status)
 
--- A status is that of a run of some words: of what they ask for it says what a run promises, of the
--- trace, of the counts and of the output; words that ask for nothing, and they alone, are a faulty
--- use.
+-- A status is that of a run of some words: the promises of a run hold for their request, that is
+-- for the trace, the counts and the output. The status is Usage exactly if the words aren't a
+-- request.
 pub record RanAs (request : Option Request) (ended : ObserveStatus) (files : Option Files) (before now : RunCounts)
     (old new : Option (List ℕ)) : Type 0 where
   pub runs : (given : Request) → request ≡ Some given → Observes given files before now old new ended

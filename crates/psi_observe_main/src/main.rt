@@ -1,4 +1,7 @@
-//! The program: it makes the real files and streams, calls `observe`, and ends with its status.
+//! The program `psi_observe`: opens the real files and streams, calls `observe`, and exits with its
+//! status.
+//!
+//! It has no logic of its own; `observe_core` does the work.
 #![tactic(auto)]
 
 ghost use Rattle.std.specs.Prelude.{◌≡◌, IfOk, None, OnErr, map, string_bytes};
@@ -27,7 +30,7 @@ fn exit_code(status: ObserveStatus) -> ExitCode
     ExitCode::from(status.code())
 }
 
-// Ends where there was no memory for the words.
+// Ends the program if memory ran out for the words.
 fn end_without_words<N: Sink>(none: NoMemory, note: &mut N) -> ExitCode
     ensures { EndsAs None (ObserveStatus.NoMemory no_memory) (exit_status result)
         (N.faults note.old) (N.faults note.new) (N.has note.old) (N.has note.new) }
@@ -36,8 +39,8 @@ fn end_without_words<N: Sink>(none: NoMemory, note: &mut N) -> ExitCode
     exit_code(ObserveStatus::NoMemory(none))
 }
 
-// Runs the words and ends as the run did: what a run promises of a status, of the trace, output and
-// counts, holds of the status that the exit and the note tell of.
+// Runs the words and ends as the run did: what a run promises about a status, the trace, the output
+// and the counts holds for the status that the exit code and the message report.
 fn end_of<R: Threads + Wait + Sync, S: Shelf, K: Sink, N: Sink>(
     rt: &R,
     alloc: Global,
