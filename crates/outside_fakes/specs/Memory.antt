@@ -1,11 +1,11 @@
--- What a shelf in memory gives.
+-- The result of reading a shelf in memory.
 use Rattle.std.specs.Prelude.{◌≡◌, ℕ, ◌-◌, min, List, length, None, Some, Result, Ok, Err, IfOk}
 use Rattle.outside.specs.Outside.{Files, ReadsBytes, bytes_of}
 use Rattle.outside.specs.declared.shelf.ShelfFault.{ShelfFault}
 use Rattle.outside.specs.declared.shelf.ShelfFault.TheVariants.{NoFile}
 
--- of a name that it holds come as many bytes as there are from this place on, at most so many and
--- as many as fit; another name is no file
+-- reading an existing name at a place returns the bytes from there, at most `most`, and at most as
+-- many as fit; for any other name there is no file
 pub record GivesOf (files : Files) (name : List ℕ) (at most : ℕ) (before into : List ℕ) (result : Result ℕ ShelfFault) : Type 0 where
   pub held : (bytes : List ℕ) → bytes_of files name ≡ Some bytes → result ≡ Ok (min most (min (length into) (length bytes - at)))
   pub bytes : (bytes : List ℕ) → bytes_of files name ≡ Some bytes → IfOk result (λ n. ReadsBytes bytes at n before into)

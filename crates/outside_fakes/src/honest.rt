@@ -1,5 +1,5 @@
-//! A shelf and a sink in memory that are honest: they fail only for want of room. Their clauses say
-//! each answer exactly.
+//! A shelf and a sink in memory that fail only when their capacity is used up. Their contracts give
+//! the exact result of each call.
 ghost use Rattle.std.specs.Prelude.{◌≡◌, ◌+◌, ◌-◌, ◌<◌, ◌≤◌, Some, length, min, IfOk, IsErr, vec_capacity, vec_len, IsErrOf, ◌↔◌, [], ◌++◌, ◌∷◌};
 ghost use Rattle.std.specs.Io.KnownBytes.{WriteAppends};
 ghost use Rattle.outside_fakes.specs.Memory.{GivesOf};
@@ -15,13 +15,13 @@ use std::alloc::Global;
 /// A shelf in memory that never fails.
 #[derive(Drop)]
 pub struct HonestShelf {
-    /// Names with their bytes; of two pairs with one name the first counts.
+    /// Names with their bytes; if two pairs have one name, the first counts.
     pub files: Vec<(Text, Text)>,
-    /// The greatest number of bytes that one call gives, at least 1.
+    /// The largest number of bytes that one call returns, at least 1.
     pub most: usize,
-    /// How many calls named a file that isn't held.
+    /// The number of calls with a missing name.
     pub absent: u64,
-    /// How many bytes its calls gave.
+    /// The number of bytes that its calls returned.
     pub given: Tally,
     /// Its calls.
     pub reads: ReadLog,
@@ -56,8 +56,8 @@ impl Shelf for HonestShelf {
 
     ghost reads = { λ s. s.reads.calls };
 
-    /// A name that isn't held is `NoFile`, and of one that is held come as many bytes as there are
-    /// from `at` on, at most `most` and the length of `into`.
+    /// A missing name is `NoFile`. For an existing name it returns the bytes from `at` (in bytes)
+    /// on, at most `most`, and at most the length of `into`.
     fn read_at(&mut self, name: &str, at: u64, into: &mut [u8]) -> Result<usize, ShelfFault>
         ensures kept { (self.new.files ≡ self.old.files) × (self.new.most ≡ self.old.most) }
         ensures given { self.new.given.count ≡ self.old.given.count + given_by result }
@@ -89,22 +89,23 @@ impl Shelf for HonestShelf {
     }
 }
 
-/// A sink in memory that fails only where its room is full. It reserves its room when it is made,
-/// and never grows.
+/// A sink in memory that fails only if it is full. It allocates everything at creation, and never
+/// grows.
 #[derive(Drop)]
 pub struct HonestSink {
     /// The bytes taken so far.
     pub bytes: Vec<u8>,
-    /// How many bytes it can take.
+    /// Its capacity in bytes.
     pub room: usize,
-    /// How many calls failed.
+    /// The number of failed calls.
     pub faults: u64,
     ghost inside: { vec_len bytes ≤ room },
     ghost reserved: { room ≤ vec_capacity bytes },
 }
 
 impl HonestSink {
-    /// An empty sink with this room in bytes, before its first call.
+    /// An empty sink with a capacity of `room` bytes, before its first call. Allocates everything
+    /// at the start.
     pub fn new(alloc: Global, room: usize) -> Result<HonestSink, NoMemory>
         ensures { IfOk result (λ s. (s.bytes.items ≡ []) × (s.room ≡ room)
             × (s.faults ≡ 0)) }
@@ -123,8 +124,7 @@ impl Sink for HonestSink {
 
     ghost faults = { λ s. s.faults };
 
-    /// A call with a piece that isn't empty fails where the room is full. Else it takes what fits
-    /// into the room.
+    /// A call with a nonempty piece fails if the sink is full. Otherwise it takes what fits.
     fn write(&mut self, piece: &[u8]) -> Result<usize, WriteFailed>
         ensures kept { self.new.room ≡ self.old.room }
         ensures bytes { WriteAppends (Some self.old.bytes.items)

@@ -1,6 +1,8 @@
-//! The outside in memory, for tests: shelves and sinks whose every answer is said by their clauses.
-//! Of the [`MemShelf`] and the [`MemSink`] some calls fail; the [`HonestShelf`] and the
-//! [`HonestSink`] fail only for want of room.
+//! Shelves and sinks in memory, for tests; the programs don't use them. Their contracts give the
+//! exact result of each call.
+//!
+//! Some calls of the [`MemShelf`] and the [`MemSink`] fail, by number; the [`HonestShelf`] never
+//! fails, and the [`HonestSink`] fails only if it is full.
 #![tactic(auto)]
 
 mod honest;

@@ -1,4 +1,5 @@
-//! A shelf and a sink in memory, some of whose calls fail. Their clauses say each answer exactly.
+//! A shelf and a sink in memory, some of whose calls fail. Their contracts give the exact result of
+//! each call.
 ghost use Rattle.std.specs.Prelude.{◌≡◌, ◌⊎◌, ◌+◌, ◌-◌, ◌<◌, ◌≤◌, Some, None, length, take, drop, min, IfOk, IsErr, IsTrue, MatchOption, vec_capacity, vec_len, Contains, IsErrOf, ◌↔◌, [], ◌++◌, ◌∷◌};
 ghost use Rattle.std.specs.Io.KnownBytes.{WriteAppends};
 ghost use Rattle.outside_fakes.specs.Memory.{GivesOf};
@@ -10,7 +11,7 @@ use outside::{Call, ReadLog, Shelf, ShelfFault, Sink, Tally, WriteFailed};
 use psi_base::{NoMemory, Text};
 use std::alloc::Global;
 
-// The bytes of a name, where it is held.
+// The bytes of a name, if it exists.
 pub(crate) fn find<'a>(files: &'a [(Text, Text)], name: &[u8]) -> Option<&'a [u8]>
     ensures { MatchOption result (bytes_of files.now name.now ≡ None)
         (λ found. bytes_of files.now name.now ≡ Some found.now) }
@@ -23,7 +24,7 @@ pub(crate) fn find<'a>(files: &'a [(Text, Text)], name: &[u8]) -> Option<&'a [u8
     None
 }
 
-// Copies what fits, at most so many bytes, from a place on.
+// Copies the bytes from `at` on, at most `most` and at most as many as fit. Returns how many.
 pub(crate) fn copy_part(bytes: &[u8], at: u64, most: usize, into: &mut [u8]) -> usize
     ensures count { result ≡ min most (min (length into.new) (length bytes.now - at)) }
     ensures bytes { take result into.new ≡ take result (drop at bytes.now) }
@@ -38,8 +39,8 @@ pub(crate) fn copy_part(bytes: &[u8], at: u64, most: usize, into: &mut [u8]) -> 
     count
 }
 
-// Gives what fits of a name's bytes, at most so many, from a place on, and counts them. A name that
-// isn't held is counted as absent.
+// Copies the bytes of a name from `at` on, at most `most` and at most as many as fit, and counts
+// them. A missing name is counted as absent.
 pub(crate) fn give(
     files: &[(Text, Text)],
     most: usize,
@@ -68,7 +69,7 @@ pub(crate) fn give(
     }
 }
 
-// Takes what fits into the room, at most so many bytes.
+// Takes a prefix of the piece: as much as fits in `room` bytes, at most `most`.
 pub(crate) fn take_part(bytes: &mut Vec<u8>, room: usize, most: usize, piece: &[u8]) -> usize
     requires full { vec_len bytes.old ≤ room }
     requires room { room ≤ vec_capacity bytes.old }
@@ -84,14 +85,14 @@ pub(crate) fn take_part(bytes: &mut Vec<u8>, room: usize, most: usize, piece: &[
     count
 }
 
-// Whether a piece finds no room at all.
+// Whether a nonempty piece meets a full sink.
 pub(crate) fn finds_no_room(bytes: &[u8], room: usize, piece: &[u8]) -> bool
     ensures { IsTrue result ↔ ((0 < length piece.now) × (length bytes.now ≡ room)) }
 {
     !piece.is_empty() && bytes.len() == room
 }
 
-// Whether a write with this number fails.
+// Whether the write with the number `call` fails.
 fn is_failing(fails: &[u64], call: u64, is_full: bool) -> bool
     ensures { IsTrue result ↔ (Contains fails.now call ⊎ IsTrue is_full) }
 {
@@ -101,19 +102,19 @@ fn is_failing(fails: &[u64], call: u64, is_full: bool) -> bool
 /// A shelf in memory, some of whose calls fail.
 #[derive(Drop)]
 pub struct MemShelf {
-    /// Names with their bytes; of two pairs with one name the first counts.
+    /// Names with their bytes; if two pairs have one name, the first counts.
     pub files: Vec<(Text, Text)>,
-    /// The greatest number of bytes that one call gives, at least 1.
+    /// The largest number of bytes that one call returns, at least 1.
     pub most: usize,
     /// The numbers of the calls that fail, from 0.
     pub fails: Vec<u64>,
-    /// How many calls were made.
+    /// The number of calls.
     pub calls: u64,
-    /// How many calls failed.
+    /// The number of failed calls.
     pub faults: u64,
-    /// How many calls named a file that isn't held.
+    /// The number of calls with a missing name.
     pub absent: u64,
-    /// How many bytes its calls gave.
+    /// The number of bytes that its calls returned.
     pub given: Tally,
     /// Its calls.
     pub reads: ReadLog,
@@ -152,9 +153,9 @@ impl Shelf for MemShelf {
 
     ghost reads = { λ s. s.reads.calls };
 
-    /// A call whose number is in `fails` fails. Else a name that isn't held is `NoFile`, and of one
-    /// that is held come as many bytes as there are from `at` on, at most `most` and the length of
-    /// `into`.
+    /// A call whose number is in `fails` fails. Otherwise a missing name is `NoFile`, and for an
+    /// existing name it returns the bytes from `at` (in bytes) on, at most `most`, and at most the
+    /// length of `into`.
     fn read_at(&mut self, name: &str, at: u64, into: &mut [u8]) -> Result<usize, ShelfFault>
         ensures kept { (self.new.files ≡ self.old.files) × (self.new.most ≡ self.old.most)
             × (self.new.fails ≡ self.old.fails) }
@@ -204,21 +205,21 @@ impl Shelf for MemShelf {
     }
 }
 
-/// A sink in memory, some of whose calls fail. It reserves its room when it is made, and never
+/// A sink in memory, some of whose calls fail. It allocates everything at creation, and never
 /// grows.
 #[derive(Drop)]
 pub struct MemSink {
     /// The bytes taken so far.
     pub bytes: Vec<u8>,
-    /// How many bytes it can take.
+    /// Its capacity in bytes.
     pub room: usize,
-    /// The greatest number of bytes that one call takes, at least 1.
+    /// The largest number of bytes that one call takes, at least 1.
     pub most: usize,
     /// The numbers of the calls that fail, from 0.
     pub fails: Vec<u64>,
-    /// How many calls were made.
+    /// The number of calls.
     pub calls: u64,
-    /// How many calls failed.
+    /// The number of failed calls.
     pub faults: u64,
     ghost takes: { 0 < most },
     ghost inside: { vec_len bytes ≤ room },
@@ -226,7 +227,7 @@ pub struct MemSink {
 }
 
 impl MemSink {
-    /// An empty sink with this room in bytes, before its first call.
+    /// An empty sink with a capacity of `room` bytes, before its first call.
     pub fn new(
         alloc: Global,
         room: usize,
@@ -255,8 +256,8 @@ impl Sink for MemSink {
 
     ghost faults = { λ s. s.faults };
 
-    /// A call whose number is in `fails` fails, and so does one with a piece that isn't empty where
-    /// the room is full. Else it takes what fits into the room, at most `most` bytes.
+    /// A call fails if its number is in `fails`, or if its piece isn't empty and the sink is full.
+    /// Otherwise it takes what fits, at most `most` bytes.
     fn write(&mut self, piece: &[u8]) -> Result<usize, WriteFailed>
         ensures kept { (self.new.room ≡ self.old.room) × (self.new.most ≡ self.old.most)
             × (self.new.fails ≡ self.old.fails) }
