@@ -1,4 +1,4 @@
--- In which order the front of a file is read.
+-- The order in which a prefix of a file is read.
 use Rattle.std.proofs.Common.{◌≡◌, ℕ, List, sym, subst}
 use Rattle.std.specs.Prelude.{Err, IsErr, Ok, Result}
 use Rattle.std.specs.Result.{IsErrAnd}

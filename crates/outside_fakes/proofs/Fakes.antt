@@ -1,4 +1,4 @@
--- What the clauses of shelves and sinks in memory tell of what each shelf and sink owes.
+-- The contracts of shelves and sinks in memory meet those of every shelf and sink.
 use Rattle.std.proofs.Common.{◌≡◌, ℕ, ◌-◌, ◌≤◌, min, List, length, refl, arith, ◌⊎◌, inl, inr}
 use Rattle.std.specs.Prelude.{Result, Ok, Err, Option, None, Some, IfOk, IsErrOf}
 use Rattle.outside.specs.Outside.{Files, HasCauses, ReadsBytes, Rose, bytes_of, counts_of}

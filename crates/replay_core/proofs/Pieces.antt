@@ -6,7 +6,7 @@ use Rattle.outside.specs.Outside.{AppendsFront}
 use Rattle.outside.specs.Calls.{PutsAll}
 use Rattle.outside.proofs.Grows.{AppendsFront-of}
 
--- what was put, in whole or in part, is a front of it
+-- the bytes that were put, all of a text or a part of it, are a prefix of it
 pub front_of_puts : {T E : Type 0} → (old new : Option (List ℕ)) (result : Result T E) (bytes : List ℕ) → PutsAll old new result bytes → AppendsFront old new bytes
 front_of_puts old new (Ok value) bytes put = AppendsFront-of old new bytes [] bytes put (sym (append-nil bytes))
 front_of_puts old new (Err fault) bytes put = put

@@ -29,12 +29,12 @@ use Rattle.replay_core.proofs.RunEnds.{one_told, same_rules, fault_first, no_fau
 
 -- ---- refused drop-in files
 
--- the bytes of a drop-in file are told
+-- the bytes of a drop-in file are known
 over_told : (command : Command) (files : Option Files) (drop_in : List ℕ) → IsTold command DropInFile files drop_in → DropInTold command files (Some drop_in)
 over_told command files drop_in over =
     subst (λ named. told_if_named files named ≡ Some (Some drop_in)) (sym over.1) (ap (option_map (λ b. Some b)) over.2)
 
--- a command never takes rulesets from files of which the drop-in file has a fault
+-- a command never takes rulesets from files if the drop-in file has an error
 none_joined : (command : Command) (files : Option Files) (taken : List Rule) (bytes drop_in : List ℕ) (fault : DropFault) → TakesRules command files taken → IsTold command RulesFile files bytes → IsTold command DropInFile files drop_in
     → rules_from bytes (Some drop_in) ≡ Err (status.DropIn fault) → ⊥
 none_joined command files taken bytes drop_in fault takes known over is =
@@ -48,7 +48,7 @@ no_rules_fault command files had has bytes drop_in found fault ends known is =
     let first = fault_first bytes (Some drop_in) found (ends.2.2 bytes (subst (λ n. told files n ≡ Some bytes) (sym same) known.2)) in
     cc (first, is)
 
--- a file that is told isn't missed
+-- a file whose bytes are known isn't missing
 not_missed : (command : Command) (files : Option Files) (which : Which) (had has : Option (List ℕ)) (bytes : List ℕ) → IsTold command which files bytes → Ends command files had has (status.NoFile which) → ⊥
 not_missed command files which had has bytes known ends = one_told files known.0 ends.2.0 bytes (file_of command which) known.1 ends.2.1 known.2 ends.2.2
 
@@ -119,7 +119,7 @@ supposed name options files before now had has runs bytes rules none tells rules
       subst (Appends had has) (one_text_unwatched last (pace_of options) rules ends.6.0 (ap (watch_of_path options.live_count) none) text) ends.6.2,
     )
 
--- how many events a round left is told by the status
+-- the status contains the number of events that a round left
 large_events : (last : Result Trace ℕ) (events : ℕ) → status_of_last last ≡ status.TooLarge events → last ≡ Err events
 large_events (Ok trace) events is = absurd (let no : ⊥ = cc is in no)
 large_events (Err more) events is = let same : more ≡ events = cc is in ap (λ (n : ℕ). let lost : Result Trace ℕ = Err n in lost) same

@@ -1,4 +1,4 @@
--- What a run over a buffered sink comes to, and what its status tells of its files.
+-- The result of a run with a buffered sink, and what its status says about its files.
 use Rattle.std.proofs.Common.{◌≡◌, ◌≢◌, ◌⊎◌, inl, inr, ℕ, ◌≤◌, List, [], ◌++◌, length, refl, sym, ap, ◌∙◌, subst, arith, Option, None, Some, true, true≢false}
 use Rattle.std.specs.Prelude.{MatchOption, Result, Ok, Err, is_some, option_map}
 use Rattle.std.specs.Io.KnownBytes.{Appends, Keeps, append_known}
@@ -85,24 +85,24 @@ runs_unsent command files before mid now had sent below pending left runs kept m
 
 -- ---- what a status tells of files
 
--- the bytes of a file are told of one name alone
+-- if the bytes of a name are known, the name isn't missing
 pub one_told : (files : Option Files) (name other bytes : List ℕ) (found : Option (List ℕ)) → found ≡ Some name → found ≡ Some other → told files name ≡ Some bytes → told files other ≡ None → ⊥
 one_told files name other bytes found is also tells none = cc (is, also, tells, none)
 
--- rulesets are those of a rules file with this name, and of the drop-in file over it, as these are
--- told
+-- rulesets are those of a rules file with this name, and of the drop-in file, given their known
+-- bytes
 abbrev pub AreTold : Command → Option Files → List Rule → List ℕ → Type 0
 AreTold command files rules name =
     (bytes : List ℕ) × (drop_in : Option (List ℕ)) × (told files name ≡ Some bytes) × DropInTold command files drop_in
     × (rules_from bytes drop_in ≡ Ok (record { rules = rules }))
 
--- rulesets that are told are those of the rules file's bytes, where one is named
+-- known rulesets are those of the rules file's bytes, if one is named
 told_bytes : (command : Command) (files : Option Files) (rules : List Rule) (name : List ℕ) → rules_name command ≡ Some name → RulesTold command files rules
     → AreTold command files rules name
 told_bytes command files rules name named tells =
     subst (λ n. MatchOption n (rules ≡ []) (AreTold command files rules)) named tells
 
--- rulesets that are told are none, where no rules file is named
+-- there are no rulesets if no rules file is named
 told_none : (command : Command) (files : Option Files) (rules : List Rule) → rules_name command ≡ None → RulesTold command files rules → rules ≡ []
 told_none command files rules named tells =
     subst (λ n. MatchOption n (rules ≡ []) (AreTold command files rules)) named tells
@@ -110,7 +110,7 @@ told_none command files rules named tells =
 of_rules : (one other : List Rule) (read : Result Rules Status) → read ≡ Ok (record { rules = one }) → read ≡ Ok (record { rules = other }) → one ≡ other
 of_rules one other read is also = let same : record { rules = one } ≡ record { rules = other } = cc (is, also) in ap (λ (r : Rules). r.rules) same
 
--- a command takes the rulesets that are told
+-- a command takes the known rulesets
 by_name : (command : Command) (files : Option Files) (taken rules : List Rule) (named : Option (List ℕ)) → rules_name command ≡ named → TakesRules command files taken → RulesTold command files rules → taken ≡ rules
 by_name command files taken rules None is takes tells = takes.none is ∙ sym (told_none command files rules is tells)
 by_name command files taken rules (Some name) is takes tells =
@@ -124,7 +124,7 @@ same_rules command files taken rules takes tells = by_name command files taken r
 pub fault_first : (bytes : List ℕ) (drop_in : Option (List ℕ)) (fault : RulesFault) → rules_of bytes ≡ Err fault → rules_from bytes drop_in ≡ Err (status.Rules fault)
 fault_first bytes drop_in fault is = ap (λ read. with_drop_in drop_in (or_rules_fault read)) is
 
--- a run never finds a fault in rules that are told
+-- a run never finds an error in the known rules
 pub no_fault : (command : Command) (files : Option Files) (rules : List Rule) (fault : RulesFault) (had has : Option (List ℕ)) → RulesTold command files rules → Ends command files had has (status.Rules fault) → ⊥
 no_fault command files rules fault had has tells ends =
     let found = told_bytes command files rules ends.2.0 ends.2.1 tells in
@@ -167,12 +167,12 @@ no_missed_drop_in command files rules had has tells ends =
     let none = ends.2.2 in
     cc (some, none)
 
--- nor the file that its trace is taken from, where that is told
+-- nor that the file of its trace is missing, if its bytes are known
 none_told : (command : Command) (files : Option Files) (bytes : List ℕ) (which : Which) (had has : Option (List ℕ)) → source_of command ≡ which → IsTold command (source_of command) files bytes → Ends command files had has (status.NoFile which) → ⊥
 none_told command files bytes which had has from tells ends =
     one_told files tells.0 ends.2.0 bytes (file_of command (source_of command)) tells.1 (ap (file_of command) from ∙ ends.2.1) tells.2 ends.2.2
 
--- so it is with a trace
+-- the same for a trace
 no_trace : (command : Command) (files : Option Files) (bytes : List ℕ) (had has : Option (List ℕ)) → IsTold command (source_of command) files bytes → Ends command files had has (status.NoFile TraceFile) → ⊥
 no_trace command files bytes had has tells ends = none_told command files bytes TraceFile had has (from_trace command (ap is_some ends.2.1)) tells ends
 
@@ -180,13 +180,12 @@ no_trace command files bytes had has tells ends = none_told command files bytes 
 no_import : (command : Command) (files : Option Files) (bytes : List ℕ) (had has : Option (List ℕ)) → IsTold command (source_of command) files bytes → Ends command files had has (status.NoFile ImportFile) → ⊥
 no_import command files bytes had has tells ends = none_told command files bytes ImportFile had has (from_import command (ap is_some ends.2.1)) tells ends
 
--- what a command takes from bytes that are told, where a status tells of a refused line of a file
--- of a kind
+-- the result for known bytes, if a status reports a rejected line of a file of this kind
 taken_told : (command : Command) (files : Option Files) (bytes : List ℕ) (which : Which) (had has : Option (List ℕ)) (result : Status) → source_of command ≡ which → IsTold command (source_of command) files bytes → Refuses command files had has which result
     → taken_of command bytes ≡ Err result
 taken_told command files bytes which had has result from tells refuses = refuses.4 bytes (subst (λ w. IsTold command w files bytes) from tells)
 
--- so it is with a refused line of a trace
+-- the same for a rejected line of a trace
 trace_told : (command : Command) (files : Option Files) (bytes : List ℕ) (had has : Option (List ℕ)) (result : Status) → IsTold command (source_of command) files bytes → Refuses command files had has TraceFile result → taken_of command bytes ≡ Err result
 trace_told command files bytes had has result tells refuses = taken_told command files bytes TraceFile had has result (from_trace command refuses.1) tells refuses
 
@@ -194,7 +193,7 @@ trace_told command files bytes had has result tells refuses = taken_told command
 import_told : (command : Command) (files : Option Files) (bytes : List ℕ) (had has : Option (List ℕ)) (result : Status) → IsTold command (source_of command) files bytes → Refuses command files had has ImportFile result → taken_of command bytes ≡ Err result
 import_told command files bytes had has result tells refuses = taken_told command files bytes ImportFile had has result (from_import command refuses.1) tells refuses
 
--- a trace that was taken is the one that was read
+-- a trace without a rejection is the one that was read
 pub of_read : (read : Result Trace Refusal) (trace : Trace) → or_refused_trace read ≡ Ok trace → read ≡ Ok trace
 of_read (Ok other) trace is = let same : other ≡ trace = cc is in ap (λ (t : Trace). let read : Result Trace Refusal = Ok t in read) same
 of_read (Err refusal) trace is = absurd (let no : ⊥ = cc is in no)
@@ -232,8 +231,7 @@ headlined_alone name options files before now had has runs bytes rules none tell
     let text = found.2 in
     (found.0, found.1, subst (Appends had has) (one_text_unwatched found.0 (pace_of options) rules text.0 (ap (watch_of_path options.live_count) none) text.1) text.2)
 
--- where a command has its output for a trace and rulesets, it is done where nothing else is against
--- it
+-- a command that has an output for a trace and rulesets ends with Done, if nothing fails
 done_there : (command : Command) (trace : Trace) (rules : List Rule) (text : List ℕ) → IsOutput command trace rules text → outcome_of command trace rules ≡ status.Done
 done_there (words.Whatif name options) trace rules text output = ap status_of_last output.1
 done_there (words.Stall name) trace rules text output = refl
@@ -244,13 +242,13 @@ done_there (words.Stress shape workers) trace rules text output = refl
 done_there (words.Import file cpus) trace rules text output = refl
 done_there (words.Rules file drop_in) trace rules text output = refl
 
--- the trace that a command takes is the one that it takes from bytes that are told
+-- the trace that a command takes is the one that it gets from the known bytes
 same_trace : (command : Command) (files : Option Files) (bytes : List ℕ) (taken trace : Trace) → (HasTrace command → TakesTrace command files taken) → (tells : IsTold command (source_of command) files bytes) → taken_of command bytes ≡ Ok trace → taken ≡ trace
 same_trace command files bytes taken trace takes tells is =
     let read = (takes (has_trace command tells.0 tells.1)).read bytes tells in
     cc (read, is)
 
--- how it ends for what it takes is how it ends for what is told
+-- the status for the trace and rules that it takes is the status for the known ones
 same_outcome : (command : Command) (files : Option Files) (bytes : List ℕ) (taken trace : Trace) (taken_rules rules : List Rule) (result : Status) → (HasTrace command → TakesTrace command files taken) → TakesRules command files taken_rules
     → RulesTold command files rules → (tells : IsTold command (source_of command) files bytes) → taken_of command bytes ≡ Ok trace
     → outcome_of command taken taken_rules ≡ result → result ≡ outcome_of command trace rules
@@ -306,8 +304,8 @@ refuses command files before now had has (status.NoFile RulesFile) runs rules by
 refuses command files before now had has (status.NoFile TraceFile) runs rules bytes why given tells is reads = absurd (no_trace command files bytes had has tells runs.ends)
 refuses command files before now had has (status.NoFile ImportFile) runs rules bytes why given tells is reads = absurd (no_import command files bytes had has tells runs.ends)
 
--- a drop-in file that isn't missing is told where the rules file is, since a shelf tells of all its
--- names or of none
+-- if the rules file's bytes are known, so are those of a drop-in file that isn't missing: all of a
+-- shelf's contents are known, or none
 known_drop_in : (files : Option Files) (named : Option (List ℕ)) (name bytes : List ℕ) → told files name ≡ Some bytes → ((other : List ℕ) → named ≡ Some other → Lacks files other → ⊥)
     → (found : Option (List ℕ)) × (told_if_named files named ≡ Some found)
 known_drop_in None named name bytes tells there = absurd (true≢false (sym (ap is_some tells)))
@@ -318,7 +316,7 @@ known_drop_in (Some held) (Some over) name bytes tells there = go (bytes_of held
     go None is = absurd (there over refl is)
     go (Some here) is = (Some here, ap (option_map (λ b. Some b)) is)
 
--- a command never takes rulesets from bytes that have a fault
+-- a command never takes rulesets from bytes that have an error
 none_taken : (command : Command) (files : Option Files) (taken : List Rule) (name bytes : List ℕ) (fault : RulesFault) → TakesRules command files taken → IsThere command files DropInFile → rules_name command ≡ Some name → told files name ≡ Some bytes → rules_of bytes ≡ Err fault → ⊥
 none_taken command files taken name bytes fault takes there named tells is =
     let over = known_drop_in files (drop_in_name command) name bytes tells there in

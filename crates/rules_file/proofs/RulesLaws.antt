@@ -1,4 +1,4 @@
--- What the front of a file of rules tells of these.
+-- The rules of a prefix of a file of rules.
 use Rattle.std.proofs.Common.{◌≡◌, ℕ, ◌<◌, ◌≤◌, List, length, take, sym, ap, ◌∙◌, arith, length-take, Result, Ok}
 use Rattle.std.specs.Prelude.{nat_lt}
 use Rattle.std.proofs.lemmas.List.{take_all}
@@ -18,7 +18,7 @@ use Rattle.dropin_rules.specs.Joined.{dropped_in, parts_joined, parts_read}
 long : (bytes : List ℕ) → 1048576 < length bytes → rulesets_of bytes ≡ refused_for place.Whole cause.TooLong
 long bytes more = grind (arith, more)
 
--- a front of a file that has all of one that isn't too long
+-- a prefix that contains all of a file that isn't too long
 of_cut : (most : ℕ) (bytes : List ℕ) → 1048576 < most → rulesets_of (take most bytes) ≡ rulesets_of bytes
 of_cut most bytes enough = by_test _ (nat_lt most (length bytes))
     (λ more.
@@ -29,7 +29,7 @@ of_cut most bytes enough = by_test _ (nat_lt most (length bytes))
     let within : length bytes ≤ most = grind (arith, few) in
     ap rulesets_of (take_all most bytes within))
 
--- the front of a file gives the same list of rulesets, or the same fault, as the whole
+-- the prefix of a file gives the same list of rulesets, or the same error, as the whole file
 lists_of_front : (bytes : List ℕ) → rulesets_of (take 1048577 bytes) ≡ rulesets_of bytes
 lists_of_front bytes = of_cut 1048577 bytes (omega arith)
 
@@ -43,7 +43,7 @@ parts_of_front : (bytes : List ℕ) → parts_of (take 1048577 bytes) ≡ parts_
 unfolding parts_of
 parts_of_front bytes = ap (λ items. items >>= (λ ds. each part_at 0 ds)) (lists_of_front bytes)
 
--- and the same rules where these are put over others
+-- and the same rules if applied to other rules
 pub over_of_front : (base : Rules) (bytes : List ℕ) → dropped_in base (take 1048577 bytes) ≡ dropped_in base bytes
 unfolding dropped_in
 over_of_front base bytes = ap (λ (parts : Result (List Part) RulesFault). parts_read parts >>= parts_joined base) (parts_of_front bytes)

@@ -16,11 +16,11 @@ use Rattle.run_spec.specs.Run.{IsPassed}
 use Rattle.rules_file.specs.Files.{BaseFails, BaseGiven, OrdersRun, OverFails, OverGiven, Unread, status_fault, status_fault_in}
 use Rattle.rules_file.proofs.RulesRuns.{passed_base}
 
--- a command's files in order, of which those of rules are named so
+-- a command's files in order, if its files of rules have these names
 pub names_are : (command : Command) (named drop_in : Option (List ℕ)) → rules_name command ≡ named → drop_in_name command ≡ drop_in → names_of_rules named drop_in ++ listed (source_name command) ≡ names_in_order command
 names_are command named drop_in is over = ap (λ n. names_of_rules n drop_in ++ listed (source_name command)) (sym is) ∙ ap (λ d. names_of_rules (rules_name command) d ++ listed (source_name command)) (sym over)
 
--- a file of rules wasn't read, which the status tells
+-- the status reports that a file of rules wasn't read
 unread_reported : (command : Command) (which : Which) (name : List ℕ) (files : Option Files) (before now : ShelfCounts) (result : Status) → file_of command which ≡ Some name → IsPassed command files which → Unread which name files before now result
     → IsFailureOf command files result (failure_in name (status_fault result))
 unread_reported command which name files before now (status.NoFile kind) named passed unread = (name, subst (λ w. file_of command w ≡ Some name) (sym unread.0) named, refl)
@@ -28,7 +28,7 @@ unread_reported command which name files before now status.ReadFault named passe
 unread_reported command which name files before now (status.NoMemory _) named passed unread = refl
 unread_reported command which name files before now _ named passed unread = absurd unread
 
--- the rules file gives no rules, which the status tells
+-- the status reports that the rules file gives no rules
 base_reported : (command : Command) (name : List ℕ) (files : Option Files) (before now : ShelfCounts) (result : Status) → rules_name command ≡ Some name → BaseFails name files before now result
     → IsFailureOf command files result (failure_in name (status_fault result))
 base_reported command name files before now (status.Rules fault) named fails = refl
@@ -46,7 +46,7 @@ over_reported command base name files before now status.ReadFault named passed f
 over_reported command base name files before now (status.NoMemory none) named passed fails = refl
 over_reported command base name files before now _ named passed fails = absurd fails
 
--- where the rules file gives no rules, a run ends there
+-- if the rules file gives no rules, a run ends there
 pub base_order : (name : List ℕ) (drop_in : Option (List ℕ)) (files : Option Files) (counts counts_now : ShelfCounts) (before now : List ReadCall) (result : Status) → BaseFails name files counts counts_now result
     → ReadsFile name 0 before now (status_fault result) → OrdersRun (Some name) drop_in files before now result
 base_order name drop_in files counts counts_now before now result fails reads = λ command named over. record {
@@ -55,7 +55,7 @@ base_order name drop_in files counts counts_now before now result fails reads = 
   reported = base_reported command name files counts counts_now result named fails;
 }
 
--- where the drop-in file can't be put over them, it ends there
+-- if the drop-in file can't be applied, the run ends there
 over_order_fails : (base : Rules) (name other : List ℕ) (files : Option Files) (first counts counts_now : ShelfCounts) (before middle now : List ReadCall) (result : Status) → BaseGiven name files first counts base → OverFails base other files counts counts_now result
     → ReadsFile name 0 before middle None → ReadsFile other 0 middle now (status_fault result) → OrdersRun (Some name) (Some other) files before now result
 over_order_fails base name other files first counts counts_now before middle now result given fails base_reads reads = λ command named over. record {

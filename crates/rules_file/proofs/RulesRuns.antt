@@ -28,7 +28,7 @@ use Rattle.run_outcomes.proofs.RunLaws.{counts_written, file_there, is_named, ke
 
 -- ---- one file
 
--- the rules of a rules file whose front was read
+-- the rules of a rules file whose prefix was read
 pub base_read : (bytes name : List ℕ) (files : Option Files) (before now : ShelfCounts) (rules : Rules) → IsFront bytes name files before now → FitsRules rules.rules → rules_of bytes ≡ Ok rules → BaseGiven name files before now rules
 base_read bytes name files before now rules front fit is = record {
   fit = fit;
@@ -42,7 +42,7 @@ pub base_refused : (bytes name : List ℕ) (files : Option Files) (before now : 
 base_refused bytes name files before now fault front is =
     (λ whole tells. sym (of_front whole) ∙ ap rules_of (sym (front.front whole tells)) ∙ is, front.held, front.stays)
 
--- rules with a drop-in file over them whose front was read
+-- rules with a drop-in file applied whose prefix was read
 pub over_read : (base : Rules) (bytes name : List ℕ) (files : Option Files) (before now : ShelfCounts) (rules : Rules) → IsFront bytes name files before now → FitsRules rules.rules → dropped_in base bytes ≡ Ok rules
     → OverGiven base name files before now rules
 over_read base bytes name files before now rules front fit is = record {
@@ -60,7 +60,7 @@ over_refused base bytes name files before now fault front is =
 
 -- ---- files of rules that couldn't be read, or were refused
 
--- counts where nothing failed
+-- counts if nothing failed
 pub same_counts : (before now : ShelfCounts) (writes : ℕ) (result : Status) → Stays before now → (result ≡ status.ReadFault → ⊥) → (((which : _) × (result ≡ status.NoFile which)) → ⊥) → (result ≡ status.WriteFault → ⊥)
     → FailuresAreCounted (counts_with before writes) (counts_with now writes) result
 same_counts before now writes result same no_read no_file no_write =
@@ -70,7 +70,7 @@ same_counts before now writes result same no_read no_file no_write =
 same_shelf : (before now : ShelfCounts) → Stays before now → now ≡ before
 same_shelf before now same = ap (λ n. counts_of n now.absent) same.faults ∙ ap (counts_of before.faults) same.absent
 
--- nothing was read of a file of a kind, behind what comes before it
+-- nothing was read of a file of this kind, after what comes before it
 pub unread_ends : (command : Command) (which : Which) (name : List ℕ) (files : Option Files) (before now : ShelfCounts) (writes : ℕ) (had : Option (List ℕ)) (result : Status)
     → file_of command which ≡ Some name → IsPassed command files which → Unread which name files before now result
     → Runs command files (counts_with before writes) (counts_with now writes) had had result
@@ -110,7 +110,7 @@ base_ends name drop_in files before now status.ReadFault fails = λ command writ
 base_ends name drop_in files before now (status.NoMemory none) fails = λ command writes had named over. unread_ends command RulesFile name files before now writes had (status.NoMemory none) named tt fails
 base_ends name drop_in files before now _ fails = absurd fails
 
--- the rules of the rules file stand before a drop-in file is read
+-- the rules of the rules file are accepted before a drop-in file is read
 pub passed_base : (command : Command) (name : List ℕ) (files : Option Files) (before now : ShelfCounts) (base : Rules) → rules_name command ≡ Some name → BaseGiven name files before now base → IsPassed command files DropInFile
 passed_base command name files before now base named given = (
   base,
@@ -123,7 +123,7 @@ passed_base command name files before now base named given = (
 pub joined_from : (bytes drop_in : List ℕ) (base : Rules) → rules_of bytes ≡ Ok base → rules_from bytes (Some drop_in) ≡ or_drop_fault (dropped_in base drop_in)
 joined_from bytes drop_in base is = ap (λ read. with_drop_in (Some drop_in) (or_rules_fault read)) is
 
--- what fails at a drop-in file over those rules, where the shelf stood as at first
+-- a failure at a drop-in file, if the shelf's counts are as they were at first
 fails_over : (name other : List ℕ) (files : Option Files) (first before now : ShelfCounts) (base : Rules) (result : Status) → BaseGiven name files first before base → OverFails base other files before now result
     → EndsRun (Some name) (Some other) files before now result
 fails_over name other files first before now base (status.DropIn fault) given fails = λ command writes had named over. record {
@@ -156,7 +156,7 @@ mapped : (bytes : Option (List ℕ)) (found : Option (List ℕ)) → option_map 
 mapped None found is = absurd (true≢false (sym (ap is_some is)))
 mapped (Some here) found is = (here, refl, let same : Some here ≡ found = cc is in same)
 
--- the bytes of a drop-in file of this name are told
+-- the bytes of a drop-in file with this name are known
 pub named_bytes : (files : Option Files) (named : Option (List ℕ)) (name : List ℕ) (found : Option (List ℕ)) → named ≡ Some name → told_if_named files named ≡ Some found
     → (here : List ℕ) × (told files name ≡ Some here) × (Some here ≡ found)
 named_bytes files named name found is tells = mapped (told files name) found (subst (λ n. told_if_named files n ≡ Some found) is tells)

@@ -1,4 +1,4 @@
--- How much is read of files of rules, and where runs stop there.
+-- How much is read of files of rules, and where runs stop in them.
 use Rattle.std.proofs.Common.{◌≡◌, ℕ, ◌+◌, ◌≤◌, List, length, refl, ap, arith, Option, None, Some, Ok, Err}
 use Rattle.std.specs.Prelude.{MatchResult, Result, ⊤}
 use Rattle.outside.specs.Outside.{Files, ShelfCounts, told}
@@ -10,7 +10,7 @@ use Rattle.run_spec.specs.Stops.{length_or, read_of_rules}
 use Rattle.rules_file.specs.Files.{BaseFails, OverFails, OverGiven, StopsRun}
 use Rattle.run_outcomes.proofs.RunStops.{rules_stop}
 
--- no more is read of a file than it has, where its bytes are told
+-- at most a file's length is read of it, if its bytes are known
 pub read_within : (files : Option Files) (name : List ℕ) (given given_now : ℕ) → given_now ≤ given + most_of_rules → ((whole : List ℕ) → told files name ≡ Some whole → given_now ≤ given + length whole)
     → given_now ≤ given + read_of_rules files (Some name)
 read_within files name given given_now most within = go (told files name) refl
@@ -25,7 +25,7 @@ base_failed name drop_in files given given_now within = λ command named over.
     let base = ap (read_of_rules files) named in
     rules_stop command name files given given_now named (omega (arith, within, base))
 
--- where the rules file gives no rules, a run stops there
+-- if the rules file gives no rules, a run stops there
 pub base_stops : (name : List ℕ) (drop_in : Option (List ℕ)) (files : Option Files) (before now : ShelfCounts) (given given_now : ℕ) (result : Status) → BaseFails name files before now result → given_now ≤ given + read_of_rules files (Some name)
     → StopsRun (Some name) drop_in files given given_now result
 base_stops name drop_in files before now given given_now (status.Rules fault) fails within = λ command named over. tt
@@ -41,7 +41,7 @@ over_failed name other files given middle given_now first then = λ command name
     let more = ap (read_of_rules files) over in
     rules_stop command name files given given_now named (omega (arith, first, then, base, more))
 
--- where the drop-in file can't be put over them, a run stops there
+-- if the drop-in file can't be applied, a run stops there
 over_fails : (base : Rules) (name other : List ℕ) (files : Option Files) (before now : ShelfCounts) (given middle given_now : ℕ) (result : Status) → OverFails base other files before now result
     → middle ≤ given + read_of_rules files (Some name) → given_now ≤ middle + read_of_rules files (Some other) → StopsRun (Some name) (Some other) files given given_now result
 over_fails base name other files before now given middle given_now (status.DropIn fault) fails first then = λ command named over. tt

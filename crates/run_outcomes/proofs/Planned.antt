@@ -27,7 +27,7 @@ to_replay planner options cpus events taken ended some short interval often work
   workers = workers;
 }
 
--- the plans of a trace that was taken apart stand for it
+-- the plans of a planned trace represent it
 pub planned : (version : Version) (planner : PlannerView) (plans : PlansView) (options : Options) (limits : Limits) (events : List Event) → IsToReplay planner options limits events → StandForTaken planner plans → IsPlanned plans (trace_with version limits.cpus events) (pace_of options)
 planned version planner plans options limits events is stand = record {
   counted = is.taken.counted;

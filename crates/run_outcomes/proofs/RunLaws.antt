@@ -32,7 +32,7 @@ keeps_same (Some bytes) = refl
 
 -- ---- counts
 
--- a count that stays, where nothing happened that raises it
+-- a count is unchanged if nothing happened that increases it
 pub stays : (Happened : Type 0) (before now : ℕ) → (Happened → ⊥) → now ≡ before → RisesWhere Happened before now
 stays Happened before now not same = record { rose = λ happened. absurd (not happened); same = λ _. same }
 
@@ -64,7 +64,7 @@ every : (version : Version) → IsAmong version versions
 every One = inl refl
 every Two = inr (inl refl)
 
--- one of any version, where it takes all
+-- a trace of any version, if the command accepts all versions
 pub takes_any : (command : Command) (name : List ℕ) (files : Option Files) (version : Version) (cpus : ℕ) (events : List Event) → Reads command → source_name command ≡ Some name → versions_of command ≡ versions → IsCpuCount cpus
     → AreKnown (verbs_of version) events → IsAccepted (limits_of (tick_length command) cpus) events
     → ((bytes : List ℕ) → told files name ≡ Some bytes → trace_of (accepts_of command) bytes ≡ Ok (trace_with version cpus events))
@@ -72,7 +72,8 @@ pub takes_any : (command : Command) (name : List ℕ) (files : Option Files) (ve
 takes_any command name files version cpus events reads named all counted known accepted read =
     takes_trace command name files version cpus events reads named (subst (IsAmong version) (sym all) (every version)) counted known accepted read
 
--- counts of a shelf stay where nothing failed, and the count of writes rose where one did
+-- the counts of a shelf are unchanged if nothing failed, and the count of writes increased if one
+-- did
 pub counts_written : (before now : RunCounts) (result : Status) → now.shelf.faults ≡ before.shelf.faults → now.shelf.absent ≡ before.shelf.absent
     → (result ≡ status.ReadFault → ⊥) → (((which : _) × (result ≡ status.NoFile which)) → ⊥) → RisesWhere (result ≡ status.WriteFault) before.writes now.writes → FailuresAreCounted before now result
 counts_written before now result faults absent no_read no_file writes = record {
@@ -83,7 +84,7 @@ counts_written before now result faults absent no_read no_file writes = record {
 
 -- ---- the rules came first
 
--- rulesets that were given are those of a command that names the same files of rules
+-- rulesets are those of a command that names the same files of rules
 pub takes_given : (command : Command) (named drop_in : Option (List ℕ)) (files : Option Files) (rules : List Rule) → rules_name command ≡ named → drop_in_name command ≡ drop_in → RulesGiven named drop_in files rules → TakesRules command files rules
 takes_given command named drop_in files rules is over given = record {
   fit = given.fit;
@@ -91,7 +92,7 @@ takes_given command named drop_in files rules is over given = record {
   read = λ bytes found known tells. given.read known.0 bytes found (sym is ∙ known.1) known.2 (subst (λ n. told_if_named files n ≡ Some found) over tells);
 }
 
--- a command that names no rules file is given no rulesets
+-- a command that names no rules file has no rulesets
 pub none_given : (files : Option Files) → RulesGiven None None files []
 none_given files = record {
   fit = record { few = omega arith; each = All-nil FitsRule };
@@ -101,15 +102,15 @@ none_given files = record {
   drop_in_held = λ name is. absurd (let no : ⊥ = cc is in no);
 }
 
--- so it is where the options of a replay name none
+-- the same if the options of a replay name no file
 pub empty_given : (named drop_in : Option (List ℕ)) (files : Option Files) → named ≡ None → drop_in ≡ None → RulesGiven named drop_in files []
 empty_given named drop_in files none over = subst (λ n. RulesGiven n drop_in files []) (sym none) (subst (λ d. RulesGiven None d files []) (sym over) (none_given files))
 
--- the files of rules of a command aren't told to be missing, where its rules were given
+-- the files of rules of a command aren't known to be missing, if its rules were read
 pub rules_there : (command : Command) (files : Option Files) (rules : List Rule) → RulesGiven (rules_name command) (drop_in_name command) files rules → RulesAreThere command files
 rules_there command files rules given = (λ other is lacks. given.held other is lacks, λ other is lacks. given.drop_in_held other is lacks)
 
--- a file of a kind isn't told to be missing, where the one of its name isn't
+-- a file of a kind isn't known to be missing, if the file with its name isn't
 pub file_there : (command : Command) (which : Which) (name : List ℕ) (files : Option Files) → file_of command which ≡ Some name → (Lacks files name → ⊥) → IsThere command files which
 file_there command which name files named held = λ other is lacks. held (subst (Lacks files) (same_name command which name other named is) lacks)
 
@@ -188,7 +189,7 @@ read_failed command files before now had reads rose absent writes = record {
   };
 }
 
--- memory was wanting
+-- out of memory
 pub memory_wanting : (command : Command) (files : Option Files) (before now : RunCounts) (had : Option (List ℕ)) → now.shelf.faults ≡ before.shelf.faults → now.shelf.absent ≡ before.shelf.absent → now.writes ≡ before.writes
     → Runs command files before now had had (status.NoMemory no_memory)
 memory_wanting command files before now had faults absent writes = record {
@@ -196,7 +197,7 @@ memory_wanting command files before now had faults absent writes = record {
   counts = counts_written before now (status.NoMemory no_memory) faults absent (λ is. cc is) (λ is. cc is.1) (stays _ before.writes now.writes (λ is. cc is) writes);
 }
 
--- counts where a name was missed
+-- counts if a name was missing
 pub missed_counts : (which : Which) (before now : RunCounts) → now.shelf.faults ≡ before.shelf.faults → Rose before.shelf.absent now.shelf.absent → now.writes ≡ before.writes → FailuresAreCounted before now (status.NoFile which)
 missed_counts which before now faults rose writes = record {
   faults = stays _ before.shelf.faults now.shelf.faults (λ is. cc is) faults;
@@ -204,7 +205,7 @@ missed_counts which before now faults rose writes = record {
   writes = stays _ before.writes now.writes (λ is. cc is) writes;
 }
 
--- a trace that can't be read, behind rules that were
+-- a trace that can't be read, after rules that were
 pub runs_refused : {T : Type 0} → (command : Command) (name : List ℕ) (files : Option Files) (before now : RunCounts) (had : Option (List ℕ)) (rules : List Rule) (found : TraceFault) (result : Status)
     → Reads command → trace_name command ≡ Some name → RulesGiven (rules_name command) (drop_in_name command) files rules → ((bytes : List ℕ) → told files name ≡ Some bytes → RefusalOf found (trace_of (accepts_of command) bytes)) → (Lacks files name → TellsNothing {A = Unit {0}} (Err found))
     → (IsErrOf {T = T} (Err found) fault.NoFile → told files name ≡ None)

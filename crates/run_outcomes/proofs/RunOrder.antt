@@ -21,7 +21,7 @@ use Rattle.run_outcomes.specs.Rules.{RulesGiven}
 use Rattle.run_outcomes.specs.Writes.{IsStatusOf, WritesLast, WritesText}
 use Rattle.run_outcomes.proofs.RunLaws.{rules_there, takes_given}
 
--- a status of writing tells of no read
+-- a status of writing reports no read
 pub wrote_reported : (command : Command) (files : Option Files) (text : List ℕ) (before now : ℕ) (had has : Option (List ℕ)) (result : Status) → WritesText text before now had has result → IsFailureOf command files result None
 wrote_reported command files text before now had has status.Done wrote = refl
 wrote_reported command files text before now had has status.WriteFault wrote = refl
@@ -51,7 +51,7 @@ pub read_order : (command : Command) (name : List ℕ) (files : Option Files) (b
     → ReadsEach (names_of_rules (rules_name command) (drop_in_name command)) before middle None → ReadsFile name 0 middle now None → IsFailureOf command files result None → ReadsInOrder command files before now result
 read_order command name files before middle now result named rules reads reported = after_rules command name files before middle now None result named rules (file_stops name [] middle now None reads) reported
 
--- a fault of a trace, which the status tells
+-- the status reports a fault of a trace
 fault_reported : (command : Command) (name : List ℕ) (files : Option Files) (rules : List Rule) (found : TraceFault) (result : Status) → trace_name command ≡ Some name → RulesGiven (rules_name command) (drop_in_name command) files rules
     → IsStatusOf found result → IsFailureOf command files result (failure_in name (shelf_fault found))
 fault_reported command name files rules (fault.Refused refusal) result named given is = subst (λ s. IsFailureOf command files s None) (sym is) refl

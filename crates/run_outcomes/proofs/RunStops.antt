@@ -26,14 +26,14 @@ use Rattle.run_outcomes.proofs.RunLaws.{Reads, same_name}
 
 -- ---- a text that was written
 
--- where a text was to be written, no line was refused, and no read failed
+-- if a text was to be written, no line was rejected, and no read failed
 pub written_stops : (command : Command) (files : Option Files) (given given_now : ℕ) (text : List ℕ) (before now : ℕ) (had has : Option (List ℕ)) (result : Status) → WritesText text before now had has result → StopsAtRefusal command files given given_now result
 written_stops command files given given_now text before now had has status.Done wrote = tt
 written_stops command files given given_now text before now had has status.WriteFault wrote = tt
 written_stops command files given given_now text before now had has (status.NoMemory _) wrote = tt
 written_stops command files given given_now text before now had has _ wrote = absurd wrote
 
--- so it is with what `whatif` wrote of a trace
+-- the same for the output of `whatif` for a trace
 pub supposed_stops : (command : Command) (files : Option Files) (given given_now : ℕ) (trace : Trace) (pace : Pace) (rules : List Rule) (before now : ℕ) (had has : Option (List ℕ)) (result : Status) → WritesLast trace pace rules before now had has result
     → StopsAtRefusal command files given given_now result
 supposed_stops command files given given_now trace pace rules before now had has status.Done wrote = tt
@@ -55,18 +55,18 @@ none_read line count bytes none first = subst (λ n. IsNotWhole line n bytes) (s
 
 -- ---- a trace that couldn't be read
 
--- the line that a trace was refused at
+-- the line at which a trace was rejected
 refused_at : (read : Result Trace Refusal) (why : Status) → or_refused_trace read ≡ Err why → (refusal : Refusal) × (read ≡ Err refusal) × (refused_line why ≡ refusal.line)
 refused_at (Ok trace) why is = absurd (let no : ⊥ = cc is in no)
 refused_at (Err refusal) why is =
     let same : status.Trace refusal.line refusal.cause ≡ why = cc is in
     (refusal, refl, ap refused_line (sym same))
 
--- how far is read, behind files of rules
+-- how far is read, after files of rules
 behind : (given middle given_now before line : ℕ) → middle ≤ given + before → given_now ≤ middle + furthest line → given_now ≤ given + (before + most_until line)
 behind given middle given_now before line first then = omega (arith, first, then)
 
--- reading a trace behind files of rules, of which no more was read than they may have
+-- reading a trace after files of rules, within their size limits
 pub trace_stops : (command : Command) (name : List ℕ) (tick : ℕ) (files : Option Files) (given middle given_now : ℕ) (found : TraceFault) (result : Status)
     → Reads command → source_name command ≡ Some name → accepts_of command ≡ accepts_with versions tick → middle ≤ given + rules_read command files
     → TraceStops {A = Unit {0}} tick (told files name) middle given_now (Err found) → IsStatusOf found result → StopsAtRefusal command files given given_now result

@@ -1,4 +1,4 @@
--- Reading the lines of a trace behind its header, against the definition over its bytes.
+-- Reading the lines of a trace after its header, compared with the definition for its bytes.
 use Rattle.std.proofs.Common.{◌≡◌, ◌≢◌, ℕ, ◌+◌, ◌<◌, ◌≤◌, List, [], ◌∷◌, ◌++◌, length, drop, append_assoc, get_or, refl, sym, ap, ◌∙◌, subst, arith, ◌⊎◌, ⊎_elim, true, false, Bool}
 use Rattle.std.specs.Prelude.{IfOk, Result, Ok, Err, Option, None, Some, nat_lt, if◌then◌else◌}
 use Rattle.std.proofs.lemmas.List.{append-nil, length-append}
@@ -37,15 +37,15 @@ followed-none : (rest : Events) → followed [] rest ≡ rest
 followed-none (Ok events) = refl
 followed-none (Err refusal) = refl
 
--- one more event of the whole
+-- one more event of all events
 pub push_read : (front : List Event) (event : Event) (rest more whole : Events) → followed front rest ≡ whole → rest ≡ followed (event ∷ []) more → followed (front ++ event ∷ []) more ≡ whole
 push_read front event rest more whole is next = sym (followed-followed front (event ∷ []) more) ∙ ap (followed front) (sym next) ∙ is
 
--- a refusal of the rest is one of the whole
+-- a rejection of the rest is a rejection of all
 pub whole_refused : (front : List Event) (rest whole : Events) (refusal : Refusal) → followed front rest ≡ whole → rest ≡ Err refusal → whole ≡ Err refusal
 whole_refused front rest whole refusal is refused = sym is ∙ ap (followed front) refused
 
--- a fault of the rest is one of the whole
+-- a fault of the rest is a fault of all
 pub whole_fault : (front : List Event) (rest whole : Events) (fault : TraceFault) → followed front rest ≡ whole → RefusalOf fault rest → RefusalOf fault whole
 whole_fault front rest whole (Refused refusal) is found = whole_refused front rest whole refusal is found
 whole_fault front rest whole _ is found = tt
@@ -93,7 +93,7 @@ pub takes_read : (verbs : List Verb) (Before After : Plays) (line : List ℕ) (r
 takes_read verbs Before After line (Ok event) result short is takes = takes_event verbs Before After line event result short is takes
 takes_read verbs Before After line (Err why) result short is same = subst (TakesLine verbs Before After line) (sym same) (takes_none verbs Before After line why short is)
 
--- the line's event was played, and the rest of the input is behind it
+-- the line's event was played, and the rest of the input comes after it
 pub line_played : (verbs : List Verb) (Before After : Plays) (line : ℕ) (part : List ℕ) (before behind : List ℕ → List ℕ) (known : Option (List ℕ)) (x : Unit {0}) → TakesLine verbs Before After part (Ok x) → ((bytes : List ℕ) → known ≡ Some bytes → BeginsWithLine (before bytes) part (behind bytes))
     → NextGives verbs Before After line before behind known (Ok x)
 line_played verbs Before After line part before behind known x takes begins = λ limits events played running.
@@ -124,8 +124,7 @@ known_push : (verbs : List Verb) (events : List Event) (event : Event) → AreKn
 known_push verbs [] event all one = (one, tt)
 known_push verbs (first ∷ events) event all one = (all.0, known_push verbs events event all.1 one)
 
--- an event that a player takes is taken behind events that can be spelled and are legal, where it
--- can be spelled by the verbs
+-- a player plays an event after legal events that can be spelled, if the verbs can spell the event
 legally : (verbs : List Verb) (Before After : Plays) (event : Event) (result : Result (Unit {0}) (Fault Cause)) → Fits event → IsKnown verbs event → PlayerTakes Before After event result → PlayerTakes (Legally verbs Before) (Legally verbs After) event result
 legally verbs Before After event (Ok x) fits known takes = λ limits events played.
     let taken = takes limits events played.0 in
@@ -145,7 +144,7 @@ front_begins old new event count bytes front held at =
       one = λ k below. is_line.one k below;
     }
 
--- and it takes what its event takes
+-- and it plays the line's event
 pub front_takes : (version : Version) (Before After : Plays) (held : List ℕ) (event : Event) (count : ℕ) (result : Result (Unit {0}) (Fault Cause)) → HasInFront held event count → PlayerTakes Before After event result → TakesLine (verbs_of version) (Legally (verbs_of version) Before) (Legally (verbs_of version) After) (spelling event) result
 front_takes version Before After held event count result front takes =
     let verbs = verbs_of version in
@@ -227,7 +226,7 @@ all_read verbs front limits w line bytes whole is none ended =
 
 -- ---- all lines
 
--- behind the end: all events were played, or the fault there is the whole's
+-- after the `end` line: all events were played, or the fault there is the trace's
 pub closes : (verbs : List Verb) (Played : Plays) (limits : Limits) (events : List Event) (line : ℕ) (before behind : List ℕ → List ℕ) (known : Option (List ℕ)) (result : Result (Unit {0}) TraceFault) → Played limits events → (after events).ended ≡ true
     → ((bytes : List ℕ) → known ≡ Some bytes → followed events (rest_from verbs limits (after events) line (behind bytes)) ≡ rest_from verbs limits first_world 2 (before bytes))
     → ((bytes : List ℕ) → known ≡ Some bytes → TailGives line (behind bytes) result) → RestGives verbs Played limits before known result
@@ -245,8 +244,8 @@ closes verbs Played limits events line before behind known (Err NoFile) played e
 closes verbs Played limits events line before behind known (Err ReadFault) played ended read tail = λ bytes tells. tt
 closes verbs Played limits events line before behind known (Err (NoMemory _)) played ended read tail = λ bytes tells. tt
 
--- a player before the line with this number: the events that it has played, of which the end isn't
--- one, and what they leave of the input
+-- a player before the line with this number: the events that it has played, none of them the end,
+-- and the rest of the input
 pub record SoFar (verbs : List Verb) (Played : Plays) (limits : Limits) (line : ℕ) (before behind : List ℕ → List ℕ) (known : Option (List ℕ)) : Type 0 where
   pub events : List Event
   pub played : Played limits events
@@ -254,7 +253,7 @@ pub record SoFar (verbs : List Verb) (Played : Plays) (limits : Limits) (line : 
   pub running : (after events).ended ≡ false
   pub read : (bytes : List ℕ) → known ≡ Some bytes → followed events (rest_from verbs limits (after events) line (behind bytes)) ≡ rest_from verbs limits first_world 2 (before bytes)
 
--- before the first line behind the header
+-- before the first line after the header
 pub none_so_far : (verbs : List Verb) (Played : Plays) (limits : Limits) (line : ℕ) (before : List ℕ → List ℕ) (known : Option (List ℕ)) → Played limits [] → line ≡ 2 → SoFar verbs Played limits line before before known
 none_so_far verbs Played limits line before known played is = record {
   events = [];
@@ -301,7 +300,7 @@ pub ends_here : (verbs : List Verb) (Played : Plays) (limits : Limits) (line : �
 ends_here verbs Played limits line before behind known ended result one told over tail =
     closes verbs Played limits one.events line before behind known result one.played (sym (told limits one.events one.played) ∙ over) one.read tail
 
--- a fault of the next line is the whole's
+-- a fault of the next line is the trace's
 pub faults_here : (verbs : List Verb) (Before After Whole : Plays) (limits : Limits) (line : ℕ) (before behind later : List ℕ → List ℕ) (known : Option (List ℕ)) (found : TraceFault) → SoFar verbs Before limits line before behind known → NextGives verbs Before After line behind later known (Err found) → RestGives verbs Whole limits before known (Err found)
 faults_here verbs Before After Whole limits line before behind later known found so next = λ bytes tells.
     whole_fault so.events (rest_from verbs limits (after so.events) line (behind bytes)) (rest_from verbs limits first_world 2 (before bytes)) found (so.read bytes tells) (next limits so.events so.played so.running bytes tells)

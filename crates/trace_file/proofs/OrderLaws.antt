@@ -25,7 +25,7 @@ place_is name from p q before now reads is = subst (λ n. ReadsFrom name from be
 pub stays_there : (name : List ℕ) (at place : ℕ) (log : List ReadCall) → place ≡ at → ReadsFrom name (Next at) log log (Next place)
 stays_there name at place log is = place_is name (Next at) at place log log (no_reads name (Next at) log) (sym is)
 
--- reads that had no fault, after which a line is refused
+-- reads without a fault, after which a line is rejected
 pub refused_order : (name : List ℕ) (at : ℕ) (progress : Progress) (before now : List ReadCall) (refusal : Refusal) (found : TraceFault) → ReadsFrom name (Next at) before now progress → fault_in progress ≡ None → found ≡ Refused refusal
     → ReadsFile name at before now (shelf_fault found)
 refused_order name at progress before now refusal found reads none is =

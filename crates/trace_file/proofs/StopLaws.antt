@@ -40,7 +40,7 @@ or_refused-line : (line : ℕ) (read : Result Event Cause) (next : Event → Eve
 or_refused-line line (Ok event) next refusal later is = later event is
 or_refused-line line (Err why) next refusal later is = at_end-line line (Some why) refusal is
 
--- the events from a line on are refused at no line before it
+-- among the events starting at a line, no earlier line is rejected
 from_line : (verbs : List Verb) (limits : Limits) (w : World) (line : ℕ) (parts : List (List ℕ)) (refusal : Refusal) → events_from verbs limits w line parts ≡ Err refusal → line ≤ refusal.line
 unfolding events_from
 from_line verbs limits w line [] refusal is = at_end-line line _ refusal is
@@ -112,7 +112,7 @@ fault_number number cut (lines.NoMemory none) refusal at is = absurd (cc is)
 same_fault : (lent : Result (Option (Bor (List ℕ))) LineFault) (why : LineFault) → lent ≡ Err why → why ≡ lines.ReadFault → lent ≡ Err lines.ReadFault
 same_fault lent why is read = is ∙ ap (λ f. let r : Result (Option (Bor (List ℕ))) LineFault = Err f in r) read
 
--- a look behind the end fails as a read does, and refuses nothing
+-- a look after the end fails as a read does, and rejects nothing
 pub same_look : (seen : Result Bool LineFault) (why : LineFault) → seen ≡ Err why → why ≡ lines.ReadFault → seen ≡ Err lines.ReadFault
 same_look seen why is read = is ∙ ap (λ f. let r : Result Bool LineFault = Err f in r) read
 
@@ -126,7 +126,7 @@ no_refusal cut (lines.NoMemory none) refusal reads is = cc is
 err_same : {A : Type 0} (found other : TraceFault) → (let r : Result A TraceFault = Err found in r) ≡ Err other → found ≡ other
 err_same found other is = cc is
 
--- what is said of a line that is lent, of how many are left
+-- the number of remaining lines, from the result for a borrowed line
 keeps_lines : {A : Type 0} (files : Option Files) (given given_now : ℕ) (old new : Reader) (lent : Result (Option (Bor (List ℕ))) LineFault) (result : Result A TraceFault) → LendsLine files given given_now old new lent → (IsErrOf result ReadFault → lent ≡ Err lines.ReadFault)
     → ((refusal : Refusal) → IsErrOf result (Refused refusal) → refusal.line ≡ old.number) → KeepsLines (told files old.name) old new result
 keeps_lines files given given_now old new lent result lends only at = record {
@@ -135,11 +135,11 @@ keeps_lines files given given_now old new lent result lends only at = record {
   refused = at;
 }
 
--- where it was taken
+-- if the line was consumed
 pub taken_keeps : {A : Type 0} (files : Option Files) (given given_now : ℕ) (old new : Reader) (lent : Result (Option (Bor (List ℕ))) LineFault) (x : A) → LendsLine files given given_now old new lent → KeepsLines (told files old.name) old new (Ok x)
 taken_keeps files given given_now old new lent x lends = keeps_lines files given given_now old new lent (Ok x) lends (λ is. absurd (cc is)) (λ refusal is. absurd (cc is))
 
--- where it was read, and isn't taken
+-- if the line was read, and rejected
 pub faulted_keeps : {A : Type 0} (files : Option Files) (given given_now : ℕ) (old new : Reader) (lent : Result (Option (Bor (List ℕ))) LineFault) (line : ℕ) (why : Fault Cause) (found : TraceFault) → LendsLine files given given_now old new lent → line ≡ old.number → IsTraceFault line why found
     → KeepsLines {A = A} (told files old.name) old new (Err found)
 faulted_keeps files given given_now old new lent line why found lends at faults =
@@ -147,7 +147,7 @@ faulted_keeps files given given_now old new lent line why found lends at faults 
     (λ is. absurd (line_was_read line why found faults (err_same found ReadFault is)))
     (λ refusal is. line_number line why found refusal faults (err_same found (Refused refusal) is) ∙ at)
 
--- where it wasn't read
+-- if the line wasn't read
 pub unread_keeps : {A : Type 0} (files : Option Files) (given given_now : ℕ) (old new : Reader) (lent : Result (Option (Bor (List ℕ))) LineFault) (why : LineFault) (cut : Cause) (found : TraceFault) → LendsLine files given given_now old new lent → lent ≡ Err why → IsNumbered old.number (lent_line old.number lent) → found ≡ trace_fault cut why
     → KeepsLines {A = A} (told files old.name) old new (Err found)
 unread_keeps files given given_now old new lent why cut found lends is numbered from =
@@ -177,7 +177,7 @@ passed_faulted known old new part why found begins number faults =
 no_newline : (held : List ℕ) → held ≡ [] → HasNoNewline held (length held)
 no_newline held none = rw none (λ k below. absurd (omega (arith, below)))
 
--- a look behind the end takes no line
+-- a look after the end consumes no line
 pub look_keeps : {A : Type 0} (known : Option (List ℕ)) (old new : Reader) (result : Result A TraceFault) → ((bytes : List ℕ) → known ≡ Some bytes → left new bytes ≡ left old bytes) → new.number ≡ old.number → (IsErrOf result ReadFault → new.held ≡ [])
     → ((refusal : Refusal) → IsErrOf result (Refused refusal) → refusal.line ≡ old.number) → KeepsLines known old new result
 look_keeps known old new result same number none at = record {
@@ -186,14 +186,14 @@ look_keeps known old new result same number none at = record {
   refused = at;
 }
 
--- so it is of the bytes that were known before
+-- the same for the bytes that were known before
 pub known_keeps : {A : Type 0} (files files_now : Option Files) (name name_now : List ℕ) (old new : Reader) (result : Result A TraceFault) → files_now ≡ files → name_now ≡ name → KeepsLines (told files_now name_now) old new result → KeepsLines (told files name) old new result
 known_keeps files files_now name name_now old new result same named keeps =
     subst (λ n. KeepsLines (told files n) old new result) named (subst (λ f. KeepsLines (told f name_now) old new result) same keeps)
 
 -- ---- all lines
 
--- a line that is refused behind events that were played is none before the next
+-- a line that is rejected after events that were played isn't before the next line
 later_refusal : (verbs : List Verb) (limits : Limits) (events : List Event) (line : ℕ) (bytes : List ℕ) (whole : Events) (refusal : Refusal) → followed events (rest_from verbs limits (after events) line bytes) ≡ whole → whole ≡ Err refusal → line ≤ refusal.line
 later_refusal verbs limits events line bytes whole refusal is refused = from_line verbs limits (after events) line _ refusal (followed-err events _ refusal (is ∙ refused))
 
@@ -244,7 +244,7 @@ head_stops B tick known name old new given given_now ReadFault fresh counted pla
     rw total (omega (arith, count, number, first, later))
 head_stops B tick known name old new given given_now (NoMemory none) fresh counted place keeps = tt
 
--- or behind it
+-- or after it
 pub rest_stops : {A B : Type 0} (C : Type 0) (tick : ℕ) (known : List ℕ → Option (List ℕ)) (name : List ℕ) (old middle new : Reader) (given given_old given_now : ℕ) (head : Header) (header : B) (rest : List ℕ → Events) (found : TraceFault) → old ≡ fresh_reader name → middle.name ≡ old.name → given_old + old.at ≡ given + middle.at
     → KeepsLines (known old.name) old middle (Ok header) → ((bytes : List ℕ) → known old.name ≡ Some bytes → trace_of (accepts_with versions tick) (left old bytes) ≡ with_events head (rest bytes)) → StopsReading {A = A} (known middle.name) middle new given_old given_now rest (Err found)
     → StopsAtRefusal {A = C} tick (known name) given given_now (Err found)

@@ -4,7 +4,7 @@ use Rattle.std.proofs.lemmas.Iterator.Adapters.{YieldsList-from_skip, YieldsList
 use Rattle.std.specs.Vec.Iter.{into_iter_items, into_iter_len}
 use Rattle.host_files.proofs.words.behind_the_name.Goals as goal
 
--- What is collected is what the vector yields behind its first item.
+-- The collected words are those that the vector yields after its first item.
 pub returns : goal.returns
 returns c =
     let from = c.skip.ensures.source in

@@ -35,7 +35,7 @@ returns-in-Err-clause-content g c =
     laws.line_faulted verbs (Legally verbs before) (Legally verbs after) c.args.lines.now.number (spelling found.event) (left c.args.lines.now) (left c.pass.new.self) (told (g.S.Shelf.holds c.args.shelf.now) c.args.lines.now.name) c.in-Err.fault _ (rw c.number-line.ensures at c.fault_at.ensures) (laws.front_takes (version_of c.args.version) before after c.args.lines.now.held found.event c.in-Some.played.count (Err c.in-Err.fault) front takes)
     (λ bytes tells. laws.front_begins c.args.lines.now c.pass.new.self found.event c.in-Some.played.count bytes front (ap (λ (l : Reader). l.held) c.pass.ensures.rest) (ap (λ (l : Reader). l.at) c.pass.ensures.rest))
 
--- where no line was played, the player is as before
+-- if no line was played, the player is unchanged
 pub returns-in_default-clause-content : goal.returns-in_default-clause-content
 returns-in_default-clause-content g c = rw c.in_default.ensures.same at c.next_event.ensures.content
 
