@@ -33,7 +33,7 @@ all_first P x before after step all = subst (All P) step all 0 x (omega arith)
 pub all_next : {X : Type 0} → (P : X → Type 0) (x : X) (before after : List X) → before ≡ x ∷ after → All P before → All P after
 all_next P x before after step all = λ k d below. subst (All P) step all (suc k) d (omega (arith, below))
 
--- and with one more at the end
+-- and with one more list at the end
 pub all_push : {X : Type 0} → (P : X → Type 0) (xs : List X) (x : X) → All P xs → P x → All P (xs ++ x ∷ [])
 all_push P xs x all one = λ k d below.
     let more = length-append xs (x ∷ []) in

@@ -50,7 +50,7 @@ count-front bytes n m few =
 pub count-none : (bytes : List ℕ) → HasNoNewline bytes (length bytes) → line_count bytes ≡ 1
 count-none bytes none = ap length (parts_at-all 10 bytes none)
 
--- a line that was handed out is one less
+-- a line that was returned leaves one line fewer
 pub count-line : (bytes line after : List ℕ) → BeginsWithLine bytes line after → line_count bytes ≡ 1 + line_count after
 count-line bytes line after begins =
     let same : line_count bytes ≡ length (line ∷ parts_at 10 after) = ap line_count begins.whole ∙ ap length (parts_at-line 10 line after begins.one) in

@@ -24,7 +24,7 @@ pub ends_at : (name : List ℕ) (from : Progress) (at : ℕ) (before between now
 ends_at name from at before between now zero first then none = reads_then name from (Next at) (Over None) before between now first then
 ends_at name from at before between now (suc n) first then none = absurd (omega (arith, none))
 
--- reads that moved on, and one more
+-- reads that advanced, and one more read
 pub reads_on : (held : List ℕ) (at : ℕ) (between : List ℕ) (at_between : ℕ) (now : List ℕ) (at_now n : ℕ) → ReadsOn held at between at_between → take (length between) now ≡ between → length now ≡ length between + n
     → at_now ≡ at_between + n → ReadsOn held at now at_now
 reads_on held at between at_between now at_now n on front count moved =

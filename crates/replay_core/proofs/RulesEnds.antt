@@ -73,7 +73,7 @@ drop_faults command files before now had has (status.NoFile ImportFile) runs byt
 
 -- ---- `rules`
 
--- where it is done, its output is the text of its rules
+-- if the status is Done, the output is the text of the rules
 pub prints : (name : List ℕ) (drop_in : Option (List ℕ)) (files : Option Files) (before now : RunCounts) (had has : Option (List ℕ)) → Runs (words.Rules name drop_in) files before now had has status.Done
     → (rules : List Rule) → RulesTold (words.Rules name drop_in) files rules → Appends had has (rules_text rules ++ codes "\n")
 prints name drop_in files before now had has runs rules tells =
@@ -81,7 +81,7 @@ prints name drop_in files before now had has runs rules tells =
     let same = same_rules (words.Rules name drop_in) files ends.1 rules ends.3 tells in
     subst (λ (r : List Rule). Appends had has (rules_text r ++ codes "\n")) same (subst (Appends had has) ends.6.1 ends.6.2)
 
--- and it is done, where its rules are accepted, nothing failed and memory was there
+-- the status is Done if the rules are accepted, nothing failed and memory didn't run out
 pub prints_all : (name : List ℕ) (drop_in : Option (List ℕ)) (files : Option Files) (before now : RunCounts) (had has : Option (List ℕ)) (result : Status) → Runs (words.Rules name drop_in) files before now had has result
     → (rules : List Rule) → RulesTold (words.Rules name drop_in) files rules
     → (Rose before.shelf.faults now.shelf.faults → ⊥) → (Rose before.writes now.writes → ⊥) → (result ≡ status.Done) ⊎ (result ≡ status.NoMemory no_memory)
@@ -102,7 +102,7 @@ prints_all name drop_in files before now had has (status.NoFile ImportFile) runs
 
 -- ---- `whatif`
 
--- where it is done, its output is that of the last trace
+-- if the status is Done, the output is that of the last trace
 pub supposed : (name : List ℕ) (options : Options) (files : Option Files) (before now : RunCounts) (had has : Option (List ℕ)) → Runs (words.Whatif name options) files before now had has status.Done
     → (bytes : List ℕ) (rules : List Rule) → options.live ≡ None → IsTold (words.Whatif name options) TraceFile files bytes → RulesTold (words.Whatif name options) files rules
     → (trace : Trace) × (last : Trace) × (trace_of (accepts_of (words.Whatif name options)) bytes ≡ Ok trace)
@@ -124,7 +124,7 @@ large_events : (last : Result Trace ℕ) (events : ℕ) → status_of_last last 
 large_events (Ok trace) events is = absurd (let no : ⊥ = cc is in no)
 large_events (Err more) events is = let same : more ≡ events = cc is in ap (λ (n : ℕ). let lost : Result Trace ℕ = Err n in lost) same
 
--- and where it is too large, a round left so many events
+-- if the status is TooLarge, a round left that many events
 pub outgrown : (name : List ℕ) (options : Options) (files : Option Files) (before now : RunCounts) (had has : Option (List ℕ)) (events : ℕ) → Runs (words.Whatif name options) files before now had has (status.TooLarge events)
     → (bytes : List ℕ) (rules : List Rule) → IsTold (words.Whatif name options) TraceFile files bytes → RulesTold (words.Whatif name options) files rules
     → (trace : Trace) × (trace_of (accepts_of (words.Whatif name options)) bytes ≡ Ok trace) × (last_trace trace (pace_of options) rules ≡ Err events) × Keeps had has

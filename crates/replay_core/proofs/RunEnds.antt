@@ -54,7 +54,7 @@ ends_below command files had below pending status.ReadFault not ends more = (kep
 ends_below command files had below pending (status.NoMemory _) not ends more = kept_below had below pending ends more
 ends_below command files had below pending status.Usage not ends more = ends
 
--- a run that isn't done left behind below what it was to write at most
+-- a run that isn't Done left at most its output in the inner sink
 pub runs_below : (command : Command) (files : Option Files) (before now : RunCounts) (had below : Option (List ℕ)) (pending : List ℕ) (result : Status) → result ≢ status.Done
     → Runs command files before now (append_known had []) (append_known below pending) result → known_count had ≤ known_count below → Runs command files before now had below result
 runs_below command files before now had below pending result not runs more = record {
@@ -62,7 +62,7 @@ runs_below command files before now had below pending result not runs more = rec
   counts = runs.counts;
 }
 
--- a run is done where all was sent on
+-- a run is Done if everything was forwarded
 pub runs_sent : (command : Command) (files : Option Files) (before mid now : RunCounts) (had sent below : Option (List ℕ)) (pending left : List ℕ)
     → Runs command files before mid (append_known had []) (append_known sent pending) status.Done → Keeps (append_known sent pending) (append_known below left) → left ≡ [] → now ≡ mid → Runs command files before now had below status.Done
 runs_sent command files before mid now had sent below pending left runs kept none same = record {
@@ -70,7 +70,7 @@ runs_sent command files before mid now had sent below pending left runs kept non
   counts = subst (λ n. FailuresAreCounted before n status.Done) (sym same) runs.counts;
 }
 
--- a run whose output wasn't sent on in whole ends in a write fault
+-- a run whose output wasn't forwarded completely ends with WriteFault
 pub runs_unsent : (command : Command) (files : Option Files) (before mid now : RunCounts) (had sent below : Option (List ℕ)) (pending left : List ℕ)
     → Runs command files before mid (append_known had []) (append_known sent pending) status.Done → Keeps (append_known sent pending) (append_known below left) → known_count had ≤ known_count below
     → now.shelf ≡ mid.shelf → Rose mid.writes now.writes → Runs command files before now had below status.WriteFault
@@ -193,12 +193,12 @@ trace_told command files bytes had has result tells refuses = taken_told command
 import_told : (command : Command) (files : Option Files) (bytes : List ℕ) (had has : Option (List ℕ)) (result : Status) → IsTold command (source_of command) files bytes → Refuses command files had has ImportFile result → taken_of command bytes ≡ Err result
 import_told command files bytes had has result tells refuses = taken_told command files bytes ImportFile had has result (from_import command refuses.1) tells refuses
 
--- a trace without a rejection is the one that was read
+-- the trace that a command takes is the one that was parsed
 pub of_read : (read : Result Trace Refusal) (trace : Trace) → or_refused_trace read ≡ Ok trace → read ≡ Ok trace
 of_read (Ok other) trace is = let same : other ≡ trace = cc is in ap (λ (t : Trace). let read : Result Trace Refusal = Ok t in read) same
 of_read (Err refusal) trace is = absurd (let no : ⊥ = cc is in no)
 
--- where a replay is done, its output is one of its trace and its rules
+-- if a replay is Done, its output is some output for its trace and rules
 pub headlined : (name : List ℕ) (options : Options) (files : Option Files) (before now : RunCounts) (had has : Option (List ℕ)) → Runs (Replay name options) files before now had has status.Done
     → (bytes : List ℕ) (rules : List Rule) → IsTold (Replay name options) TraceFile files bytes → RulesTold (Replay name options) files rules
     → (trace : Trace) × (trace_of (accepts_of (Replay name options)) bytes ≡ Ok trace)
@@ -213,7 +213,7 @@ of_import : (cpus : ℕ) (read : Result (List Event) Refused) (trace : Trace) �
 of_import cpus (Ok events) trace is = (events, refl, let same : import_trace cpus events ≡ trace = cc is in sym same)
 of_import cpus (Err refusal) trace is = absurd (let no : ⊥ = cc is in no)
 
--- where an import is done, its output is the text of its trace
+-- if an import is Done, its output is the text of its trace
 pub imports : (name : List ℕ) (cpus : ℕ) (files : Option Files) (before now : RunCounts) (had has : Option (List ℕ)) → Runs (Import name cpus) files before now had has status.Done
     → (bytes : List ℕ) → IsTold (Import name cpus) ImportFile files bytes
     → (events : List Event) × (import_of cpus bytes ≡ Ok events) × Appends had has (text_of (import_trace cpus events))
@@ -222,7 +222,7 @@ imports name cpus files before now had has runs bytes tells =
     let found = of_import cpus (import_of cpus bytes) ends.0 ((ends.2 tt).read bytes tells) in
     (found.0, found.1, subst (λ trace. Appends had has (text_of trace)) found.2 (subst (Appends had has) ends.6.1.1 ends.6.2))
 
--- and where no group is watched there is one
+-- there is exactly one such output if no group is watched
 pub headlined_alone : (name : List ℕ) (options : Options) (files : Option Files) (before now : RunCounts) (had has : Option (List ℕ)) → Runs (Replay name options) files before now had has status.Done
     → (bytes : List ℕ) (rules : List Rule) → options.live ≡ None → IsTold (Replay name options) TraceFile files bytes → RulesTold (Replay name options) files rules
     → (trace : Trace) × (trace_of (accepts_of (Replay name options)) bytes ≡ Ok trace) × Appends had has (replay_text trace (pace_of options) (with_rules rules))
@@ -242,7 +242,7 @@ done_there (words.Stress shape workers) trace rules text output = refl
 done_there (words.Import file cpus) trace rules text output = refl
 done_there (words.Rules file drop_in) trace rules text output = refl
 
--- the trace that a command takes is the one that it gets from the known bytes
+-- the trace that a command takes is the trace of the known bytes
 same_trace : (command : Command) (files : Option Files) (bytes : List ℕ) (taken trace : Trace) → (HasTrace command → TakesTrace command files taken) → (tells : IsTold command (source_of command) files bytes) → taken_of command bytes ≡ Ok trace → taken ≡ trace
 same_trace command files bytes taken trace takes tells is =
     let read = (takes (has_trace command tells.0 tells.1)).read bytes tells in
@@ -256,8 +256,8 @@ same_outcome command files bytes taken trace taken_rules rules result takes take
     sym comes ∙ ap (λ t. outcome_of command t taken_rules) (same_trace command files bytes taken trace takes tells is)
     ∙ ap (outcome_of command trace) (same_rules command files taken_rules rules takes_rules given)
 
--- an accepted trace ends a run as it is to, where its rules are accepted, nothing failed and memory
--- was there
+-- an accepted trace gives the expected status, if the rules are accepted, nothing failed and memory
+-- didn't run out
 pub completes : (command : Command) (files : Option Files) (before now : RunCounts) (had has : Option (List ℕ)) (result : Status) → Runs command files before now had has result
     → (rules : List Rule) (bytes : List ℕ) (trace : Trace) → RulesTold command files rules → IsTold command (source_of command) files bytes → taken_of command bytes ≡ Ok trace
     → (Rose before.shelf.faults now.shelf.faults → ⊥) → (Rose before.writes now.writes → ⊥) → (result ≡ outcome_of command trace rules) ⊎ (result ≡ status.NoMemory no_memory)

@@ -1,4 +1,4 @@
--- What `whatif` wrote, and the trace that was kept for it.
+-- The output of `whatif`, and the trace that was stored for it.
 use Rattle.std.proofs.Common.{◌≡◌, ℕ, List, refl, sym, subst}
 use Rattle.std.specs.Prelude.{Option, Ok}
 use Rattle.psi_base.specs.declared.event.Event.{Event}
@@ -27,7 +27,7 @@ last_written trace last pace rules before now had has status.WriteFault is wrote
 last_written trace last pace rules before now had has (status.NoMemory _) is wrote = wrote.2
 last_written trace last pace rules before now had has _ is wrote = absurd wrote.2
 
--- none was, where no trace was left
+-- nothing was written if no trace was left
 pub none_left : (options : Options) (trace : Trace) (rules : List Rule) (writes : ℕ) (had : Option (List ℕ)) (found : Fault TooLarge) (result : Status) → IsOutgrown options rules trace found
     → IsStatusOfRounds found result → WritesLast trace (pace_of options) rules writes writes had had result
 none_left options trace rules writes had (fault.Refused large) result is told =
@@ -35,7 +35,7 @@ none_left options trace rules writes had (fault.Refused large) result is told =
 none_left options trace rules writes had (fault.NoMemory _) result is told =
     subst (WritesLast trace (pace_of options) rules writes writes had had) (sym told) (keeps_same had, refl)
 
--- a trace that was kept is accepted
+-- a stored trace is accepted
 pub kept_accepted : (options : Options) (version cpus_kept cpus : ℕ) (kept events : List Event) (limits_now : Limits) (w : World) → IsCpuCount cpus → IsAccepted (limits_of (of_ms options.tick_ms) cpus) events
     → HasKept cpus_kept kept limits_now w (limits_of (of_ms options.tick_ms) cpus) events → IsTraceAt options (trace_from version cpus_kept kept)
 kept_accepted options version cpus_kept cpus kept events limits_now w counted accepted so = record {

@@ -1,4 +1,4 @@
--- The tables of commands look at what is said alone, however it is spelled.
+-- The tables of commands depend only on the content of words, however it is spelled.
 use Rattle.std.proofs.Common.{◌≡◌, ◌≢◌, ℕ, ◌∷◌, ◌++◌, List, [], Bool, true, false, not}
 use Rattle.std.proofs.Common.{Option, Some, None, drop, refl, sym, ap, true≢false}
 use Rattle.std.proofs.Common.{if◌then◌else◌}
