@@ -17,7 +17,7 @@ pub own_next : (own : List (List Entry)) (list : List Entry) (observer : Observe
 own_next own list observer before after whole step is was =
     append_assoc own (list ∷ []) (map own_of after) ∙ ap (λ (l : List Entry). own ++ l ∷ map own_of after) is ∙ sym (ap (λ (l : List ObserverView). own ++ map own_of l) step) ∙ was
 
--- and has as many entries as it
+-- and has as many entries
 pub joined_next : (own : List (List Entry)) (list : List Entry) → length (joined (own ++ list ∷ [])) ≡ length (joined own) + length list
 joined_next [] list = let same = ap length (append-nil list) in omega (arith, same)
 joined_next (first ∷ own) list =
@@ -26,7 +26,7 @@ joined_next (first ∷ own) list =
     let after = length-append first (joined (own ++ list ∷ [])) in
     omega (arith, rest, before, after)
 
--- what holds of all holds of the first, and of the others
+-- a property of all elements holds for the first, and for the others
 pub all_first : {X : Type 0} → (P : X → Type 0) (x : X) (before after : List X) → before ≡ x ∷ after → All P before → P x
 all_first P x before after step all = subst (All P) step all 0 x (omega arith)
 

@@ -18,7 +18,7 @@ at_push [] x (suc k) y e = absurd (cc)
 at_push (z ∷ xs) x zero y e = inl e
 at_push (z ∷ xs) x (suc k) y e = ⊎_elim (λ a. inl a) (λ (a : (k ≡ length xs) × (x ≡ y)). inr (ap suc a.0, a.1)) (at_push xs x k y e)
 
--- an entry that is there has a place below the length
+-- the place of an existing entry is less than the length
 at_below : (xs : List Entry) (k : ℕ) (y : Entry) → slice_get xs k ≡ Some y → k < length xs
 at_below [] k y e = absurd (cc)
 at_below (x ∷ xs) zero y e = omega arith
@@ -33,7 +33,7 @@ taken_push observer plans slot lasts k taken e all one = record {
       (at_push taken e cpu entry at);
 }
 
--- what doesn't change of a reader doesn't change of any
+-- a field that a new reader leaves unchanged is unchanged for all readers
 pub field_kept : {X : Type 0} (field : ReaderEnd → X) (readers : List ReaderEnd) (k : ℕ) (r : ReaderEnd) → k < length readers → field r ≡ field (reader_at readers k) → (q : ℕ) (b : Bool) → eqb q k ≡ b → field (reader_at (set readers k r) q) ≡ field (reader_at readers q)
 field_kept field readers k r inside same q true e =
     let here : q ≡ k = eqb-true q k e in
@@ -53,7 +53,7 @@ seen_push readers new k r taken e inside many are seen before cpu entry at =
     (ap (λ (l : List ReaderEnd). (reader_at l k).knows.seen) are ∙ ap (λ (z : ReaderEnd). z.knows.seen) (get_or-set_same readers k r no_reader inside) ∙ seen ∙ ap (λ (z : Entry). z.count) last.1))
     (at_push taken e cpu entry at)
 
--- one look more
+-- one more sample
 pub looked_more : (slot : ℕ) (lasts : List Sample) (k count : ℕ) (first old new : WatcherView) → HaveLooked slot lasts k first old → HasLooked k slot count old new → count ≡ (last_at lasts k).count → k < length first.readers → HaveLooked slot lasts (k + 1) first new
 looked_more slot lasts k count first old new all one last inside =
     let within : k < length old.readers = let e : length old.readers ≡ length first.readers = all.readers_are in omega (arith, e, inside) in
@@ -70,7 +70,7 @@ looked_more slot lasts k count first old new all one last inside =
       later = λ q past. ap (λ l. reader_at l q) one.sampled.are ∙ (get_or-set_other old.readers k q one.sampled.reader _ (λ e. omega (arith, e, past)) ∙ all.later q (omega (arith, past)));
     }
 
--- no look yet
+-- no sample yet
 pub looked_none : (slot : ℕ) (lasts : List Sample) (watcher : WatcherView) → HaveLooked slot lasts 0 watcher watcher
 looked_none slot lasts watcher = record {
   observer_is = refl;

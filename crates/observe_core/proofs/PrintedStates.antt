@@ -22,7 +22,7 @@ pub states_at : (first : ℕ) (states : List BoardState) (i observer : ℕ) (d :
 states_at first states i observer d same inside =
     let next : suc i ≡ i + 1 = omega arith in rw (← next) (at_place first states i observer d same inside)
 
--- one state more has one line more
+-- one more state has one more line
 one_more : (first : ℕ) (states : List BoardState) (i observer : ℕ) (d : BoardState) → observer ≡ first + i → i < length states →
     states_text first (take (suc i) states) ≡ states_text first (take i states) ++ state_line observer (get_or states i d)
 one_more first [] i observer d same inside = absurd (omega (arith, inside))

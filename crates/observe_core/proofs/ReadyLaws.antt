@@ -32,7 +32,7 @@ either_next cpu k below = grind (arith, below)
 seen_met : (made : ℕ) (old new : ReaderView) → old.seen ≤ made → new.seen ≡ max old.seen made → new.seen ≡ made
 seen_met made old new before is = is ∙ grind (arith, before)
 
--- one processor more
+-- one more processor
 pub readied_more : (made : ℕ → ℕ) (k : ℕ) (first old new : WatcherView) → IsReadied made k first old → HasMet k (made k) old new → k < length first.readers → IsReadied made (k + 1) first new
 readied_more made k first old new all one inside =
     let many : length old.readers ≡ length first.readers = all.readers_are in
@@ -99,7 +99,7 @@ each_next R start now place x inside before here k d below =
 pub left_next : {X : Type 0} → (start now : List X) (place : ℕ) (x : X) → ((k : ℕ) (d : X) → place ≤ k → get_or now k d ≡ get_or start k d) → (k : ℕ) (d : X) → place + 1 ≤ k → get_or (set now place x) k d ≡ get_or start k d
 left_next start now place x left k d behind = get_or-set_other now place k x d (λ same. omega (arith, same, behind)) ∙ left k d (omega (arith, behind))
 
--- an element more at the end
+-- one more element at the end
 push_at : {X : Type 0} → (xs : List X) (x : X) (k : ℕ) (d : X) → k < length xs → get_or (xs ++ x ∷ []) k d ≡ get_or xs k d
 push_at [] x k d below = absurd (omega (arith, below))
 push_at (y ∷ xs) x zero d below = refl

@@ -150,16 +150,16 @@ refused_stops request files given given_now fault.NoFile result stops is = subst
 refused_stops request files given given_now fault.ReadFault result stops is = subst (StopsObserving request files given given_now) (sym is) (λ bytes refusal tells refuses. stops bytes refusal tells refuses)
 refused_stops request files given given_now (fault.NoMemory _) result stops is = subst (StopsObserving request files given given_now) (sym is) tt
 
--- nothing was done, for want of memory
+-- nothing was done, because memory ran out
 pub runs_lacking : (request : Request) (files : Option Files) (counts : RunCounts) (had : Option (List ℕ)) → Observes request files counts counts had had (status.NoMemory no_memory)
 runs_lacking request files counts had = record {
   ends = keeps_same had;
   counts = none_counted counts (status.NoMemory no_memory) (λ e. cc e) (λ e. cc e) (λ e. cc e);
 }
 
--- ---- what a status tells
+-- ---- what a status says
 
--- words that ask for something aren't those of Usage
+-- words that are a request don't end with Usage
 pub not_usage : (request : Request) (files : Option Files) (old new : Option (List ℕ)) (result : ObserveStatus) → ObservingEnds request files old new result → result ≡ status.Usage → ⊥
 not_usage request files old new result ends is = subst (ObservingEnds request files old new) is ends
 

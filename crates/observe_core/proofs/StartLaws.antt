@@ -1,4 +1,5 @@
--- A replay and its observers before the first tick, and what stays of the observers to the end.
+-- A replay and its observers before the first tick, and the observers' properties that stay to the
+-- end.
 use Rattle.std.proofs.Common.{◌≡◌, ℕ, ◌<◌, List, [], length, refl, sym, ◌∙◌, subst, arith, Option, Some}
 use Rattle.std.specs.Prelude.{slice_index_or}
 use Rattle.std.specs.List.{All}
@@ -20,11 +21,11 @@ use Rattle.observe_core.proofs.TickLaws.{observed_first}
 abbrev pub setting_of : PlansView → ReplayView → TableId → Trace → List ℕ → Setting
 setting_of plans replay board trace path = record { plans = plans; rows = replay.crew.rows; board = board; trace = trace; pace = pace_on path; path = path }
 
--- samples are asked for
+-- samples are requested
 pub some_asked : (options : Options) (path : List ℕ) → options ≡ options_on (Some path) → 0 < asked_by (watch_of options)
 some_asked options path is = subst (λ (o : Options). 0 < asked_by (watch_of o)) (sym is) (omega arith)
 
--- a new replay was reached before the first tick
+-- a new replay is at the state before the first tick
 pub reached_first : (options : Options) (replay : ReplayView) (plans : PlansView) (board : TableId) (trace : Trace) (version : ℕ) (path : List ℕ) → options ≡ options_on (Some path) → replay.plans ≡ plans → IsPlannedFor plans trace version path
     → ((trace : Trace) → IsPlanned plans trace (pace_of options) → version_of version ≡ trace.version → IsReplay replay trace (pace_of options) [] 0) → IsReached (setting_of plans replay board trace path) replay 0
 reached_first options replay plans board trace version path is same planned new =

@@ -29,7 +29,7 @@ rise_lower : (low mid high : ℕ) (more : List ℕ) → low ≤ mid → RiseWith
 rise_lower low mid high [] below rise = omega (arith, below, rise)
 rise_lower low mid high (number ∷ numbers) below rise = (let first = rise.0 in omega (arith, below, first), rise.1)
 
--- numbers that rise, and others that rise from their end on
+-- rising numbers, followed by numbers that rise from their end
 rise_append : (low mid high : ℕ) (numbers more : List ℕ) → RiseWithin low numbers mid → RiseWithin mid more high → RiseWithin low (numbers ++ more) high
 rise_append low mid high [] more rise rest = rise_lower low mid high more rise rest
 rise_append low mid high (number ∷ numbers) more rise rest = (rise.0, rise_append number mid high numbers more rise.1 rest)
@@ -103,7 +103,7 @@ from_on observer plans slot lasts k (entry ∷ taken) from within =
       from_on observer plans slot lasts (k + 1) taken (from_rest observer plans slot lasts k entry taken from) (omega (arith, within)),
     )
 
--- they are those that are due
+-- they are the samples that are due
 from_done : (observer : ℕ) (plans : PlansView) (slot : ℕ) (lasts : List Sample) (least : ℕ → ℕ) (k : ℕ) (taken : List Entry) → AreFrom observer plans slot lasts k taken
     → ((cpu : ℕ) → cpu < k + length taken → least cpu ≤ (last_at lasts cpu).count)
     → AreDone (map (λ cpu. record { cpu = cpu; slot = slot; least = least cpu }) (range_with_len k (length taken))) (looks_of taken)
@@ -114,7 +114,7 @@ from_done observer plans slot lasts least k (entry ∷ taken) from low =
     let later = first.later in
     (first.cpu_is, first.slot_is, omega (arith, least_here, later), from_done observer plans slot lasts least (k + 1) taken (from_rest observer plans slot lasts k entry taken from) (λ cpu below. low cpu (omega (arith, below))))
 
--- the sample is of the processor
+-- the sample is from the processor
 of_cpu : (observer cpu : ℕ) (look : Look) → is_of observer cpu look ≡ true → look.cpu ≡ cpu
 of_cpu observer cpu look is = grind (arith, is)
 
@@ -122,7 +122,7 @@ of_cpu observer cpu look is = grind (arith, is)
 is_chosen : (observer cpu : ℕ) (look : Look) → look.observer ≡ observer → look.cpu ≡ cpu → is_of observer cpu look ≡ true
 is_chosen observer cpu look by on = grind (arith, by, on)
 
--- none is of a processor that isn't among theirs
+-- no entry is from a processor that isn't among theirs
 from_none : (observer : ℕ) (plans : PlansView) (slot : ℕ) (lasts : List Sample) (cpu k : ℕ) (taken : List Entry) → AreFrom observer plans slot lasts k taken → (cpu < k) ⊎ (k + length taken ≤ cpu) → counts_by observer cpu (looks_of taken) ≡ []
 from_none observer plans slot lasts cpu k [] from out = refl
 from_none observer plans slot lasts cpu k (entry ∷ taken) from out =
@@ -138,7 +138,7 @@ from_none observer plans slot lasts cpu k (entry ∷ taken) from out =
         ap (λ b. map (λ (look : Look). look.count) (cond b (look_of entry ∷ filter (is_of observer cpu) (looks_of taken)) (filter (is_of observer cpu) (looks_of taken)))) is
         ∙ rest
 
--- one is of each of theirs
+-- exactly one entry is from each of their processors
 from_one : (observer : ℕ) (plans : PlansView) (slot : ℕ) (lasts : List Sample) (cpu k : ℕ) (taken : List Entry) (found : Entry) → AreFrom observer plans slot lasts k taken → (j : ℕ) → k + j ≡ cpu → slice_get taken j ≡ Some found → counts_by observer cpu (looks_of taken) ≡ found.count ∷ []
 from_one observer plans slot lasts cpu k [] found from j place at = absurd (let no : ⊥ = cc at in no)
 from_one observer plans slot lasts cpu k (entry ∷ taken) found from zero place at =
@@ -180,7 +180,7 @@ took_from set slot number made lasts old mid new took = λ j entry at.
     subst (λ (n : ℕ). IsTakenBy number set.plans n slot (last_at lasts n).count entry) same
     (subst (λ (p : ℕ × PlansView). IsTakenBy p.0 p.1 j slot (last_at lasts j).count entry) (λ x. (observer x, plans x)) (took.looked.taken_are.each j entry at))
 
--- the counts on a processor go on
+-- the counts on a processor continue to rise
 rise_more : (set : Setting) (i slot number : ℕ) (made : ℕ → ℕ) (lasts : List Sample) (old mid new : WatcherView) (took : Took set slot number made lasts old mid new) (cpu : ℕ)
     → RiseWithin 0 (counts_by number cpu (looks_of old.own)) (reader_at old.readers cpu).knows.seen
     → RiseWithin 0 (counts_by number cpu (looks_of old.own) ++ counts_by number cpu (looks_of took.looked.taken)) (reader_at new.readers cpu).knows.seen
@@ -209,7 +209,7 @@ rise_more set i slot number made lasts old mid new took cpu rise =
     (subst (λ reader. RiseWithin 0 (counts_by number cpu (looks_of old.own)) reader.knows.seen) (sym same) rise)))
     (let case : (cpu < length lasts) ⊎ (length lasts ≤ cpu) = grind arith in case)
 
--- what was due of the tick was taken
+-- the samples due at the tick were taken
 done_more : (set : Setting) (i slot number : ℕ) (made : ℕ → ℕ) (lasts : List Sample) (old mid new : WatcherView) (took : Took set slot number made lasts old mid new)
     → slot_in set (i + 1) ≡ Some slot → length set.plans.plans ≡ set.trace.cpus → ((cpu : ℕ) → cpu < set.trace.cpus → made cpu ≡ changes_until set.trace set.pace.length cpu i)
     → AreDone (due_in set (i + 1)) (looks_of took.looked.taken)

@@ -1,4 +1,4 @@
--- What is printed of entries is the text of samples that observers may have taken.
+-- The text printed for entries is the text of samples that observers may have taken.
 use Rattle.std.proofs.Common.{◌≡◌, ◌⊎◌, ⊎_elim, ℕ, zero, suc, ◌+◌, ◌-◌, ◌<◌, ◌≤◌, Bool, true, false, List, [], ◌∷◌, ◌++◌, length, get_or, map, refl, sym, ap, ◌∙◌, subst, arith, rules, Option, None, Some}
 use Rattle.std.specs.Prelude.{cond, filter, slice_get, slice_index_or, codes, decimal, ◌==◌}
 use Rattle.std.specs.List.{flat_map, range_with_len}
@@ -28,9 +28,9 @@ use Rattle.observe_core.specs.Observing.{ObserverView}
 use Rattle.observe_core.specs.Driving.{AreOn, AreShown, HaveObserved, IsOn, Setting, due_until, look_of, looks_of, state_at}
 use Rattle.observe_core.specs.Printed.{end_line, entry_line, printed, state_line, states_text}
 
--- ---- moments of changes
+-- ---- times of changes
 
--- numbers of events are counted from one
+-- events are numbered from 1
 abbrev AreAbove : ℕ → List ℕ → Type 0
 AreAbove low [] = Unit {0}
 AreAbove low (number ∷ numbers) = (low ≤ number) × AreAbove low numbers
@@ -69,7 +69,7 @@ change_moment trace cpu (suc k) within =
 
 -- ---- one entry
 
--- what is known of an entry of a trace
+-- the properties of an entry of a trace
 record IsRight (trace : Trace) (entry : Entry) : Type 0 where
   at : entry.at ≡ moment_after trace entry.cpu.0 entry.count
   times : entry.seven ≡ times_of trace (look_of entry)
@@ -111,7 +111,7 @@ entries_lines plans trace pace (entry ∷ entries) planned on =
     ap (λ (line : List ℕ). line ++ flat_map entry_line entries) (right_line trace entry (right plans trace pace entry planned on.0))
     ∙ ap (λ (lines : List ℕ). sample_line trace (look_of entry) ++ lines) (entries_lines plans trace pace entries planned on.1)
 
--- the states are that of the last tick
+-- all states are the state of the last tick
 abbrev pub AreLast : Trace → Pace → List BoardState → Type 0
 AreLast trace pace [] = Unit {0}
 AreLast trace pace (state ∷ states) = (state ≡ state_at trace pace (tick_count trace pace)) × AreLast trace pace states
@@ -174,7 +174,7 @@ abbrev Rises : ℕ → ℕ → ℕ → Entry → List Entry → Bool → ℕ →
 Rises observer cpu low entry own b top =
     RiseWithin low (map (λ (look : Look). look.count) (cond b (look_of entry ∷ filter (is_of observer cpu) (looks_of own)) (filter (is_of observer cpu) (looks_of own)))) top
 
--- they are numbers of changes that there are
+-- the counts are at most the number of changes
 counts_within : (plans : PlansView) (trace : Trace) (pace : Pace) (observer cpu low high : ℕ) (own : List Entry) → IsPlanned plans trace pace → AreOn plans own → low ≤ length (changes_of cpu trace.events)
     → RiseWithin low (counts_by observer cpu (looks_of own)) high → RiseWithin low (counts_by observer cpu (looks_of own)) (length (changes_of cpu trace.events))
 counts_within plans trace pace observer cpu low high [] planned on below rise = below
@@ -277,7 +277,7 @@ states_last trace pace board (state ∷ states) shown last =
 
 -- ---- the whole
 
--- What was printed is the text of an observed trace.
+-- The printed text is the text of an observed trace.
 pub whole_text : (set : Setting) (observers : List ObserverView) (entries : List Entry) (board states : List BoardState) → IsPlanned set.plans set.trace set.pace → HaveObserved set (tick_count set.trace set.pace) observers
     → AreShown set.trace set.pace (tick_count set.trace set.pace) board → ((observer : ℕ) → by observer entries ≡ list_of (lists_of observers) observer)
     → ((k : ℕ) (d : BoardState) → k < length states → IsLast board (get_or states k d)) → length states ≡ length observers

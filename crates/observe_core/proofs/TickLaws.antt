@@ -39,7 +39,7 @@ can_pass set i replay is left = (set.trace, set.pace, [], i, is.replayed, left)
 pub as_many : (set : Setting) (i : ℕ) (replay : ReplayView) → IsReached set replay i → length set.plans.plans ≡ set.trace.cpus
 as_many set i replay is = ap (λ (plans : PlansView). length plans.plans) (sym is.plans_are) ∙ is.replayed.planned.stand.each
 
--- no more than 64
+-- at most 64
 pub few_plans : (set : Setting) (i : ℕ) (replay : ReplayView) → IsReached set replay i → length set.plans.plans ≤ 64
 few_plans set i replay is = let counted = is.replayed.planned.counted.1 in let each = as_many set i replay is in omega (arith, counted, each)
 
@@ -62,7 +62,7 @@ pub slot_found : (set : Setting) (i : ℕ) (replay : ReplayView) (slot : Option 
 slot_found set i replay slot is found =
     sym (found ∙ ap (λ (watch : Option LiveWatch). watched_at set.trace (watched_path watch) (tick_moment set.pace.length (i + 1))) is.watch)
 
--- after its next tick it was reached there
+-- after its next tick it is at the state after that tick
 pub reached_next : (set : Setting) (i : ℕ) (old new : ReplayView) → IsReached set old i → i < tick_count set.trace set.pace → HasPassed old new → IsReached set new (i + 1)
 reached_next set i old new is left passed = record {
   plans_are = passed.plans_are ∙ is.plans_are;
@@ -176,7 +176,7 @@ observed_next set i number slot replay old mid new is here was ready watched who
 
 -- ---- all observers
 
--- a slice of the whole that was written over is what was written
+-- the first elements of a list are those that were written over them
 pub written_back : {X : Type 0} (xs new : List X) (n : ℕ) → n ≡ length new → take n (new ++ drop (length new) xs) ≡ new
 written_back xs new n size = rw size (take-append_seam new (drop (length new) xs))
 

@@ -5,7 +5,7 @@ use Rattle.psi_spec.specs.Changes.{RiseWithin}
 use Rattle.observe_spec.specs.Samples.{AreDone, Due, Look, is_of}
 use Rattle.observe_spec.specs.Laws.{CountsAreOfChanges, EachTakesItsShare}
 
--- numbers that rise within bounds leave these in order
+-- if numbers rise within bounds, the lower bound is at most the upper
 rise_bounds : (low : ℕ) (numbers : List ℕ) (high : ℕ) → RiseWithin low numbers high → low ≤ high
 rise_bounds low [] high rise = rise
 rise_bounds low (number ∷ numbers) high rise =
@@ -14,7 +14,7 @@ rise_bounds low (number ∷ numbers) high rise =
 abbrev counts : List Look → List ℕ
 counts looks = map (λ (look : Look). look.count) looks
 
--- so each of the samples that are chosen is within them
+-- so each of the chosen samples is within the bounds
 chosen_within : (chosen : Look → Bool) (looks : List Look) (k : ℕ) (look : Look) → slice_get looks k ≡ Some look → chosen look ≡ true →
     (low high : ℕ) → RiseWithin low (counts (filter chosen looks)) high → look.count ≤ high
 chosen_within chosen [] k look at is low high rise = absurd (cc)
@@ -35,7 +35,7 @@ pub counts_of_changes : CountsAreOfChanges
 counts_of_changes trace pace path observers looks all k look at =
     chosen_within (is_of look.observer look.cpu) looks k look at (search rules) 0 _ (all.rise look.observer look.cpu)
 
--- as many were done as were due
+-- as many samples were taken as were due
 done_all : (dues : List Due) (looks : List Look) → AreDone dues looks → length looks ≡ length dues
 done_all [] [] done = refl
 done_all [] (look ∷ looks) done = absurd done

@@ -27,7 +27,7 @@ put_failed (Some had) (Some below) pending text front more =
     let grew : below ++ pending ≡ had ++ take (length (below ++ pending) - length had) text = rw none at front in
     front_below had below pending text _ more grew
 
--- all that a writer put was sent on
+-- everything that a writer put was forwarded
 pub flushed : (had mid below : Option (List ℕ)) (pending left text : List ℕ) → Appends (append_known had []) (append_known mid pending) text → Keeps (append_known mid pending) (append_known below left) → left ≡ [] → Appends had below text
 flushed None mid below pending left text put kept sent = tt
 flushed (Some had) None below pending left text put kept sent = absurd put

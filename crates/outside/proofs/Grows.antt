@@ -1,4 +1,4 @@
--- How what a sink holds grows, piece after piece.
+-- How the content of a sink grows, piece by piece.
 use Rattle.std.proofs.Common.{◌≡◌, ℕ, ◌+◌, ◌<◌, List, [], ◌++◌, length, take, drop, get_or, sym, ap, ◌∙◌, arith, append_assoc, length-append, ◌-◌}
 use Rattle.std.specs.Prelude.{Option, None, Some, Result, Ok, Err, IsErr}
 use Rattle.std.specs.Io.KnownBytes.{Appends}
@@ -76,7 +76,7 @@ AppendsFront-last old mid new xs ys a front =
     let all : AppendsFront old new (xs ++ (ys ++ [])) = AppendsFront-then old mid new xs ys [] a front in
     rw (append-nil ys) at all
 
--- what a failed call leaves
+-- the state after a failed call
 pub PutsAll-failed : {T E : Type 0} → (old new : Option (List ℕ)) (result : Result T E) (bytes : List ℕ) → IsErr result → AppendsFront old new bytes → PutsAll old new result bytes
 PutsAll-failed old new (Ok value) bytes failed front = cc
 PutsAll-failed old new (Err fault) bytes failed front = front
@@ -89,6 +89,6 @@ flat_map-at f xs i d inside =
 -- for a loop over the bytes of one piece
 pub ruleset growth = (Appends-none, Appends-more)
 
--- for one call after another: `put_all(..)?; put_number(..)?; put_each(..)`, whose text is that of
--- the calls, joined
+-- for calls in order: `put_all(..)?; put_number(..)?; put_each(..)`, whose text is that of the
+-- calls, joined
 pub ruleset chain = (append_assoc, front_first, front_after, front_last)

@@ -12,7 +12,7 @@ use Rattle.outside.specs.declared.shelf.ShelfFault.TheVariants.{NoFile, Failed}
 one_more_rose : (before now : ℕ) → now ≡ one_more before → Rose before now
 one_more_rose before now is = grind (arith, is)
 
--- a shelf's counts have their causes
+-- a shelf's counts increase for their causes only
 pub shelf_causes : (result : Result ℕ ShelfFault) (faults faults_now absent absent_now : ℕ) → CountsWhere (IsErrOf result Failed) faults faults_now → CountsWhere (IsErrOf result NoFile) absent absent_now → HasCauses (counts_of faults absent) (counts_of faults_now absent_now) (IsErrOf result Failed) (IsErrOf result NoFile)
 shelf_causes result faults faults_now absent absent_now fault missing = record {
   faults_later = fault.later;
@@ -23,7 +23,7 @@ shelf_causes result faults faults_now absent absent_now fault missing = record {
   absent_same = missing.same;
 }
 
--- ---- what a call that doesn't fail gives
+-- ---- results of calls that don't fail
 
 held_bound : (files : Files) (name : List ℕ) (at most : ℕ) (before into : List ℕ) (n : ℕ) (found : Option (List ℕ)) → bytes_of files name ≡ found → GivesOf files name at most before into (Ok n) → n ≤ length into
 held_bound files name at most before into n (Some bytes) is gives =

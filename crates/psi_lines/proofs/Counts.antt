@@ -1,4 +1,4 @@
--- How many lines are left, and how many were read.
+-- The number of lines that remain, and the number that were read.
 use Rattle.std.proofs.Common.{◌≡◌, ℕ, ◌+◌, ◌≤◌, List, [], ◌∷◌, ◌++◌, length, take, drop, refl, ap, ◌∙◌, cond, true, false, ◌==◌, arith}
 use Rattle.std.specs.Prelude.{Option, Result, Ok, Err, None, Some, if◌then◌else◌}
 use Rattle.std.proofs.lemmas.List.{take-append-drop, take-take}
@@ -10,11 +10,11 @@ use Rattle.psi_lines.specs.declared.lines.Line.{Line}
 use Rattle.psi_lines.specs.declared.lines.LineFault.{LineFault}
 use Rattle.psi_lines.specs.declared.lines.LineFault.TheVariants.{TooLong, Cut, NoFile, ReadFault, NoMemory}
 
--- a byte more in the first part
+-- one more byte in the first part
 onto-length : (byte : ℕ) (parts : List (List ℕ)) → HasFirst parts → length (onto_first byte parts) ≡ length parts
 onto-length byte parts has = rw has.2 refl
 
--- a byte more, which may end a line
+-- one more byte, which may end a line
 count-cons : (byte : ℕ) (bytes : List ℕ) → line_count (byte ∷ bytes) ≡ cond (byte == 10) 1 0 + line_count bytes
 unfolding parts_at
 count-cons byte bytes =
@@ -33,11 +33,11 @@ count-append (byte ∷ xs) ys =
     let rest = count-append xs ys in
     omega (arith, whole, front, rest)
 
--- there is one at least
+-- there is at least one line
 count-some : (bytes : List ℕ) → 1 ≤ line_count bytes
 count-some bytes = let has = first_part 10 bytes in rw has.2 (omega arith)
 
--- fewer bytes have no more
+-- fewer bytes don't have more lines
 pub count-front : (bytes : List ℕ) (n m : ℕ) → n ≤ m → line_count (take n bytes) ≤ line_count (take m bytes)
 count-front bytes n m few =
     let same = ap line_count (take-take n m bytes few) in
@@ -46,7 +46,7 @@ count-front bytes n m few =
     let some = count-some (drop n (take m bytes)) in
     omega (arith, same, seam, whole, some)
 
--- bytes without a newline are one
+-- bytes without a newline are one line
 pub count-none : (bytes : List ℕ) → HasNoNewline bytes (length bytes) → line_count bytes ≡ 1
 count-none bytes none = ap length (parts_at-all 10 bytes none)
 
@@ -56,7 +56,7 @@ count-line bytes line after begins =
     let same : line_count bytes ≡ length (line ∷ parts_at 10 after) = ap line_count begins.whole ∙ ap length (parts_at-line 10 line after begins.one) in
     omega (arith, same)
 
--- the number of the next line, and how many are left, together stay
+-- the sum of the next line's number and the number of remaining lines is constant
 pub lines_stay : (bytes : List ℕ) (old new : Reader) (result : Result (Option Line) LineFault) → NextOf bytes old new result → new.number ≡ number_after old.number result → new.number + line_count (left new bytes) ≡ old.number + line_count (left old bytes)
 lines_stay bytes old new (Ok (Some line)) next number = let one = count-line (left old bytes) line.bytes (left new bytes) next.0 in omega (arith, one, number)
 lines_stay bytes old new (Ok None) next number = rw (number, next.0, next.1) refl

@@ -1,4 +1,4 @@
--- How runs over a drop-in file, `rules` and `whatif` end.
+-- How runs with a drop-in file, of `rules` and of `whatif` end.
 use Rattle.std.proofs.Common.{◌≡◌, ◌≢◌, ◌⊎◌, inl, inr, ℕ, List, ◌++◌, refl, sym, ap, subst, Option, None, Some, true, true≢false}
 use Rattle.std.specs.Prelude.{Result, Ok, Err, codes, is_some, option_map}
 use Rattle.std.specs.Io.KnownBytes.{Appends, Keeps}
@@ -40,7 +40,7 @@ none_joined : (command : Command) (files : Option Files) (taken : List Rule) (by
 none_joined command files taken bytes drop_in fault takes known over is =
     let good = takes.read bytes (Some drop_in) known (over_told command files drop_in over) in cc (good, is)
 
--- nor finds one of the rules file there
+-- nor finds an error in the rules file there
 no_rules_fault : (command : Command) (files : Option Files) (had has : Option (List ℕ)) (bytes drop_in : List ℕ) (found : RulesFault) (fault : DropFault) → Ends command files had has (status.Rules found) → IsTold command RulesFile files bytes
     → rules_from bytes (Some drop_in) ≡ Err (status.DropIn fault) → ⊥
 no_rules_fault command files had has bytes drop_in found fault ends known is =
@@ -137,6 +137,6 @@ outgrown name options files before now had has events runs bytes rules tells rul
       runs.ends.0,
     )
 
--- nothing that `whatif` says is watched
+-- `whatif` watches no group
 pub unwatched : (given : List (List ℕ)) (name : List ℕ) (options : Options) → command_of given ≡ Some (words.Whatif name options) → options.live ≡ None
 unwatched given name options is = (command_ranges given (words.Whatif name options) is).3

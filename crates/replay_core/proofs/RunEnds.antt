@@ -31,7 +31,7 @@ use Rattle.dropin_rules.specs.declared.fault.DropFault.{DropFault}
 use Rattle.rules_file.proofs.RulesRuns.{named_bytes}
 use Rattle.run_outcomes.proofs.RunLaws.{stays}
 
--- ---- over a buffered sink
+-- ---- with a buffered sink
 
 kept_below : (had below : Option (List ℕ)) (pending : List ℕ) → Keeps (append_known had []) (append_known below pending) → known_count had ≤ known_count below → Keeps had below
 kept_below None below pending kept more = tt
@@ -83,7 +83,7 @@ runs_unsent command files before mid now had sent below pending left runs kept m
   };
 }
 
--- ---- what a status tells of files
+-- ---- what a status says about files
 
 -- if the bytes of a name are known, the name isn't missing
 pub one_told : (files : Option Files) (name other bytes : List ℕ) (found : Option (List ℕ)) → found ≡ Some name → found ≡ Some other → told files name ≡ Some bytes → told files other ≡ None → ⊥
@@ -120,7 +120,7 @@ by_name command files taken rules (Some name) is takes tells =
 pub same_rules : (command : Command) (files : Option Files) (taken rules : List Rule) → TakesRules command files taken → RulesTold command files rules → taken ≡ rules
 same_rules command files taken rules takes tells = by_name command files taken rules (rules_name command) refl takes tells
 
--- a fault of a rules file is one whatever drop-in file is over it
+-- an error in a rules file is an error with any drop-in file
 pub fault_first : (bytes : List ℕ) (drop_in : Option (List ℕ)) (fault : RulesFault) → rules_of bytes ≡ Err fault → rules_from bytes drop_in ≡ Err (status.Rules fault)
 fault_first bytes drop_in fault is = ap (λ read. with_drop_in drop_in (or_rules_fault read)) is
 
@@ -132,7 +132,7 @@ no_fault command files rules fault had has tells ends =
     let other = fault_first found.0 found.1 fault (ends.2.2 found.0 found.2) in
     cc (good, other)
 
--- nor misses their file
+-- nor that their file is missing
 pub no_missed : (command : Command) (files : Option Files) (rules : List Rule) (had has : Option (List ℕ)) → RulesTold command files rules → Ends command files had has (status.NoFile RulesFile) → ⊥
 no_missed command files rules had has tells ends =
     let found = told_bytes command files rules ends.2.0 ends.2.1 tells in
@@ -140,12 +140,12 @@ no_missed command files rules had has tells ends =
     let none = ends.2.2 in
     cc (here, none)
 
--- a name that is there
+-- a name that exists
 pub named_some : (named : Option (List ℕ)) → is_some named ≡ true → (name : List ℕ) × (named ≡ Some name)
 named_some None is = absurd (true≢false (sym is))
 named_some (Some name) is = (name, refl)
 
--- nor finds one in the drop-in file over them
+-- nor finds an error in the drop-in file
 pub no_drop_fault : (command : Command) (files : Option Files) (rules : List Rule) (fault : DropFault) (had has : Option (List ℕ)) → RulesTold command files rules → Ends command files had has (status.DropIn fault) → ⊥
 no_drop_fault command files rules fault had has tells ends =
     let named = named_some (rules_name command) ends.2.1 in
@@ -157,7 +157,7 @@ no_drop_fault command files rules fault had has tells ends =
     let good = found.4 in
     cc (same, good, bad)
 
--- nor misses that
+-- nor that it is missing
 pub no_missed_drop_in : (command : Command) (files : Option Files) (rules : List Rule) (had has : Option (List ℕ)) → RulesTold command files rules → Ends command files had has (status.NoFile DropInFile) → ⊥
 no_missed_drop_in command files rules had has tells ends =
     let named = named_some (rules_name command) ends.1.1 in
@@ -176,7 +176,7 @@ none_told command files bytes which had has from tells ends =
 no_trace : (command : Command) (files : Option Files) (bytes : List ℕ) (had has : Option (List ℕ)) → IsTold command (source_of command) files bytes → Ends command files had has (status.NoFile TraceFile) → ⊥
 no_trace command files bytes had has tells ends = none_told command files bytes TraceFile had has (from_trace command (ap is_some ends.2.1)) tells ends
 
--- and with a text of ftrace
+-- the same for an ftrace text
 no_import : (command : Command) (files : Option Files) (bytes : List ℕ) (had has : Option (List ℕ)) → IsTold command (source_of command) files bytes → Ends command files had has (status.NoFile ImportFile) → ⊥
 no_import command files bytes had has tells ends = none_told command files bytes ImportFile had has (from_import command (ap is_some ends.2.1)) tells ends
 
@@ -189,7 +189,7 @@ taken_told command files bytes which had has result from tells refuses = refuses
 trace_told : (command : Command) (files : Option Files) (bytes : List ℕ) (had has : Option (List ℕ)) (result : Status) → IsTold command (source_of command) files bytes → Refuses command files had has TraceFile result → taken_of command bytes ≡ Err result
 trace_told command files bytes had has result tells refuses = taken_told command files bytes TraceFile had has result (from_trace command refuses.1) tells refuses
 
--- and of a text of ftrace
+-- the same for a rejected line of an ftrace text
 import_told : (command : Command) (files : Option Files) (bytes : List ℕ) (had has : Option (List ℕ)) (result : Status) → IsTold command (source_of command) files bytes → Refuses command files had has ImportFile result → taken_of command bytes ≡ Err result
 import_told command files bytes had has result tells refuses = taken_told command files bytes ImportFile had has result (from_import command refuses.1) tells refuses
 
@@ -208,7 +208,7 @@ headlined name options files before now had has runs bytes rules tells rules_tol
     let same = same_rules (Replay name options) files ends.1 rules ends.3 rules_told in
     (ends.0, of_read (trace_of (accepts_of (Replay name options)) bytes) ends.0 ((ends.2 tt).read bytes tells), (ends.6.0, subst (λ r. IsReplayText ends.0 (pace_of options) r ends.6.0) same ends.6.1, ends.6.2))
 
--- events that were imported are those of a trace that was taken
+-- the trace of an import has the imported events
 of_import : (cpus : ℕ) (read : Result (List Event) Refused) (trace : Trace) → or_not_imported cpus read ≡ Ok trace → (events : List Event) × (read ≡ Ok events) × (trace ≡ import_trace cpus events)
 of_import cpus (Ok events) trace is = (events, refl, let same : import_trace cpus events ≡ trace = cc is in sym same)
 of_import cpus (Err refusal) trace is = absurd (let no : ⊥ = cc is in no)

@@ -33,7 +33,7 @@ of_cut most bytes enough = by_test _ (nat_lt most (length bytes))
 lists_of_front : (bytes : List ℕ) → rulesets_of (take 1048577 bytes) ≡ rulesets_of bytes
 lists_of_front bytes = of_cut 1048577 bytes (omega arith)
 
--- and so the same rules
+-- and thus the same rules
 pub of_front : (bytes : List ℕ) → rules_of (take 1048577 bytes) ≡ rules_of bytes
 unfolding rules_of
 of_front bytes = ap (λ items. items >>= (λ ds. each rule_at 0 ds >>= (λ rules. let made : Result Rules RulesFault = Ok (record { rules = rules }) in made))) (lists_of_front bytes)

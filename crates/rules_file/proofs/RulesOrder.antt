@@ -1,4 +1,4 @@
--- In which order files of rules are read.
+-- The order in which files of rules are read.
 use Rattle.std.proofs.Common.{◌≡◌, ℕ, List, [], ◌∷◌, ◌++◌, refl, sym, ap, ◌∙◌, subst, inl, Option, None, Some, Ok, Err}
 use Rattle.std.specs.Prelude.{MatchResult, Result}
 use Rattle.outside.specs.Outside.{Files, ShelfCounts}
@@ -37,7 +37,7 @@ base_reported command name files before now status.ReadFault named fails = unrea
 base_reported command name files before now (status.NoMemory none) named fails = refl
 base_reported command name files before now _ named fails = absurd fails
 
--- nor can the drop-in file be put over them
+-- the status reports that the drop-in file can't be applied
 over_reported : (command : Command) (base : Rules) (name : List ℕ) (files : Option Files) (before now : ShelfCounts) (result : Status) → drop_in_name command ≡ Some name → IsPassed command files DropInFile → OverFails base name files before now result
     → IsFailureOf command files result (failure_in name (status_fault result))
 over_reported command base name files before now (status.DropIn fault) named passed fails = refl
@@ -72,6 +72,6 @@ pub over_order : (base : Rules) (name other : List ℕ) (files : Option Files) (
 over_order base name other files first counts counts_now before middle now (Ok rules) given put base_reads reads = inl (middle, base_reads, file_stops other [] middle now None reads)
 over_order base name other files first counts counts_now before middle now (Err found) given fails base_reads reads = over_order_fails base name other files first counts counts_now before middle now found given fails base_reads reads
 
--- the rules file alone was read
+-- only the rules file was read
 pub base_alone_order : (name : List ℕ) (before now : List ReadCall) → ReadsFile name 0 before now None → ReadsEach (names_of_rules (Some name) None) before now None
 base_alone_order name before now reads = file_stops name [] before now None reads

@@ -1,4 +1,4 @@
--- What reading files of rules, and writing rules, come to as a run.
+-- Reading files of rules, and writing rules, as a run.
 use Rattle.std.proofs.Common.{◌≡◌, ℕ, List, [], ◌++◌, refl, sym, ap, ◌∙◌, subst, Option, None, Some, Ok, Err, true≢false}
 use Rattle.std.specs.Prelude.{MatchResult, Result, codes, is_some, option_map}
 use Rattle.psi_base.specs.Memory.{no_memory}
@@ -66,7 +66,7 @@ pub same_counts : (before now : ShelfCounts) (writes : ℕ) (result : Status) �
 same_counts before now writes result same no_read no_file no_write =
     counts_written (counts_with before writes) (counts_with now writes) result same.faults same.absent no_read no_file (stays _ writes writes no_write refl)
 
--- counts that stayed are the same
+-- unchanged counts are the same
 same_shelf : (before now : ShelfCounts) → Stays before now → now ≡ before
 same_shelf before now same = ap (λ n. counts_of n now.absent) same.faults ∙ ap (counts_of before.faults) same.absent
 
@@ -99,7 +99,7 @@ unread_over base name files before now status.ReadFault unread = unread
 unread_over base name files before now (status.NoMemory _) unread = unread
 unread_over base name files before now _ unread = absurd unread
 
--- what fails at the rules file ends a run
+-- a failure at the rules file ends a run
 pub base_ends : (name : List ℕ) (drop_in : Option (List ℕ)) (files : Option Files) (before now : ShelfCounts) (result : Status) → BaseFails name files before now result → EndsRun (Some name) drop_in files before now result
 base_ends name drop_in files before now (status.Rules fault) fails = λ command writes had named over. record {
   ends = (keeps_same had, file_there command RulesFile name files named fails.1, (name, named, fails.0));
@@ -119,7 +119,7 @@ passed_base command name files before now base named given = (
   file_there command RulesFile name files named given.held,
 )
 
--- rules with a drop-in file over them are those of both files
+-- rules with a drop-in file applied are those of both files
 pub joined_from : (bytes drop_in : List ℕ) (base : Rules) → rules_of bytes ≡ Ok base → rules_from bytes (Some drop_in) ≡ or_drop_fault (dropped_in base drop_in)
 joined_from bytes drop_in base is = ap (λ read. with_drop_in (Some drop_in) (or_rules_fault read)) is
 
@@ -143,7 +143,7 @@ fails_over name other files first before now base status.ReadFault given fails =
 fails_over name other files first before now base (status.NoMemory none) given fails = λ command writes had named over. unread_ends command DropInFile other files before now writes had (status.NoMemory none) over (passed_base command name files first before base named given) fails
 fails_over name other files first before now base _ given fails = absurd fails
 
--- what fails at a drop-in file ends a run
+-- a failure at a drop-in file ends a run
 pub over_ends : (name other : List ℕ) (files : Option Files) (before mid now : ShelfCounts) (base : Rules) (result : Status) → BaseGiven name files before mid base → OverFails base other files mid now result
     → EndsRun (Some name) (Some other) files before now result
 over_ends name other files before mid now base result given fails =
@@ -161,7 +161,7 @@ pub named_bytes : (files : Option Files) (named : Option (List ℕ)) (name : Lis
     → (here : List ℕ) × (told files name ≡ Some here) × (Some here ≡ found)
 named_bytes files named name found is tells = mapped (told files name) found (subst (λ n. told_if_named files n ≡ Some found) is tells)
 
--- rules of the rules file alone
+-- rules of the rules file only
 pub base_alone : (name : List ℕ) (files : Option Files) (before now : ShelfCounts) (base : Rules) → BaseGiven name files before now base → RulesGiven (Some name) None files base.rules
 base_alone name files before now base given = record {
   fit = given.fit;
@@ -196,11 +196,11 @@ both_given name over files before mid now base rules given put = record {
       put.held (subst (Lacks files) (sym same) lacks);
 }
 
--- counts that stayed twice
+-- counts that are unchanged twice
 pub stays_on : (before mid now : ShelfCounts) → Stays before mid → Stays mid now → Stays before now
 stays_on before mid now first then = record { faults = then.faults ∙ first.faults; absent = then.absent ∙ first.absent }
 
--- what putting a drop-in file over the rules of a rules file answers
+-- the result of applying a drop-in file to the rules of a rules file
 pub over_answers : (name over : List ℕ) (files : Option Files) (before mid now : ShelfCounts) (base : Rules) (result : Result Rules Status) → BaseGiven name files before mid base
     → MatchResult result (λ rules. OverGiven base over files mid now rules) (λ found. OverFails base over files mid now found)
     → MatchResult result (λ rules. RulesGiven (Some name) (Some over) files rules.rules × Stays before now) (λ found. EndsRun (Some name) (Some over) files before now found)

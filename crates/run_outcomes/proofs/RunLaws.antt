@@ -1,4 +1,4 @@
--- What reading a trace and writing a text come to as a run.
+-- The results of reading a trace and writing a text, as a run.
 use Rattle.std.proofs.Common.{◌≡◌, ℕ, List, [], arith, refl, sym, ap, ◌∙◌, subst, inl, inr, Option, None, Some, Ok, Err}
 use Rattle.std.specs.Prelude.{IsErrOf, IsSome}
 use Rattle.std.specs.Io.KnownBytes.{Keeps}
@@ -38,7 +38,7 @@ stays Happened before now not same = record { rose = λ happened. absurd (not ha
 
 -- ---- a text that was written
 
--- the name of a command's file of a kind is one
+-- a command has only one name for a file of a kind
 pub same_name : (command : Command) (which : Which) (name other : List ℕ) → file_of command which ≡ Some name → file_of command which ≡ Some other → other ≡ name
 same_name command which name other is also = cc
 
@@ -59,7 +59,7 @@ takes_trace command name files version cpus events reads named among counted kno
   read = λ bytes known. reads bytes ∙ ap or_refused_trace (read bytes (subst (λ n. told files n ≡ Some bytes) (same_name command (source_of command) name known.0 named known.1) known.2));
 }
 
--- each version is among all
+-- each version is in the list of all
 every : (version : Version) → IsAmong version versions
 every One = inl refl
 every Two = inr (inl refl)
@@ -132,7 +132,7 @@ runs_written command name files before now had has trace rules text (status.NoMe
 }
 runs_written command name files before now had has trace rules text _ named takes given held output faults absent wrote = absurd wrote
 
--- what `whatif` wrote of a trace
+-- the output of `whatif` for a trace
 pub runs_supposed : (name : List ℕ) (options : Options) (files : Option Files) (before now : RunCounts) (had has : Option (List ℕ)) (trace : Trace) (rules : List Rule) (result : Status)
     → TakesTrace (words.Whatif name options) files trace → RulesGiven options.rules options.drop_in files rules → (Lacks files name → ⊥)
     → now.shelf.faults ≡ before.shelf.faults → now.shelf.absent ≡ before.shelf.absent

@@ -1,4 +1,4 @@
--- In which order runs read their files.
+-- The order in which runs read their files.
 use Rattle.std.proofs.Common.{◌≡◌, ℕ, List, [], ◌∷◌, ◌++◌, refl, sym, subst, Option, None, Some}
 use Rattle.outside.specs.Outside.{Files}
 use Rattle.outside.specs.Reads.{ReadCall, ReadFailure, ReadsEach, ReadsFile, failure_in}
@@ -28,7 +28,7 @@ wrote_reported command files text before now had has status.WriteFault wrote = r
 wrote_reported command files text before now had has (status.NoMemory _) wrote = refl
 wrote_reported command files text before now had has _ wrote = absurd wrote
 
--- nor does one of what `whatif` writes
+-- nor does a status of `whatif`'s writing
 pub supposed_reported : (command : Command) (files : Option Files) (trace : Trace) (pace : Pace) (rules : List Rule) (before now : ℕ) (had has : Option (List ℕ)) (result : Status) → WritesLast trace pace rules before now had has result
     → IsFailureOf command files result None
 supposed_reported command files trace pace rules before now had has status.Done wrote = refl
@@ -46,7 +46,7 @@ after_rules command name files before middle now failure result named rules read
   reported = reported;
 }
 
--- and the answer is no fault of a read
+-- and the result isn't a fault of a read
 pub read_order : (command : Command) (name : List ℕ) (files : Option Files) (before middle now : List ReadCall) (result : Status) → source_name command ≡ Some name
     → ReadsEach (names_of_rules (rules_name command) (drop_in_name command)) before middle None → ReadsFile name 0 middle now None → IsFailureOf command files result None → ReadsInOrder command files before now result
 read_order command name files before middle now result named rules reads reported = after_rules command name files before middle now None result named rules (file_stops name [] middle now None reads) reported
@@ -80,10 +80,10 @@ printed_order name drop_in files before now text writes writes_now had has resul
 pub unread_order : (command : Command) (files : Option Files) (log : List ReadCall) (result : Status) → names_in_order command ≡ [] → IsFailureOf command files result None → ReadsInOrder command files log log result
 unread_order command files log result none reported = record { failure = None; reads = subst (λ names. ReadsEach names log log None) (sym none) (refl, refl); reported = reported }
 
--- there was no memory, and nothing was read
+-- memory ran out, and nothing was read
 pub stopped_order : (command : Command) (files : Option Files) (log : List ReadCall) → ReadsInOrder command files log log (status.NoMemory no_memory)
 stopped_order command files log = record { failure = None; reads = none_read (names_in_order command) log; reported = refl }
 
--- a write failed in the end
+-- a write failed at the end
 pub flushed_order : (command : Command) (files : Option Files) (before now : List ReadCall) → ReadsInOrder command files before now status.Done → ReadsInOrder command files before now status.WriteFault
 flushed_order command files before now order = record { failure = order.failure; reads = order.reads; reported = order.reported }

@@ -42,13 +42,13 @@ supposed_stops command files given given_now trace pace rules before now had has
 supposed_stops command files given given_now trace pace rules before now had has (status.TooLarge events) wrote = tt
 supposed_stops command files given given_now trace pace rules before now had has _ wrote = absurd wrote.2.2
 
--- ---- a line that isn't whole in what was read
+-- ---- an incomplete line
 
--- nor is it in fewer bytes
+-- it is also incomplete in fewer bytes
 pub fewer_read : (line few more : ℕ) (bytes : List ℕ) → few ≤ more → length (parts_at 10 (take more bytes)) ≤ line → IsNotWhole line few bytes
 fewer_read line few more bytes fewer within = omega (arith, within, count-front bytes few more fewer)
 
--- nor is any in none
+-- every line is incomplete in no bytes
 pub none_read : (line count : ℕ) (bytes : List ℕ) → count ≡ 0 → 1 ≤ line → IsNotWhole line count bytes
 unfolding parts_at
 none_read line count bytes none first = subst (λ n. IsNotWhole line n bytes) (sym none) first
@@ -84,7 +84,7 @@ trace_stops command name tick files given middle given_now (fault.NoMemory none)
 
 -- ---- files of rules that couldn't be read
 
--- lines are counted from 1
+-- lines are numbered from 1
 first_refused : (read : Result Trace Refusal) (why : Status) → ((refusal : Refusal) → read ≡ Err refusal → 1 ≤ refusal.line) → or_refused_trace read ≡ Err why → 1 ≤ refused_line why
 first_refused read why later is =
     let found = refused_at read why is in

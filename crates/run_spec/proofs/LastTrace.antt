@@ -25,7 +25,7 @@ none_behind xs i j low is = slice_get_past xs j (omega (arith, past_none xs i is
 
 -- ---- rounds
 
--- a trace that isn't too large is left
+-- a trace within bounds is left as it is
 pub within_bounds : (trace : Trace) → length trace.events ≤ most_events → bounded_trace trace ≡ Ok trace
 within_bounds trace few =
     let not : nat_lt most_events (length trace.events) ≡ false = grind (arith, nat_tests) in
@@ -37,7 +37,7 @@ beyond_bounds trace many =
     let is : nat_lt most_events (length trace.events) ≡ true = grind (arith, nat_tests) in
     rw is refl
 
--- one round more
+-- one more round
 pub one_round : (trace left : Trace) (pace : Pace) (rules : List Rule) (count : ℕ) → after_rounds trace pace rules count ≡ Ok left
     → after_rounds trace pace rules (suc count) ≡ round pace rules count left
 unfolding after_rounds
@@ -56,7 +56,7 @@ or_before i n low = elim (nat_lt n i) as (λ b. nat_lt n i ≡ b → (i ≡ suc 
   | false ↦ λ is. inr (grind (arith, nat_tests))
 ] refl
 
--- what a property of rounds that lasts comes to
+-- a property that each round preserves still holds after one more round
 lasts_by : (P : ℕ → Type 0) (i n : ℕ) → P i → (i ≤ n → P n) → (i ≤ n → P n → P (suc n)) → (i ≡ suc n) ⊎ (i ≤ n) → P (suc n)
 lasts_by P i n first before goes (inl same) = subst P same first
 lasts_by P i n first before goes (inr low) = goes low (before low)
@@ -80,7 +80,7 @@ pub last_outgrown : LastOutgrown
 last_outgrown trace pace rules count events some is =
     lasts (λ n. after_rounds trace pace rules n ≡ Err events) count is (λ n low so. no_round trace pace rules n events so) most_rounds some
 
--- ---- where it grew too large
+-- ---- traces that grew too large
 
 -- some round before this one left too much
 abbrev pub GrewBefore : Trace → Pace → List Rule → ℕ → ℕ → Type 0
@@ -88,7 +88,7 @@ GrewBefore trace pace rules events count =
     (number : ℕ) × (left : Trace) × (number < count) × (after_rounds trace pace rules number ≡ Ok left)
     × (length (without_kill left (slice_get (all_kills left pace rules) number)).events ≡ events) × (most_events < events)
 
--- a trace that isn't left is too large
+-- if no trace is left, the trace was too large
 is_beyond : (trace : Trace) (events : ℕ) → bounded_trace trace ≡ Err events → (length trace.events ≡ events) × (most_events < events)
 is_beyond trace events is = go (nat_lt most_events (length trace.events)) refl is
   where

@@ -1,4 +1,4 @@
--- What holds of every command that words spell.
+-- Properties of every command that words spell.
 use Rattle.std.proofs.Common.{◌≡◌, ◌≢◌, ℕ, ◌<◌, ◌≤◌, ◌^◌, ◌-◌, ◌∷◌, ◌&&◌, List, [], Bool, true}
 use Rattle.std.proofs.Common.{false, not, Option, Some, None, nat_le, refl, sym, ap, subst}
 use Rattle.std.proofs.Common.{◌∙◌, true≢false, arith, if◌then◌else◌}
@@ -21,7 +21,7 @@ use Rattle.run_spec.specs.LegalCommand.{IsOptionName, IsWithin, AreOptions, IsSh
 use Rattle.run_spec.specs.LegalCommand.{IsCommand}
 use Rattle.run_spec.specs.Laws.{SpelledInRange}
 
--- a step that found something had something before it
+-- if two steps have a value, so has the first
 pub bind_some : {A B : Type 0} (r : Option A) (f : A → Option B) (y : B) → r >>= f ≡ Some y
     → (x : A) × (r ≡ Some x) × (f x ≡ Some y)
 bind_some None f y is = absurd (true≢false (sym (ap is_some is)))
@@ -243,7 +243,7 @@ rules_command_ranges given command is =
       rules_ranges (value_given (codes "drop-in") given) drop_in.0 drop_in.1,
     )
 
--- a test that isn't passed by some value
+-- if the test for None passes, there is no value
 none_there : {A : Type 0} (o : Option A) → not (is_some o) ≡ true → o ≡ None
 none_there None is = refl
 none_there (Some x) is = absurd (true≢false (sym is))
@@ -265,7 +265,7 @@ whatif_ranges given command is =
 
 -- ---- all commands
 
--- a fact holds of each command's table
+-- a property of each command's table
 abbrev pub OfEach : ((Given → Option Command) → Type 0) → List CommandForm → Type 0
 OfEach P [] = ⊤
 OfEach P (form ∷ forms) = P form.command × OfEach P forms

@@ -1,4 +1,4 @@
--- How words may be spelled otherwise, with the same command.
+-- Different spellings of the same command.
 use Rattle.std.proofs.Common.{◌≡◌, ◌≢◌, ℕ, ◌∷◌, ◌++◌, ◌||◌, ◌∙◌, List, [], Bool, true, false}
 use Rattle.std.proofs.Common.{Option, Some, None, length, refl, sym, ap, subst, true≢false}
 use Rattle.std.proofs.Common.{arith, if◌then◌else◌}
@@ -76,7 +76,7 @@ longer : (name rest : List ℕ) (byte : ℕ)
 longer [] rest byte = refl
 longer (first ∷ name) rest byte = refl
 
--- what `--name=value` is
+-- the kind of the word `--name=value`
 abbrev pub assigned_among : Bool → List ℕ → List ℕ → Word
 assigned_among known name value = if known then assigned name value else unknown
 
@@ -95,9 +95,9 @@ pub assigned_is : (names : List (List ℕ)) (name value : List ℕ) → HasNoEqu
     → word_of names (assigned_word name value) ≡ assigned_among (is_among name names) name value
 assigned_is names name value none = rw (longer name value 61) (option_is names name value none)
 
--- ---- what says the same
+-- ---- words with the same content
 
--- each option has the same value in both, and so has the positional
+-- each option has the same value in both, and so does the positional
 pub record SaysSame (one other : Given) : Type 0 where
   pub values : (name : List ℕ) → value_given name one ≡ value_given name other
   pub positional : one.positional ≡ other.positional
@@ -159,7 +159,7 @@ with_positional_same word (Some one) (Some other) same =
     go true is is_other = rw (is_other, is) tt
     go false is is_other = rw (is_other, is) (record { values = same.values; positional = refl })
 
--- two options of different names go in either order
+-- two options with different names may come in either order
 swapped : (name value other another : List ℕ) → name ≢ other → (r : Option Given)
     → Same ((r >>= with_option other another) >>= with_option name value)
     ((r >>= with_option name value) >>= with_option other another)
@@ -223,7 +223,7 @@ none_waits : (names : List (List ℕ)) (name word : List ℕ) (rest : List (List
     → is_dashed word ≡ true → said names (at_value name) (word ∷ rest) ≡ None
 none_waits names name word rest dashed = rw dashed refl
 
--- at two words that are options, known or not
+-- before two words that are options, known or not
 options_either : (names after : List (List ℕ)) (name value other another : List ℕ) (b d : Bool)
     → name ≢ other
     → word_of names (assigned_word name value) ≡ assigned_among b name value

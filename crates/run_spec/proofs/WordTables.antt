@@ -17,7 +17,7 @@ use Rattle.run_spec.specs.Laws.{HasNoEquals, OrderIsFree, ValueMayFollow}
 use Rattle.run_spec.proofs.RangeLaws.{OfEach, each_found}
 use Rattle.run_spec.proofs.WordLaws.{or_false, name_alone, assigned_among, assigned_is, SaysSame, Same, same_if, all_either}
 
--- ---- the tables look at what is said alone
+-- ---- tables depend only on content
 
 abbrev pub Respects : (Given → Option Command) → Type 0
 Respects read = (one other : Given) → SaysSame one other → read one ≡ read other
@@ -126,7 +126,7 @@ order_is_free (first ∷ before) after name value other another none none_other 
 
 -- ---- a value in a word of its own
 
--- what `--name` is
+-- the kind of the word `--name`
 opened_is : (names : List (List ℕ)) (name : List ℕ) → HasNoEquals name → name ≢ []
     → word_of names (codes "--" ++ name) ≡ (if is_among name names then opened name else unknown)
 opened_is names [] none some = absurd (some refl)
@@ -159,7 +159,7 @@ not_end names word other =
     go true true true true name value text = refl
     go true true true false name value text = refl
 
--- texts say the same at a word and at a value
+-- lists have the same content before a word and before a value
 record IsEqual (names one other : List (List ℕ)) : Type 0 where
   word : said names at_word one ≡ said names at_word other
   value : (name : List ℕ) → said names (at_value name) one ≡ said names (at_value name) other

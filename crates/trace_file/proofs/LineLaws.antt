@@ -31,7 +31,7 @@ use Rattle.trace_file.specs.Reads.{Legally, rest_from, RefusalOf, IsTraceFault, 
 use Rattle.trace_file.specs.declared.trace.TraceFault.{TraceFault}
 use Rattle.trace_file.specs.declared.trace.TraceFault.TheVariants.{Refused, NoFile, ReadFault, NoMemory}
 
--- ---- events so far, and those behind them
+-- ---- events so far, and later events
 
 followed-none : (rest : Events) → followed [] rest ≡ rest
 followed-none (Ok events) = refl
@@ -107,7 +107,7 @@ line_played verbs Before After line part before behind known x takes begins = λ
           ∙ ap (λ w. followed (taken.0 ∷ []) (rest_from verbs limits w (line + 1) (behind bytes))) (sym (after-push events taken.0));
     }
 
--- the fault of a line is that of the rest
+-- the fault of a line is the fault of the rest
 pub line_faulted : (verbs : List Verb) (Before After : Plays) (line : ℕ) (part : List ℕ) (before behind : List ℕ → List ℕ) (known : Option (List ℕ)) (why : Fault Cause) (found : TraceFault) → IsTraceFault line why found → TakesLine verbs Before After part (Err why) → ((bytes : List ℕ) → known ≡ Some bytes → BeginsWithLine (before bytes) part (behind bytes))
     → NextGives verbs Before After line before behind known (Err found)
 line_faulted verbs Before After line part before behind known (fault.Refused why) found at takes begins = λ limits events played running bytes tells.
@@ -132,7 +132,7 @@ legally verbs Before After event (Ok x) fits known takes = λ limits events play
 legally verbs Before After event (Err (fault.Refused why)) fits known takes = λ limits events played. takes limits events played.0
 legally verbs Before After event (Err (fault.NoMemory _)) fits known takes = tt
 
--- ---- the line of an event in front of what is held
+-- ---- an event line at the start of the buffered bytes
 
 -- it is the next line of the file
 pub front_begins : (old new : Reader) (event : Event) (count : ℕ) (bytes : List ℕ) → HasInFront old.held event count → new.held ≡ drop (count + 1) old.held → new.at ≡ old.at → BeginsWithLine (left old bytes) (spelling event) (left new bytes)
@@ -190,7 +190,7 @@ long_line verbs limits w line bytes is running = ⊎_elim
 
 -- ---- a line that isn't read
 
--- a fault of the next line is that of the rest
+-- a fault of the next line is the fault of the rest
 pub line_not_read : (verbs : List Verb) (limits : Limits) (w : World) (bytes : List ℕ) (old new : Reader) (fault : LineFault) → NextOf bytes old new (Err fault) → w.ended ≡ false → RefusalOf (trace_fault cause.NoEnd fault) (rest_from verbs limits w old.number (left old bytes))
 line_not_read verbs limits w bytes old new (lines.TooLong line) found running = rw found.1 (long_line verbs limits w old.number (left old bytes) found.0 running)
 line_not_read verbs limits w bytes old new (lines.Cut line) found running = rw found.1 (cut_short verbs limits w old.number (left old bytes) found.0 running)
@@ -198,7 +198,7 @@ line_not_read verbs limits w bytes old new lines.NoFile found running = tt
 line_not_read verbs limits w bytes old new lines.ReadFault found running = tt
 line_not_read verbs limits w bytes old new (lines.NoMemory _) found running = tt
 
--- ---- behind the end
+-- ---- after the end
 
 some_left : (bytes : List ℕ) → bytes ≢ [] → 0 < length bytes
 some_left [] some = absurd (some refl)
@@ -263,7 +263,7 @@ none_so_far verbs Played limits line before known played is = record {
   read = λ bytes tells. rw is (followed-none (rest_from verbs limits first_world 2 (before bytes)));
 }
 
--- one event more, before the line with this number
+-- one more event, before the line with this number
 pub record OneMore (verbs : List Verb) (Played : Plays) (limits : Limits) (line : ℕ) (before behind : List ℕ → List ℕ) (known : Option (List ℕ)) : Type 0 where
   pub events : List Event
   pub played : Played limits events
@@ -283,7 +283,7 @@ one_more verbs Before After limits line next_line before behind later known x is
           rw is (push_read so.events p.event (rest_from verbs limits (after so.events) line (behind bytes)) (rest_from verbs limits (after (so.events ++ p.event ∷ [])) (line + 1) (later bytes)) (rest_from verbs limits first_world 2 (before bytes)) (so.read bytes tells) (p.read bytes tells));
     }
 
--- that the end isn't among them
+-- the end isn't among them
 pub goes_on : (verbs : List Verb) (Played : Plays) (limits : Limits) (line : ℕ) (before behind : List ℕ → List ℕ) (known : Option (List ℕ)) (ended : Bool) → OneMore verbs Played limits line before behind known
     → ((limits : Limits) (events : List Event) → Played limits events → ended ≡ (after events).ended) → ended ≡ false → SoFar verbs Played limits line before behind known
 goes_on verbs Played limits line before behind known ended one told running = record {

@@ -1,4 +1,4 @@
--- In which order a trace is read.
+-- The order in which a trace is read.
 use Rattle.std.proofs.Common.{◌≡◌, ℕ, List, refl, sym, subst}
 use Rattle.std.specs.Prelude.{Err, IsErr, None, Ok, Result}
 use Rattle.std.specs.Result.{IsErrAnd}
@@ -21,7 +21,7 @@ use Rattle.trace_file.specs.declared.trace.TraceFault.TheVariants.{Refused, NoFi
 pub place_is : (name : List ℕ) (from : Progress) (p q : ℕ) (before now : List ReadCall) → ReadsFrom name from before now (Next p) → p ≡ q → ReadsFrom name from before now (Next q)
 place_is name from p q before now reads is = subst (λ n. ReadsFrom name from before now (Next n)) is reads
 
--- no read, and the place stays
+-- no read, and the place is unchanged
 pub stays_there : (name : List ℕ) (at place : ℕ) (log : List ReadCall) → place ≡ at → ReadsFrom name (Next at) log log (Next place)
 stays_there name at place log is = place_is name (Next at) at place log log (no_reads name (Next at) log) (sym is)
 
@@ -31,7 +31,7 @@ pub refused_order : (name : List ℕ) (at : ℕ) (progress : Progress) (before n
 refused_order name at progress before now refusal found reads none is =
     subst (λ f. ReadsFile name at before now (shelf_fault f)) (sym is) (subst (λ f. ReadsFile name at before now f) none (file_read name at before now progress reads))
 
--- or has another fault that is no read's
+-- or has another fault, which isn't a read's
 pub faulted_order : (name : List ℕ) (at place line : ℕ) (before now : List ReadCall) (why : Fault Cause) (found : TraceFault) → ReadsFrom name (Next at) before now (Next place) → IsTraceFault line why found → ReadsFile name at before now (shelf_fault found)
 faulted_order name at place line before now (fault.Refused cause) found reads is = refused_order name at (Next place) before now _ found reads refl is
 faulted_order name at place line before now (fault.NoMemory none) found reads is =
@@ -46,7 +46,7 @@ unread_order name at place before now cut lines.NoFile found reads is = subst (�
 unread_order name at place before now cut lines.ReadFault found reads is = subst (λ f. ReadsFile name at before now (shelf_fault f)) (sym is) (file_read name at before now _ reads)
 unread_order name at place before now cut (lines.NoMemory none) found reads is = subst (λ f. ReadsFile name at before now (shelf_fault f)) (sym is) (file_read name at before now _ reads)
 
--- there was no memory, and nothing was read
+-- memory ran out, and nothing was read
 pub nothing_read : {A : Type 0} → (name : List ℕ) (log : List ReadCall) (none : token.NoMemory) (result : Result A TraceFault) → IsErr result → IsErrAnd result (λ e. e ≡ NoMemory none) → ReadsFile name 0 log log (shelf_fault_in result)
 nothing_read name log none (Ok value) failed same = cc
 nothing_read name log none (Err found) failed same =

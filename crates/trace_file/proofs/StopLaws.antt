@@ -70,14 +70,14 @@ parts-line accepts [] refusal is = first_refused cause.BadHeader refusal is
 parts-line accepts (rest ∷ []) refusal is = first_refused _ refusal is
 parts-line accepts (line ∷ next ∷ parts) refusal is = headed-line accepts (first_line accepts.versions line) (next ∷ parts) refusal is
 
--- lines are counted from 1
+-- lines are numbered from 1
 pub trace-line : (accepts : Accepts) (bytes : List ℕ) (refusal : Refusal) → trace_of accepts bytes ≡ Err refusal → 1 ≤ refusal.line
 unfolding trace_of
 trace-line accepts bytes refusal is = parts-line accepts _ refusal is
 
 -- ---- one line
 
--- the fault of a line that was read isn't one of reading
+-- the fault of a line that was read isn't a fault of reading
 pub line_was_read : (line : ℕ) (why : Fault Cause) (found : TraceFault) → IsTraceFault line why found → found ≡ ReadFault → ⊥
 line_was_read line (fault.Refused cause) found is read = absurd (cc is)
 line_was_read line (fault.NoMemory none) found is read = absurd (cc is)
@@ -89,7 +89,7 @@ line_number line (fault.Refused cause) found refusal is at =
     sym (ap (λ (r : Refusal). r.line) both)
 line_number line (fault.NoMemory none) found refusal is at = absurd (cc (sym is ∙ at))
 
--- a failed read is that of the line
+-- a failed read is the line's
 pub read_failed : (cut : Cause) (why : LineFault) → trace_fault cut why ≡ ReadFault → why ≡ lines.ReadFault
 read_failed cut (lines.TooLong n) is = absurd (cc is)
 read_failed cut (lines.Cut n) is = absurd (cc is)
@@ -197,7 +197,7 @@ known_keeps files files_now name name_now old new result same named keeps =
 later_refusal : (verbs : List Verb) (limits : Limits) (events : List Event) (line : ℕ) (bytes : List ℕ) (whole : Events) (refusal : Refusal) → followed events (rest_from verbs limits (after events) line bytes) ≡ whole → whole ≡ Err refusal → line ≤ refusal.line
 later_refusal verbs limits events line bytes whole refusal is refused = from_line verbs limits (after events) line _ refusal (followed-err events _ refusal (is ∙ refused))
 
--- reading stops at the line that a reader has come to
+-- reading stops at the line that a reader has reached
 pub stops_here : {A : Type 0} (verbs : List Verb) (limits : Limits) (events : List Event) (known : Option (List ℕ)) (first old new : Reader) (given given_old given_now : ℕ) (result : Result A TraceFault) → given_old + first.at ≡ given + old.at → given_now + old.at ≡ given_old + new.at → new.at ≤ furthest old.number
     → ((bytes : List ℕ) → known ≡ Some bytes → old.number + line_count (left old bytes) ≡ first.number + line_count (left first bytes))
     → ((bytes : List ℕ) → known ≡ Some bytes → followed events (rest_from verbs limits (after events) old.number (left old bytes)) ≡ rest_from verbs limits first_world 2 (left first bytes))
