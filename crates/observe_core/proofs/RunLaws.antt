@@ -168,7 +168,7 @@ pub observed : (request : Request) (files : Option Files) (old new : Option (Lis
     → (trace : Trace) × (trace_of accepts bytes ≡ Ok trace) × ((text : List ℕ) × IsObservedText trace (pace_on request.path) request.path request.observers text × Appends old new text)
 observed request files old new bytes tells ends = (ends.0, ends.1.read bytes tells, ends.4)
 
--- the trace that was read is the one that the bytes spell
+-- the bytes spell the trace that was read
 same_trace : (request : Request) (files : Option Files) (bytes : List ℕ) (one other : Trace) → told files request.trace ≡ Some bytes → TakesAskedTrace request files one → trace_of accepts bytes ≡ Ok other → one ≡ other
 same_trace request files bytes one other tells takes read = let both : Ok one ≡ Ok other = sym (takes.read bytes tells) ∙ read in cc both
 

@@ -38,7 +38,7 @@ pub record AreTaken (observer : ℕ) (plans : PlansView) (slot : ℕ) (lasts : L
       → IsTakenBy observer plans cpu slot (last_at lasts cpu).count entry
 
 -- A watcher sampled a slot on each of the first `cpus` processors: the entries are at the end of
--- its list, and each of these readers has seen as many changes as its entry's count.
+-- its list, and the reader of each processor has seen as many changes as the entry's count.
 pub record HaveLooked (slot : ℕ) (lasts : List Sample) (cpus : ℕ) (old new : WatcherView) : Type 0 where
   pub observer_is : new.observer ≡ old.observer
   pub plans_are : new.plans ≡ old.plans

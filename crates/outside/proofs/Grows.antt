@@ -34,7 +34,7 @@ front_of had front rest has same =
     let long : length has - length had ≡ length front = omega (arith, length-append had front, ap length same) in
     rw long (rw take-append_seam same)
 
--- known bytes that grew by a prefix of these bytes
+-- known bytes that grew by a prefix of the bytes
 pub AppendsFront-of : (old new : Option (List ℕ)) (front rest whole : List ℕ) → Appends old new front → whole ≡ front ++ rest → AppendsFront old new whole
 AppendsFront-of None new front rest whole a same = tt
 AppendsFront-of (Some had) None front rest whole a same = absurd a

@@ -1,4 +1,4 @@
--- Results of the calls of a shelf and a sink, and how the calls change the contents of these.
+-- Results of the calls of a shelf and a sink, and how the calls change their contents.
 use Rattle.std.specs.Prelude.{◌≡◌, ◌⊎◌, ℕ, ◌+◌, ◌-◌, ◌^◌, ◌≤◌, ◌<◌, List, [], ◌∷◌, ◌++◌, length, take, drop, Option, None, Some, Result, Ok, Err, OnOk, OnErr, ⊤, if◌then◌else◌}
 use Rattle.std.specs.Str.{bytes_eq}
 
@@ -62,7 +62,7 @@ pub record HasCauses (before now : ShelfCounts) (HasFailed HasMissed : Type 0) :
   pub faults_same : ¬ HasFailed → now.faults ≡ before.faults
   pub absent_same : ¬ HasMissed → now.absent ≡ before.absent
 
--- known bytes grew by a prefix of these
+-- known bytes grew by a prefix of the bytes
 abbrev pub AppendsFront : Option (List ℕ) → Option (List ℕ) → List ℕ → Type 0
 AppendsFront None new bytes = ⊤
 AppendsFront (Some had) None bytes = ⊥

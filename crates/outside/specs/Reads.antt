@@ -34,7 +34,8 @@ fault_in (Next at) = None
 fault_in (Over fault) = fault
 
 -- Calls read a file in order, from one progress to another: each requests at least one byte, and
--- begins where the previous call ended. No call follows one that returned no byte or failed.
+-- begins where the previous call ended. After a call that returned no byte or failed, there is no
+-- other.
 abbrev pub AreReads : List ℕ → Progress → List ReadCall → Progress → Type 0
 AreReads name from [] to = to ≡ from
 AreReads name (Next at) (call ∷ calls) to =
@@ -69,8 +70,8 @@ abbrev pub failure_in : List ℕ → Option ShelfFault → Option ReadFailure
 failure_in name None = None
 failure_in name (Some fault) = Some (failure_at name fault)
 
--- A log grew by reads of these files in order, each from its first byte. If one has a fault,
--- nothing more is read.
+-- A log grew by reads of files in order, each from its first byte. If one has a fault, nothing more
+-- is read.
 abbrev pub ReadsEach : List (List ℕ) → List ReadCall → List ReadCall → Option ReadFailure → Type 0
 ReadsEach [] before now failure = (now ≡ before) × (failure ≡ None)
 ReadsEach (name ∷ names) before now failure =

@@ -193,7 +193,7 @@ trace_told command files bytes had has result tells refuses = taken_told command
 import_told : (command : Command) (files : Option Files) (bytes : List ℕ) (had has : Option (List ℕ)) (result : Status) → IsTold command (source_of command) files bytes → Refuses command files had has ImportFile result → taken_of command bytes ≡ Err result
 import_told command files bytes had has result tells refuses = taken_told command files bytes ImportFile had has result (from_import command refuses.1) tells refuses
 
--- the trace that a command takes is the one that was parsed
+-- a command takes the trace that was parsed
 pub of_read : (read : Result Trace Refusal) (trace : Trace) → or_refused_trace read ≡ Ok trace → read ≡ Ok trace
 of_read (Ok other) trace is = let same : other ≡ trace = cc is in ap (λ (t : Trace). let read : Result Trace Refusal = Ok t in read) same
 of_read (Err refusal) trace is = absurd (let no : ⊥ = cc is in no)

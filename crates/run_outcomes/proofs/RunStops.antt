@@ -44,7 +44,7 @@ supposed_stops command files given given_now trace pace rules before now had has
 
 -- ---- an incomplete line
 
--- it is also incomplete in fewer bytes
+-- the line is also incomplete in fewer bytes
 pub fewer_read : (line few more : ℕ) (bytes : List ℕ) → few ≤ more → length (parts_at 10 (take more bytes)) ≤ line → IsNotWhole line few bytes
 fewer_read line few more bytes fewer within = omega (arith, within, count-front bytes few more fewer)
 

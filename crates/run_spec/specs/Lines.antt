@@ -61,14 +61,14 @@ head_line at path word = line_of (codes "report" ∷ decimal at ∷ path ∷ wor
 abbrev pub report_head : ℕ → List ℕ → Res → List ℕ
 report_head at path res = head_line at path (resource_word res)
 
--- a report on a resource of a group at a tick (ns): its head line, and the pressure file of these
+-- a report on a resource of a group at a tick (ns): its head line, and the pressure file with the
 -- totals (ns) and averages
 abbrev pub report_text : ℕ → List ℕ → Res → Bool → List ℕ → List (List ℕ) → List ℕ
 report_text at path res is_root totals averages =
     report_head at path res ++ file_text res is_root totals averages
 
--- a report on interrupts of a group at a tick (ns): its head line, and the pressure file of these
--- averages and total (ns)
+-- a report on interrupts of a group at a tick (ns): its head line, and the pressure file with the
+-- averages and the total (ns)
 abbrev pub irq_report : ℕ → List ℕ → List ℕ → ℕ → List ℕ
 irq_report at path averages total = head_line at path (codes "irq") ++ irq_text averages total
 

@@ -15,7 +15,7 @@ abbrev pub listed : Option (List ℕ) → List (List ℕ)
 listed None = []
 listed (Some name) = name ∷ []
 
--- the names of these files of rules, in order: the rules file, then the drop-in file
+-- the names of two files of rules, in order: the rules file, then the drop-in file
 abbrev pub names_of_rules : Option (List ℕ) → Option (List ℕ) → List (List ℕ)
 names_of_rules named drop_in = listed named ++ listed drop_in
 

@@ -209,7 +209,7 @@ replay_of given = do
   options ← options_of given
   Some (Replay trace options)
 
--- the shape of a generated trace: no positional is given, and each of these options is
+-- the shape of a generated trace: no positional is given, and all four options are
 unfoldable pub shape_of : Given → Option Shape
 shape_of given = do
   options ← if is_some given.positional then None else Some given

@@ -65,7 +65,7 @@ TakesLine verbs Before After line (Err (fault.NoMemory _)) = ⊤
 abbrev pub rest_from : List Verb → Limits → World → ℕ → List ℕ → Result (List Event) Refusal
 rest_from verbs limits w line bytes = events_from verbs limits w line (parts_at 10 bytes)
 
--- a rejection is the one that the definition gives; the other faults have clauses of their own
+-- a rejection is the definition's; the other faults have clauses of their own
 abbrev pub RefusalOf : {A : Type 0} → TraceFault → Result A Refusal → Type 0
 RefusalOf (Refused refusal) read = read ≡ Err refusal
 RefusalOf NoFile read = ⊤

@@ -7,7 +7,7 @@ use Rattle.observer_log.specs.declared.entry.Entry.{Entry}
 use Rattle.observe_core.specs.Printed.{entry_line}
 use Rattle.observe_core.proofs.lines.put_entries.Goals as goal
 
--- the entries before the one that failed, and a prefix of it, are a prefix of all
+-- the entries before the failed entry, and a prefix of it, are a prefix of all
 pub returns-in_err-put_entry-clause-bytes : goal.returns-in_err-put_entry-clause-bytes
 returns-in_err-put_entry-clause-bytes g c =
     let d : Entry = c.entry-item.result in
