@@ -1,7 +1,7 @@
 //! The system's files and streams as a shelf and sinks, and the words of a command line.
 //!
-//! Programs use this crate; everything below them uses only the traits of `outside`. What a file
-//! contains is not known here, so no contract says it.
+//! Only the programs use this crate; every other crate uses the traits of `outside`. The content of
+//! the system's files is not known here, so no contract depends on it.
 #![tactic(auto)]
 
 mod host;

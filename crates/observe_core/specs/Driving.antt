@@ -140,8 +140,8 @@ abbrev pub due_until : Setting → ℕ → List Due
 due_until set count = flat_map (due_in set) (range_with_len 1 count)
 
 -- The constant properties of each observer, by its number: it has the plans and the board, its
--- readers belong to the rows, and it has an entry for the last sample of each processor, and one
--- part of the journal's ledger. It didn't run out of memory.
+-- readers belong to the rows, and it has a last sample for each processor, and one part of the
+-- journal's ledger. It didn't run out of memory.
 pub record IsPlaced (set : Setting) (number : ℕ) (observer : ObserverView) : Type 0 where
   pub number_is : observer.watcher.observer ≡ number
   pub plans_are : observer.watcher.plans ≡ set.plans

@@ -38,7 +38,7 @@ fn readers_of(
     Ok(readers)
 }
 
-// A new entry for the last sample of each processor.
+// An initial last sample for each processor.
 fn places(alloc: Global, cpus: u32) -> Result<Vec<Sample>, NoMemory>
     ensures { IfOk result (λ lasts. length lasts.items ≡ cpus) }
 {

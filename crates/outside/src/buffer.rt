@@ -12,8 +12,8 @@ use std::marker::Model;
 /// The largest number of pending bytes.
 const ROOM: usize = 65536;
 
-/// Pending bytes of a buffered sink, which contracts see as a list: at most 65,536. Their memory is
-/// allocated at creation.
+/// Pending bytes of a buffered sink, which contracts see as a list: at most 65,536. Allocates
+/// everything at the start.
 #[derive(Drop)]
 pub struct Pending {
     bytes: Vec<u8>,
@@ -30,7 +30,7 @@ impl Model for Pending {
 }
 
 impl Pending {
-    /// Allocates the memory for pending bytes. Nothing is pending.
+    /// No pending bytes. Allocates everything at the start.
     pub fn new(alloc: Global) -> Result<Pending, NoMemory>
         ensures { IfOk result (λ p. p ≡ []) }
     {

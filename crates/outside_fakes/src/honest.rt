@@ -89,7 +89,7 @@ impl Shelf for HonestShelf {
     }
 }
 
-/// A sink in memory that fails only if it is full. It allocates everything at creation, and never
+/// A sink in memory that fails only if it is full. It allocates everything at the start, and never
 /// grows.
 #[derive(Drop)]
 pub struct HonestSink {

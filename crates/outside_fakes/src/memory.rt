@@ -205,7 +205,7 @@ impl Shelf for MemShelf {
     }
 }
 
-/// A sink in memory, some of whose calls fail. It allocates everything at creation, and never
+/// A sink in memory, some of whose calls fail. It allocates everything at the start, and never
 /// grows.
 #[derive(Drop)]
 pub struct MemSink {

@@ -1,5 +1,5 @@
-//! The lines of a shelf's file, however its reads split them. This crate doesn't parse lines:
-//! `psi_trace` and `ftrace_import` do.
+//! The lines of a shelf's file, however its reads split them. This crate doesn't parse lines: that
+//! is left to its users (`trace_file`, `ftrace_import`).
 //!
 //! A line ends with a newline (byte 10) and has at most 512 bytes before it. [`Lines::next`]
 //! returns the lines in order, [`Lines::next_bytes`] borrows each from the buffer, and

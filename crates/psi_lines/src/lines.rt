@@ -157,8 +157,8 @@ impl Lines {
     ghost use Rattle.psi_lines.specs.Lent.{LendsLine, lent_line};
     ghost use Rattle.psi_lines.specs.contracts.lines.Lines.{the_row};
 
-    /// A reader at the first byte of the file, before line 1. Nothing is read yet. Allocates its
-    /// buffer.
+    /// A reader at the first byte of the file, before line 1. Nothing is read yet. Allocates
+    /// everything at the start.
     pub fn new(alloc: Global, name: &str) -> Result<Lines, NoMemory>
         ensures { IfOk result (λ l.
             l ≡ record { name = name.now; number = 1; held = []; at = 0 }) }

@@ -30,7 +30,7 @@ pub enum Status {
     Usage,
     /// The trace is rejected at this line (from 1), for this cause.
     Trace { line: u32, cause: Cause },
-    /// The rules file is rejected, for this error at its place.
+    /// The rules file is rejected with this error.
     Rules { fault: RulesFault },
     /// There is no file with this name.
     NoFile { which: Which },
@@ -42,7 +42,7 @@ pub enum Status {
     NoMemory(NoMemory),
     /// The ftrace text is rejected at this line (from 1), for this cause.
     Import { line: u32, cause: ImportCause },
-    /// The drop-in file is rejected, for this error at its place.
+    /// The drop-in file is rejected with this error.
     DropIn { fault: DropFault },
     /// A round left this many events, more than a trace may have.
     TooLarge { events: u64 },
