@@ -1,19 +1,19 @@
-//! Laws of the arithmetic of pressure: of averages, shares and triggers. Each function has an empty
+//! Laws of the arithmetic of pressure: averages, shares and triggers. Each function has an empty
 //! body: its contract is the law.
 
 ghost use Rattle.pressure_spec.specs.Laws.{AtMostHundred, CarriesTheRest, FallsWhenFree, FiredApart, GroupsAtMostHundred, IdleHasNone, IrqTotalBound, LoadApproaches};
 ghost use Rattle.pressure_spec.specs.Laws.{NextSharesWithin, PendingIsSignalled, PowerHalves, QuietWhenStill, RemembersLast, RisesWhenStalled, SamplesWithinTotal, ShareIsMean};
 ghost use Rattle.pressure_spec.specs.Laws.{ShareSumFits, ShareWithinSum, SharesWithin, SignalsApart, TotalIsSum, TotalsGrow, TotalsNeverFall, TotalsWithin};
 
-/// Fixed-point numbers: powers are taken by halves, and an average goes toward what is active and
-/// never past it.
+/// Fixed-point numbers: powers are computed by squaring, and an average moves toward what is active
+/// and never past it.
 pub fn law_fixed_point()
     ensures power { PowerHalves }
     ensures load { LoadApproaches }
 {}
 
-/// The averages of a group: never above 100 percent, up while all time is stalled and down while
-/// none is. What an update can't sample waits for a later one.
+/// The averages of a group never exceed 100 percent. They rise while all time is stalled and fall
+/// while none is. What an update can't sample is carried over to a later one.
 pub fn law_averages()
     ensures most { AtMostHundred }
     ensures rises { RisesWhenStalled }
@@ -22,8 +22,8 @@ pub fn law_averages()
     ensures within { SamplesWithinTotal }
 {}
 
-/// The signals of a trigger: two are at least its window apart, a pending event is signalled as
-/// soon as that lets it, and there is none while the total is what it was when the trigger was set.
+/// The signals of a trigger: two are at least a window apart, a pending event is signalled as soon
+/// as this allows it, and there is none while the total equals that at which the trigger was set.
 pub fn law_signals()
     ensures apart { SignalsApart }
     ensures pending { PendingIsSignalled }
@@ -31,7 +31,7 @@ pub fn law_signals()
     ensures quiet { QuietWhenStill }
 {}
 
-/// The shares of an interval: a mean of the processors' times, and nothing where the group was
+/// The shares of an interval: a weighted mean of the processors' times, and 0 if the group was
 /// idle. The totals are their sums.
 pub fn law_shares()
     ensures mean { ShareIsMean }
@@ -42,9 +42,9 @@ pub fn law_shares()
     ensures totals { TotalsGrow }
 {}
 
-/// Groups over any list of ticks: a total is the sum of its shares and so never falls, and no total
-/// is too long for what counts it. No average is above 100 percent, and two signals of a trigger
-/// are at least its window apart.
+/// Groups over any list of ticks: a total is the sum of its shares, so it never falls, and it fits
+/// its counter. No average exceeds 100 percent, and two signals of a trigger are at least a window
+/// apart.
 pub fn law_ticks()
     ensures sum { TotalIsSum }
     ensures kept { TotalsNeverFall }

@@ -1,7 +1,8 @@
-//! What pressure is: shares of an interval and totals, averages, and the signals of triggers.
+//! The definition of pressure: shares of an interval, totals, averages, and the signals of triggers.
+//! No code runs here: aggregate and tick_engine compute what these definitions specify.
 //!
-//! In `specs/`: `Share`, `Average`, `Signal`, `Ticks`, `Samples` and `File`, and `Laws`, what
-//! follows from them.
+//! In `specs/`: `Share`, `Average`, `Signal`, `Ticks`, `Samples` and `File`, and their laws in
+//! `Laws`.
 #![tactic(auto)]
 
 mod arithmetic;

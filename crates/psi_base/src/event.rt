@@ -1,13 +1,13 @@
-//! What a trace tells: moments, tasks, processors and groups, what happened to them, and why a line
-//! is refused.
+//! The contents of a trace: times, tasks, processors, groups and events, and why a line is
+//! rejected.
 use crate::path::Path;
 use crate::text::NoMemory;
 use std::alloc::{AllocError, AllocFailed};
 
-/// A moment, or a length of time, in nanoseconds (ns).
+/// A time or a duration in nanoseconds (ns).
 pub type Ns = u64;
 
-/// The number of a task, from 1. A number of a task that is gone may be used again.
+/// The number of a task (PID), at least 1. The number of a task that has exited may be reused.
 #[derive(Clone, Copy, Debug, PartialEq, Eq, PartialOrd, Ord)]
 pub struct Pid(pub u32);
 
@@ -15,34 +15,32 @@ pub struct Pid(pub u32);
 #[derive(Clone, Copy, Debug, PartialEq, Eq, PartialOrd, Ord)]
 pub struct Cpu(pub u32);
 
-/// The number of a group in the order in which groups were made. The root has 0, and no number is
-/// used again.
+/// The number of a group in the order of creation. The root has 0, and no number is reused.
 #[derive(Clone, Copy, Debug, PartialEq, Eq, PartialOrd, Ord)]
 pub struct Slot(pub u32);
 
-/// The states of a group on one processor that are timed, numbered from 0 in this order: the
-/// kernel's `enum psi_states` without irq pressure. `Some` is that at least one task is held up,
-/// `Full` that no task gets on.
+/// The timed states of a group on one processor, numbered from 0 in this order: the kernel's `enum
+/// psi_states` without irq pressure. `Some` means that at least one task is stalled, `Full` that no
+/// task makes progress.
 #[derive(Clone, Copy, Debug, PartialEq, Eq)]
 pub enum State {
     /// A task waits for IO.
     IoSome,
-    /// A task waits for IO, and none is ready or runs.
+    /// A task waits for IO, and none is ready or running.
     IoFull,
     /// A task is in a memory stall.
     MemSome,
-    /// A task is in a memory stall, and so is the running one, or all that are ready or run.
+    /// A task is in a memory stall, and so is the running task, or every ready or running task.
     MemFull,
     /// A ready task waits for the processor.
     CpuSome,
-    /// A ready task waits for the processor, and no task of the group runs.
+    /// A ready task waits for the processor, and no task of the group is running.
     CpuFull,
-    /// A task waits for IO, is in a memory stall, is ready or runs.
+    /// A task waits for IO, is in a memory stall, is ready or is running.
     Nonidle,
 }
 
-/// The resources whose pressure is told, as the files `io.pressure`, `memory.pressure` and
-/// `cpu.pressure`.
+/// The resources with a pressure file: `io.pressure`, `memory.pressure` and `cpu.pressure`.
 #[derive(Clone, Copy, Debug, PartialEq, Eq)]
 pub enum Res {
     /// Input and output.
@@ -53,12 +51,12 @@ pub enum Res {
     Cpu,
 }
 
-/// Which of the two lines of a pressure file is meant.
+/// One of the two lines of a pressure file.
 #[derive(Clone, Copy, Debug, PartialEq, Eq)]
 pub enum Level {
-    /// `some`: at least one task is held up.
+    /// `some`: at least one task is stalled.
     SomeStalled,
-    /// `full`: no task gets on.
+    /// `full`: no task makes progress.
     FullStalled,
 }
 
@@ -67,31 +65,31 @@ pub enum Level {
 pub enum How {
     /// It stays ready.
     Preempt,
-    /// It is blocked, and not for IO.
+    /// It blocks, but not for IO.
     Sleep,
-    /// It is blocked, and waits for IO.
+    /// It blocks, and waits for IO.
     IoWait,
-    /// It is gone.
+    /// It exits.
     Exit,
-    /// No task ran.
+    /// No task was running.
     Idle,
 }
 
-/// Whether a group is to be killed before others, as oomd's `oomd_prefer` and `oomd_avoid`.
+/// When a group is killed relative to others, like oomd's `oomd_prefer` and `oomd_avoid`.
 #[derive(Clone, Copy, Debug, PartialEq, Eq)]
 pub enum Preference {
     /// Before others.
     Prefer,
-    /// As others.
+    /// Like others.
     Plain,
     /// After others.
     Avoid,
 }
 
-/// What an event line says, one variant a verb.
+/// The act of an event line: one variant for each verb.
 #[derive(Drop)]
 pub enum Act {
-    /// `group`: a group is made.
+    /// `group`: a group is created.
     Group {
         path: Path,
     },
@@ -104,7 +102,7 @@ pub enum Act {
         path: Path,
         preference: Preference,
     },
-    /// `fork`: a ready task is made.
+    /// `fork`: a ready task is created.
     Fork {
         pid: Pid,
         path: Path,
@@ -115,7 +113,7 @@ pub enum Act {
         pid: Pid,
         cpu: Cpu,
     },
-    /// `switch`: the running task leaves its processor, and the next one runs there, or none.
+    /// `switch`: the running task leaves its processor, and the next one, if any, runs there.
     Switch {
         cpu: Cpu,
         next: Option<Pid>,
@@ -129,17 +127,17 @@ pub enum Act {
     Unstall {
         pid: Pid,
     },
-    /// `migrate`: a ready task goes to a processor.
+    /// `migrate`: a ready task moves to a processor.
     Migrate {
         pid: Pid,
         cpu: Cpu,
     },
-    /// `move`: a task goes to a group.
+    /// `move`: a task moves to a group.
     Move {
         pid: Pid,
         path: Path,
     },
-    /// `mem`: a group's memory and swap in use, in bytes, and how many pages were scanned for it so
+    /// `mem`: a group's memory and swap in use, in bytes, and the number of pages scanned for it so
     /// far.
     Mem {
         path: Path,
@@ -162,12 +160,12 @@ pub enum Act {
         threshold_us: u64,
         window_us: u64,
     },
-    /// `irq`: interrupts took so much time (ns) on a processor.
+    /// `irq`: interrupts took this time (ns) on a processor.
     Irq {
         cpu: Cpu,
         ns: u64,
     },
-    /// `pressure`: the account of a group is switched on, or off.
+    /// `pressure`: the accounting of a group is switched on or off.
     Pressure {
         path: Path,
         on: bool,
@@ -176,26 +174,26 @@ pub enum Act {
     End,
 }
 
-/// What happened, and when.
+/// An act and its time.
 #[derive(Drop)]
 pub struct Event {
-    /// The moment, in ns.
+    /// The time, in ns.
     pub at: Ns,
-    /// What happened then.
+    /// What happened at that time.
     pub act: Act,
 }
 
-/// A watch on a group's pressure, as the trace sets it: a signal is owed where the stall time in a
-/// window reaches the threshold.
+/// A trigger that the trace sets on a group's pressure: it fires if the stall time in a window
+/// reaches the threshold.
 #[derive(Clone, Copy, Debug, PartialEq, Eq)]
 pub struct TriggerSpec {
-    /// Since when, in ns.
+    /// The time at which it is set, in ns.
     pub at: Ns,
     /// The group that is watched.
     pub slot: Slot,
-    /// Whose pressure.
+    /// The resource.
     pub res: Res,
-    /// Which line of it.
+    /// The line of its pressure file.
     pub level: Level,
     /// The threshold, in us.
     pub threshold_us: u64,
@@ -203,89 +201,90 @@ pub struct TriggerSpec {
     pub window_us: u64,
 }
 
-/// Why a line of a trace is refused. A line with several faults has the first cause in this
-/// profile's order, which is not the order of these variants.
+/// Why a line of a trace is rejected. If several causes apply, the first one in the specified order
+/// is reported; that order differs from the order of these variants.
 #[derive(Clone, Copy, Debug, PartialEq, Eq)]
 pub enum Cause {
-    /// The first line isn't a header, or there is no whole first line.
+    /// The first line isn't a header, or is incomplete.
     BadHeader,
     /// A line has more than 512 bytes before its newline.
     LineTooLong,
-    /// The part before the first space isn't a number of 64 bits.
+    /// The part before the first space isn't a number that fits in 64 bits.
     BadTime,
-    /// The second part is missing, or is no verb.
+    /// The second part is missing or isn't a verb.
     BadVerb,
-    /// The part with this number behind the verb, from 1, is missing, wrong or one too many. It is
-    /// the leftmost such.
+    /// The leftmost wrong field: the field with this number after the verb, from 1, is missing,
+    /// malformed or one too many.
     BadField(u8),
-    /// The time is before that of the last line.
+    /// The time is before that of the previous line.
     TimeBack,
-    /// The time is after the last moment that a replay with this tick may reach.
+    /// The time is after the last tick that a replay with this tick length may reach.
     TimeTooLate,
-    /// 4,000,000 event lines came before.
+    /// The trace already has 4,000,000 event lines.
     TooManyEvents,
     /// No live group has the path.
     UnknownGroup,
-    /// A group is made with the path of a live one.
+    /// A new group has the path of a live one.
     GroupExists,
-    /// A group is made, and its parent isn't live.
+    /// The parent of a new group isn't live.
     NoParent,
-    /// A group is removed that is the root, or has a live child or a live task.
+    /// A group to be removed is the root, or has a live child or a live task.
     GroupBusy,
-    /// 1,024 groups were made, the root among them.
+    /// 1,024 groups were already created, including the root.
     TooManyGroups,
     /// No live task has the number.
     UnknownTask,
-    /// A task is made with the number of a live one.
+    /// A new task has the number of a live one.
     TaskExists,
-    /// A task is made, and 65,536 are live.
+    /// A task is created although 65,536 are live.
     TooManyTasks,
-    /// The header has no such processor.
+    /// The header declares no such processor.
     BadCpu,
-    /// The task that enters or leaves a stall doesn't run.
+    /// The task that enters or leaves a stall isn't running.
     NotRunning,
-    /// The task that is to run isn't ready on that processor, or the one that migrates isn't ready.
+    /// The next task of a switch isn't ready on that processor, or a task that migrates isn't
+    /// ready.
     NotReady,
-    /// The task that wakes is ready or runs.
+    /// The task that wakes is ready or running.
     NotBlocked,
-    /// A switch says `idle` where a task runs, or anything else where none does.
+    /// A switch says `idle` although a task is running, or another way to leave although none is.
     WrongHow,
-    /// The task that enters a stall is in one, or the one that exits is.
+    /// The task that enters a stall, or that exits, is in a stall.
     InStall,
-    /// The task that leaves a stall is in none.
+    /// The task that leaves a stall isn't in one.
     NotInStall,
-    /// 256 triggers were set.
+    /// 256 triggers were already set.
     TooManyTriggers,
-    /// The threshold or the window of a trigger is outside its range.
+    /// The threshold or the window of a trigger is out of range.
     BadWindow,
-    /// Something stands behind the `end` line.
+    /// Something follows the `end` line.
     AfterEnd,
     /// The input ends before an `end` line.
     NoEnd,
-    /// Interrupts took more than a second, or more than passed since the last `irq` line of the
-    /// processor.
+    /// Interrupts took more than a second, or more than the time since the processor's last `irq`
+    /// line.
     IrqTooLong,
-    /// The account of the root is switched.
+    /// The accounting of the root is switched.
     RootPressure,
-    /// 65,536 `pressure` lines came before.
+    /// The trace already has 65,536 `pressure` lines.
     TooManyPressures,
 }
 
-/// The first refused line of a trace.
+/// The first rejected line of a trace.
 #[derive(Clone, Copy, Debug, PartialEq, Eq)]
 pub struct Refusal {
     /// Its number, from 1.
     pub line: u32,
-    /// Why it is refused.
+    /// Why it is rejected.
     pub cause: Cause,
 }
 
-/// Why a call that reads or checks gives nothing.
+/// Why a call that reads or checks something fails.
 #[derive(Clone, Copy, Debug, PartialEq, Eq)]
 pub enum Fault<E> {
-    /// What it was given is refused, for this cause.
+    /// The input is rejected, for this cause.
     Refused(E),
-    /// There was no memory.
+    /// Out of memory.
     NoMemory(NoMemory),
 }
 
@@ -322,7 +321,7 @@ impl<E> From<AllocError> for Fault<E> {
     }
 }
 
-/// The value that found no place is let go.
+/// Drops the value that could not be stored.
 impl<E, T: Drop> From<AllocFailed<T>> for Fault<E> {
     ghost use Rattle.std.specs.Prelude.{◌≡◌};
     ghost use Rattle.psi_base.specs.Gives.{lacks_memory};

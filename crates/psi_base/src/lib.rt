@@ -1,9 +1,11 @@
 //! The types of a trace of scheduler events, and of the texts in it.
 //!
-//! - What a trace says ([`Event`], [`Act`]), in which words, and why a line of it is refused
+//! - The contents of a trace ([`Event`], [`Act`]), the words for them, and why a line is rejected
 //!   ([`Cause`], [`Refusal`], [`Fault`]).
-//! - Texts: [`Path`], [`Text`], [`Parts`] and [`read_number`]; [`NoMemory`] where there is no
-//!   memory for one.
+//! - Texts: [`Path`], [`Text`], [`Parts`] and [`read_number`]; [`NoMemory`] if memory runs out.
+//!
+//! It parses words and numbers only. psi_trace parses lines, and task_table decides which events
+//! are legal.
 #![tactic(auto)]
 
 mod event;

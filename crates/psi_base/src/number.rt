@@ -1,12 +1,12 @@
-//! Decimal numbers, in the one spelling.
+//! Decimal numbers, each with exactly one spelling.
 ghost use Rattle.std.specs.Prelude.{◌≡◌, ◌^◌, ◌<◌, ℕ, IfSome, IfNone, decimal};
 ghost use Rattle.psi_base.specs.Number.{number_of, digits_of};
 
-/// Below this, a number has room for one digit more, whichever it is.
+/// For any smaller number one more digit fits in 64 bits, whichever it is.
 const LARGE: u64 = u64::MAX / 10;
 
-/// The number that these bytes write, up to 2^64 - 1, leading zeros allowed; no bytes write 0. None
-/// exactly where one of them is no digit, or the number is greater.
+/// The number that these bytes write, up to 2^64 - 1. Leading zeros are allowed, and no bytes write
+/// 0. `None` if and only if a byte isn't a digit or the number is greater.
 #[tactic(auto, using(crate::proofs::NumberLaws::steps))]
 pub fn read_digits(bytes: &[u8]) -> Option<u64>
     ensures { result ≡ digits_of bytes.now }
@@ -17,7 +17,7 @@ pub fn read_digits(bytes: &[u8]) -> Option<u64>
             return None;
         }
         let digit = u64::from(*byte - b'0');
-        // Only for a large number it is asked whether the next digit fits: a division for each
+        // Only a large number needs the check whether the next digit fits: a division for each
         // digit would take a quarter of the time of reading an event.
         if number >= LARGE && number > (u64::MAX - digit) / 10 {
             return None;
@@ -27,8 +27,8 @@ pub fn read_digits(bytes: &[u8]) -> Option<u64>
     Some(number)
 }
 
-/// The number that the bytes spell: decimal digits, up to 2^64 - 1, with no leading zero but in `0`
-/// itself. None exactly where they spell no such number.
+/// The number that the bytes spell: decimal digits, up to 2^64 - 1, without leading zeros except
+/// for `0` itself. `None` if and only if they spell no such number.
 #[tactic(auto, unfolding(crate::specs::Number::number_of))]
 pub fn read_number(bytes: &[u8]) -> Option<u64>
     ensures exact { result ≡ number_of bytes.now }

@@ -16,21 +16,19 @@ use std::alloc::Global;
 use std::cmp::Ordering;
 use std::marker::Model;
 
-// A letter, a digit or one of the signs.
 fn is_path_byte(c: u8) -> bool
     ensures { result ≡ is_path_byte c }
 {
     c.is_ascii_alphanumeric() || matches!(c, b'_' | b'.' | b'@' | b':' | b'-' | b'\\')
 }
 
-// All are such bytes.
 fn are_path_bytes(part: &[u8]) -> bool
     ensures { result ≡ list_all is_path_byte part.now }
 {
     part.iter().all(|c| is_path_byte(*c))
 }
 
-// One or more such bytes, and neither `.` nor `..`.
+// One or more path bytes, and neither `.` nor `..`.
 fn is_component(part: &[u8]) -> bool
     ensures { result ≡ is_component part.now }
 {
@@ -59,7 +57,7 @@ fn are_components(text: &[u8]) -> bool
     parts.next_part().is_none()
 }
 
-// The root, or a slash and components behind it, in at most 255 bytes.
+// The root, or a slash followed by components, in at most 255 bytes.
 #[tactic(auto, unfolding(crate::specs::Path::is_path))]
 fn is_path(bytes: &[u8]) -> bool
     ensures { result ≡ is_path bytes.now }
@@ -73,9 +71,9 @@ fn is_path(bytes: &[u8]) -> bool
     are_components(&bytes[1..])
 }
 
-/// A path of a control group, ordered by its bytes, which contracts see as a list: `/`, or 1 to 32
-/// components, each behind a `/`, together at most 255 bytes. A component has one or more letters,
-/// digits and signs of `_.@:-\`, and is neither `.` nor `..`. These limits are this profile's.
+/// The path of a control group, at most 255 bytes: `/`, or 1 to 32 components, each after a `/`. A
+/// component is one or more letters, digits and characters of `_.@:-\`, but neither `.` nor `..`.
+/// Paths are ordered by their bytes; contracts see the list of bytes.
 #[derive(Drop)]
 pub struct Path {
     bytes: Vec<u8>,
@@ -100,7 +98,8 @@ impl Path {
         })
     }
 
-    /// The path that the bytes are. None exactly where they are no path; only a path takes memory.
+    /// The path that the bytes spell. `None` if and only if they aren't a path; allocates only for
+    /// a path.
     pub fn read(alloc: Global, bytes: &[u8]) -> Result<Option<Path>, NoMemory>
         ensures read { IfOk result (λ read. MatchOption read (is_path bytes.now ≡ false)
             (λ path. (is_path bytes.now ≡ true) × (path ≡ bytes.now))) }
@@ -114,7 +113,7 @@ impl Path {
         }))
     }
 
-    /// Its text, which is ASCII.
+    /// The path as text, which is ASCII.
     #[tactic(auto, using(crate::proofs::PathLaws::texts))]
     pub fn text(&self) -> &str
         ensures text { result.now ≡ self.now }
@@ -126,7 +125,7 @@ impl Path {
         }
     }
 
-    /// The same path.
+    /// A copy, in memory of its own.
     pub fn copy(&self, alloc: Global) -> Result<Path, NoMemory>
         ensures { IfOk result (λ path. path ≡ self.now) }
     {
@@ -135,7 +134,7 @@ impl Path {
         })
     }
 
-    /// Its bytes.
+    /// The bytes of the path.
     pub fn bytes(&self) -> &[u8]
         ensures bytes { result.now ≡ self.now }
         ensures path { is_path result.now ≡ true }

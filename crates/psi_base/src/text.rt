@@ -1,11 +1,10 @@
-//! Bytes that callers see as a list, and want of memory.
+//! Bytes that contracts see as a list, and the out-of-memory error.
 ghost use Rattle.std.specs.Prelude.{◌≡◌, ℕ, List, IfOk};
 
 use std::alloc::{AllocError, AllocFailed, Global};
 use std::marker::Model;
 
-/// There was no memory. Its field is private, so that one comes only of what a refused growth gave
-/// back.
+/// Out of memory. The field is private, so this error is only made from a failed allocation.
 #[derive(Clone, Copy, Debug, PartialEq, Eq)]
 pub struct NoMemory {
     refused: (),
@@ -17,14 +16,14 @@ impl From<AllocError> for NoMemory {
     }
 }
 
-/// The value that found no place is let go.
+/// Drops the value that could not be stored.
 impl<T: Drop> From<AllocFailed<T>> for NoMemory {
     fn from(_failed: AllocFailed<T>) -> Self {
         NoMemory { refused: () }
     }
 }
 
-/// A text: bytes of any kind, which contracts see as a list.
+/// A text: any bytes, which contracts see as a list.
 #[derive(Drop)]
 pub struct Text {
     bytes: Vec<u8>,
@@ -37,7 +36,7 @@ impl Model for Text {
 }
 
 impl Text {
-    /// The text of these bytes, in memory of its own.
+    /// A copy of these bytes, in memory of its own.
     pub fn make(alloc: Global, bytes: &[u8]) -> Result<Text, NoMemory>
         ensures { IfOk result (λ t. t ≡ bytes.now) }
     {
@@ -46,7 +45,7 @@ impl Text {
         })
     }
 
-    /// Its bytes.
+    /// The bytes of the text.
     pub fn bytes(&self) -> &[u8]
         ensures { result.now ≡ self.now }
     {

@@ -1,11 +1,11 @@
-//! The words of ways to leave a processor, preferences, resources and levels, as texts have them.
+//! The words for ways to leave a processor, preferences, resources and levels in texts.
 ghost use Rattle.std.specs.Prelude.{◌≡◌, ◌≤◌, length};
 ghost use Rattle.psi_base.specs.Words.{how_word, hows, level_word, levels, named, preference_word, preferences, resource_word, resources};
 
 use crate::event::{How, Level, Preference, Res};
 
 impl How {
-    /// The word for it.
+    /// The word for this way to leave.
     pub fn word(self) -> &'static str
         ensures word { result.now ≡ how_word self }
         ensures short { length result.now ≤ 7 }
@@ -19,7 +19,7 @@ impl How {
         }
     }
 
-    /// The one with this word.
+    /// The way to leave with this word, or `None`.
     pub fn of(word: &[u8]) -> Option<How>
         ensures { result ≡ named how_word hows word.now }
     {
@@ -31,7 +31,7 @@ impl How {
 }
 
 impl Preference {
-    /// The word for it.
+    /// The word for this preference.
     pub fn word(self) -> &'static str
         ensures word { result.now ≡ preference_word self }
         ensures short { length result.now ≤ 6 }
@@ -43,7 +43,7 @@ impl Preference {
         }
     }
 
-    /// The one with this word.
+    /// The preference with this word, or `None`.
     pub fn of(word: &[u8]) -> Option<Preference>
         ensures { result ≡ named preference_word preferences word.now }
     {
@@ -55,7 +55,7 @@ impl Preference {
 }
 
 impl Res {
-    /// The word for it.
+    /// The word for this resource.
     pub fn word(self) -> &'static str
         ensures word { result.now ≡ resource_word self }
         ensures short { length result.now ≤ 6 }
@@ -67,7 +67,7 @@ impl Res {
         }
     }
 
-    /// The one with this word.
+    /// The resource with this word, or `None`.
     pub fn of(word: &[u8]) -> Option<Res>
         ensures { result ≡ named resource_word resources word.now }
     {
@@ -79,7 +79,7 @@ impl Res {
 }
 
 impl Level {
-    /// The word for it.
+    /// The word for this level.
     pub fn word(self) -> &'static str
         ensures word { result.now ≡ level_word self }
         ensures short { length result.now ≤ 4 }
@@ -90,7 +90,7 @@ impl Level {
         }
     }
 
-    /// The one with this word.
+    /// The level with this word, or `None`.
     pub fn of(word: &[u8]) -> Option<Level>
         ensures { result ≡ named level_word levels word.now }
     {

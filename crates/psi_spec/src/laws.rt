@@ -2,13 +2,13 @@
 
 ghost use Rattle.psi_spec.specs.Laws.{GrowsByEvent, GrowsWithTime, IrqByEvent};
 
-/// Stall time grows event by event, and moment by moment, as a clock does.
+/// Stall time grows with each event, and with time, like a clock.
 pub fn law_stall_time()
     ensures by_event { GrowsByEvent }
     ensures with_time { GrowsWithTime }
 {}
 
-/// Interrupt time grows event by event.
+/// Interrupt time grows with each event.
 pub fn law_irq_time()
     ensures { IrqByEvent }
 {}

@@ -1,8 +1,8 @@
-//! What a machine's record is made of: groups and tasks.
+//! The types of a machine's record: groups and tasks.
 
 use psi_base::{Cpu, Ns, Path, Slot};
 
-/// A control group: its path, the slot of the group above it, and the moments at which it was made
+/// A control group: its path, the slot of its parent, and the times (ns) at which it was created
 /// and removed.
 #[derive(Drop)]
 pub struct GroupLife {
@@ -10,17 +10,17 @@ pub struct GroupLife {
     pub parent: Option<Slot>,
     pub made: Ns,
     pub gone: Option<Ns>,
-    /// Its account is on: stalls and interrupts are counted for it. Groups above and below have
-    /// accounts of their own.
+    /// Its accounting is on: stalls and interrupts are counted for it. Ancestors and children have
+    /// accounting of their own.
     pub on: bool,
 }
 
-/// What a live task does.
+/// The scheduling state of a live task.
 #[derive(Clone, Copy, Debug, PartialEq, Eq)]
 pub enum Mode {
-    /// Blocked, and not for IO.
+    /// Blocked, but not for IO.
     Blocked,
-    /// Blocked until some IO is done.
+    /// Blocked until IO completes.
     Waiting,
     /// Ready to run, on the run queue of its processor.
     Ready,
@@ -28,7 +28,7 @@ pub enum Mode {
     Running,
 }
 
-/// A live task. The processor of one that is blocked is where it last ran or was ready.
+/// A live task. The processor of a blocked task is the one on which it last ran or was ready.
 #[derive(Clone, Copy, Debug, PartialEq, Eq)]
 pub struct Task {
     pub slot: Slot,
