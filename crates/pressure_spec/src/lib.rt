@@ -1,4 +1,4 @@
-//! The definition of pressure: shares of an interval, totals, averages, and the signals of triggers.
+//! The definition of pressure: shares of an interval, totals, averages and the signals of triggers.
 //! No code runs here: aggregate and tick_engine compute what these definitions specify.
 //!
 //! In `specs/`: `Share`, `Average`, `Signal`, `Ticks`, `Samples` and `File`, and their laws in

@@ -1,12 +1,10 @@
--- Tasks of which the first numbers have a place each in a list, and the other numbers stand in
--- entries in any order.
+-- Tasks stored in a list, if their numbers are small, or in entries in any order.
 use Rattle.std.specs.Prelude.{ℕ, ◌+◌, List, [], ◌∷◌, Option}
 use Rattle.std.specs.FinMap as tasks_by
 use Rattle.psi_spec.specs.declared.machine.Task.{Task}
 use Rattle.psi_spec.specs.World.{Tasks, placed}
 
--- the tasks of a list, of which the places have the numbers from a first one on, and other tasks
--- beside them
+-- the tasks of a list whose places are numbered from `first`, together with other tasks
 abbrev pub listed_from : ℕ → List (Option Task) → Tasks → Tasks
 listed_from first [] others = others
 listed_from first (task ∷ listed) others = placed (listed_from (first + 1) listed others) first task

@@ -15,12 +15,12 @@ use Rattle.psi_counts.specs.Touch.{part, shown, task_after}
 use Rattle.psi_spec.specs.Changes.{before}
 use Rattle.task_table.specs.declared.task_update.TaskUpdate.{TaskUpdate}
 
--- the task that runs next, if one is named and lives
+-- the task that runs next, if one is named and live
 abbrev pub next_task : Tasks → Option Pid → Option Task
 next_task tasks None = None
 next_task tasks (Some pid) = task_of tasks pid.0
 
--- the live task with the number that an act names, also where that is the number of a new one or of
+-- the live task with the number that an act names, even if the number is meant for a new task or
 -- the next to run
 abbrev pub named_task : Tasks → Act → Option Task
 named_task tasks (act.Fork pid path cpu) = task_of tasks pid.0
@@ -32,7 +32,7 @@ named_task tasks (act.Migrate pid cpu) = task_of tasks pid.0
 named_task tasks (act.Move pid path) = task_of tasks pid.0
 named_task tasks _ = None
 
--- the live group with a path, if there is a path
+-- the live group with a path, or None
 abbrev pub group_with : List GroupLife → Option (List ℕ) → Option Slot
 group_with groups None = None
 group_with groups (Some path) = as_slot (slot_of groups path)
@@ -42,7 +42,7 @@ abbrev pub slot_with : List GroupLife → Option (List ℕ) → Slot
 slot_with groups None = record { 0 = 0 }
 slot_with groups (Some path) = slot_named groups path
 
--- the live group with the path that an act names, which isn't that of a new one
+-- the live group with the path that an act names; a new group's path isn't looked up
 abbrev pub named_group : List GroupLife → Act → Option Slot
 named_group groups a = group_with groups (names a).live_path
 
@@ -54,29 +54,29 @@ slot_or_root group = unwrap_or group (record { 0 = 0 })
 abbrev pub named_slot : List GroupLife → Act → Slot
 named_slot groups a = slot_with groups (names a).live_path
 
--- the task whose counts an act changes is this before it, and this after it
+-- the update of the task whose counts an act changes: the task before and after the act
 pub record IsChanged (groups : List GroupLife) (tasks : Tasks) (a : Act) (changed : TaskUpdate) : Type 0 where
   pub old : changed.old ≡ before tasks a
   pub new : changed.new ≡ task_after groups tasks a
 
--- A task may take the place of another: it runs on the same processor, or on none as that one, and
--- its slot is one of so many.
+-- A task may replace another: both are running on the same processor, or neither is running, and
+-- its slot is below `slots`.
 pub record MayReplace (slots : ℕ) (old new : Task) : Type 0 where
   pub runs : (cpu : ℕ) → is_running_on cpu new ≡ is_running_on cpu old
   pub room : new.slot.0 < slots
 
--- the same of tasks that may be missing
+-- the same for tasks that may be missing
 abbrev pub MayReplaceIf : ℕ → Option Task → Option Task → Type 0
 MayReplaceIf slots old new = IfSome old (λ o. IfSome new (λ n. MayReplace slots o n))
 
--- the change of a processor at a moment (ns) by an act that switches no account: by the task that
--- it changes, the task that runs there afterwards and the time (ns) that interrupts took there
+-- The change of a processor at a time (ns) by an act that switches no accounting, given the task
+-- that it changes, the task that is running there afterwards and the time (ns) that interrupts took
+-- there.
 abbrev pub change_for : ℕ → TaskUpdate → Option (ℕ × Task) → ℕ → ℕ → Change
 change_for at changed running irq cpu =
     record { at = at; minus = part cpu changed.old; plus = part cpu changed.new; current = shown running; irq = irq; account = None }
 
--- the change of a processor, if there is one, with its number, by an act that tells of no
--- interrupts
+-- the change of a processor, if any, with its number, by an act without interrupt time
 abbrev pub touched_change : ℕ → TaskUpdate → List (Option (ℕ × Task)) → Option Cpu → Option (Cpu × Change)
 touched_change at changed running None = None
 touched_change at changed running (Some cpu) = Some (cpu, change_for at changed (slice_index_or running cpu.0 None) 0 cpu.0)

@@ -1,4 +1,4 @@
-//! Why an act is refused, asked in the order of causes.
+//! Why an act is rejected, checked in the order of causes.
 ghost use Rattle.std.specs.Prelude.{◌≡◌, ℕ, List, if◌then◌else◌, nat_le, length, slice_index_or, None, Option, Some, false};
 ghost use Rattle.psi_base.specs.declared.event.Cause.TheVariants as cause;
 ghost use Rattle.psi_spec.specs.Refusal.{has_member, is_window};
@@ -15,13 +15,13 @@ use group_tree::Tree;
 use psi_base::{Act, Cause, Cpu, Event, How, Ns, Path, Pid, Slot};
 use psi_spec::{Mode, Task};
 
-/// The most tasks that may live at once.
+/// The maximum number of live tasks.
 const MOST_TASKS: usize = 65_536;
 
-/// The most triggers that a trace may make.
+/// The maximum number of triggers in a trace.
 const MOST_TRIGGERS: u32 = 256;
 
-/// The most `pressure` lines that a trace may have.
+/// The maximum number of `pressure` lines in a trace.
 const MOST_PRESSURES: u32 = 65_536;
 
 /// The shortest and the longest window of a trigger, in us.
@@ -29,17 +29,17 @@ const SHORTEST_WINDOW: u64 = 500_000;
 
 const LONGEST_WINDOW: u64 = 10_000_000;
 
-/// The most time that an `irq` line may tell, in ns.
+/// The longest interrupt time of one `irq` line, in ns.
 const LONGEST_IRQ: u64 = 1_000_000_000;
 
-/// So many live tasks are as many as may be.
+/// Whether the limit of live tasks is reached.
 pub(crate) fn is_full(live: usize) -> bool
     ensures { result ≡ nat_le most_tasks live }
 {
     live >= MOST_TASKS
 }
 
-/// The live group with the path that an act names, which isn't that of a new one.
+/// The live group with the path that an act names; a new group's path isn't looked up.
 pub(crate) fn named_group(tree: &Tree, act: &Act) -> Option<Slot>
     ensures { result ≡ named_group tree.now act.now }
 {
@@ -55,7 +55,6 @@ pub(crate) fn named_group(tree: &Tree, act: &Act) -> Option<Slot>
     }
 }
 
-/// An act names a group, and none is live with its path.
 fn path_refused(lacks_group: bool) -> Option<Cause>
     ensures { result ≡ path_cause lacks_group }
 {
@@ -66,7 +65,6 @@ fn path_refused(lacks_group: bool) -> Option<Cause>
     }
 }
 
-/// A live task is in the group.
 fn has_tasks(members: &Members, group: Option<Slot>) -> bool
     ensures { (tasks : Tasks) (slot : Option ℕ) → AreMembers members.now tasks →
         group ≡ as_slot slot →
@@ -78,7 +76,6 @@ fn has_tasks(members: &Members, group: Option<Slot>) -> bool
     }
 }
 
-/// Why a group can't be removed.
 fn remove_refused(tree: &Tree, members: &Members, path: &Path, group: Option<Slot>) -> Option<Cause>
     requires { group ≡ as_slot (slot_of tree.now path.now) }
     ensures { (tasks : Tasks) → AreMembers members.now tasks →
@@ -93,7 +90,6 @@ fn remove_refused(tree: &Tree, members: &Members, path: &Path, group: Option<Slo
     None
 }
 
-/// Why a fork isn't legal.
 fn fork_refused(
     cpus: usize,
     lacks_group: bool,
@@ -116,7 +112,6 @@ fn fork_refused(
     }
 }
 
-/// Why a wake isn't legal.
 #[inline(always)]
 pub(crate) fn wake_refused(task: Option<Task>, cpus: usize, cpu: u32) -> Option<Cause>
     ensures { result ≡ wake_cause cpus task cpu }
@@ -133,7 +128,7 @@ pub(crate) fn wake_refused(task: Option<Task>, cpus: usize, cpu: u32) -> Option<
     }
 }
 
-/// Why the next task, if there is one, can't run on this processor.
+/// Why the next task, if any, can't run on this processor.
 #[inline(always)]
 fn next_refused(next: Option<Pid>, task: Option<Task>, cpus: usize, cpu: u32) -> Option<Cause>
     ensures { result ≡ next_cause cpus cpu next task }
@@ -153,7 +148,6 @@ fn next_refused(next: Option<Pid>, task: Option<Task>, cpus: usize, cpu: u32) ->
     Some(Cause::NotReady)
 }
 
-/// The processor isn't there.
 fn cpu_refused(cpus: usize, cpu: u32) -> Option<Cause>
     ensures { result ≡ (if nat_le cpus cpu then Some cause.BadCpu else None) }
 {
@@ -163,7 +157,7 @@ fn cpu_refused(cpus: usize, cpu: u32) -> Option<Cause>
     None
 }
 
-/// Why the running task can't leave so.
+/// Why the running task can't leave in this way.
 #[inline(always)]
 fn how_refused(how: How, running: Running) -> Option<Cause>
     ensures { result ≡ how_cause how running }
@@ -177,7 +171,6 @@ fn how_refused(how: How, running: Running) -> Option<Cause>
     }
 }
 
-/// Why a switch isn't legal.
 #[inline(always)]
 pub(crate) fn switch_refused(
     running: &[Running],
@@ -195,7 +188,6 @@ pub(crate) fn switch_refused(
     how_refused(how, running_at(running, cpu))
 }
 
-/// Why a stall can't begin.
 #[inline(always)]
 pub(crate) fn stall_refused(task: Option<Task>) -> Option<Cause>
     ensures { result ≡ stall_cause task }
@@ -212,7 +204,6 @@ pub(crate) fn stall_refused(task: Option<Task>) -> Option<Cause>
     None
 }
 
-/// Why a stall can't end.
 #[inline(always)]
 pub(crate) fn unstall_refused(task: Option<Task>) -> Option<Cause>
     ensures { result ≡ unstall_cause task }
@@ -229,7 +220,6 @@ pub(crate) fn unstall_refused(task: Option<Task>) -> Option<Cause>
     None
 }
 
-/// Why a task can't migrate.
 #[inline(always)]
 pub(crate) fn migrate_refused(task: Option<Task>, cpus: usize, cpu: u32) -> Option<Cause>
     ensures { result ≡ migrate_cause cpus task cpu }
@@ -246,7 +236,6 @@ pub(crate) fn migrate_refused(task: Option<Task>, cpus: usize, cpu: u32) -> Opti
     None
 }
 
-/// Why a task can't move.
 fn move_refused(lacks_group: bool, task: Option<Task>) -> Option<Cause>
     ensures { result ≡ move_cause lacks_group task }
 {
@@ -259,7 +248,6 @@ fn move_refused(lacks_group: bool, task: Option<Task>) -> Option<Cause>
     }
 }
 
-/// Window and threshold (us) are in their ranges.
 fn is_window(threshold_us: u64, window_us: u64) -> bool
     ensures { result ≡ is_window threshold_us window_us }
 {
@@ -269,7 +257,6 @@ fn is_window(threshold_us: u64, window_us: u64) -> bool
         && threshold_us <= window_us
 }
 
-/// Why a trigger can't be made.
 fn trigger_refused(
     lacks_group: bool,
     triggers: u32,
@@ -289,7 +276,6 @@ fn trigger_refused(
     }
 }
 
-/// Why the account of a group can't be switched.
 fn account_refused(tree: &Tree, pressures: u32, path: &Path) -> Option<Cause>
     ensures { result ≡ account_cause tree.now pressures path.now }
 {
@@ -299,8 +285,8 @@ fn account_refused(tree: &Tree, pressures: u32, path: &Path) -> Option<Cause>
     tree.pressure_cause(path)
 }
 
-/// Why interrupts can't have taken so long (ns) up to a moment (ns) on a processor. `irqs` has the
-/// moments of the last `irq` lines.
+/// Why interrupts can't have taken `ns` on a processor up to the time `at` (ns). `irqs` has the
+/// times (ns) of the last `irq` lines.
 fn irq_refused(irqs: &[Ns], cpus: usize, at: Ns, cpu: Cpu, ns: u64) -> Option<Cause>
     ensures { result ≡ irq_cause cpus irqs.now at cpu ns }
 {
@@ -314,9 +300,9 @@ fn irq_refused(irqs: &[Ns], cpus: usize, at: Ns, cpu: Cpu, ns: u64) -> Option<Ca
     None
 }
 
-/// Why the act of an event isn't legal, which isn't of tasks alone. `irqs` has the times of the
-/// last `irq` lines, `named` is the task with the number that the act names, and `group` the live
-/// group with the path that it names.
+/// Why the act of an event isn't legal, if it isn't a task act. `irqs` has the times of the last
+/// `irq` lines, `named` is the task with the number that the act names, and `group` the live group
+/// with the path that it names.
 #[inline(always)]
 pub(crate) fn act_refused(
     tree: &Tree,

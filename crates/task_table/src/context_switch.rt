@@ -16,7 +16,7 @@ use crate::task_update::TaskUpdate;
 use psi_base::{How, Pid};
 use psi_spec::{Mode, Task};
 
-/// A running task after it left its processor, or none where it is gone.
+/// The task after it left its processor, or `None` if it exited.
 #[inline(always)]
 fn left(how: How, task: Task) -> Option<Task>
     ensures task { result ≡ left_by how task }
@@ -84,7 +84,7 @@ fn switch_out(
     }
 }
 
-/// A ready task starts on a processor on which none runs.
+/// Starts a ready task on an idle processor.
 #[inline(always)]
 fn switch_in(
     tasks: &mut TaskMap,
@@ -118,7 +118,7 @@ fn switch_in(
     running[cpu as usize] = Some((pid.0, after));
 }
 
-/// A legal switch, done. `task` is the one that runs next.
+/// Performs a legal switch. `task` is the next task.
 #[inline(always)]
 pub(crate) fn switch(
     tasks: &mut TaskMap,

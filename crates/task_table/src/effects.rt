@@ -19,17 +19,16 @@ use group_tree::Tree;
 use psi_base::{Act, Cpu, Fault, NoMemory, Ns, Path, Slot};
 use psi_spec::{Mode, Task};
 
-/// The most processors that a machine may have.
+/// The maximum number of processors.
 pub(crate) const MOST_CPUS: usize = 64;
 
-/// The act ends the trace.
 fn is_end(act: &Act) -> bool
     ensures { result ≡ ends act.now }
 {
     matches!(act, Act::End)
 }
 
-/// The trace has ended with this act, or had before.
+/// Whether the trace has ended after this act.
 #[inline(always)]
 pub(crate) fn has_ended(before: bool, act: &Act) -> bool
     ensures { result ≡ (before || ends act.now) }
@@ -37,7 +36,7 @@ pub(crate) fn has_ended(before: bool, act: &Act) -> bool
     before || is_end(act)
 }
 
-/// How many triggers there are with this act.
+/// The number of triggers after this act.
 #[inline(always)]
 pub(crate) fn triggers_with(before: u32, act: &Act) -> u32
     requires { before ≤ 256 }
@@ -49,7 +48,7 @@ pub(crate) fn triggers_with(before: u32, act: &Act) -> u32
     }
 }
 
-/// How many `pressure` lines there are with this act.
+/// The number of `pressure` lines after this act.
 #[inline(always)]
 pub(crate) fn pressures_with(before: u32, act: &Act) -> u32
     requires { before ≤ 65536 }
@@ -61,7 +60,7 @@ pub(crate) fn pressures_with(before: u32, act: &Act) -> u32
     }
 }
 
-/// Keeps the moment (ns) of an act where it is the last `irq` line of its processor.
+/// Stores the time (ns) of an `irq` act for its processor; other acts change nothing.
 #[inline(always)]
 pub(crate) fn note_irq(irqs: &mut [Ns; MOST_CPUS], at: Ns, act: &Act)
     ensures { irqs.new ≡ irqs_after at irqs.old act.now }
@@ -71,7 +70,6 @@ pub(crate) fn note_irq(irqs: &mut [Ns; MOST_CPUS], at: Ns, act: &Act)
     }
 }
 
-/// Puts a moment (ns) in the place of a processor, if it has one.
 fn set_irq(irqs: &mut [Ns], cpu: Cpu, at: Ns)
     ensures { irqs.new ≡ slice_set irqs.old cpu.0 at }
 {
@@ -81,7 +79,7 @@ fn set_irq(irqs: &mut [Ns], cpu: Cpu, at: Ns)
     }
 }
 
-/// A task that forked.
+/// A new task: ready, and not in a memory stall.
 fn forked(slot: Slot, cpu: Cpu) -> Task
     ensures { (groups : List GroupLife) (path : List ℕ) → slot ≡ slot_named groups path →
         result ≡ new_task groups path cpu.0 }
@@ -94,7 +92,7 @@ fn forked(slot: Slot, cpu: Cpu) -> Task
     }
 }
 
-/// A task on the run queue of a processor, if there is one. Its stall stays.
+/// The task, if any, on the run queue of a processor. Its memory stall continues.
 pub(crate) fn readied(task: Option<Task>, cpu: Cpu) -> Option<Task>
     ensures { result ≡ changed (readied cpu.0) task }
 {
@@ -108,7 +106,6 @@ pub(crate) fn readied(task: Option<Task>, cpu: Cpu) -> Option<Task>
     }
 }
 
-/// A task in a memory stall or out of it, if there is one.
 pub(crate) fn with_stall(task: Option<Task>, stalled: bool) -> Option<Task>
     ensures { result ≡ changed (λ t. record t { stalled = stalled }) task }
 {
@@ -118,7 +115,6 @@ pub(crate) fn with_stall(task: Option<Task>, stalled: bool) -> Option<Task>
     }
 }
 
-/// A task in a group, if there is one.
 fn moved(task: Option<Task>, slot: Slot) -> Option<Task>
     ensures { result ≡ changed (λ t. record t { slot = slot }) task }
 {
@@ -128,7 +124,7 @@ fn moved(task: Option<Task>, slot: Slot) -> Option<Task>
     }
 }
 
-/// The task with the number that an act names which isn't of tasks alone.
+/// The task with the number that an act names, if the act isn't a task act.
 #[inline(always)]
 pub(crate) fn named_task(tasks: &TaskMap, act: &Act) -> Option<Task>
     requires { is_task_act act.now ≡ false }
@@ -140,8 +136,8 @@ pub(crate) fn named_task(tasks: &TaskMap, act: &Act) -> Option<Task>
     }
 }
 
-/// A task takes the place of another with the same number, if there are both.
-// Inline, so that the two tasks needn't go through memory.
+/// Replaces a task with another that has the same number, if there are both.
+// Inlined, so that the two tasks aren't passed through memory.
 #[inline(always)]
 pub(crate) fn replace(
     tasks: &mut TaskMap,
@@ -179,7 +175,7 @@ pub(crate) fn replace(
     changed
 }
 
-/// A task comes. Where there is no memory for it, nothing changes.
+/// Adds a task. If it is out of memory, nothing changes.
 fn add_task(
     tasks: &mut TaskMap,
     members: &mut Members,
@@ -211,7 +207,7 @@ fn add_task(
     }
 }
 
-/// A group comes. Where there is no memory for it, no group changes.
+/// Adds a group. If it is out of memory, no group changes.
 fn add_group(tree: &mut Tree, members: &mut Members, path: &Path, at: Ns) -> Result<(), NoMemory>
     requires legal { add_cause tree.old path.now ≡ None }
     requires cover { length tree.old ≤ length members.old }
@@ -229,9 +225,9 @@ fn add_group(tree: &mut Tree, members: &mut Members, path: &Path, at: Ns) -> Res
     }
 }
 
-/// What a legal act does to tasks that isn't of tasks alone, done. `named` is the task with the
-/// number that the act names, and `slot` that of the group that it names. Only a fork allocates; if
-/// it is out of memory, nothing changes.
+/// Performs the effect on tasks of a legal act that isn't a task act. `named` is the task with the
+/// number that the act names, and `slot` the slot of the group that it names. Only a fork
+/// allocates; if it is out of memory, nothing changes.
 #[inline(always)]
 pub(crate) fn change_tasks(
     tasks: &mut TaskMap,
@@ -273,8 +269,8 @@ pub(crate) fn change_tasks(
     }
 }
 
-/// What a legal act at a moment (ns) does to groups, done. Only a new group takes memory; where
-/// there is none, nothing changes.
+/// Performs the effect on groups of a legal act at a time (ns). Only a new group allocates; if it
+/// is out of memory, nothing changes.
 #[inline(always)]
 pub(crate) fn change_groups(
     tree: &mut Tree,

@@ -1,14 +1,14 @@
-//! What is found of a legal event.
+//! The result of the look-ups for a legal event.
 ghost use Rattle.std.specs.Prelude.{◌≡◌};
 ghost use Rattle.task_table.specs.Named.{slot_or_root};
 
 use psi_base::Slot;
 use psi_spec::Task;
 
-/// The tasks and the group of a legal event, as they are before it, so that each is looked up once.
+/// The tasks and the group of a legal event, before the event, so that each is looked up once.
 #[derive(Clone, Copy)]
 pub struct Finding {
-    /// The task with the number that the act names, also where that is the next to run.
+    /// The task with the number that the act names, even if that is the next task to run.
     pub named: Option<Task>,
     /// The task whose counts the act changes.
     pub before: Option<Task>,

@@ -1,12 +1,12 @@
-//! How many live tasks each group has in it.
+//! The number of live tasks in each group.
 ghost use Rattle.std.specs.Prelude.{◌≡◌, ℕ, ◌+◌, ◌-◌, ◌<◌, ◌≤◌, ◌^◌, List, [], ◌∷◌, length, slice_index_or, slice_set, nat_lt, IfOk, OnOk};
 
 use psi_base::{NoMemory, Slot};
 use std::alloc::Global;
 use std::marker::Model;
 
-/// The numbers of live tasks by the slots of their groups. Contracts see the list of them; where it
-/// ends, there are none.
+/// The numbers of live tasks by the slots of their groups. Contracts see them as a list; slots
+/// after its end have no task.
 #[derive(Drop)]
 pub(crate) struct Members {
     counts: Vec<u32>,
@@ -32,7 +32,7 @@ impl Members {
         Ok(Members { counts })
     }
 
-    /// Makes room for so many groups. Those that are new have no task.
+    /// Makes room for `groups` groups. New groups have no task.
     pub(crate) fn cover(&mut self, groups: usize) -> Result<(), NoMemory>
         requires { groups ≤ length self.old + 1 }
         ensures same { (slot : ℕ) →
@@ -46,14 +46,14 @@ impl Members {
         Ok(())
     }
 
-    /// A live task is in the group.
+    /// Whether a live task is in the group.
     pub(crate) fn has(&self, slot: Slot) -> bool
         ensures { result ≡ nat_lt 0 (slice_index_or self.now slot.0 0) }
     {
         self.counts.get(slot.0 as usize).copied().unwrap_or(0) > 0
     }
 
-    /// One task more is in the group.
+    /// Adds a task to the group.
     pub(crate) fn join(&mut self, slot: Slot)
         requires room { slot.0 < length self.old }
         requires fits { slice_index_or self.old slot.0 0 + 1 < 2 ^ 32 }
@@ -62,7 +62,7 @@ impl Members {
         self.counts[slot.0 as usize] += 1;
     }
 
-    /// One task less is in the group.
+    /// Removes a task from the group.
     pub(crate) fn leave(&mut self, slot: Slot)
         requires room { slot.0 < length self.old }
         requires some { 0 < slice_index_or self.old slot.0 0 }

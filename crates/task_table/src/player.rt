@@ -1,4 +1,4 @@
-//! A table as what a trace is played on: to check a trace it is enough.
+//! A table as a player of traces, which is enough to check a trace.
 
 use crate::table::Table;
 use psi_base::{Cause, Event, Fault, NoMemory, Ns};

@@ -4,7 +4,7 @@ ghost use Rattle.psi_spec.specs.World.{is_running};
 
 use psi_spec::{Mode, Task};
 
-/// The running task of a processor with its number, or none where it idles.
+/// The running task of a processor with its number, or `None` if the processor idles.
 pub(crate) type Running = Option<(u32, Task)>;
 
 /// The running task of a processor.
@@ -14,7 +14,7 @@ pub(crate) fn running_at(running: &[Running], cpu: u32) -> Running
     running.get(cpu as usize).copied().unwrap_or(None)
 }
 
-/// Shows a task as it is now, if it runs.
+/// Stores the task as the running one of its processor, if it is running.
 pub(crate) fn set_running(running: &mut [Running], pid: u32, task: Task)
     requires { is_running task.mode ≡ true → task.cpu.0 < length running.old }
     ensures { running.new

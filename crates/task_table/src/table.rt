@@ -31,30 +31,30 @@ use std::alloc::Global;
 use std::marker::Model;
 use trace_player::TaskAct;
 
-/// The most lines that a trace may have after its header.
+/// The maximum number of lines after the header.
 const MOST_EVENTS: u32 = 4_000_000;
 
 /// The world so far, and the limits of its trace.
 #[derive(Drop)]
 pub struct Table {
-    /// No event is later (ns).
+    /// The latest time of an event (ns).
     latest: Ns,
     tasks: TaskMap,
     /// The running task of each processor.
     running: Vec<Running>,
-    /// How many live tasks are in each group.
+    /// The number of live tasks in each group.
     members: Members,
-    /// All groups ever made.
+    /// All groups ever created.
     tree: Tree,
-    /// The moment of the last `irq` line of each processor (ns), 0 where there was none.
+    /// The time (ns) of each processor's last `irq` line, or 0.
     irqs: [Ns; MOST_CPUS],
-    /// How many triggers were made.
+    /// The number of triggers so far.
     triggers: u32,
-    /// How many `pressure` lines there were.
+    /// The number of `pressure` lines so far.
     pressures: u32,
-    /// How many events there were.
+    /// The number of events so far.
     lines: u32,
-    /// The moment of the last event (ns).
+    /// The time of the last event (ns).
     last: Ns,
     ended: bool,
 }
@@ -75,8 +75,8 @@ impl Model for Table {
 }
 
 impl Table {
-    /// The world before a trace with 1 to 64 processors, in which no event is later than `latest`
-    /// (ns).
+    /// The world before the first event, with 1 to 64 processors. No event may be later than
+    /// `latest` (ns).
     pub fn new(alloc: Global, cpus: u32, latest: Ns) -> Result<Table, NoMemory>
         requires some { 1 ≤ cpus }
         requires few { cpus ≤ 64 }
@@ -102,7 +102,7 @@ impl Table {
         })
     }
 
-    /// How many processors there are, 64 at most.
+    /// The number of processors, at most 64.
     pub fn cpus(&self) -> u32
         ensures cpus { result ≡ self.now.limits.cpus }
         ensures few { result ≤ 64 }
@@ -110,7 +110,7 @@ impl Table {
         self.running.len() as u32
     }
 
-    /// How many events there were, 4,000,000 at most.
+    /// The number of events so far, at most 4,000,000.
     pub fn lines(&self) -> u32
         ensures lines { result ≡ self.now.world.lines }
         ensures few { result ≤ most_events }
@@ -118,49 +118,49 @@ impl Table {
         self.lines
     }
 
-    /// The moment of the last event (ns), 0 before the first.
+    /// The time of the last event (ns), 0 before the first.
     pub fn last(&self) -> Ns
         ensures { result ≡ self.now.world.last }
     {
         self.last
     }
 
-    /// The trace has ended.
+    /// Whether the trace has ended.
     pub fn is_ended(&self) -> bool
         ensures { result ≡ self.now.world.ended }
     {
         self.ended
     }
 
-    /// As many tasks are live as may be.
+    /// Whether the limit of live tasks is reached.
     pub fn is_full(&self) -> bool
         ensures { result ≡ nat_le most_tasks (tasks_by.len self.now.world.tasks) }
     {
         is_full(self.tasks.len())
     }
 
-    /// All groups ever made.
+    /// All groups ever created.
     pub fn groups(&self) -> &Tree
         ensures { result.now ≡ self.now.world.groups }
     {
         &self.tree
     }
 
-    /// All groups ever made, and nothing else.
+    /// All groups ever created; drops the rest of the table.
     pub fn into_groups(self) -> Tree
         ensures { result ≡ self.world.groups }
     {
         self.tree
     }
 
-    /// The live task with a number.
+    /// The live task with a number, or `None`.
     pub fn task(&self, pid: Pid) -> Option<Task>
         ensures { result ≡ task_of self.now.world.tasks pid.0 }
     {
         self.tasks.get(pid.0)
     }
 
-    /// The task that runs on a processor, or none where it idles.
+    /// The running task of a processor, or `None` if the processor idles.
     #[tactic(auto, using(crate::proofs::Index::running_told))]
     pub fn running(&self, cpu: Cpu) -> Option<Task>
         ensures { result ≡ task_part (running_on self.now.world.tasks cpu.0) }
@@ -171,8 +171,8 @@ impl Table {
         }
     }
 
-    /// What a change of a processor shows of the task that runs there: its group, and whether it is
-    /// in a memory stall.
+    /// The running task as a change of its processor contains it: its group, and whether it is in a
+    /// memory stall.
     #[tactic(auto, using(crate::proofs::Index::running_told))]
     pub fn current(&self, cpu: Cpu) -> Option<(Slot, bool)>
         ensures { result ≡ shown (running_on self.now.world.tasks cpu.0) }
@@ -180,7 +180,7 @@ impl Table {
         current_on(&self.running, cpu)
     }
 
-    /// The first cause that any line can have, at this moment (ns).
+    /// The first cause that any line can have at this time (ns).
     #[tactic(auto, using(std::proofs::lemmas::Bool::Decides::nat_tests))]
     #[inline(always)]
     fn line_refused(&self, at: Ns) -> Option<Cause>
@@ -204,8 +204,8 @@ impl Table {
         None
     }
 
-    /// The first cause against an event whose act names this task and this group. The act isn't of
-    /// tasks alone.
+    /// The first cause against an event whose act names this task and this group. The act isn't a
+    /// task act.
     #[inline(always)]
     fn refused(&self, event: &Event, named: Option<Task>, group: Option<Slot>) -> Option<Cause>
         requires other { is_task_act event.now.act ≡ false }
@@ -233,8 +233,8 @@ impl Table {
         )
     }
 
-    /// The task whose counts an act changes that isn't of tasks alone, as it is before the act.
-    /// `named` is the one with the number that the act names.
+    /// The task whose counts an act changes, before the act, which isn't a task act. `named` is the
+    /// task with the number that the act names.
     #[inline(always)]
     fn before(&self, act: &Act, named: Option<Task>) -> Option<Task>
         requires other { is_task_act act.now ≡ false }
@@ -247,8 +247,8 @@ impl Table {
         }
     }
 
-    /// Judges an event: what is found of its tasks where it is legal, and else the first cause
-    /// against it, in this profile's order of causes.
+    /// Judges an event: returns its tasks and its group if it is legal, and otherwise the first
+    /// cause against it.
     #[inline(always)]
     pub fn judge(&self, event: &Event) -> Result<Finding, Cause>
         ensures { Judges self.now event.now result }
@@ -268,8 +268,7 @@ impl Table {
         })
     }
 
-    /// The first cause against the event, in this profile's order of causes, or none where it is
-    /// legal.
+    /// The first cause against the event, or `None` if it is legal.
     pub fn check(&self, event: &Event) -> Option<Cause>
         ensures cause { result ≡ cause_of self.now.limits self.now.world event.now }
         ensures room { IfNone result (self.now.world.lines < most_events) }
@@ -279,9 +278,8 @@ impl Table {
         self.judge(event).err()
     }
 
-    /// The world after the event. Where it is refused, or there is no memory for a new task or
-    /// group, nothing changes: `Refused` with the first cause, and `NoMemory` for a legal fork or a
-    /// legal new group alone.
+    /// Advances the world by the event. Fails with `Refused` and the first cause, or with
+    /// `NoMemory` for a legal fork or a legal new group; nothing changes then.
     #[inline(always)]
     pub fn play(&mut self, event: &Event) -> Result<(), Fault<Cause>>
         ensures { PlaysEvent self.old event.now self.new result }
@@ -304,8 +302,8 @@ impl Table {
         Ok(())
     }
 
-    /// The world after the event as [`Table::play`] makes it, and what the event changes on each
-    /// processor that it touches.
+    /// Advances the world like [`Table::play`], and returns the event's changes of the processors
+    /// that it touches.
     pub fn step(&mut self, event: &Event) -> Result<Touch, Fault<Cause>>
         ensures plays { PlaysEvent self.old event.now self.new result }
         ensures touch { IfOk result (λ touch.
@@ -322,9 +320,8 @@ impl Table {
         Ok(self.perform(event, finding)?)
     }
 
-    /// Does what a legal event does, of which this was found: what it changes on each processor
-    /// that it touches. Only a fork and a new group take memory; where there is none, nothing
-    /// changes.
+    /// Performs a legal event with this finding, and returns its changes of the processors that it
+    /// touches. Only a fork and a new group allocate; if it is out of memory, nothing changes.
     #[inline(always)]
     pub fn perform(&mut self, event: &Event, finding: Finding) -> Result<Touch, NoMemory>
         requires { IsFinding self.old event.now finding }
@@ -350,7 +347,7 @@ impl Table {
         Ok(touch_of(event.at, &event.act, changed, &self.running))
     }
 
-    /// The world after a legal event whose act isn't of tasks alone, and the task that the event
+    /// Advances the world by a legal event whose act isn't a task act, and returns the task that it
     /// changes. If it is out of memory, nothing changes.
     #[inline(always)]
     fn advance(&mut self, event: &Event, finding: Finding) -> Result<TaskUpdate, NoMemory>

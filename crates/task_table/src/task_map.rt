@@ -1,4 +1,4 @@
-//! Tasks by their numbers.
+//! A map from numbers to tasks.
 ghost use Rattle.std.specs.Prelude.{◌≡◌, ◌≤◌, IfOk, OnOk, OnErr, IsSome, None, length, replicate};
 ghost use Rattle.psi_spec.specs.World.{no_tasks, task_of, put, remove, most_tasks};
 ghost use Rattle.std.specs.FinMap as tasks_by;
@@ -10,18 +10,18 @@ use std::alloc::Global;
 use std::collections::HashMap;
 use std::marker::Model;
 
-/// How many numbers have a place in the list of tasks: as many as tasks may live at once.
+/// The number of places in the list of tasks: the maximum number of live tasks.
 const PLACES: usize = 65_536;
 
-/// The live tasks, found by number. A list finds those with small numbers by one load, where a map
-/// needs three or four.
+/// The live tasks by number. A list finds tasks with small numbers with one load, while a map needs
+/// three or four.
 #[derive(Drop)]
 pub(crate) struct TaskMap {
-    /// The tasks with the numbers below `PLACES`, each in the place with its number.
+    /// The tasks with numbers below `PLACES`, by number.
     listed: Vec<Option<Task>>,
     /// The tasks with the other numbers.
     others: HashMap<u32, Task>,
-    /// How many tasks there are in both.
+    /// The number of tasks in both.
     count: usize,
 }
 
@@ -55,14 +55,14 @@ impl TaskMap {
         })
     }
 
-    /// How many tasks there are.
+    /// The number of tasks.
     pub(crate) fn len(&self) -> usize
         ensures { result ≡ tasks_by.len self.now }
     {
         self.count
     }
 
-    /// The task with this number.
+    /// The task with this number, or `None`.
     #[inline(always)]
     pub(crate) fn get(&self, pid: u32) -> Option<Task>
         ensures { result ≡ task_of self.now pid }
@@ -73,7 +73,7 @@ impl TaskMap {
         }
     }
 
-    /// Puts a task under a number. Where there is no memory for it, nothing changes.
+    /// Adds a task under a number. If it is out of memory, nothing changes.
     pub(crate) fn add(&mut self, pid: u32, task: Task) -> Result<(), NoMemory>
         requires few { tasks_by.len self.old ≤ most_tasks }
         ensures ok { OnOk result (self.new ≡ put self.old pid task) }
@@ -86,7 +86,7 @@ impl TaskMap {
         Ok(())
     }
 
-    /// Puts a task in the place of the one with this number. It takes no memory.
+    /// Replaces the task with this number. Does not allocate.
     #[inline(always)]
     pub(crate) fn set(&mut self, pid: u32, task: Task)
         requires { IsSome (task_of self.old pid) }
@@ -103,7 +103,7 @@ impl TaskMap {
         *other = task;
     }
 
-    /// Removes the task with this number, if there is one.
+    /// Removes the task with this number, if any.
     pub(crate) fn remove(&mut self, pid: u32)
         ensures { self.new ≡ remove self.old pid }
     {
@@ -114,15 +114,15 @@ impl TaskMap {
     }
 }
 
-/// So many places without a task.
+/// `count` places without a task.
 fn empty_places(alloc: Global, count: usize) -> Result<Vec<Option<Task>>, NoMemory>
     ensures { IfOk result (λ places. places.items ≡ replicate count None) }
 {
     Ok(vec![in alloc; None; count]?)
 }
 
-/// Puts a task under a number, and gives the one that it had. Where there is no memory for it,
-/// nothing changes.
+/// Puts a task under a number, and returns the previous one. If it is out of memory, nothing
+/// changes.
 fn put(
     listed: &mut [Option<Task>],
     others: &mut HashMap<u32, Task>,
@@ -147,7 +147,7 @@ fn put(
     Ok(others.insert(pid, task)?)
 }
 
-/// Takes the task with a number away, if there is one.
+/// Removes and returns the task with this number, if any.
 fn take(listed: &mut [Option<Task>], others: &mut HashMap<u32, Task>, pid: u32) -> Option<Task>
     ensures old { result ≡ task_of (listed_tasks listed.old others.old.entries) pid }
     ensures tasks { listed_tasks listed.new others.new.entries

@@ -1,5 +1,5 @@
-//! What an act changes on the processors that it touches, read off the task that it changes and off
-//! the running ones: no walk over the tasks.
+//! The changes of the processors that an act touches, derived from the task that it changes and the
+//! running tasks, without a walk over all tasks.
 ghost use Rattle.std.specs.Prelude.{◌≡◌, ℕ, if◌then◌else◌, Some, None, List, [], ◌∷◌, false, slice_index_or};
 ghost use Rattle.psi_counts.specs.Counts.{counts_among};
 ghost use Rattle.psi_counts.specs.Touch.{account_of, part, shown, told_of, IsBeside};
@@ -24,11 +24,11 @@ const NOWHERE: Touch = Touch {
     account: None,
 };
 
-/// What a task counts as by itself.
+/// The counts of a single task.
 fn counts_of(task: Task) -> Counts
     ensures { result ≡ counts_among (task ∷ []) }
 {
-    // Without branches: modes come in no order that a processor could foresee.
+    // Without branches: the order of modes is hard for a processor to predict.
     let active = (task.mode == Mode::Ready) | (task.mode == Mode::Running);
     Counts {
         io: u32::from(task.mode == Mode::Waiting),
@@ -58,8 +58,8 @@ pub(crate) fn current_on(running: &[Running], cpu: Cpu) -> Option<(Slot, bool)>
     }
 }
 
-/// The change of a processor at a moment (ns), by the task that an act changes and by the tasks
-/// that run after it. No interrupts took time.
+/// The change of a processor at a time (ns), given the task that an act changes and the tasks that
+/// are running after it. No interrupts took time.
 #[inline(always)]
 fn change_of(at: Ns, changed: TaskUpdate, running: &[Running], cpu: Cpu) -> Change
     ensures { result ≡ change_for at changed (slice_index_or running.now cpu.0 None) 0 cpu.0 }
@@ -74,8 +74,8 @@ fn change_of(at: Ns, changed: TaskUpdate, running: &[Running], cpu: Cpu) -> Chan
     }
 }
 
-/// The group whose account an act switches, and whether on. `slot` is that of the group that the
-/// act names.
+/// The group whose accounting an act switches, and whether it is on afterwards. `slot` is the slot
+/// of the group that the act names.
 #[inline(always)]
 pub(crate) fn account_of(act: &Act, slot: Slot) -> Option<(Slot, bool)>
     ensures { (groups : List GroupLife) → slot ≡ slot_or_root (named_group groups act.now) →
@@ -87,7 +87,7 @@ pub(crate) fn account_of(act: &Act, slot: Slot) -> Option<(Slot, bool)>
     }
 }
 
-/// The touch of an act that switches an account, which it does on every processor.
+/// The touch of an act that switches accounting, which affects every processor.
 pub(crate) fn account_touch(account: (Slot, bool)) -> Touch
     ensures first { result.first ≡ None }
     ensures second { result.second ≡ None }
@@ -99,8 +99,8 @@ pub(crate) fn account_touch(account: (Slot, bool)) -> Touch
     }
 }
 
-/// The changes at a time (ns) of the processors that an act touches, by the task that it changes
-/// and by the tasks that run after it. The act switches no account, and isn't of tasks alone.
+/// The changes at a time (ns) of the processors that an act touches, given the task that it changes
+/// and the tasks that are running after it. The act switches no accounting, and isn't a task act.
 #[inline(always)]
 pub(crate) fn touch_of(at: Ns, act: &Act, changed: TaskUpdate, running: &[Running]) -> Touch
     requires other { is_task_act act.now ≡ false }
@@ -139,7 +139,7 @@ pub(crate) fn touch_of(at: Ns, act: &Act, changed: TaskUpdate, running: &[Runnin
     }
 }
 
-/// The processor of a task, if there is one and it isn't that other one.
+/// The processor of a task, if any, unless it is `other`.
 #[inline(always)]
 pub(crate) fn cpu_unless(other: Cpu, task: Option<Task>) -> Option<Cpu>
     ensures { result ≡ unless_on other task }
@@ -151,7 +151,7 @@ pub(crate) fn cpu_unless(other: Cpu, task: Option<Task>) -> Option<Cpu>
     }
 }
 
-/// The processor of a task, if there is one.
+/// The processor of a task, if any.
 #[inline(always)]
 pub(crate) fn cpu_of(task: Option<Task>) -> Option<Cpu>
     ensures { result ≡ cpu_in task }
@@ -162,7 +162,7 @@ pub(crate) fn cpu_of(task: Option<Task>) -> Option<Cpu>
     }
 }
 
-/// The change of a processor, if there is one, with its number.
+/// The change of a processor, if any, with its number.
 #[inline(always)]
 pub(crate) fn touched_change(
     at: Ns,

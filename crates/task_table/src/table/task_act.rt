@@ -1,8 +1,8 @@
-//! The fast path of a table: acts of tasks alone, by value.
+//! The fast path of a table: task acts, passed by value.
 //!
-//! A function here is the twin of the one for events whose name it has without `_task`. Its act is
-//! in registers, needs no memory and leaves groups alone; that is worth a third of a line's time.
-//! The functions for events hand such acts on to these.
+//! Each function is the twin of the function for events with the same name without `_task`. Its act
+//! is in registers, and it neither allocates nor changes groups; that saves a third of a line's
+//! time. The functions for events delegate task acts to these.
 ghost use Rattle.std.specs.Prelude.{◌≡◌, ℕ, ◌<◌, ◌≤◌, if◌then◌else◌, IfNone, List, None, Some, length, slice_index_or};
 ghost use Rattle.std.specs.FinMap as tasks_by;
 ghost use Rattle.psi_counts.specs.Touch.{AllTouched, HasSlotsBelow, IsBeside, IsOfOne, IsTouch, told_of};
@@ -66,7 +66,7 @@ fn act_refused(running: &[Running], act: TaskAct, named: Option<Task>) -> Option
     }
 }
 
-/// What a legal act does to tasks, done. `named` is the task with the number that it names.
+/// Performs the effect of a legal act on tasks. `named` is the task with the number that it names.
 #[inline(always)]
 fn change_tasks(
     tasks: &mut TaskMap,
@@ -92,8 +92,7 @@ fn change_tasks(
     ensures cover { length members.new ≡ length members.old }
     ensures length { length running.new ≡ length running.old }
 {
-    // A task that stays is replaced in one place, whichever the act is, so that this is in the code
-    // once.
+    // All acts that keep their task share one replacement, so that its code is inlined once.
     let (pid, new) = match act {
         TaskAct::Switch { cpu, next, how } => {
             return switch(tasks, running, members, cpu.0, next, named, how);
@@ -105,7 +104,7 @@ fn change_tasks(
     replace(tasks, running, members, pid.0, named, new)
 }
 
-/// The processors that an act touches, by the task that it changes as it is before.
+/// The processors that an act touches, given the task that it changes, before the act.
 #[inline(always)]
 fn cpus_touched(act: TaskAct, old: Option<Task>) -> (Option<Cpu>, Option<Cpu>)
     ensures { result ≡ cpus_touched act old }
@@ -119,8 +118,8 @@ fn cpus_touched(act: TaskAct, old: Option<Task>) -> (Option<Cpu>, Option<Cpu>)
     }
 }
 
-/// The changes at a time (ns) of the processors that an act touches, by the task that it changes
-/// and by the tasks that run after it.
+/// The changes at a time (ns) of the processors that an act touches, given the task that it changes
+/// and the tasks that are running after it.
 #[inline(always)]
 fn touch_of(at: Ns, act: TaskAct, changed: TaskUpdate, running: &[Running]) -> Touch
     ensures told { (cpu : ℕ) →
@@ -155,8 +154,8 @@ impl Table {
         act_refused(&self.running, act, named)
     }
 
-    /// The task whose counts an act changes, as it is before the act. `named` is the one with the
-    /// number that the act names.
+    /// The task whose counts an act changes, before the act. `named` is the task with the number
+    /// that the act names.
     #[inline(always)]
     fn before_task(&self, act: TaskAct, named: Option<Task>) -> Option<Task>
         requires { named ≡ named_task self.now.world.tasks (as_act act) }
@@ -168,7 +167,7 @@ impl Table {
         }
     }
 
-    /// Judges a task act at a time (ns), as [`Table::judge`] its event.
+    /// Judges a task act at a time (ns), like [`Table::judge`] its event.
     #[inline(always)]
     pub fn judge_task(&self, at: Ns, act: TaskAct) -> Result<Finding, Cause>
         ensures { Judges self.now (as_event at act) result }
@@ -184,7 +183,7 @@ impl Table {
         })
     }
 
-    /// The world after a task act at a time (ns), as [`Table::play`] makes it by its event.
+    /// Advances the world by a task act at a time (ns), like [`Table::play`] by its event.
     #[inline(always)]
     pub fn play_task(&mut self, at: Ns, act: TaskAct) -> Result<(), Fault<Cause>>
         ensures { PlaysEvent self.old (as_event at act) self.new result }
@@ -194,8 +193,8 @@ impl Table {
         Ok(())
     }
 
-    /// Does what a legal task act at a time (ns) does, as [`Table::perform`] for its event. It
-    /// doesn't allocate.
+    /// Performs a legal task act at a time (ns), like [`Table::perform`] its event. Does not
+    /// allocate.
     #[inline(always)]
     pub fn perform_task(&mut self, at: Ns, act: TaskAct, finding: Finding) -> Touch
         requires { IsFinding self.old (as_event at act) finding }
@@ -212,7 +211,7 @@ impl Table {
         touch_of(at, act, changed, &self.running)
     }
 
-    /// The world after a legal task act at a time (ns), and the task that it changes.
+    /// Advances the world by a legal task act at a time (ns), and returns the task that it changes.
     #[inline(always)]
     pub(super) fn advance_task(&mut self, at: Ns, act: TaskAct, finding: Finding) -> TaskUpdate
         requires { IsFinding self.old (as_event at act) finding }
