@@ -1,4 +1,4 @@
--- The plans of all processors, and for which events they stand.
+-- The plans of all processors, and the events that they represent.
 use Rattle.std.specs.Prelude.{◌≡◌, ◌≢◌, ◌⊎◌, ℕ, ◌+◌, ◌<◌, ◌≤◌, List, [], ◌∷◌, ◌++◌, length, map, slice_get, slice_index_or, Option, None, Some, Result, Ok, Err, ⊤, true, false, refl}
 use Rattle.std.specs.Option.{option_or}
 use Rattle.std.specs.List.{All}
@@ -40,37 +40,37 @@ use Rattle.proc_plan.specs.Sides.{IsSmall, sides_of}
 abbrev pub plan_view : List Change → List (Option Slot) → PlanView
 plan_view changes parents = record { changes = changes; parents = parent_numbers parents }
 
--- the plan that has the parents of groups, with these changes
+-- the plan with these changes and the parents of these groups
 abbrev pub plan_over : List GroupLife → List Change → PlanView
 plan_over groups changes = record { changes = changes; parents = parents_of groups }
 
--- the plan of each processor that has the parents of groups, with its listed changes
+-- the plan of each processor, with its listed changes and the parents of these groups
 abbrev pub plans_over : List GroupLife → List ChangesView → List PlanView
 plans_over groups changes = map (λ (changes : ChangesView). plan_over groups changes.list) changes
 
 -- ---- what a change leaves alone
 
--- These are the slots on whose chains the change after the first k stands: of the counts that it
--- takes or else of its switched account, of those that it adds, of the task that runs before it and
--- of the one that runs after it.
+-- These are the slots whose chains the change after the first k affects: the slot of the counts
+-- that it subtracts, or the slot whose accounting it switches; the slot of the counts that it adds;
+-- and the slots of the tasks that are running before and after it.
 abbrev pub AreConcerned : PlanView → ℕ → List (Option Slot) → Type 0
 AreConcerned plan k starts = (change : Change) → slice_get plan.changes k ≡ Some change →
     starts ≡ option_or (slot_in change.account) (slot_in change.minus) ∷ slot_in change.plus ∷ slot_in (current_after plan k)
     ∷ slot_in change.current ∷ []
 
--- a slot is on none of the chains of slots
+-- a slot is on none of these chains
 abbrev pub IsOnNone : List (Option ℕ) → List (Option Slot) → ℕ → Type 0
 IsOnNone parents starts slot = All (λ start. leads_to parents (number_of_slot start) slot ≡ false) starts
 
--- the change after the first k is aside of each slot that is on none of these chains
+-- the change after the first k doesn't affect any slot that is on none of these chains
 abbrev pub OthersAreAside : PlanView → ℕ → List (Option Slot) → Type 0
 OthersAreAside plan k starts = (slot : ℕ) (change : Change) → slice_get plan.changes k ≡ Some change →
     IsOnNone plan.parents starts slot → IsAside plan slot k change
 
 -- ---- all plans
 
--- The plans of a trace: one for each processor, all groups ever made, the triggers, the sides, and
--- the end moment (ns).
+-- The plans of a trace: one for each processor, all groups ever created, the triggers, the sides,
+-- and the time of the end (ns).
 pub record PlansView : Type 0 where
   pub plans : List PlanView
   pub lives : List GroupLife
@@ -90,8 +90,8 @@ plan_at plans cpu = slice_index_or plans.plans cpu no_plan
 abbrev pub AreSmall : List Side → Type 0
 AreSmall sides = All (λ (side : Side). IsSmall side.what) sides
 
--- What holds of all plans: there are 1 to 64 processors with one plan each, which is whole and
--- knows the parents of the groups that were made, these are groups of a legal world, and the sides
+-- The invariant of plans: there are 1 to 64 processors with one plan each, which is well-formed and
+-- has the parents of the groups that were created, these are groups of a legal world, and the sides
 -- are small.
 pub record ArePlans (plans : PlansView) : Type 0 where
   pub counted : IsCpuCount (length plans.plans)
@@ -100,9 +100,9 @@ pub record ArePlans (plans : PlansView) : Type 0 where
   pub groups : AreGroups plans.lives
   pub small : AreSmall plans.sides
 
--- Plans stand for events. Each processor's plan has the changes that the events of its numbers
--- make, each with its moment, and the parents of all groups. The plans have the groups, the
--- triggers and the sides of the events, in their order, and the end moment.
+-- Plans represent events. Each processor's plan has the changes that its events make, each with its
+-- time, and the parents of all groups. The plans have the groups, the triggers and the sides of the
+-- events, in order, and the time of the end.
 pub record StandFor (plans : PlansView) (cpus : ℕ) (events : List Event) : Type 0 where
   pub each : length plans.plans ≡ cpus
   pub changes : (cpu : ℕ) → cpu < cpus → map (λ change. Some change) (plan_at plans cpu).changes
@@ -113,7 +113,7 @@ pub record StandFor (plans : PlansView) (cpus : ℕ) (events : List Event) : Typ
   pub sides : plans.sides ≡ sides_of events
   pub finish : plans.finish ≡ (after events).last
 
--- The plans that stand for events are the plans of these events.
+-- The plans that represent events are the plans of these events.
 abbrev pub PlansAreOfEvents : Type 0
 PlansAreOfEvents =
     (plans : PlansView) (cpus : ℕ) (events : List Event) → StandFor plans cpus events → (cpu : ℕ) → cpu < cpus
@@ -121,12 +121,12 @@ PlansAreOfEvents =
 
 -- ---- refusals
 
--- the limits of a trace of so many processors, in which no event is later than a moment (ns)
+-- the limits of a trace with n processors in which no event is later than this time (ns)
 abbrev pub limits_by : ℕ → ℕ → Limits
 limits_by cpus latest = record { cpus = cpus; latest = latest }
 
--- events are refused at an event with its first cause, and those before it are legal; its line is
--- their number and two
+-- Events are rejected at one of them with its first cause, and those before it are legal. Its line
+-- number is the number of events before it plus two.
 pub record IsRefusedAt (limits : Limits) (events : List Event) (line : ℕ) (why : Cause) : Type 0 where
   pub front : List Event
   pub event : Event
@@ -136,14 +136,14 @@ pub record IsRefusedAt (limits : Limits) (events : List Event) (line : ℕ) (why
   pub cause : cause_of limits (after front) event ≡ Some why
   pub line_is : line ≡ length front + 2
 
--- events are refused behind the last of them, where all are legal and the last isn't the end
+-- events are rejected after the last one, if all are legal and the last isn't the end
 pub record LacksEnd (limits : Limits) (events : List Event) (line : ℕ) (why : Cause) : Type 0 where
   pub legal : AreLegal limits first_world events
   pub open_ : (after events).ended ≢ true
   pub cause : why ≡ cause.NoEnd
   pub line_is : line ≡ length events + 2
 
--- events are refused at a line with a cause; of want of memory nothing is said
+-- events are rejected at a line with a cause; out of memory is always possible
 abbrev pub IsRefusal : Limits → List Event → Fault Refusal → Type 0
 IsRefusal limits events (fault.Refused refusal) =
     IsRefusedAt limits events refusal.line refusal.cause ⊎ LacksEnd limits events refusal.line refusal.cause
@@ -163,7 +163,7 @@ pub record PlannerView : Type 0 where
 abbrev pub planner_view : TableView → List (List Change) → List TriggerSpec → List Side → PlannerView
 planner_view table changes triggers sides = record { table = table; changes = changes; triggers = triggers; sides = sides }
 
--- a planner's value as nested pairs, by which proofs tell values apart
+-- a planner's value as nested pairs, with which proofs compare values
 abbrev pub planner_code : Coded PlannerView
 planner_code =
     code_by (TableView × (List (List Change) × (List TriggerSpec × List Side)))
@@ -175,13 +175,13 @@ planner_code =
 abbrev pub changes_at : PlannerView → ℕ → List Change
 changes_at planner cpu = slice_index_or planner.changes cpu []
 
--- What holds of each planner: it has a list of changes for each processor, and its sides are small.
+-- The invariant of a planner: it has a list of changes for each processor, and its sides are small.
 pub record IsPlanner (planner : PlannerView) : Type 0 where
   pub each : length planner.changes ≡ planner.table.limits.cpus
   pub small : AreSmall planner.sides
 
--- A planner has taken apart these events of a trace with these limits. Each can be spelled, and all
--- are legal.
+-- A planner has taken these events of a trace with these limits. Each can be spelled, and all are
+-- legal.
 pub record HasTaken (planner : PlannerView) (limits : Limits) (events : List Event) : Type 0 where
   pub limits_are : planner.table.limits ≡ limits
   pub counted : IsCpuCount limits.cpus
@@ -193,11 +193,11 @@ pub record HasTaken (planner : PlannerView) (limits : Limits) (events : List Eve
   pub triggers : planner.triggers ≡ triggers_of events
   pub sides : planner.sides ≡ sides_of events
 
--- A planner that was fresh has taken all these events, which make up a trace.
+-- A new planner has taken all these events, which make up a trace.
 abbrev pub HasTakenAll : PlannerView → PlannerView → List Event → Type 0
 HasTakenAll old new events = (limits : Limits) → HasTaken old limits [] → HasTaken new limits events × IsAccepted limits events
 
--- a planner that was fresh is refused these events
+-- a new planner rejects these events
 abbrev pub IsRefusedAll : PlannerView → List Event → Fault Refusal → Type 0
 IsRefusedAll old events fault = (limits : Limits) → HasTaken old limits [] → IsRefusal limits events fault
 
@@ -206,7 +206,7 @@ abbrev pub IsFaultAt : ℕ → Fault Cause → Fault Refusal → Type 0
 IsFaultAt line (fault.Refused why) at = at ≡ fault.Refused (record { line = line; cause = why })
 IsFaultAt line (fault.NoMemory none) at = at ≡ fault.NoMemory none
 
--- plans stand for the events that a planner has taken
+-- plans represent the events that a planner has taken
 abbrev pub StandForTaken : PlannerView → PlansView → Type 0
 StandForTaken planner plans = (limits : Limits) (events : List Event) → HasTaken planner limits events →
     StandFor plans limits.cpus events
@@ -215,15 +215,15 @@ StandForTaken planner plans = (limits : Limits) (events : List Event) → HasTak
 abbrev pub HasTrace : PlannerView → Type 0
 HasTrace planner = (limits : Limits) × (events : List Event) × HasTaken planner limits events
 
--- What an event does to a planner: it is legal behind the events that were taken and taken with
--- them, or the fault is the first cause against it. Memory is wanted only where there is no cause.
+-- A planner takes an event: it is legal after the events so far and becomes one of them, or the
+-- fault is the first cause against it. Out of memory is possible only if there is no cause.
 abbrev pub PlannerTakes : PlannerView → PlannerView → Event → Result (Unit {0}) (Fault Cause) → Type 0
 PlannerTakes old new event (Ok x) = (limits : Limits) (events : List Event) → HasTaken old limits events →
     (cause_of limits (after events) event ≡ None) × HasTaken new limits (events ++ event ∷ []) × (length events < most_events)
 PlannerTakes old new event (Err fault) = (limits : Limits) (events : List Event) → HasTaken old limits events →
     IsGroupFault (cause_of limits (after events) event) fault
 
--- Events that a planner has taken make up a trace, where they ended it.
+-- The events that a planner has taken make up a trace if they ended it.
 abbrev pub EndedIsAccepted : Type 0
 EndedIsAccepted = (planner : PlannerView) (limits : Limits) (events : List Event) → HasTaken planner limits events →
     planner.table.world.ended ≡ true → IsAccepted limits events

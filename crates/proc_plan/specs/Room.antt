@@ -1,4 +1,4 @@
--- The changes of each processor as they are listed, and room for more.
+-- The listed changes of each processor, and room for more.
 use Rattle.std.specs.Prelude.{◌≡◌, ℕ, ◌<◌, List, [], ◌++◌, length, map, slice_index_or, Option, None, Some, true}
 use Rattle.psi_base.specs.declared.event.Act.{Act}
 use Rattle.psi_spec.specs.declared.machine.Task.{Task}
@@ -6,7 +6,7 @@ use Rattle.psi_counts.specs.declared.changes.Change.{Change}
 use Rattle.psi_counts.specs.Legal.{with_change}
 use Rattle.psi_spec.specs.Changes.{touched}
 
--- the changes of a processor so far, and for how many more there is room
+-- the changes of a processor so far, and the number of further changes that there is room for
 pub record ChangesView : Type 0 where
   pub list : List Change
   pub room : ℕ
@@ -23,7 +23,7 @@ lists_of changes = map (λ (changes : ChangesView). changes.list) changes
 abbrev pub changes_in : List ChangesView → ℕ → List Change
 changes_in changes cpu = (slice_index_or changes cpu no_room).list
 
--- the changes of each processor have one more behind them, where one is told for it
+-- appends a change to each processor's list if `told` has one for it
 abbrev pub AddsTold : List ChangesView → List ChangesView → (ℕ → Option Change) → Type 0
 AddsTold old new told = (cpu : ℕ) → changes_in new cpu ≡ changes_in old cpu ++ with_change (told cpu) []
 
@@ -31,16 +31,16 @@ AddsTold old new told = (cpu : ℕ) → changes_in new cpu ≡ changes_in old cp
 abbrev pub HasRoom : List ChangesView → ℕ → Type 0
 HasRoom changes cpu = 0 < (slice_index_or changes cpu no_room).room
 
--- there is, if there is such a processor
+-- there is room for one more change of a processor, if that processor exists
 abbrev pub HasRoomWithin : List ChangesView → ℕ → Type 0
 HasRoomWithin changes cpu = cpu < length changes → HasRoom changes cpu
 
--- the number of a task's processor, if there is a task
+-- the number of a task's processor, or None
 abbrev pub cpu_number : Option Task → Option ℕ
 cpu_number None = None
 cpu_number (Some task) = Some task.cpu.0
 
--- There is room for what an act changes, on each processor that it touches and that there is. The
--- task is the one that the act changes, as it is before.
+-- There is room for the changes of an act, on each existing processor that it touches, given the
+-- task that the act changes, before the act.
 abbrev pub HasRoomFor : Act → Option Task → List ChangesView → Type 0
 HasRoomFor act before changes = (cpu : ℕ) → touched act before cpu ≡ true → HasRoomWithin changes cpu

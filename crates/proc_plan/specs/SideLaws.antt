@@ -1,5 +1,5 @@
--- What holds of the sides of a trace: they stand in the order of their moments, and tell how many
--- tasks are in each group.
+-- Laws of the sides of a trace: they are in order of time, and they give the number of tasks in
+-- each group.
 use Rattle.std.specs.Prelude.{◌≡◌, ℕ, ◌+◌, ◌<◌, ◌≤◌, List, length, filter, count_by, nat_le, All, IfSome, ◌==◌, Bool, false, Option, None, Some, pos, negsuc}
 use Rattle.std.specs.FinMap as tasks_by
 use Rattle.std.specs.List.Sorted.{IsNonDecreasingBy}
@@ -16,34 +16,34 @@ use Rattle.proc_plan.specs.Sides.{sides_of}
 
 -- ---- moments
 
--- The sides of the events up to a moment are those with a moment up to it.
+-- The sides of the events up to a time are the sides with a time up to it.
 abbrev pub SidesUpTo : Type 0
 SidesUpTo = (limits : Limits) (events : List Event) → AreLegal limits first_world events → (at : ℕ) →
     sides_of (up_to events at) ≡ filter (λ (side : Side). nat_le side.at at) (sides_of events)
 
--- Their moments never fall.
+-- The times of sides never fall.
 abbrev pub SidesAreInOrder : Type 0
 SidesAreInOrder = (limits : Limits) (events : List Event) → AreLegal limits first_world events →
     IsNonDecreasingBy (λ (side : Side). side.at) (sides_of events)
 
 -- ---- tasks in a group
 
--- a task comes into the very group of a slot
+-- a task joins the group in a slot itself
 abbrev pub comes : ℕ → SideAct → Bool
 comes slot (side.Tasks into (pos n)) = into.0 == slot
 comes slot _ = false
 
--- a task leaves it
+-- a task leaves the group in a slot itself
 abbrev pub goes : ℕ → SideAct → Bool
 goes slot (side.Tasks out (negsuc n)) = out.0 == slot
 goes slot _ = false
 
--- how many live tasks are in the very group of a slot
+-- the number of live tasks in the group in a slot itself
 abbrev pub members : ℕ → Tasks → ℕ
 members slot tasks = how_many (is_of slot) (tasks_by.values tasks)
 
--- As many tasks came into a group as left it and are in it. They are at most 65,536, as many as may
--- live.
+-- The number of tasks that joined a group is the number that left it plus the number in it. At most
+-- 65,536 tasks are in it, the limit of live tasks.
 abbrev pub MembersAreTold : Type 0
 MembersAreTold = (limits : Limits) (events : List Event) → AreLegal limits first_world events → (slot : ℕ) →
     (count_by (λ (side : Side). comes slot side.what) (sides_of events)
@@ -52,14 +52,14 @@ MembersAreTold = (limits : Limits) (events : List Event) → AreLegal limits fir
 
 -- ---- slots
 
--- the slot of which a side tells, if it tells of one
+-- the slot that a side names, or None
 abbrev pub slot_of_side : SideAct → Option Slot
 slot_of_side (side.Mem slot current swap scan) = Some slot
 slot_of_side (side.Prefer slot preference) = Some slot
 slot_of_side (side.Host mem_total swap_total swap_free) = None
 slot_of_side (side.Tasks slot added) = Some slot
 
--- Sides tell of slots that there are.
+-- Sides name existing slots.
 abbrev pub SidesAreOnGroups : Type 0
 SidesAreOnGroups = (limits : Limits) (events : List Event) → AreLegal limits first_world events →
     All (λ (side : Side). IfSome (slot_of_side side.what) (λ slot. slot.0 < length (after events).groups)) (sides_of events)

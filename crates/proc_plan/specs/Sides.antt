@@ -1,5 +1,5 @@
--- The sides of a trace, which it tells beside the changes of processors and its triggers: memory
--- samples, preferences, the memory of the host, and the tasks that come into groups and leave them.
+-- The sides of a trace, its contents besides the changes of processors and the triggers: memory
+-- samples, preferences, the memory of the host, and tasks that join and leave groups.
 use Rattle.std.specs.Prelude.{ℕ, ◌^◌, ◌≤◌, List, [], ◌∷◌, ◌++◌, ◌==◌, if◌then◌else◌, Option, None, Some, pos, negsuc}
 use Rattle.psi_base.specs.declared.event.Slot.{Slot}
 use Rattle.psi_base.specs.declared.event.Act.{Act}
@@ -17,46 +17,45 @@ use Rattle.proc_plan.specs.declared.side.SideAct.TheVariants as side
 
 -- ---- sides
 
--- one side, at a moment (ns)
+-- one side, at a time (ns)
 abbrev pub side_at : ℕ → SideAct → List Side
 side_at at what = record { at = at; what = what } ∷ []
 
--- a task came into the very group of a slot
+-- a task joins the group in a slot itself
 abbrev pub came : ℕ → Slot → List Side
 came at slot = side_at at (side.Tasks slot (pos 1))
 
--- a task left it
+-- a task leaves the group in a slot itself
 abbrev pub went : ℕ → Slot → List Side
 went at slot = side_at at (side.Tasks slot (negsuc 0))
 
--- A task that is in one group and then in another left the one and came into the other. One that
--- stays in its group neither left nor came.
+-- A task that changes its group leaves the old one and joins the new one. A task that stays in its
+-- group does neither.
 abbrev pub passage : ℕ → Option Slot → Option Slot → List Side
 passage at None None = []
 passage at None (Some new) = came at new
 passage at (Some old) None = went at old
 passage at (Some old) (Some new) = if old.0 == new.0 then [] else went at old ++ came at new
 
--- the group in which a task is, if there is one
+-- the group of a task, or None
 abbrev pub group_of : Option Task → Option Slot
 group_of None = None
 group_of (Some task) = Some task.slot
 
--- the sample of a group's memory or of the host's, or the preference, that an act tells, if it
--- tells one
+-- the memory sample of a group or the host, or the preference, that an act reports, if any
 abbrev pub sample_by : ℕ → List GroupLife → Act → List Side
 sample_by at groups (act.Mem path current swap scan) = side_at at (side.Mem (slot_named groups path) current swap scan)
 sample_by at groups (act.Prefer path preference) = side_at at (side.Prefer (slot_named groups path) preference)
 sample_by at groups (act.Host mem_total swap_total swap_free) = side_at at (side.Host mem_total swap_total swap_free)
 sample_by at groups _ = []
 
--- the sides that an event tells: what it samples, and how the task that it changes came and went
+-- the sides of an event: its sample, and how the task that it changes joins and leaves groups
 abbrev pub sides_by : World → Event → List Side
 sides_by w event =
     sample_by event.at w.groups event.act ++ passage event.at (group_of (before w.tasks event.act))
     (group_of (task_after w.groups w.tasks event.act))
 
--- the sides of events in their order
+-- the sides of events, in order
 abbrev pub sides_of : List Event → List Side
 sides_of events = told_from sides_by first_world events
 

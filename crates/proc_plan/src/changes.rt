@@ -1,4 +1,4 @@
-//! A list of changes, each of which takes 16 bytes.
+//! A list of changes of 16 bytes each.
 
 ghost use Rattle.std.specs.Prelude.{◌≡◌, ◌++◌, ◌<◌, ◌≤◌, [], ◌∷◌, OnOk};
 ghost use Rattle.psi_counts.specs.Touch.{HasSlotsBelow, IsOfOne};
@@ -10,8 +10,8 @@ use slot_clocks::PackedChange;
 use std::alloc::Global;
 use std::marker::Model;
 
-/// The changes of a processor in their order. Contracts see the list of them, and for how many more
-/// there is room.
+/// The changes of a processor, in order. Contracts see them as a list, and the number of further
+/// changes that there is room for.
 #[derive(Drop)]
 pub(crate) struct Changes {
     list: Vec<PackedChange>,
@@ -37,7 +37,7 @@ impl Changes {
         }
     }
 
-    /// Makes room for one change more.
+    /// Makes room for one more change.
     #[inline(always)]
     pub(crate) fn reserve(&mut self) -> Result<(), NoMemory>
         ensures same { self.new.list ≡ self.old.list }
@@ -48,8 +48,8 @@ impl Changes {
         Ok(())
     }
 
-    /// Adds a change behind the others. There must be room for it, and it must be of one task, or
-    /// tell of interrupts or of a switched account alone, in slots that there may be.
+    /// Appends a change. There must be room for it, its slots must be below the limit, and it must
+    /// be of one task, of interrupt time alone or of a switch of accounting alone.
     #[inline(always)]
     pub(crate) fn push(&mut self, change: Change)
         requires room { 0 < self.old.room }
@@ -60,7 +60,7 @@ impl Changes {
         self.list.push_reserved(PackedChange::new(change));
     }
 
-    /// All of them.
+    /// All changes, in order.
     pub(crate) fn all(&self) -> &[PackedChange]
         ensures { result.now ≡ self.now.list }
     {

@@ -1,4 +1,4 @@
-//! Clocks that run on a plan.
+//! Clocks that advance by a plan.
 
 ghost use Rattle.std.specs.Prelude.{◌≡◌, ◌+◌, ◌<◌, ℕ, length, IfOk};
 ghost use Rattle.plan_laws.specs.Plan.{IsClock, PlanView, planned_irq};
@@ -11,22 +11,21 @@ use slot_clocks::SlotClocks;
 use std::alloc::Global;
 use std::marker::Model;
 
-/// The clocks of all groups on one processor, which make the changes of its plan one after the
-/// other.
+/// The clocks of all groups on one processor, which make the changes of its plan in order.
 pub trait ProcClocks {
     /// The plan of the processor.
     ghost plan: { Self → PlanView };
 
-    /// How many of its changes were made.
+    /// The number of changes that were made.
     ghost made: { Self → ℕ };
 
-    /// What tells these clocks from others, so that what is shared with them is known again: no
-    /// call changes it.
+    /// Identifies these clocks, so that what is shared with them can be recognized: no call changes
+    /// it.
     ghost Home: { Type 0 };
 
     ghost home: { Self → Home };
 
-    /// How many changes were made.
+    /// The number of changes that were made.
     fn count(&self) -> u64
         ensures { result ≡ made self.now };
 
@@ -37,8 +36,8 @@ pub trait ProcClocks {
         ensures made { made self.new ≡ made self.old + 1 }
         ensures home { home self.new ≡ home self.old };
 
-    /// The clock of a slot that the plan knows, after the changes that were made. It may have
-    /// started earlier than the last of them, where they left the slot's states as they were.
+    /// The clock of a slot of the plan, after the changes that were made. It may have started
+    /// before the last change, if later changes didn't change the slot's states.
     fn own(&mut self, slot: Slot) -> Clock
         requires made { slot.0 < length (plan self.old).parents }
         ensures plan { plan self.new ≡ plan self.old }
@@ -47,10 +46,11 @@ pub trait ProcClocks {
         ensures clock { IsClock result (plan self.old) slot.0 (made self.old) };
 }
 
-/// Clocks that tell as well for how long interrupts took from each group while its account was on.
+/// Clocks that also count the time that interrupts took from each group while its accounting was
+/// on.
 pub trait IrqClocks: ProcClocks {
-    /// For how long (ns) interrupts took from the group in a slot that the plan knows, by the
-    /// changes that were made.
+    /// The time (ns) that interrupts took from the group in a slot of the plan, by the changes that
+    /// were made.
     fn own_irq(&mut self, slot: Slot) -> u64
         requires made { slot.0 < length (Self.plan self.old).parents }
         ensures plan { Self.plan self.new ≡ Self.plan self.old }
@@ -59,14 +59,14 @@ pub trait IrqClocks: ProcClocks {
         ensures irq { result ≡ planned_irq (Self.plan self.old) slot.0 (Self.made self.old) };
 }
 
-/// Clocks for one thread. Contracts see the plan and how many of its changes were made.
+/// Clocks for one thread. Contracts see the plan and the number of its changes that were made.
 #[derive(Drop)]
 pub struct PlainClocks<'a> {
     plan: &'a Plan,
-    /// Of all slots, as the plan knows them.
+    /// The parents of all slots of the plan.
     parents: &'a [Option<Slot>],
     clocks: SlotClocks,
-    /// For how long interrupts took from each group, in ns, by slot. Changes that tell of none
+    /// The time (ns) that interrupts took from each group, by slot. Changes without interrupt time
     /// don't touch it.
     irqs: Vec<u64>,
     count: u64,
@@ -88,8 +88,8 @@ impl<'a> Model for PlainClocks<'a> {
 }
 
 impl<'a> PlainClocks<'a> {
-    /// The clocks before the first change of a plan that knows the parents of so many slots. It
-    /// takes all memory that they need.
+    /// The clocks of a plan with `slots` slots, before its first change. Allocates everything at
+    /// the start.
     pub fn make(alloc: Global, plan: &'a Plan, slots: u32) -> Result<PlainClocks<'a>, NoMemory>
         requires { slots ≡ length plan.now.parents }
         ensures { IfOk result (λ clocks. clocks ≡ record { plan = plan.now; made = 0 }) }
@@ -109,7 +109,7 @@ impl<'a> ProcClocks for PlainClocks<'a> {
 
     ghost made = { λ clocks. clocks.made };
 
-    // Nothing is shared with them.
+    // These clocks share nothing.
     ghost Home = { Unit {0} };
 
     ghost home = { λ _. tt };

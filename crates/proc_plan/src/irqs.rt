@@ -1,4 +1,4 @@
-//! For how long interrupts took from the groups on one processor.
+//! The time that interrupts took from the groups on one processor.
 
 ghost use Rattle.std.specs.Prelude.{◌≡◌, ◌+◌, ◌<◌, ◌^◌, ℕ, length, if◌then◌else◌, IfSome};
 ghost use Rattle.psi_spec.specs.LegalGroups.{AreOlder};
@@ -9,15 +9,14 @@ use crate::plan::current_slot;
 use psi_base::Slot;
 use slot_clocks::{PackedChange, SlotClocks};
 
-// A time (ns) where an account is on, and none where it is off.
 fn time_if(on: bool, irq: u64) -> u64
     ensures { result ≡ (if on then irq else 0) }
 {
     if on { irq } else { 0 }
 }
 
-// Adds a time (ns) to the group of the running task and to each above it, where their accounts are
-// on by these clocks. Changes that tell of interrupts are rare, so it stands aside.
+// Adds a time (ns) to the running task's group and its ancestors if their accounting is on by these
+// clocks. Changes with interrupt time are rare, so this isn't inlined.
 #[inline(never)]
 fn climb(
     times: &mut [u64],
@@ -44,8 +43,8 @@ fn climb(
     }
 }
 
-/// Adds the time that interrupts took by a change, if they took any, to the group of the running
-/// task and to each above it, where their accounts are on by these clocks.
+/// Adds the interrupt time of a change, if any, to the running task's group and its ancestors if
+/// their accounting is on by these clocks.
 #[inline(always)]
 pub(crate) fn add_irq(
     times: &mut [u64],

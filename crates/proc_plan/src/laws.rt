@@ -2,12 +2,13 @@
 
 ghost use Rattle.proc_plan.specs.Plans.{EndedIsAccepted, PlansAreOfEvents};
 
-/// The plans that stand for events are the plans of these events, of which the laws of plans speak.
+/// The plans that represent events are the plans of these events, which the laws of plans are
+/// about.
 pub fn law_standing_plans()
     ensures { PlansAreOfEvents }
 {}
 
-/// Events that a planner has taken make up a trace, where they ended it.
+/// The events that a planner has taken make up a trace if they ended it.
 pub fn law_ended_traces()
     ensures { EndedIsAccepted }
 {}

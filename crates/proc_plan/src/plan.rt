@@ -15,16 +15,16 @@ use slot_clocks::PackedChange;
 use std::marker::Model;
 
 /// The changes of one processor in a trace, and the parents of all slots, by which a change reaches
-/// the groups above the slots that it names. Contracts see both as lists.
+/// the ancestors of the slots that it names. Contracts see both as lists.
 ///
-/// There are at most 4,000,000 changes. Their moments never fall and are at most 60,000,000 s. Each
-/// takes and adds the counts of one task at most, and names slots that there are; a parent has a
-/// smaller slot; after any number of changes each count of each slot is from 0 to 65,536, and
-/// interrupts took no more time than up to the last of them.
+/// There are at most 4,000,000 changes. Their times never fall and are at most 60,000,000 s. Each
+/// change subtracts and adds the counts of at most one task, and names existing slots. A parent has
+/// a smaller slot. After any number of changes each count of each slot is from 0 to 65,536, and the
+/// total interrupt time is at most the time of the last change.
 #[derive(Drop)]
 pub struct Plan {
     changes: Changes,
-    /// By slot; None for the root.
+    /// By slot; `None` for the root.
     parents: Vec<Option<Slot>>,
 }
 
@@ -39,14 +39,13 @@ impl Model for Plan {
     ghost invariant = { λ plan. IsPlan (plan_view plan.changes.list plan.parents.items) };
 }
 
-// The slot whose counts one part of a change has.
 fn part_slot(part: Option<(Slot, Counts)>) -> Option<Slot>
     ensures { result ≡ slot_in part }
 {
     part.map(|(slot, _)| slot)
 }
 
-/// The slot of the running task, or of a switched account.
+/// The slot of the running task, or the slot whose accounting is switched.
 pub(crate) fn current_slot(current: Option<(Slot, bool)>) -> Option<Slot>
     ensures { result ≡ slot_in current }
 {
@@ -54,7 +53,7 @@ pub(crate) fn current_slot(current: Option<(Slot, bool)>) -> Option<Slot>
 }
 
 impl Plan {
-    /// The plan of these changes and parents.
+    /// The plan with these changes and parents.
     pub(crate) fn new(changes: Changes, parents: Vec<Option<Slot>>) -> Plan
         requires { IsPlan (plan_view changes.list parents.items) }
         ensures { result ≡ plan_view changes.list parents.items }
@@ -62,7 +61,7 @@ impl Plan {
         Plan { changes, parents }
     }
 
-    /// How many changes there are.
+    /// The number of changes.
     pub fn len(&self) -> u64
         ensures len { result ≡ length self.now.changes }
         ensures whole { IsPlan self.now }
@@ -70,8 +69,8 @@ impl Plan {
         self.changes.all().len() as u64
     }
 
-    /// The change with a number from 1. It takes and adds the counts of one task at most, and none
-    /// where it switches an account.
+    /// The change with a number from 1. It subtracts and adds the counts of at most one task, and
+    /// of none if it switches accounting.
     pub fn change(&self, k: u64) -> Change
         requires from { 1 ≤ k }
         requires to { k ≤ length self.now.changes }
@@ -81,7 +80,7 @@ impl Plan {
         self.packed(k).change()
     }
 
-    /// The same as it is kept.
+    /// The packed form of the change with a number from 1.
     #[inline(always)]
     pub(crate) fn packed(&self, k: u64) -> &PackedChange
         requires from { 1 ≤ k }
@@ -92,7 +91,7 @@ impl Plan {
         &self.changes.all()[k as usize - 1]
     }
 
-    /// The moment (ns) of the change with a number from 1.
+    /// The time (ns) of the change with a number from 1.
     pub fn moment(&self, k: u64) -> Ns
         requires from { 1 ≤ k }
         requires to { k ≤ length self.now.changes }
@@ -101,10 +100,10 @@ impl Plan {
         self.packed(k).at()
     }
 
-    /// The slots on whose chains the change with a number from 1 stands: of the counts that it
-    /// takes or else of its switched account, of the counts that it adds, of the task that runs up
-    /// to it and of the one that runs from it on. It leaves alone each slot that is on none of
-    /// these chains.
+    /// The slots whose chains the change with a number from 1 affects: the slot of the counts that
+    /// it subtracts, or the slot whose accounting it switches; the slot of the counts that it adds;
+    /// and the slots of the tasks that are running before and after it. It doesn't affect slots on
+    /// none of these chains.
     pub fn concerned(&self, k: u64) -> [Option<Slot>; 4]
         requires from { 1 ≤ k }
         requires to { k ≤ length self.now.changes }
@@ -120,7 +119,7 @@ impl Plan {
         ]
     }
 
-    // The running task up to the change with a number from 1: its slot, and whether it is in a
+    // The running task before the change with a number from 1: its slot, and whether it is in a
     // memory stall.
     fn current_before(&self, k: u64) -> Option<(Slot, bool)>
         requires from { 1 ≤ k }
@@ -133,8 +132,7 @@ impl Plan {
         self.packed(k - 1).current()
     }
 
-    /// How many changes come up to a moment (ns), those at the moment among them. It halves what is
-    /// left at each step.
+    /// The number of changes up to and including a time (ns), by binary search.
     pub fn until(&self, at: Ns) -> u64
         ensures until { result ≡ changes_up_to self.now at }
         ensures within { result ≤ length self.now.changes }
@@ -148,7 +146,7 @@ impl Plan {
         ) as u64
     }
 
-    /// The parent of a slot that the plan knows. None for the root alone.
+    /// The parent of a slot of the plan. `None` for the root alone.
     pub fn parent(&self, slot: Slot) -> Option<Slot>
         requires made { slot.0 < length self.now.parents }
         ensures parent { number_of_slot result ≡ slice_index_or self.now.parents slot.0 None }
@@ -157,7 +155,7 @@ impl Plan {
         self.parents[slot.0 as usize]
     }
 
-    /// The parents of all slots, in the order of the slots.
+    /// The parents of all slots, by slot.
     pub(crate) fn parents(&self) -> &[Option<Slot>]
         ensures parents { parent_numbers result.now ≡ self.now.parents }
         ensures whole { IsPlan self.now }

@@ -1,4 +1,4 @@
-//! A trace that is taken apart event by event.
+//! The planner, which splits a trace by processor, event by event.
 
 ghost use Rattle.std.specs.Prelude.{◌≡◌, ◌≤◌, ℕ, [], false, length, IfOk, OnErr};
 ghost use Rattle.std.specs.List.{All};
@@ -26,7 +26,8 @@ use std::marker::Model;
 use task_table::Table;
 use trace_player::TaskAct;
 
-/// What takes a trace apart: the world so far, and all that plans keep. Contracts see both.
+/// Splits a trace by processor: the world so far, and the contents of the plans. Contracts see
+/// both.
 #[derive(Drop)]
 pub struct Planner {
     table: Table,
@@ -51,7 +52,6 @@ impl Model for Planner {
         (planner_view p.table (lists_of p.changes.items) p.triggers.items p.sides.items) };
 }
 
-// No change, for each of so many processors.
 fn no_changes(alloc: Global, cpus: u32) -> Result<Vec<Changes>, NoMemory>
     ensures each { IfOk result (λ changes. length changes.items ≡ cpus) }
     ensures none { IfOk result (λ changes. (cpu : ℕ) → changes_in changes.items cpu ≡ []) }
@@ -63,7 +63,6 @@ fn no_changes(alloc: Global, cpus: u32) -> Result<Vec<Changes>, NoMemory>
     Ok(changes)
 }
 
-// The parents of all groups, in the order of their slots.
 fn parents_of(alloc: Global, groups: &Tree) -> Result<Vec<Option<Slot>>, NoMemory>
     ensures { IfOk result (λ parents. parent_numbers parents.items ≡ parents_of groups.now) }
 {
@@ -74,7 +73,7 @@ fn parents_of(alloc: Global, groups: &Tree) -> Result<Vec<Option<Slot>>, NoMemor
     Ok(parents)
 }
 
-// The plans of these changes, each with the parents of all groups.
+// The plans with these changes, each with the parents of all groups.
 fn make_plans(alloc: Global, changes: Vec<Changes>, groups: &Tree) -> Result<Vec<Plan>, NoMemory>
     requires { All (λ changes. IsPlan (plan_over groups.now changes.list)) changes.items }
     ensures { IfOk result (λ plans. plans.items ≡ plans_over groups.now changes.items) }
@@ -88,8 +87,8 @@ fn make_plans(alloc: Global, changes: Vec<Changes>, groups: &Tree) -> Result<Vec
 }
 
 impl Planner {
-    /// The planner of a trace with 1 to 64 processors, before its first event. No event is later
-    /// than `latest` (ns).
+    /// The planner of a trace with 1 to 64 processors, before its first event. No event may be
+    /// later than `latest` (ns).
     pub fn new(alloc: Global, cpus: u32, latest: Ns) -> Result<Planner, NoMemory>
         requires counted { IsCpuCount cpus }
         requires short { latest ≤ last_moment }
@@ -103,7 +102,7 @@ impl Planner {
         })
     }
 
-    /// How many events were taken, 4,000,000 at most.
+    /// The number of events taken, at most 4,000,000.
     pub fn lines(&self) -> u32
         ensures lines { result ≡ self.now.table.world.lines }
         ensures few { result ≤ most_events }
@@ -111,7 +110,7 @@ impl Planner {
         self.table.lines()
     }
 
-    /// The trace has ended.
+    /// Whether the trace has ended.
     pub fn is_ended(&self) -> bool
         ensures { result ≡ self.now.table.world.ended }
     {
@@ -119,7 +118,7 @@ impl Planner {
     }
 
     /// The fast path of [`Planner::take`]: its twin for a task act at a time (ns) by which no task
-    /// exits. Such an act adds changes alone, neither triggers nor sides.
+    /// exits. Such an act adds only changes, no triggers or sides.
     #[inline(always)]
     pub fn take_task(&mut self, at: Ns, act: TaskAct) -> Result<(), Fault<Cause>>
         requires fits { Fits (as_event at act) }
@@ -134,9 +133,9 @@ impl Planner {
         Ok(())
     }
 
-    /// Takes one event more: it is judged, then room is made for what it adds, and then it is done.
-    /// `Refused` with the first cause against it, where it isn't legal, and `NoMemory` only where
-    /// it is. Nothing changes then.
+    /// Takes the next event: judges it, makes room for what it adds, and then adds that. Fails with
+    /// `Refused` and the first cause if the event isn't legal, and with `NoMemory` only if it is.
+    /// Nothing changes if it fails.
     #[inline(always)]
     pub fn take(&mut self, event: &Event) -> Result<(), Fault<Cause>>
         requires { Fits event.now }
@@ -175,7 +174,7 @@ impl Planner {
         Ok(())
     }
 
-    /// The plans of the events that were taken.
+    /// The plans of the events taken.
     pub fn finish(self, alloc: Global) -> Result<Plans, NoMemory>
         requires { HasTrace self }
         ensures { IfOk result (StandForTaken self) }

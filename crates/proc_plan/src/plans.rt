@@ -17,8 +17,8 @@ use psi_spec::GroupLife;
 use std::alloc::Global;
 use std::marker::Model;
 
-/// A trace taken apart: the plan of each processor, and what it tells beside their changes.
-/// Contracts see all of it.
+/// A trace split by processor: the plan of each processor, and the trace's contents besides their
+/// changes. Contracts see all of it.
 #[derive(Drop)]
 pub struct Plans {
     /// By processor.
@@ -26,7 +26,7 @@ pub struct Plans {
     groups: Tree,
     triggers: Vec<TriggerSpec>,
     sides: Vec<Side>,
-    /// The moment of the end (ns).
+    /// The time of the end (ns).
     finish: Ns,
 }
 
@@ -41,7 +41,6 @@ impl Model for Plans {
         ArePlans (plans_view p.plans.items p.groups p.triggers.items p.sides.items p.finish) };
 }
 
-// A fault of the event in this line.
 fn at_line(line: u32, fault: Fault<Cause>) -> Fault<Refusal>
     ensures { IsFaultAt line fault result }
 {
@@ -51,7 +50,7 @@ fn at_line(line: u32, fault: Fault<Cause>) -> Fault<Refusal>
     }
 }
 
-// Takes all events of a trace apart. The last must be the end.
+// Takes all events of a trace. The last one must be the end.
 fn take_all(planner: &mut Planner, events: &[Event]) -> Result<(), Fault<Refusal>>
     requires fit { AllFit events.now }
     ensures taken { OnOk result (HasTakenAll planner.old planner.new events.now) }
@@ -69,7 +68,7 @@ fn take_all(planner: &mut Planner, events: &[Event]) -> Result<(), Fault<Refusal
 }
 
 impl Plans {
-    /// The plans of these parts.
+    /// The plans with these parts.
     pub(crate) fn new(
         plans: Vec<Plan>,
         groups: Tree,
@@ -89,11 +88,11 @@ impl Plans {
         }
     }
 
-    /// Takes a trace apart, with 1 to 64 processors, no event of which is later than `latest` (ns).
+    /// Splits a trace with 1 to 64 processors, in which no event is later than `latest` (ns).
     ///
-    /// Refused exactly at the first event that isn't legal, with its first cause; the event at the
-    /// place `i` from 0 is at line `i + 2`. Where all are legal and the last isn't the end, it is
-    /// `NoEnd` at the line behind them.
+    /// Fails with `Refused` at the first event that isn't legal, with its first cause; the event
+    /// with index `i` from 0 is at line `i + 2`. If all are legal and the last isn't the end, the
+    /// cause is `NoEnd` at the line after them.
     pub fn build(
         alloc: Global,
         cpus: u32,
@@ -114,7 +113,7 @@ impl Plans {
         }
     }
 
-    /// How many processors there are, 1 to 64.
+    /// The number of processors, 1 to 64.
     pub fn cpus(&self) -> u32
         ensures cpus { result ≡ length self.now.plans }
         ensures counted { IsCpuCount result }
@@ -122,7 +121,7 @@ impl Plans {
         self.plans.len() as u32
     }
 
-    /// The end moment (ns).
+    /// The time of the end (ns).
     pub fn finish(&self) -> Ns
         ensures { result ≡ self.now.finish }
     {
@@ -139,7 +138,7 @@ impl Plans {
         &self.plans[cpu.0 as usize]
     }
 
-    /// All groups ever made.
+    /// All groups ever created.
     pub fn groups(&self) -> &Tree
         ensures lives { result.now ≡ self.now.lives }
         ensures groups { AreGroups result.now }
@@ -147,7 +146,7 @@ impl Plans {
         &self.groups
     }
 
-    /// The lives of all groups ever made, in the order of their slots.
+    /// All groups ever created, by slot.
     pub fn lives(&self) -> &[GroupLife]
         ensures lives { result.now ≡ self.now.lives }
         ensures groups { AreGroups result.now }

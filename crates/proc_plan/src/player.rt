@@ -1,5 +1,4 @@
-//! A planner as what a trace is played on: to sum stalls, and to replay, a trace is taken apart by
-//! processor.
+//! A planner as a player of traces: to sum stalls and to replay, a trace is split by processor.
 
 use crate::planner::Planner;
 use psi_base::{Cause, Event, Fault, NoMemory, Ns};

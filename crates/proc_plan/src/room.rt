@@ -1,4 +1,4 @@
-//! What an event adds to a planner: room for it first, and then itself.
+//! The additions of an event to a planner: room for them first, and then the additions.
 
 ghost use Rattle.std.specs.Prelude.{◌≡◌, ◌++◌, ◌+◌, ◌<◌, ◌≤◌, ℕ, [], ◌∷◌, length, IfSome, IsSome, None, OnOk, vec_capacity, vec_len};
 ghost use Rattle.psi_counts.specs.Legal.{with_change};
@@ -20,7 +20,7 @@ use psi_spec::Task;
 use task_table::Table;
 use trace_player::TaskAct;
 
-// The number of the processor that an act names, if it names one.
+// The number of the processor that an act names, or `None`.
 #[inline(always)]
 fn named_cpu(act: &Act) -> Option<u32>
     ensures { result ≡ (names act.now).cpu }
@@ -46,7 +46,8 @@ fn reserve_place(changes: &mut [Changes], place: usize) -> Result<(), NoMemory>
     changes[place].reserve()
 }
 
-// Makes room for a change of the processor with a number, if there are both.
+// Makes room for a change of the processor with a number, if there is a number and that processor
+// exists.
 #[inline(always)]
 fn reserve_at(changes: &mut [Changes], cpu: Option<u32>) -> Result<(), NoMemory>
     ensures same { lists_of changes.new ≡ lists_of changes.old }
@@ -64,7 +65,6 @@ fn reserve_at(changes: &mut [Changes], cpu: Option<u32>) -> Result<(), NoMemory>
     reserve_place(changes, place)
 }
 
-// Makes room for a change of every processor.
 fn reserve_all(changes: &mut [Changes]) -> Result<(), NoMemory>
     ensures same { lists_of changes.new ≡ lists_of changes.old }
     ensures each { length changes.new ≡ length changes.old }
@@ -76,7 +76,6 @@ fn reserve_all(changes: &mut [Changes]) -> Result<(), NoMemory>
     Ok(())
 }
 
-// The act switches the account of a group.
 #[inline(always)]
 fn is_pressure(act: &Act) -> bool
     ensures { result ≡ is_pressure act.now }
@@ -84,7 +83,6 @@ fn is_pressure(act: &Act) -> bool
     matches!(act, Act::Pressure { .. })
 }
 
-// The number of a task's processor, if there is a task.
 #[inline(always)]
 fn task_cpu(task: Option<Task>) -> Option<u32>
     ensures { result ≡ cpu_number task }
@@ -95,8 +93,8 @@ fn task_cpu(task: Option<Task>) -> Option<u32>
     }
 }
 
-// Makes room for a change of the processor that an act names, and of that of the task that it
-// changes.
+// Makes room for a change of the processor that an act names, and of the processor of the task that
+// it changes.
 #[inline(always)]
 fn reserve_two(
     changes: &mut [Changes],
@@ -112,7 +110,7 @@ fn reserve_two(
     reserve_at(changes, task_cpu(task))
 }
 
-/// Makes room for what a task act changes, which changes this task.
+/// Makes room for the changes of a task act that changes this task.
 #[inline(always)]
 pub(crate) fn reserve_task(
     changes: &mut [Changes],
@@ -126,8 +124,8 @@ pub(crate) fn reserve_task(
     reserve_two(changes, act.cpu(), task)
 }
 
-// Makes room for what an act changes on each processor that it touches: the one that it names, and
-// the one of the task that it changes; or all of them, where it switches the account of a group.
+// Makes room for the changes of an act on each processor that it touches: the one that it names and
+// that of the task that it changes, or all processors if it switches a group's accounting.
 #[inline(always)]
 fn reserve_changes(changes: &mut [Changes], act: &Act, task: Option<Task>) -> Result<(), NoMemory>
     ensures same { lists_of changes.new ≡ lists_of changes.old }
@@ -140,8 +138,8 @@ fn reserve_changes(changes: &mut [Changes], act: &Act, task: Option<Task>) -> Re
     reserve_two(changes, named_cpu(act), task)
 }
 
-/// Makes room for all that an event may add: what its act changes, which changes this task, and
-/// what it tells beside.
+/// Makes room for all additions of an event: the changes of its act, which changes this task, and
+/// its other contents.
 #[inline(always)]
 pub(crate) fn make_room(
     changes: &mut [Changes],
@@ -168,7 +166,7 @@ pub(crate) fn make_room(
     Ok(())
 }
 
-// The change of a processor at a moment (ns) by a switched account, where this task runs.
+// The change of a processor with this running task at a time (ns) when accounting is switched.
 fn account_change(at: Ns, current: Option<(Slot, bool)>, account: (Slot, bool)) -> Change
     ensures change { result ≡ account_change at current account }
     ensures one { IsOfOne result }
@@ -183,8 +181,8 @@ fn account_change(at: Ns, current: Option<(Slot, bool)>, account: (Slot, bool)) 
     }
 }
 
-// Adds what a switched account at a moment (ns) changes on each processor: the same task runs there
-// as before.
+// Appends a switch of accounting at a time (ns) to every processor's changes. The running tasks
+// don't change.
 fn add_account(changes: &mut [Changes], at: Ns, account: (Slot, bool), table: &Table)
     requires each { length changes.old ≡ table.now.limits.cpus }
     requires room { (cpu : ℕ) → HasRoomWithin changes.old cpu }
@@ -202,7 +200,7 @@ fn add_account(changes: &mut [Changes], at: Ns, account: (Slot, bool), table: &T
     }
 }
 
-// Adds what an event changes on a processor, if it changes anything.
+// Appends the change of an event on a processor, if any.
 #[inline(always)]
 fn add_change(changes: &mut [Changes], touched: Option<(Cpu, Change)>)
     requires room { IfSome touched (λ touched. HasRoom changes.old touched.0.0) }
@@ -220,8 +218,8 @@ fn add_change(changes: &mut [Changes], touched: Option<(Cpu, Change)>)
     changes[cpu.0 as usize].push(change);
 }
 
-/// Adds what an event changes on the processors that it names. There must be room for it, and each
-/// change must be of one task.
+/// Appends the changes of an event on the processors that it names. There must be room for them,
+/// and each change must be of one task.
 #[inline(always)]
 pub(crate) fn add_touched(changes: &mut [Changes], touch: &Touch)
     requires room { (cpu : ℕ) → IsSome (told_of touch.now cpu) → HasRoom changes.old cpu }
@@ -235,8 +233,8 @@ pub(crate) fn add_touched(changes: &mut [Changes], touch: &Touch)
     add_change(changes, touch.second);
 }
 
-/// Adds what an event at a moment (ns) changes on the processors that it touches. There must be
-/// room for it, and each change must be of one task. The table is as it is after the event.
+/// Appends the changes of an event at a time (ns) on the processors that it touches. There must be
+/// room for them, and each change must be of one task. The table is that after the event.
 #[inline(always)]
 pub(crate) fn add_changes(changes: &mut [Changes], at: Ns, touch: &Touch, table: &Table)
     requires each { length changes.old ≡ table.now.limits.cpus }
@@ -260,7 +258,7 @@ pub(crate) fn add_changes(changes: &mut [Changes], at: Ns, touch: &Touch, table:
     }
 }
 
-/// Adds a trigger, if there is one. There must be room for it.
+/// Appends a trigger, if any. There must be room for it.
 #[inline(always)]
 pub(crate) fn add_trigger(triggers: &mut Vec<TriggerSpec>, trigger: Option<TriggerSpec>)
     requires { vec_len triggers.old + length (listed trigger) ≤ vec_capacity triggers.old }
@@ -271,7 +269,7 @@ pub(crate) fn add_trigger(triggers: &mut Vec<TriggerSpec>, trigger: Option<Trigg
     }
 }
 
-/// Adds a side, if there is one. There must be room for it.
+/// Appends a side, if any. There must be room for it.
 #[inline(always)]
 pub(crate) fn add_side(sides: &mut Vec<Side>, side: Option<Side>)
     requires room { vec_len sides.old + length (listed side) ≤ vec_capacity sides.old }

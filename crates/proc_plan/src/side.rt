@@ -1,20 +1,20 @@
-//! What a trace tells beside the changes of its processors.
+//! The contents of a trace besides the changes of its processors.
 
 use psi_base::{Ns, Preference, Slot};
 
-/// Something that happened at a moment.
+/// A side of a trace: something that happened at a time.
 #[derive(Clone, Copy, Debug, PartialEq, Eq)]
 pub struct Side {
-    /// When, in ns.
+    /// The time, in ns.
     pub at: Ns,
-    /// What happened then.
+    /// What happened at that time.
     pub what: SideAct,
 }
 
-/// What a side tells of.
+/// The contents of a side.
 #[derive(Clone, Copy, Debug, PartialEq, Eq)]
 pub enum SideAct {
-    /// A group's memory and swap in use, in bytes, and how many pages were scanned for it so far.
+    /// A group's memory and swap in use, in bytes, and the number of pages scanned for it so far.
     Mem {
         slot: Slot,
         current: u64,
@@ -32,8 +32,8 @@ pub enum SideAct {
         swap_total: u64,
         swap_free: u64,
     },
-    /// A task came into this very group (1), or left it (-1). A task that moves into the group in
-    /// which it is does neither.
+    /// A task joined this group itself (1), or left it (-1). A task that moves into its own group
+    /// does neither.
     Tasks {
         slot: Slot,
         added: i8,

@@ -2,9 +2,9 @@
 
 ghost use Rattle.proc_plan.specs.SideLaws.{MembersAreTold, SidesAreInOrder, SidesAreOnGroups, SidesUpTo};
 
-/// Sides stand in the order of their moments, on slots that there are, so that those up to a moment
-/// are a front of all. They tell how many tasks are in the very group of each slot: as many as came
-/// less those that left, 65,536 at most.
+/// Sides are in order of time and name existing slots, so the sides up to a time are a prefix. They
+/// give the number of tasks in each group itself: those that joined less those that left, at most
+/// 65,536.
 pub fn law_sides()
     ensures up_to { SidesUpTo }
     ensures order { SidesAreInOrder }

@@ -1,4 +1,4 @@
-//! The triggers and the sides that one event tells.
+//! The trigger and the sides of one event.
 
 ghost use Rattle.std.specs.Prelude.{◌≡◌, ◌++◌, IfSome, List};
 ghost use Rattle.psi_spec.specs.Grammar.{ActFits};
@@ -14,17 +14,17 @@ use crate::side::{Side, SideAct};
 use psi_base::{Act, Event, How, Ns, Slot, TriggerSpec};
 use psi_spec::Task;
 
-/// What an event tells beside its changes.
+/// The contents of an event besides its changes.
 #[derive(Clone, Copy)]
 pub(crate) struct Told {
     /// The trigger that it sets.
     pub(crate) trigger: Option<TriggerSpec>,
-    /// Its sides in their order.
+    /// Its sides, in order.
     pub(crate) first: Option<Side>,
     pub(crate) second: Option<Side>,
 }
 
-// The trigger that an act at a time (ns) sets. `slot` is that of the group that the act names.
+// The trigger that an act at a time (ns) sets. `slot` is the slot of the group that the act names.
 #[inline(always)]
 fn trigger_by(at: Ns, act: &Act, slot: Slot) -> Option<TriggerSpec>
     ensures { (groups : List GroupLife) → slot ≡ named_slot groups act.now →
@@ -49,8 +49,8 @@ fn trigger_by(at: Ns, act: &Act, slot: Slot) -> Option<TriggerSpec>
     }
 }
 
-// The sample of a group's memory or of the host's, or the preference, that an act reports. `slot`
-// is that of the group that the act names.
+// The memory sample of a group or the host, or the preference, that an act reports. `slot` is the
+// slot of the group that the act names.
 #[inline(always)]
 fn sample_by(at: Ns, act: &Act, slot: Slot) -> Option<Side>
     requires { ActFits act.now }
@@ -88,15 +88,14 @@ fn sample_by(at: Ns, act: &Act, slot: Slot) -> Option<Side>
     Some(Side { at, what })
 }
 
-// The group of a task, if there is one.
 fn group_of(task: Option<Task>) -> Option<Slot>
     ensures { result ≡ group_of task }
 {
     task.map(|task| task.slot)
 }
 
-// How a task that is in one group and then in another, at a moment (ns), leaves the one and comes
-// into the other.
+// The sides of a task that is in group `old` and then in group `new`: it leaves the one and joins
+// the other, unless they are the same.
 fn passage(at: Ns, old: Option<Slot>, new: Option<Slot>) -> (Option<Side>, Option<Side>)
     ensures sides { listed result.0 ++ listed result.1 ≡ passage at old new }
     ensures first { IfSome result.0 (λ side. IsSmall side.what) }
@@ -115,8 +114,8 @@ fn passage(at: Ns, old: Option<Slot>, new: Option<Slot>) -> (Option<Side>, Optio
     }
 }
 
-// The sides of an event in their order, at most two. The task is the one that its act changes, as
-// it is before, and `slot` is that of the group that it names.
+// The sides of an event in order, at most two. `task` is the one that its act changes, before the
+// act, and `slot` is the slot of the group that it names.
 #[inline(always)]
 fn sides_by(event: &Event, task: Option<Task>, slot: Slot) -> (Option<Side>, Option<Side>)
     requires { ActFits event.now.act }
@@ -134,13 +133,13 @@ fn sides_by(event: &Event, task: Option<Task>, slot: Slot) -> (Option<Side>, Opt
             Some(old) => passage(event.at, Some(old), Some(slot)),
             None => (None, None),
         },
-        // At other acts a task stays in its group.
+        // With other acts a task stays in its group.
         act => (sample_by(event.at, act, slot), None),
     }
 }
 
-/// The trigger and the sides of an event. The task is the one that its act changes, as it is
-/// before, and `slot` is that of the group that it names.
+/// The trigger and the sides of an event. `task` is the one that its act changes, before the act,
+/// and `slot` is the slot of the group that it names.
 #[inline(always)]
 pub(crate) fn told_by(event: &Event, task: Option<Task>, slot: Slot) -> Told
     requires { ActFits event.now.act }
