@@ -1,4 +1,4 @@
--- What a call took from words, against what the definition takes from them.
+-- The result of a call that reads words, compared with that of the definition.
 use Rattle.std.specs.Prelude.{◌≡◌, ℕ, List, [], ◌∷◌, Bool, true, false, Option, None, Some, Result, Ok, Err, ⊤}
 use Rattle.psi_base.specs.declared.event.Act.{Act}
 use Rattle.psi_base.specs.declared.event.Cause.{Cause}
@@ -8,7 +8,7 @@ use Rattle.psi_base.specs.declared.event.Fault.TheVariants.{Refused, NoMemory}
 use Rattle.psi_spec.specs.Fields.{Kind, path}
 use Rattle.psi_spec.specs.Grammar.{Verb, kinds_of, verb_of}
 
--- the call took from the words what the definition takes, and these are left
+-- the call's result is the definition's, and the same words remain
 abbrev pub TakesWords : {A W : Type 0} → Result A Cause → W → Result (A × W) Cause → Type 0
 TakesWords (Ok x) rest read = read ≡ Ok (x, rest)
 TakesWords (Err cause) rest read = read ≡ Err cause
@@ -19,7 +19,7 @@ TakesAny (Ok x) rest read = read ≡ Ok (x, rest)
 TakesAny (Err (Refused cause)) rest read = read ≡ Err cause
 TakesAny (Err (NoMemory _)) rest read = ⊤
 
--- the event at a time (ns) of an act that was read
+-- the event at a time (ns) with a parsed act
 abbrev pub dated : ℕ → Result Act Cause → Result Event Cause
 dated at (Ok what) = Ok (record { at = at; act = what })
 dated at (Err why) = Err why
@@ -30,12 +30,12 @@ has_path [] = false
 has_path (path ∷ ks) = true
 has_path (k ∷ ks) = has_path ks
 
--- a verb that was found has a path among its fields
+-- the verb, if any, has a path among its fields
 abbrev pub takes_path : Option Verb → Bool
 takes_path None = false
 takes_path (Some verb) = has_path (kinds_of verb)
 
--- the parts from the verb on, which is one of these verbs and has a path among its fields
+-- the first part is one of these verbs, and has a path among its fields
 abbrev pub names_path : List Verb → List (List ℕ) → Bool
 names_path verbs [] = false
 names_path verbs (text ∷ words) = takes_path (verb_of verbs text)

@@ -1,4 +1,4 @@
-//! The fields of an event line: each the next part of the line, read as a value of its kind.
+//! The fields of an event line: each is the next part of the line, parsed as a value of its kind.
 ghost use Rattle.std.specs.Prelude.{◌≡◌, ◌^◌, ◌≢◌, [], ◌∷◌, nat_lt, true, false, MatchResult};
 ghost use Rattle.psi_base.specs.declared.event.Cause.TheVariants as cause;
 ghost use Rattle.psi_spec.specs.Fields as kind;
@@ -9,13 +9,13 @@ ghost use Rattle.psi_trace.specs.Taking.{TakesAny, TakesWords};
 use psi_base::{Cause, Cpu, Fault, How, Level, Parts, Path, Pid, Preference, Res, read_number};
 use std::alloc::Global;
 
-/// The parts of a line that are still to be read.
+/// The unread parts of a line.
 pub type Words<'a> = Parts<'a, b' '>;
 
-/// The largest size (bytes) or quantity of a `mem` or `host` line, as this profile has it.
+/// The largest size (bytes) or quantity of a `mem` or `host` line.
 const LARGEST_AMOUNT: u64 = 1 << 60;
 
-// The next part, which is due as the field with this number.
+// The next part, or an error for the field with this number.
 fn next_word<'a>(words: &mut Words<'a>, index: u8) -> Result<&'a [u8], Cause>
     ensures { MatchResult result (λ text. words.old ≡ text.now ∷ words.new)
         (λ e. (e ≡ cause.BadField index) × (words.old ≡ [])) }
@@ -23,7 +23,7 @@ fn next_word<'a>(words: &mut Words<'a>, index: u8) -> Result<&'a [u8], Cause>
     words.next_part().ok_or(Cause::BadField(index))
 }
 
-// A number below 2^32.
+// A number below 2^32, or `None`.
 fn small_number(word: &[u8]) -> Option<u32>
     ensures { result ≡ number_in (λ n. nat_lt n (2 ^ 32)) word.now }
 {
@@ -87,35 +87,35 @@ fn account_in(word: &[u8]) -> Option<bool>
     }
 }
 
-/// The field with this number, read as a task.
+/// Parses the field with this number as a task.
 pub fn pid_field(words: &mut Words, index: u8) -> Result<Pid, Cause>
     ensures { TakesWords result words.new (field index kind.pid words.old) }
 {
     pid_in(next_word(words, index)?).ok_or(Cause::BadField(index))
 }
 
-/// The field with this number, read as a task or none.
+/// Parses the field with this number as the next task, or `None` for 0.
 pub fn next_field(words: &mut Words, index: u8) -> Result<Option<Pid>, Cause>
     ensures { TakesWords result words.new (field index kind.next words.old) }
 {
     next_in(next_word(words, index)?).ok_or(Cause::BadField(index))
 }
 
-/// The field with this number, read as a processor.
+/// Parses the field with this number as a processor.
 pub fn cpu_field(words: &mut Words, index: u8) -> Result<Cpu, Cause>
     ensures { TakesWords result words.new (field index kind.cpu words.old) }
 {
     cpu_in(next_word(words, index)?).ok_or(Cause::BadField(index))
 }
 
-/// The field with this number, read as a size or quantity of at most 2^60.
+/// Parses the field with this number as a size or quantity of at most 2^60.
 pub fn amount_field(words: &mut Words, index: u8) -> Result<u64, Cause>
     ensures { TakesWords result words.new (field index kind.amount words.old) }
 {
     amount_in(next_word(words, index)?).ok_or(Cause::BadField(index))
 }
 
-/// The field with this number, read as any number of 64 bits.
+/// Parses the field with this number as any 64-bit number.
 #[tactic(auto, unfolding(psi_spec::specs::Fields::value_of))]
 pub fn number_field(words: &mut Words, index: u8) -> Result<u64, Cause>
     ensures { TakesWords result words.new (field index kind.number words.old) }
@@ -123,7 +123,7 @@ pub fn number_field(words: &mut Words, index: u8) -> Result<u64, Cause>
     read_number(next_word(words, index)?).ok_or(Cause::BadField(index))
 }
 
-/// The field with this number, read as a way to leave a processor.
+/// Parses the field with this number as a way to leave a processor.
 #[tactic(auto, unfolding(psi_spec::specs::Fields::value_of))]
 pub fn how_field(words: &mut Words, index: u8) -> Result<How, Cause>
     ensures { TakesWords result words.new (field index kind.how words.old) }
@@ -131,7 +131,7 @@ pub fn how_field(words: &mut Words, index: u8) -> Result<How, Cause>
     How::of(next_word(words, index)?).ok_or(Cause::BadField(index))
 }
 
-/// The field with this number, read as a group's preference.
+/// Parses the field with this number as a group's preference.
 #[tactic(auto, unfolding(psi_spec::specs::Fields::value_of))]
 pub fn preference_field(words: &mut Words, index: u8) -> Result<Preference, Cause>
     ensures { TakesWords result words.new (field index kind.preference words.old) }
@@ -139,7 +139,7 @@ pub fn preference_field(words: &mut Words, index: u8) -> Result<Preference, Caus
     Preference::of(next_word(words, index)?).ok_or(Cause::BadField(index))
 }
 
-/// The field with this number, read as a resource.
+/// Parses the field with this number as a resource.
 #[tactic(auto, unfolding(psi_spec::specs::Fields::value_of))]
 pub fn resource_field(words: &mut Words, index: u8) -> Result<Res, Cause>
     ensures { TakesWords result words.new (field index kind.resource words.old) }
@@ -147,7 +147,7 @@ pub fn resource_field(words: &mut Words, index: u8) -> Result<Res, Cause>
     Res::of(next_word(words, index)?).ok_or(Cause::BadField(index))
 }
 
-/// The field with this number, read as `some` or `full`.
+/// Parses the field with this number as `some` or `full`.
 #[tactic(auto, unfolding(psi_spec::specs::Fields::value_of))]
 pub fn level_field(words: &mut Words, index: u8) -> Result<Level, Cause>
     ensures { TakesWords result words.new (field index kind.level words.old) }
@@ -155,14 +155,14 @@ pub fn level_field(words: &mut Words, index: u8) -> Result<Level, Cause>
     Level::of(next_word(words, index)?).ok_or(Cause::BadField(index))
 }
 
-/// The field with this number, read as `on` or `off`.
+/// Parses the field with this number as `on` or `off`.
 pub fn account_field(words: &mut Words, index: u8) -> Result<bool, Cause>
     ensures { TakesWords result words.new (field index kind.account words.old) }
 {
     account_in(next_word(words, index)?).ok_or(Cause::BadField(index))
 }
 
-/// The field with this number, read as a path of a group. Allocates the path's bytes.
+/// Parses the field with this number as a group's path. Allocates the path's bytes.
 #[tactic(auto, unfolding(psi_spec::specs::Fields::value_of))]
 pub fn path_field(alloc: Global, words: &mut Words, index: u8) -> Result<Path, Fault<Cause>>
     ensures { TakesAny result words.new (field index kind.path words.old) }
@@ -174,7 +174,7 @@ pub fn path_field(alloc: Global, words: &mut Words, index: u8) -> Result<Path, F
     }
 }
 
-/// Nothing is left, where a further part would be the field with this number.
+/// Checks that no part remains; a further part would be the field with this number.
 pub fn end_of(words: &mut Words, index: u8) -> Result<(), Cause>
     ensures { MatchResult result (λ _. words.old ≡ [])
         (λ e. (e ≡ cause.BadField index) × (words.old ≢ [])) }

@@ -1,9 +1,9 @@
-//! The lines that a trace has most of, read where they stand, and played: those of tasks that wake,
-//! are switched, stall or migrate.
+//! The most frequent lines of a trace, parsed in place and played: tasks that wake, are switched,
+//! stall or migrate.
 //!
-//! Each is read in one pass from the left, and its newline ends it. Where the bytes don't begin
-//! with such a line the answer is none, and nothing is said of them: `read_event` reads any line,
-//! and says what is wrong with it.
+//! Each line is parsed in one pass from the left, up to its newline. The answer is `None` if the
+//! bytes don't begin with such a line, and says nothing else about them: `read_event` parses any
+//! line, and reports what is wrong with it.
 ghost use Rattle.std.specs.Prelude.{◌≡◌, ◌+◌, ◌<◌, ◌≤◌, ◌^◌, ◌∷◌, ◌++◌, ◌↔◌, IfNone, IfSome, IsTrue, codes, decimal, false, length};
 ghost use Rattle.psi_spec.specs.Fields.{how_word, next_word, IsPid};
 ghost use Rattle.psi_spec.specs.Refusal.{is_exit};
@@ -12,19 +12,19 @@ ghost use Rattle.psi_trace.specs.Front.{AreDigits, AreFour, BeginsWithTaskAct, I
 use psi_base::{Cause, Cpu, Fault, How, Ns, Pid};
 use trace_player::{Player, TaskAct};
 
-/// So many digits fit 64 bits, whichever they are.
+/// Any number of this many digits fits in 64 bits.
 const MOST_DIGITS: usize = 19;
 
-/// A line at the front of bytes, whose event a player was given.
+/// A line as a prefix of bytes, whose event was passed to a player.
 #[derive(Clone, Copy)]
 pub struct PlayedLine {
-    /// How many bytes it has before its newline.
+    /// The number of bytes before its newline.
     pub count: usize,
-    /// What the player answered.
+    /// The player's answer.
     pub answer: Result<(), Fault<Cause>>,
 }
 
-// The number that four digits write from a place on, if four stand there.
+// The number that four digits write from a place on, or `None` if a byte isn't a digit.
 #[inline(always)]
 fn four_at(bytes: &[u8], place: usize) -> Option<u64>
     requires { place + 4 ≤ length bytes.now }
@@ -34,7 +34,7 @@ fn four_at(bytes: &[u8], place: usize) -> Option<u64>
     let second = bytes[place + 1];
     let third = bytes[place + 2];
     let fourth = bytes[place + 3];
-    // Judged together: one branch, where `&&` would make four.
+    // Tested together: one branch, while `&&` would make four.
     if !(is_digit(first) & is_digit(second) & is_digit(third) & is_digit(fourth)) {
         return None;
     }
@@ -43,7 +43,6 @@ fn four_at(bytes: &[u8], place: usize) -> Option<u64>
     Some(upper * 100 + lower)
 }
 
-// The byte is a digit.
 #[inline(always)]
 fn is_digit(byte: u8) -> bool
     ensures { IsTrue result ↔ (48 ≤ byte) × (byte ≤ 57) }
@@ -51,7 +50,7 @@ fn is_digit(byte: u8) -> bool
     (b'0' <= byte) & (byte <= b'9')
 }
 
-// What a digit stands for.
+// The value of a digit.
 #[inline(always)]
 fn value_of(byte: u8) -> u64
     requires low { 48 ≤ byte }
@@ -61,7 +60,7 @@ fn value_of(byte: u8) -> u64
     u64::from(byte - b'0')
 }
 
-// What a byte stands for, if it is a digit.
+// The value of a byte, if it is a digit.
 #[inline(always)]
 fn digit(byte: u8) -> Option<u64>
     ensures { IfSome result (IsDigit byte) }
@@ -72,8 +71,7 @@ fn digit(byte: u8) -> Option<u64>
     Some(value_of(byte))
 }
 
-// The number that digits at the front of the bytes write, and how many these are: fours of digits
-// as long as four stand there, 16 at most.
+// The value and the count of leading digits, read in groups of four while four follow, at most 16.
 #[inline(always)]
 fn fours_before(bytes: &[u8]) -> (u64, usize)
     ensures are { AreDigits bytes.now result.0 result.1 }
@@ -93,8 +91,8 @@ fn fours_before(bytes: &[u8]) -> (u64, usize)
     (number, count)
 }
 
-// The number that digits write, of which so many at the front of the bytes write another, and how
-// many all are: all that stand there, or the first 19.
+// Continues a number: `written` is the value of the first `place` digits. Returns the value and the
+// count of all leading digits, at most 19.
 #[inline(always)]
 fn digits_behind(bytes: &[u8], written: u64, place: usize) -> (u64, usize)
     requires are { AreDigits bytes.now written place }
@@ -115,8 +113,8 @@ fn digits_behind(bytes: &[u8], written: u64, place: usize) -> (u64, usize)
     (number, count)
 }
 
-// The number that so many digits at the front of the bytes write, if the byte `end` stands behind
-// them and no zero before others, and the bytes behind that.
+// Returns the number and the bytes after `end`, if `end` follows the `count` digits and they have
+// no leading zero.
 #[inline(always)]
 fn ended_by(bytes: &[u8], number: u64, count: usize, end: u8) -> Option<(u64, &[u8])>
     requires { AreDigits bytes.now number count }
@@ -131,8 +129,8 @@ fn ended_by(bytes: &[u8], number: u64, count: usize, end: u8) -> Option<(u64, &[
     Some((number, &bytes[count + 1..]))
 }
 
-// The number that the bytes begin with, if the byte `end` stands behind it, and the bytes behind
-// that. None where it has more than 19 digits.
+// The number at the start of the bytes and the bytes after `end`, if `end` follows the number.
+// `None` if the number has more than 19 digits.
 #[inline(always)]
 fn number_before(bytes: &[u8], end: u8) -> Option<(u64, &[u8])>
     ensures { IfSome result (λ found. bytes.now ≡ decimal found.0 ++ end ∷ found.1.now) }
@@ -141,7 +139,8 @@ fn number_before(bytes: &[u8], end: u8) -> Option<(u64, &[u8])>
     ended_by(bytes, number, count, end)
 }
 
-// The same of a time (ns), which mostly has many digits: so they are read by four.
+// Like `number_before`, for a time (ns): most times have many digits, so they are read in groups of
+// four.
 #[inline(always)]
 fn time_before(bytes: &[u8]) -> Option<(Ns, &[u8])>
     ensures { IfSome result (λ found. bytes.now ≡ decimal found.0 ++ 32 ∷ found.1.now) }
@@ -151,7 +150,7 @@ fn time_before(bytes: &[u8]) -> Option<(Ns, &[u8])>
     ended_by(bytes, number, count, b' ')
 }
 
-// The same of a number below 2^32.
+// Like `number_before`, for a number below 2^32.
 #[inline(always)]
 fn small_before(bytes: &[u8], end: u8) -> Option<(u32, &[u8])>
     ensures { IfSome result (λ found. bytes.now ≡ decimal found.0 ++ end ∷ found.1.now) }
@@ -162,7 +161,7 @@ fn small_before(bytes: &[u8], end: u8) -> Option<(u32, &[u8])>
     }
 }
 
-// The same of a task.
+// Like `number_before`, for a task.
 #[inline(always)]
 fn pid_before(bytes: &[u8], end: u8) -> Option<(Pid, &[u8])>
     ensures { IfSome result (λ found. IsPid found.0
@@ -174,7 +173,7 @@ fn pid_before(bytes: &[u8], end: u8) -> Option<(Pid, &[u8])>
     }
 }
 
-// The same of a processor.
+// Like `number_before`, for a processor.
 #[inline(always)]
 fn cpu_before(bytes: &[u8], end: u8) -> Option<(Cpu, &[u8])>
     ensures { IfSome result (λ found. (found.0.0 < 2 ^ 32)
@@ -184,7 +183,7 @@ fn cpu_before(bytes: &[u8], end: u8) -> Option<(Cpu, &[u8])>
     Some((Cpu(number), rest))
 }
 
-// The same of the task that runs next, or none.
+// Like `number_before`, for the next task, or none.
 #[inline(always)]
 fn next_before(bytes: &[u8], end: u8) -> Option<(Option<Pid>, &[u8])>
     ensures { IfSome result (λ found. IfSome found.0 IsPid
@@ -197,8 +196,8 @@ fn next_before(bytes: &[u8], end: u8) -> Option<(Option<Pid>, &[u8])>
     Some((Some(Pid(number)), rest))
 }
 
-// How the running task leaves its processor, any way but exit, if that ends the line, and the bytes
-// behind the newline.
+// How the running task leaves its processor, except by exit, if that ends the line, and the bytes
+// after the newline.
 #[inline(always)]
 fn how_before_newline(bytes: &[u8]) -> Option<(How, &[u8])>
     ensures word { IfSome result (λ found. bytes.now ≡ how_word found.0 ++ 10 ∷ found.1.now) }
@@ -294,10 +293,10 @@ fn task_act_in(bytes: &[u8]) -> Option<(TaskAct, &[u8])>
     None
 }
 
-/// Plays the event of the line that the bytes begin with, if that is a `switch` without an `exit`,
-/// a `wake`, `stall`, `unstall` or `migrate`: the one that [`read_event`](crate::read_event) reads.
-/// None may also be where the bytes begin with such a line; then nothing is played.
-// The player is called in one place, whichever the verb is, so that its code is inlined there.
+/// Plays the event of the line that the bytes begin with, if it is a `switch` without an `exit`, a
+/// `wake`, `stall`, `unstall` or `migrate`: the same event that [`read_event`](crate::read_event)
+/// returns. Otherwise, and for some such lines too, returns `None` and plays nothing.
+// All verbs share one call of the player, so that its code is inlined once.
 #[inline(always)]
 pub fn take_front<P: Player>(bytes: &[u8], player: &mut P) -> Option<PlayedLine>
     ensures front { IfSome result

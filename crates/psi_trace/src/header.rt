@@ -7,16 +7,16 @@ ghost use Rattle.psi_trace.specs.Heads.{before_cpus};
 
 use psi_base::{Cause, read_number};
 
-/// What a header tells.
+/// The contents of a header.
 #[derive(Clone, Copy, Debug, PartialEq, Eq)]
 pub struct Header {
-    /// The number of the trace's version, 1 or 2.
+    /// The trace's version, 1 or 2.
     pub version: u32,
-    /// How many processors there are, 1 to 64.
+    /// The number of processors, 1 to 64.
     pub cpus: u32,
 }
 
-// The number of the version of a header, and what stands where the number of processors is due.
+// The version of a header, and the bytes from its number of processors on.
 fn version_in(line: &[u8]) -> Option<(u32, &[u8])>
     ensures { MatchOption result
         ((version n : ℕ) → IsVersion version → line.now ≢ header version n)
@@ -47,8 +47,8 @@ fn header_in(line: &[u8]) -> Option<Header>
     })
 }
 
-/// What a header line tells, given without its newline. `BadHeader` where the line is no header of
-/// a version.
+/// Parses a header line without its newline. `BadHeader` if the line isn't a header of version 1 or
+/// 2.
 pub fn read_header(line: &[u8]) -> Result<Header, Cause>
     ensures spelled { MatchResult result
         (λ head. IsVersion head.version × (1 ≤ head.cpus) × (head.cpus ≤ 64)

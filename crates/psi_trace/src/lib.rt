@@ -1,9 +1,11 @@
-//! The lines of a trace: reading and writing headers and events.
+//! The lines of a trace: parses and writes headers and events.
 //!
-//! A line is given without its newline. Its parts stand between single spaces, numbers are decimal
-//! without leading zeros, and each event has one spelling: what is read and written again has the
-//! same bytes. [`take_front`] plays the event of a common line in front of bytes, its newline among
-//! them, where it stands whole there.
+//! Lines are passed without their newline. The parts of a line are separated by single spaces,
+//! numbers are decimal without leading zeros, and each event has one spelling: an event that is
+//! parsed and written again has the same bytes. [`take_front`] plays the event of a frequent line
+//! if the bytes begin with the whole line and its newline.
+//!
+//! It doesn't decide whether an event is legal (task_table does), and doesn't read files.
 #![tactic(auto)]
 
 mod field;

@@ -1,22 +1,23 @@
-//! A line, written from its end to its front.
+//! A line, written from its end to its start.
 ghost use Rattle.std.specs.Prelude.{◌≡◌, ◌+◌, ◌≤◌, ◌++◌, [], decimal, length};
 
 use std::marker::Model;
 
-/// A line with room for so many bytes, which contracts see as the bytes that it has. It is written
-/// from its end to its front, so that each number is put where its digits belong, at once.
+/// A line with a capacity of `ROOM` bytes; contracts see the bytes written so far. It is written
+/// from its end to its start, so that the digits of each number are put in their final place at
+/// once.
 #[derive(Drop)]
 pub(crate) struct LineBuffer<const ROOM: usize> {
     bytes: [u8; ROOM],
-    /// Where the line begins.
+    /// The index of its first byte.
     start: usize,
 }
 
-/// A header, or the line of an event that has few words and no path: time, verb, processor, task
-/// and how it leaves.
+/// A header, or the line of an event with few words and no path: at most time, verb, processor,
+/// task and how it leaves.
 pub(crate) type ShortLine = LineBuffer<80>;
 
-/// The line of any other event. The longest is that of the memory of a group with a path of 255
+/// The line of any other event. The longest is the memory sample of a group with a path of 255
 /// bytes.
 pub(crate) type LongLine = LineBuffer<384>;
 
@@ -31,7 +32,7 @@ impl<const ROOM: usize> Model for LineBuffer<ROOM> {
 }
 
 impl<const ROOM: usize> LineBuffer<ROOM> {
-    /// A line without bytes.
+    /// An empty line.
     #[inline(always)]
     pub(crate) fn new() -> LineBuffer<ROOM>
         ensures { result ≡ [] }
@@ -42,7 +43,7 @@ impl<const ROOM: usize> LineBuffer<ROOM> {
         }
     }
 
-    /// Its bytes.
+    /// The bytes written so far.
     #[inline(always)]
     pub(crate) fn bytes(&self) -> &[u8]
         ensures { result.now ≡ self.now }
@@ -51,7 +52,7 @@ impl<const ROOM: usize> LineBuffer<ROOM> {
         &all[self.start..]
     }
 
-    /// Puts a text in front, for which there is room.
+    /// Prepends a text. There must be room for it.
     #[inline(always)]
     pub(crate) fn text(&mut self, text: &[u8])
         requires { length text.now + length self.old ≤ ROOM }
@@ -65,7 +66,7 @@ impl<const ROOM: usize> LineBuffer<ROOM> {
         self.start = start;
     }
 
-    /// Puts a number in decimal digits in front, for which there is room.
+    /// Prepends a number in decimal digits. There must be room for it.
     #[inline(always)]
     pub(crate) fn number(&mut self, number: u64)
         requires { 20 + length self.old ≤ ROOM }

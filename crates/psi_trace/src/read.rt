@@ -1,4 +1,4 @@
-//! Lines to events.
+//! Parses lines to events.
 ghost use Rattle.std.specs.Prelude.{◌≡◌, ◌≢◌, IfOk, Err, drop, true};
 ghost use Rattle.psi_base.specs.Path.{parts_at};
 ghost use Rattle.psi_base.specs.declared.event.Cause.{Cause};
@@ -18,9 +18,9 @@ use crate::field::{
 use psi_base::{Act, Cause, Event, Fault, Ns, Parts, read_number};
 use std::alloc::Global;
 
-// The event at a time (ns) of each verb, from its fields. Each makes the whole answer, so that
-// nothing is copied from one place to the next on the way out. These functions are inlined: a call
-// that stays would clear the place of its answer for every line, whichever verb it has.
+// The event at a time (ns) of each verb, from its fields. Each function builds the whole result, so
+// that nothing is copied on the way out. These functions are inlined: a call would clear the memory
+// of its result for every line, whichever verb the line has.
 
 #[tactic(auto, unfolding(psi_spec::specs::Grammar::act_from))]
 #[inline(always)]
@@ -239,8 +239,8 @@ fn end_of_trace(at: Ns, mut words: Words) -> Result<Event, Fault<Cause>>
     Ok(Event { at, act })
 }
 
-// The event at a time (ns) of the verb that is the next part, and of its fields, in a trace of a
-// version: the verbs that a trace has most of first. In three functions, since at each verb the
+// The event at a time (ns) from the verb, which is the next part, and its fields, in a trace of a
+// version. The most frequent verbs come first. There are three functions, since at each verb the
 // proof goes over all tests before it.
 #[tactic(auto, unfolding(psi_spec::specs::Grammar::act_at, psi_spec::specs::Grammar::verb_of))]
 fn event_at(alloc: Global, version: u32, at: Ns, mut words: Words) -> Result<Event, Fault<Cause>>
@@ -266,7 +266,7 @@ fn event_at(alloc: Global, version: u32, at: Ns, mut words: Words) -> Result<Eve
     }
 }
 
-// The same where the verb is none of a version's first five. Inlined like the functions above.
+// The same if the verb isn't one of a version's first five. Inlined like the functions above.
 #[tactic(auto, unfolding(psi_spec::specs::Grammar::verb_of))]
 #[inline(always)]
 fn rarer_event_at(
@@ -296,7 +296,7 @@ fn rarer_event_at(
     }
 }
 
-// The same where it is none of the first ten.
+// The same if the verb isn't one of the first ten.
 #[tactic(auto, unfolding(psi_spec::specs::Grammar::verb_of))]
 #[inline(always)]
 fn rarest_event_at(
@@ -328,7 +328,7 @@ fn rarest_event_at(
     }
 }
 
-// The event of a line in a trace of a version: its time, and behind it its act.
+// The event of a line in a trace of a version: its time, followed by its act.
 #[tactic(auto, unfolding(psi_spec::specs::Grammar::event_of, psi_spec::specs::Grammar::event_at))]
 fn event_in(alloc: Global, version: u32, line: &[u8]) -> Result<Event, Fault<Cause>>
     ensures exact { Gives result (event_of (verbs_of (version_of version)) line.now) }
@@ -345,10 +345,10 @@ fn event_in(alloc: Global, version: u32, line: &[u8]) -> Result<Event, Fault<Cau
     event_at(alloc, version, at, words)
 }
 
-/// The event that a line spells in a trace of version 1 or 2, given without its newline; else the
-/// first cause against the line from the left: `BadTime`, `BadVerb`, or `BadField` with the number
-/// of the leftmost field that is missing, wrong or surplus. `NoMemory` comes only for a verb that
-/// has a path among its fields, since its bytes alone are allocated.
+/// The event that a line without its newline spells in a trace of version 1 or 2. Fails with the
+/// first cause from the left: `BadTime`, `BadVerb`, or `BadField` with the number of the leftmost
+/// field that is missing, malformed or surplus. Only a path is allocated, so `NoMemory` is possible
+/// only for a verb with a path among its fields.
 pub fn read_event(alloc: Global, version: u32, line: &[u8]) -> Result<Event, Fault<Cause>>
     requires version { IsVersion version }
     ensures exact { Gives result (event_of (verbs_of (version_of version)) line.now) }

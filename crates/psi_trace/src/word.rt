@@ -1,11 +1,11 @@
-//! The words of an event's fields, put into its line.
+//! Writes the words of an event's fields into its line.
 ghost use Rattle.std.specs.Prelude.{◌≡◌, ◌≤◌, ◌+◌, ◌++◌, ◌∷◌, [], decimal, length};
 ghost use Rattle.psi_spec.specs.Fields as fields;
 ghost use Rattle.psi_trace.specs.Writes.{spaced};
 
 use crate::line::{LineBuffer, LongLine};
 
-/// Puts a number in front, behind a space.
+/// Prepends a space and a number.
 #[tactic(auto, using(crate::proofs::InPieces::lines))]
 pub(crate) fn put_number(line: &mut LongLine, number: u64)
     requires { length line.old ≤ 63 }
@@ -16,7 +16,7 @@ pub(crate) fn put_number(line: &mut LongLine, number: u64)
     line.text(b" ");
 }
 
-/// Puts three numbers in front, each behind a space.
+/// Prepends three numbers, each after a space.
 #[tactic(auto, using(crate::proofs::InPieces::lines))]
 pub(crate) fn put_numbers(line: &mut LongLine, first: u64, second: u64, third: u64)
     requires { length line.old ≡ 0 }
@@ -29,7 +29,7 @@ pub(crate) fn put_numbers(line: &mut LongLine, first: u64, second: u64, third: u
     put_number(line, first);
 }
 
-/// Puts a word in front, behind a space.
+/// Prepends a space and a word.
 #[inline(always)]
 pub(crate) fn put_word<const ROOM: usize>(line: &mut LineBuffer<ROOM>, word: &str)
     requires { 1 + length word.now + length line.old ≤ ROOM }
@@ -40,7 +40,7 @@ pub(crate) fn put_word<const ROOM: usize>(line: &mut LineBuffer<ROOM>, word: &st
     line.text(b" ");
 }
 
-/// Puts the word for whether an account is on in front, behind a space.
+/// Prepends a space and the word for accounting that is on or off.
 pub(crate) fn put_account(line: &mut LongLine, on: bool)
     requires { length line.old ≤ 63 }
     ensures bytes { line.new ≡ 32 ∷ fields.account_word on ++ line.old }

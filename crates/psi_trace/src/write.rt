@@ -1,4 +1,4 @@
-//! Headers and events to lines.
+//! Writes headers and events as lines.
 ghost use Rattle.std.specs.Prelude.{◌≡◌, ◌≤◌, ◌<◌, ◌+◌, ◌++◌, ◌∷◌, [], true, false, OnOk, OnErr, codes, decimal, length};
 ghost use Rattle.std.specs.Prelude.{vec_capacity, vec_len};
 ghost use Rattle.psi_spec.specs.Fields as fields;
@@ -10,7 +10,7 @@ use crate::line::{LongLine, ShortLine};
 use crate::word::{put_account, put_number, put_numbers, put_word};
 use psi_base::{Act, Cpu, Event, How, Level, NoMemory, Path, Pid, Preference, Res};
 
-/// Whether an act has few words, and no path among them.
+/// Whether an act has few words and no path.
 fn is_short(act: &Act) -> bool
     ensures { result ≡ is_short act.now }
 {
@@ -26,7 +26,7 @@ fn is_short(act: &Act) -> bool
     )
 }
 
-/// Puts the words of such an act into an empty line, each behind a space.
+/// Writes the words of a short act into an empty line, each after a space.
 #[tactic(auto, using(crate::proofs::InPieces::lines))]
 fn put_short_act(line: &mut ShortLine, act: &Act)
     requires short { is_short act.now ≡ true }
@@ -46,7 +46,7 @@ fn put_short_act(line: &mut ShortLine, act: &Act)
     }
 }
 
-/// Puts the words of another act into an empty line, each behind a space.
+/// Writes the words of a long act into an empty line, each after a space.
 #[tactic(auto, using(crate::proofs::InPieces::lines))]
 fn put_long_act(line: &mut LongLine, act: &Act)
     requires long { is_short act.now ≡ false }
@@ -83,7 +83,7 @@ fn put_long_act(line: &mut LongLine, act: &Act)
     }
 }
 
-/// Puts a verb between spaces and a group behind it in front.
+/// Prepends a verb between spaces, followed by a group.
 #[tactic(auto, using(crate::proofs::InPieces::lines))]
 fn put_group(line: &mut LongLine, verb: &[u8], path: &Path)
     requires room { length line.old ≤ 63 }
@@ -95,7 +95,6 @@ fn put_group(line: &mut LongLine, verb: &[u8], path: &Path)
     line.text(verb);
 }
 
-/// Puts the words of how a group is preferred in front.
 #[tactic(auto, using(crate::proofs::InPieces::lines))]
 fn put_prefer(line: &mut LongLine, path: &Path, preference: Preference)
     requires { length line.old ≡ 0 }
@@ -107,7 +106,6 @@ fn put_prefer(line: &mut LongLine, path: &Path, preference: Preference)
     put_group(line, b" prefer ", path);
 }
 
-/// Puts the words of a new task in front.
 #[tactic(auto, using(crate::proofs::InPieces::lines))]
 fn put_fork(line: &mut LongLine, pid: Pid, path: &Path, cpu: Cpu)
     requires { length line.old ≡ 0 }
@@ -123,7 +121,6 @@ fn put_fork(line: &mut LongLine, pid: Pid, path: &Path, cpu: Cpu)
     line.text(b" fork ");
 }
 
-/// Puts the words of a task that goes to another group in front.
 #[tactic(auto, using(crate::proofs::InPieces::lines))]
 fn put_move(line: &mut LongLine, pid: Pid, path: &Path)
     requires { length line.old ≡ 0 }
@@ -137,7 +134,6 @@ fn put_move(line: &mut LongLine, pid: Pid, path: &Path)
     line.text(b" move ");
 }
 
-/// Puts the words of a group's memory in front.
 #[tactic(auto, using(crate::proofs::InPieces::lines))]
 fn put_memory(line: &mut LongLine, path: &Path, current: u64, swap: u64, scan: u64)
     requires { length line.old ≡ 0 }
@@ -150,7 +146,6 @@ fn put_memory(line: &mut LongLine, path: &Path, current: u64, swap: u64, scan: u
     put_group(line, b" mem ", path);
 }
 
-/// Puts the words of the machine's memory in front.
 #[tactic(auto, using(crate::proofs::InPieces::lines))]
 fn put_host(line: &mut LongLine, mem_total: u64, swap_total: u64, swap_free: u64)
     requires { length line.old ≡ 0 }
@@ -163,7 +158,6 @@ fn put_host(line: &mut LongLine, mem_total: u64, swap_total: u64, swap_free: u64
     line.text(b" host");
 }
 
-/// Puts the words of a trigger in front.
 #[tactic(auto, using(crate::proofs::InPieces::lines))]
 fn put_trigger(
     line: &mut LongLine,
@@ -187,7 +181,6 @@ fn put_trigger(
     put_group(line, b" trigger ", path);
 }
 
-/// Puts the words of a group's account that is switched in front.
 #[tactic(auto, using(crate::proofs::InPieces::lines))]
 fn put_pressure(line: &mut LongLine, path: &Path, on: bool)
     requires { length line.old ≡ 0 }
@@ -199,7 +192,6 @@ fn put_pressure(line: &mut LongLine, path: &Path, on: bool)
     put_group(line, b" pressure ", path);
 }
 
-/// Puts the words of a switch in front.
 #[tactic(auto, using(crate::proofs::InPieces::lines))]
 fn put_switch(line: &mut ShortLine, cpu: Cpu, next: Option<Pid>, how: How)
     requires { length line.old ≡ 0 }
@@ -218,7 +210,6 @@ fn put_switch(line: &mut ShortLine, cpu: Cpu, next: Option<Pid>, how: How)
     line.text(b" switch ");
 }
 
-/// Puts the words of time that interrupts took in front.
 #[tactic(auto, using(crate::proofs::InPieces::lines))]
 fn put_irq(line: &mut ShortLine, cpu: Cpu, ns: u64)
     requires { length line.old ≡ 0 }
@@ -232,7 +223,7 @@ fn put_irq(line: &mut ShortLine, cpu: Cpu, ns: u64)
     line.text(b" irq ");
 }
 
-/// Puts a verb between spaces and a task behind it in front.
+/// Prepends a verb between spaces, followed by a task.
 #[inline(always)]
 #[tactic(auto, using(crate::proofs::InPieces::lines))]
 fn put_task(line: &mut ShortLine, verb: &[u8], pid: Pid)
@@ -245,7 +236,7 @@ fn put_task(line: &mut ShortLine, verb: &[u8], pid: Pid)
     line.text(verb);
 }
 
-/// Puts a verb between spaces, and a task and a processor behind it, in front.
+/// Prepends a verb between spaces, followed by a task and a processor.
 #[inline(always)]
 #[tactic(auto, using(crate::proofs::InPieces::lines))]
 fn put_task_on(line: &mut ShortLine, verb: &[u8], pid: Pid, cpu: Cpu)
@@ -260,7 +251,7 @@ fn put_task_on(line: &mut ShortLine, verb: &[u8], pid: Pid, cpu: Cpu)
     put_task(line, verb, pid);
 }
 
-/// Puts the one spelling of an event with few words into an empty line.
+/// Writes the one spelling of an event with a short act into an empty line.
 #[tactic(auto, using(crate::proofs::InPieces::lines))]
 fn put_short(line: &mut ShortLine, event: &Event)
     requires short { is_short event.now.act ≡ true }
@@ -271,7 +262,7 @@ fn put_short(line: &mut ShortLine, event: &Event)
     line.number(event.at);
 }
 
-/// Puts the one spelling of another event into an empty line.
+/// Writes the one spelling of an event with a long act into an empty line.
 #[tactic(auto, using(crate::proofs::InPieces::lines))]
 fn put_long(line: &mut LongLine, event: &Event)
     requires long { is_short event.now.act ≡ false }
@@ -282,7 +273,7 @@ fn put_long(line: &mut LongLine, event: &Event)
     line.number(event.at);
 }
 
-/// Puts the header for so many processors into an empty line.
+/// Writes the header for `cpus` processors into an empty line.
 #[tactic(auto, using(crate::proofs::InPieces::lines))]
 fn put_header(line: &mut ShortLine, cpus: u32)
     requires { line.old ≡ [] }
@@ -292,8 +283,8 @@ fn put_header(line: &mut ShortLine, cpus: u32)
     line.text(b"psitrace 1 cpus=");
 }
 
-/// Appends bytes to a buffer; where memory runs out the buffer stays as it was, and had no room for
-/// them.
+/// Appends bytes to a buffer. If it is out of memory, the buffer is unchanged and its capacity was
+/// too small for them.
 fn append(bytes: &[u8], to: &mut Vec<u8>) -> Result<(), NoMemory>
     ensures written { OnOk result (to.new.items ≡ to.old.items ++ bytes.now) }
     ensures kept { OnErr result (to.new.items ≡ to.old.items) }
@@ -304,8 +295,8 @@ fn append(bytes: &[u8], to: &mut Vec<u8>) -> Result<(), NoMemory>
     Ok(())
 }
 
-/// Appends the one spelling of another event. It stands apart, since a function that has a long
-/// line clears room for it.
+/// Appends the one spelling of an event with a long act. Not inlined, since a function with a long
+/// line on its stack clears it.
 #[inline(never)]
 fn write_long(event: &Event, to: &mut Vec<u8>) -> Result<(), NoMemory>
     requires { is_short event.now.act ≡ false }
@@ -320,8 +311,8 @@ fn write_long(event: &Event, to: &mut Vec<u8>) -> Result<(), NoMemory>
     append(line.bytes(), to)
 }
 
-/// Appends the header for so many processors, without a newline, to a buffer; where memory runs out
-/// the buffer stays as it was, and the header had no room there.
+/// Appends the header for `cpus` processors, without a newline, to a buffer. If it is out of
+/// memory, the buffer is unchanged and its capacity was too small for the header.
 pub fn write_header(cpus: u32, to: &mut Vec<u8>) -> Result<(), NoMemory>
     ensures written { OnOk result (to.new.items ≡ to.old.items ++ header 1 cpus) }
     ensures kept { OnErr result (to.new.items ≡ to.old.items) }
@@ -334,9 +325,10 @@ pub fn write_header(cpus: u32, to: &mut Vec<u8>) -> Result<(), NoMemory>
     append(line.bytes(), to)
 }
 
-/// Appends the one spelling of an event, without a newline, to a buffer; where memory runs out the
-/// buffer stays as it was, and the line had no room there. The event is one that a trace may speak
-/// of: times below 2^64 ns, tasks from 1, sizes and quantities of at most 2^60.
+/// Appends the one spelling of an event, without a newline, to a buffer. If it is out of memory,
+/// the buffer is unchanged and its capacity was too small for the line. The event's values must be
+/// in the ranges of a trace: times below 2^64 ns, tasks from 1, sizes and quantities of at most
+/// 2^60.
 pub fn write_event(event: &Event, to: &mut Vec<u8>) -> Result<(), NoMemory>
     requires { Fits event.now }
     ensures written { OnOk result (to.new.items ≡ to.old.items ++ spelling event.now) }

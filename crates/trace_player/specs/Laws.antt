@@ -1,4 +1,4 @@
--- What follows from the definition of a player.
+-- Laws of the definition of a player.
 use Rattle.std.specs.Prelude.{◌≡◌, List, Ok, Err}
 use Rattle.psi_base.specs.declared.event.Event.{Event}
 use Rattle.psi_base.specs.declared.event.Cause.{Cause}
@@ -6,12 +6,12 @@ use Rattle.psi_base.specs.declared.event.Fault.TheVariants as fault
 use Rattle.psi_spec.specs.World.{Limits}
 use Rattle.trace_player.specs.Playing.{PlayerTakes, Plays}
 
--- Where a player has played any events, one more isn't both taken and refused.
+-- A player that has played any events doesn't both take and reject the next one.
 abbrev pub TakesOrRefuses : Plays → Plays → Event → Type 0
 TakesOrRefuses Before After event = (limits : Limits) (events : List Event) (x : Unit {0}) (why : Cause) → Before limits events
     → PlayerTakes Before After event (Ok x) → PlayerTakes Before After event (Err (fault.Refused why)) → ⊥
 
--- It is refused for one cause alone.
+-- A player rejects an event for one cause only.
 abbrev pub RefusesForOne : Plays → Plays → Event → Type 0
 RefusesForOne Before After event = (limits : Limits) (events : List Event) (one other : Cause) → Before limits events
     → PlayerTakes Before After event (Err (fault.Refused one)) → PlayerTakes Before After event (Err (fault.Refused other))

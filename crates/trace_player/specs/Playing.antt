@@ -1,4 +1,4 @@
--- What events do to what plays them.
+-- How a player takes events.
 use Rattle.std.specs.Prelude.{◌≡◌, ◌<◌, List, [], ◌∷◌, ◌++◌, length, None, Some, Result, Ok, Err, ⊤}
 use Rattle.psi_base.specs.declared.event.Event.{Event}
 use Rattle.psi_base.specs.declared.event.Cause.{Cause}
@@ -7,7 +7,7 @@ use Rattle.psi_base.specs.declared.event.Fault.TheVariants as fault
 use Rattle.psi_spec.specs.World.{World, Limits, after, most_events}
 use Rattle.psi_spec.specs.Refusal.{cause_of}
 
--- which traces a player has played: limits and events
+-- the traces that a player may have played: limits and events
 abbrev pub Plays : Type 1
 Plays = Limits → List Event → Type 0
 
@@ -16,9 +16,9 @@ pub record IsPlayed (limits_now : Limits) (w : World) (limits : Limits) (events 
   pub limits_are : limits_now ≡ limits
   pub world : w ≡ after events
 
--- What an event does to a player that has played any events: it is legal and played behind them,
--- and there were fewer than 4,000,000; or it is refused with the first cause. Of want of memory
--- nothing is said.
+-- A player that has played any events takes an event: the event is legal and played after them, and
+-- there were fewer than 4,000,000; or it is rejected with the first cause. Out of memory is always
+-- possible.
 abbrev pub PlayerTakes : Plays → Plays → Event → Result (Unit {0}) (Fault Cause) → Type 0
 PlayerTakes Before After event (Ok x) =
     (limits : Limits) (events : List Event) → Before limits events

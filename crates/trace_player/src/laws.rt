@@ -4,8 +4,8 @@ ghost use Rattle.trace_player.specs.Laws.{RefusesForOne, TakesOrRefuses};
 
 use crate::player::Player;
 
-/// An event isn't both taken and refused by a player that has played any events, and is refused for
-/// one cause alone.
+/// A player that has played any events doesn't both take and reject the next one, and rejects it
+/// for one cause only.
 pub fn law_answers<P: Player>()
     ensures either { (old new : P) (event : Event) →
         TakesOrRefuses (P.Played old) (P.Played new) event }

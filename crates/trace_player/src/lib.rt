@@ -1,4 +1,7 @@
-//! What a trace is played on, event by event, as its lines are read.
+//! The interface of players. A player takes the events of a trace one by one, as its lines are
+//! read.
+//!
+//! It doesn't play anything itself: task_table, proc_plan and others implement [`Player`].
 #![tactic(auto)]
 
 mod laws;

@@ -1,4 +1,4 @@
-//! What a trace is played on.
+//! Players of traces.
 ghost use Rattle.std.specs.Prelude.{◌≡◌, ◌≤◌, List, [], IfOk, false};
 ghost use Rattle.psi_base.specs.declared.event.Event.{Event};
 ghost use Rattle.psi_spec.specs.Grammar.{Fits};
@@ -12,12 +12,12 @@ use crate::task_act::TaskAct;
 use psi_base::{Cause, Event, Fault, NoMemory, Ns};
 use std::alloc::Global;
 
-/// A machine that plays a trace. Where an event is refused, the player isn't used again.
+/// A machine that plays a trace. A player isn't used again after it rejected an event.
 pub trait Player: Sized {
     /// It has played these events of a trace with these limits.
     ghost Played: { Self → Limits → List Event → Type 0 };
 
-    /// The machine before a trace with so many processors, 1 to 64, in which no event is later than
+    /// The machine before a trace with `cpus` processors, 1 to 64, in which no event is later than
     /// `latest` (ns).
     fn start(alloc: Global, cpus: u32, latest: Ns) -> Result<Self, NoMemory>
         requires counted { IsCpuCount cpus }
@@ -25,13 +25,13 @@ pub trait Player: Sized {
         ensures { IfOk result (λ player.
             Self.Played player (record { cpus = cpus; latest = latest }) []) };
 
-    /// Plays one event more, whose numbers are in the ranges of the grammar: `Refused` with the
-    /// first cause against it, where it isn't legal.
+    /// Plays the next event, whose numbers are in the ranges of the grammar. Fails with `Refused`
+    /// and the first cause if the event isn't legal.
     fn take(&mut self, event: &Event) -> Result<(), Fault<Cause>>
         requires { Fits event.now }
         ensures { PlayerTakes (Self.Played self.old) (Self.Played self.new) event.now result };
 
-    /// Plays the event for which a task act stands at a time (ns), as [`Player::take`]: the fast
+    /// Plays the event at a time (ns) that a task act represents, like [`Player::take`]: the fast
     /// path, which stores no event. No task exits by the act.
     fn take_task(&mut self, at: Ns, act: TaskAct) -> Result<(), Fault<Cause>>
         requires fits { Fits (as_event at act) }
@@ -39,7 +39,7 @@ pub trait Player: Sized {
         ensures { PlayerTakes (Self.Played self.old) (Self.Played self.new) (as_event at act)
             result };
 
-    /// The trace has ended.
+    /// Whether the trace has ended.
     fn is_ended(&self) -> bool
         ensures { (limits : Limits) (events : List Event) → Self.Played self.now limits events →
             result ≡ (after events).ended };

@@ -1,16 +1,17 @@
-//! The fast path of a trace: acts of tasks alone, by value.
+//! The fast path of a trace: task acts, passed by value.
 //!
-//! Most lines of a trace are such acts. Each is a few numbers, so it is read, judged and performed
-//! in registers, and no `Event` of it is stored. Every crate on the path has functions of a
-//! [`TaskAct`], whose names end with `_task`. Their contracts are those of the event for which the
-//! act stands.
+//! A task act is a wake, switch, stall, unstall or migration: it names no group and creates no
+//! task. Most lines of a trace are such acts. Each is a few numbers, so it is parsed, judged and
+//! performed in registers, and no `Event` is stored for it. Every crate on the path has functions
+//! of a [`TaskAct`], whose names end with `_task`. Their contracts are those of the event that the
+//! act represents.
 ghost use Rattle.std.specs.Prelude.{◌≡◌, IfNone, IfSome, false};
 ghost use Rattle.psi_spec.specs.Names.{names};
 ghost use Rattle.trace_player.specs.TaskActs.{as_act, as_event, exits, is_task_act, pid_of};
 
 use psi_base::{Act, Cpu, Event, How, Ns, Pid};
 
-/// An act that names no group and makes no task.
+/// An act that names no group and creates no task.
 #[derive(Clone, Copy)]
 pub enum TaskAct {
     /// A blocked task becomes ready.
@@ -18,7 +19,7 @@ pub enum TaskAct {
         pid: Pid,
         cpu: Cpu,
     },
-    /// The running task leaves its processor, and the next one runs there, or none.
+    /// The running task leaves its processor, and the next one, if any, runs there.
     Switch {
         cpu: Cpu,
         next: Option<Pid>,
@@ -32,7 +33,7 @@ pub enum TaskAct {
     Unstall {
         pid: Pid,
     },
-    /// A ready task goes to a processor.
+    /// A ready task moves to a processor.
     Migrate {
         pid: Pid,
         cpu: Cpu,
@@ -40,7 +41,7 @@ pub enum TaskAct {
 }
 
 impl TaskAct {
-    /// The act by value, or `None` for an act that isn't of tasks alone.
+    /// The task act, or `None` for any other act.
     #[inline(always)]
     pub fn of(act: &Act) -> Option<TaskAct>
         ensures same { IfSome result (λ found. as_act found ≡ act.now) }
@@ -66,7 +67,7 @@ impl TaskAct {
         }
     }
 
-    /// The event for which the act stands at a time (ns).
+    /// The event at a time (ns) that the act represents.
     pub fn to_event(self, at: Ns) -> Event
         ensures { result ≡ as_event at self }
     {
@@ -80,7 +81,7 @@ impl TaskAct {
         Event { at, act }
     }
 
-    /// A task exits by the act.
+    /// Whether a task exits by the act.
     #[inline(always)]
     pub fn exits(self) -> bool
         ensures { result ≡ exits self }
@@ -88,7 +89,7 @@ impl TaskAct {
         matches!(self, TaskAct::Switch { how: How::Exit, .. })
     }
 
-    /// The number of the task that it names. A switch names the next task.
+    /// The number of the task that it names. For a switch this is the next task.
     #[inline(always)]
     pub fn pid(self) -> Option<Pid>
         ensures { result ≡ pid_of self }
