@@ -1,4 +1,4 @@
--- The acts of an import as they are kept, and the events that they stand for.
+-- The stored acts of an import, and the events that they represent.
 use Rattle.std.specs.Prelude.{◌≡◌, ℕ, List, ◌++◌, map, OnOk, Result}
 use Rattle.psi_base.specs.declared.event.Act.{Act}
 use Rattle.psi_base.specs.declared.event.Act.TheVariants as act
@@ -9,25 +9,25 @@ use Rattle.ftrace_import.specs.declared.deeds.Deed.{Deed}
 use Rattle.ftrace_import.specs.declared.deeds.Deed.TheVariants.{Fork, Migrate, Switch, Wake}
 use Rattle.ftrace_import.specs.declared.deeds.Kept.{Kept}
 
--- the act that a deed is
+-- the act that a deed represents
 abbrev pub act_by : Deed → Act
 act_by (Fork pid cpu) = made pid cpu
 act_by (Wake pid cpu) = act.Wake pid cpu
 act_by (Switch cpu next how) = act.Switch cpu next how
 act_by (Migrate pid cpu) = act.Migrate pid cpu
 
--- the event that was kept
+-- the event that a stored one represents
 abbrev pub event_by : Kept → Event
 event_by kept = record { at = kept.at; act = act_by kept.deed }
 
--- the events that were kept
+-- the events that stored ones represent
 abbrev pub events_by : List Kept → List Event
 events_by kept = map event_by kept
 
--- their acts
+-- the acts of stored events
 abbrev pub acts_in : List Kept → List Act
 acts_in kept = map (λ (one : Kept). act_by one.deed) kept
 
--- acts at a moment (ns) were added to what is kept, unless memory ran out
+-- acts at a time (ns) were appended to the stored ones, unless memory ran out
 abbrev pub Adds : {T E : Type 0} → List Kept → List Kept → Result T E → ℕ → List Act → Type 0
 Adds old new result at acts = OnOk result (events_by new ≡ events_by old ++ events_at at acts)

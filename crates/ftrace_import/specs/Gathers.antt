@@ -1,4 +1,4 @@
--- What gathering the events of a text gives.
+-- The results of collecting the events of a text.
 use Rattle.std.specs.Prelude.{◌≡◌, ℕ, ◌+◌, ◌-◌, ◌≤◌, List, [], ◌∷◌, ◌++◌, length, take, Bool, true, false, Option, None, Some, OnOk, IsErrOf, Result, Ok, Err, ⊤}
 use Rattle.outside.specs.Outside.{HasCauses, ShelfCounts}
 use Rattle.outside.specs.Reads.{ReadCall, ReadsFile, ReadsFrom}
@@ -30,15 +30,15 @@ use Rattle.ftrace_import.specs.Stands.{Ends, IsUnderWay, Run, limits}
 abbrev pub reached_in : Gathering → Reached
 reached_in g = record { first = g.first; moment = g.moment; world = g.table.world }
 
--- What holds behind each line: the table has the limits of the import, and its world is the one
--- that the events made which were kept. They may be spelled and are legal.
+-- The invariant after each line: the table has the limits of the import, and its world is the one
+-- after the stored events. These events can be spelled and are legal.
 pub record IsGathered (g : Gathering) : Type 0 where
   pub limits_are : g.table.limits ≡ limits g.cpus
   pub under : IsUnderWay g.cpus (reached_in g)
   pub run : Run g.cpus first_world (events_by g.kept.items)
   pub after_them : g.table.world ≡ after_from first_world (events_by g.kept.items)
 
--- what a line gives was kept behind the events before it
+-- the result of a line was stored after the events before it
 pub record HasTaken (given : Result GivenLine ImportCause) (old new : Gathering) : Type 0 where
   pub behind : GivenLine
   pub is : given ≡ Ok behind
@@ -47,7 +47,8 @@ pub record HasTaken (given : Result GivenLine ImportCause) (old new : Gathering)
   pub cpus : new.cpus ≡ old.cpus
   pub so : IsGathered new
 
--- what taking a line gives: what the line gives was kept, or the cause against the line
+-- what taking a line does: the result of the line was stored, or the cause against the line is
+-- returned
 abbrev pub TakesLine : Result GivenLine ImportCause → Gathering → Gathering → Result (Unit {0}) (Fault ImportCause) → Type 0
 TakesLine given old new (Ok done) = HasTaken given old new
 TakesLine given old new (Err (fault.Refused why)) = given ≡ Err why
@@ -55,11 +56,11 @@ TakesLine given old new (Err (fault.NoMemory _)) = ⊤
 
 -- ---- the lines of a file
 
--- the events of what is left of the text, from the line with a number on
+-- the events of the rest of the text, from the line with this number
 abbrev pub rest_from : ℕ → Reached → ℕ → List ℕ → Result (List Event) Refused
 rest_from cpus reached number bytes = import_from cpus reached number (parts_at 10 bytes)
 
--- a refusal is the definition's; the other faults have clauses of their own
+-- a refusal is the definition's; other clauses concern the other faults
 abbrev pub RefusalOf : ImportFault → Result (List Event) Refused → Type 0
 RefusalOf (import.Refused number why) read = read ≡ Err (import_refused number why)
 RefusalOf import.NoFile read = ⊤
@@ -71,7 +72,7 @@ abbrev pub IsLineFault : ℕ → Fault ImportCause → ImportFault → Type 0
 IsLineFault number (fault.Refused why) result = result ≡ import.Refused number why
 IsLineFault number (fault.NoMemory none) result = result ≡ import.NoMemory none
 
--- why a text isn't imported of which a line isn't read
+-- the fault of an import if a line can't be read
 abbrev pub import_fault : LineFault → ImportFault
 import_fault (lines.TooLong number) = import.Refused number cause.LineTooLong
 import_fault (lines.Cut number) = import.Refused number cause.Cut
@@ -79,7 +80,7 @@ import_fault lines.NoFile = import.NoFile
 import_fault lines.ReadFault = import.ReadFault
 import_fault (lines.NoMemory none) = import.NoMemory none
 
--- a line was taken: its events stand in front of those of the rest
+-- a line was taken: its events come before those of the rest
 pub record LineTaken (number : ℕ) (old new : Gathering) (before behind : List ℕ → List ℕ) (known : Option (List ℕ)) : Type 0 where
   pub so : IsGathered new
   pub cpus : new.cpus ≡ old.cpus
@@ -88,7 +89,7 @@ pub record LineTaken (number : ℕ) (old new : Gathering) (before behind : List 
   pub read : (bytes : List ℕ) → known ≡ Some bytes → rest_from old.cpus (reached_in old) number (before bytes)
       ≡ events_followed events (rest_from old.cpus (reached_in new) (number + 1) (behind bytes))
 
--- what the next line gives: it was taken, or there is none, or a fault
+-- the result of the next line: it was taken, or there is none, or a fault
 abbrev pub NextGives : ℕ → Gathering → Gathering → (List ℕ → List ℕ) → (List ℕ → List ℕ) → Option (List ℕ) → Result Bool ImportFault
     → Type 0
 NextGives number old new before behind known (Ok true) = LineTaken number old new before behind known
@@ -98,18 +99,18 @@ NextGives number old new before behind known (Ok false) =
 NextGives number old new before behind known (Err fault) =
     (bytes : List ℕ) → known ≡ Some bytes → RefusalOf fault (rest_from old.cpus (reached_in old) number (before bytes))
 
--- a shelf counted this fault of an import and nothing else: a failed read, or a name that it hasn't
+-- a shelf counted this fault of an import and nothing else: a failed read, or an absent name
 abbrev pub CausesImportFault : {A : Type 0} → ShelfCounts → ShelfCounts → Result A ImportFault → Type 0
 CausesImportFault before now result = HasCauses before now (IsErrOf result import.ReadFault) (IsErrOf result import.NoFile)
 
--- the fault of a shelf that a fault of an import is, if it is one
+-- the fault of a shelf that caused a fault of an import, or None
 abbrev pub shelf_fault : ImportFault → Option ShelfFault
 shelf_fault (import.Refused number why) = None
 shelf_fault import.NoFile = Some shelf.NoFile
 shelf_fault import.ReadFault = Some shelf.Failed
 shelf_fault (import.NoMemory _) = None
 
--- the fault of a shelf that an answer has, if it has one
+-- the fault of a shelf that caused an answer, or None
 abbrev pub shelf_fault_in : {A : Type 0} → Result A ImportFault → Option ShelfFault
 shelf_fault_in (Ok x) = None
 shelf_fault_in (Err found) = shelf_fault found
@@ -120,7 +121,7 @@ LineInOrder name at place before now (Ok true) = ReadsFrom name (Next at) before
 LineInOrder name at place before now (Ok false) = ReadsFile name at before now None
 LineInOrder name at place before now (Err found) = ReadsFile name at before now (shelf_fault found)
 
--- what reading the next line does to the reader and to the shelf, whatever stands on the line
+-- what reading the next line does to the reader and to the shelf, whatever the line contains
 pub record ReadsLine {A : Type 0} (known : Option (List ℕ)) (old new : Reader) (counts counts_now : ShelfCounts) (given given_now : ℕ)
     (result : Result A ImportFault) : Type 0 where
   pub name : new.name ≡ old.name
@@ -130,16 +131,16 @@ pub record ReadsLine {A : Type 0} (known : Option (List ℕ)) (old new : Reader)
   pub counted : given_now + old.at ≡ given + new.at
   pub place : new.at ≤ furthest old.number
 
--- What reading the next line does to how many lines are left. Where a read failed, no line was
--- taken, and no whole one is held; and a refused line is the next one.
+-- What reading the next line does to the number of remaining lines. If a read failed, no line was
+-- taken and the buffer contains no complete line. A rejected line is the next one.
 pub record KeepsLines {A : Type 0} (known : Option (List ℕ)) (old new : Reader) (result : Result A ImportFault) : Type 0 where
   pub lines : (bytes : List ℕ) → known ≡ Some bytes → new.number + line_count (left new bytes) ≡ old.number + line_count (left old bytes)
   pub failed : IsErrOf result import.ReadFault → (new.number ≡ old.number)
       × ((bytes : List ℕ) → known ≡ Some bytes → HasNoNewline new.held (length new.held))
   pub refused : (number : ℕ) (why : ImportCause) → IsErrOf result (import.Refused number why) → number ≡ old.number
 
--- Reading a text stops at the first line that is refused: no more is read than what is held behind
--- the lines before it, and a read fails only where that line isn't whole in what was read.
+-- Reading a text stops at the first rejected line: no more is read than the buffer holds after the
+-- lines before it, and a read fails only if that line isn't complete in the bytes read.
 abbrev pub StopsAtRefusal : {A : Type 0} → (List ℕ → Result (List Event) Refused) → Option (List ℕ) → ℕ → ℕ → Result A ImportFault → Type 0
 StopsAtRefusal read known given given_now (Ok x) = ⊤
 StopsAtRefusal read known given given_now (Err (import.Refused number why)) = given_now ≤ given + furthest number
@@ -149,7 +150,7 @@ StopsAtRefusal read known given given_now (Err import.ReadFault) =
     → line_count (take (given_now - given) bytes) ≤ refusal.line
 StopsAtRefusal read known given given_now (Err (import.NoMemory _)) = ⊤
 
--- nothing is said of any bytes
+-- the answer depends on no bytes
 abbrev pub TellsNothing : {A : Type 0} → Result A ImportFault → Type 0
 TellsNothing (Ok x) = ⊥
 TellsNothing (Err (import.Refused number why)) = ⊥
@@ -163,7 +164,7 @@ TellsNothing (Err (import.NoMemory _)) = ⊤
 abbrev pub whole_events : Gathering → List Event
 whole_events g = events_by g.kept.items ++ end_at (reached_in g) ∷ []
 
--- what taking all lines gives
+-- the result of taking all lines
 abbrev pub LinesGive : ℕ → Gathering → (List ℕ → List ℕ) → Option (List ℕ) → Result (Unit {0}) ImportFault → Type 0
 LinesGive cpus new before known (Ok done) =
     IsGathered new × (new.cpus ≡ cpus) × ((bytes : List ℕ) → known ≡ Some bytes
@@ -171,19 +172,19 @@ LinesGive cpus new before known (Ok done) =
 LinesGive cpus new before known (Err fault) =
     (bytes : List ℕ) → known ≡ Some bytes → RefusalOf fault (rest_from cpus unreached 1 (before bytes))
 
--- the most bytes that are read: no further than what is held behind the most lines
+-- the maximum number of bytes read: the furthest place of a reader at the maximum number of lines
 abbrev pub most_of_text : ℕ
 most_of_text = furthest 16000001
 
--- all lines of a file were taken: their events and the end are accepted, and are those of its
--- bytes, where they are told
+-- all lines of a file were taken: their events and the end are accepted, and if the file's bytes
+-- are known, they are the events of those bytes
 pub record AllTaken (cpus : ℕ) (g : Gathering) (known : Option (List ℕ)) : Type 0 where
   pub so : IsGathered g
   pub cpus_are : g.cpus ≡ cpus
   pub ends : Ends cpus first_world (whole_events g)
   pub read : (bytes : List ℕ) → known ≡ Some bytes → import_of cpus bytes ≡ Ok (whole_events g)
 
--- what importing a text gives
+-- the result of importing a text
 abbrev pub Gathers : ℕ → Option (List ℕ) → Result Gathering ImportFault → Type 0
 Gathers cpus known (Ok g) = AllTaken cpus g known
 Gathers cpus known (Err fault) = (bytes : List ℕ) → known ≡ Some bytes → RefusalOf fault (import_of cpus bytes)

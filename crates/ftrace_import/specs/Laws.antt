@@ -1,4 +1,4 @@
--- What an import amounts to.
+-- Laws of imports.
 use Rattle.std.specs.Prelude.{◌≡◌, ◌≢◌, ℕ, List, [], ◌∷◌, ◌++◌, true, Option, None, Some, option_map, Result, Ok, Err}
 use Rattle.psi_base.specs.declared.event.Cpu.{Cpu}
 use Rattle.psi_base.specs.declared.event.Event.{Event}
@@ -19,25 +19,25 @@ use Rattle.import_spec.specs.Marked.{read_line}
 use Rattle.import_spec.specs.Events.{GivenLine, Reached, default_tick, given_of, unreached}
 use Rattle.import_spec.specs.Import.{import_of, import_trace}
 
--- Each text of an import is accepted at the default tick, as the trace of its events, wherever the
--- first version is.
+-- If the first version is accepted, each imported text is accepted at the default tick, as the
+-- trace of its events.
 abbrev pub ImportedIsTrace : Type 0
 ImportedIsTrace =
     (cpus : ℕ) (bytes : List ℕ) (events : List Event) (versions : List Version) → IsCpuCount cpus → import_of cpus bytes ≡ Ok events
     → IsAmong One versions
     → IsTrace (accepts_with versions default_tick) (text_of (import_trace cpus events)) (import_trace cpus events)
 
--- how far an import comes behind a line that isn't refused
+-- how far an import has come after a line and later ones, or None if the line is rejected
 abbrev pub behind_given : Result GivenLine ImportCause → (Reached → Option Reached) → Option Reached
 behind_given (Err why) next = None
 behind_given (Ok given) next = next given.reached
 
--- how far whole lines bring an import, where none of them is refused
+-- how far an import has come after complete lines, or None if one of them is rejected
 abbrev pub reached_by : ℕ → Reached → List (List ℕ) → Option Reached
 reached_by cpus reached [] = Some reached
 reached_by cpus reached (line ∷ lines) = behind_given (given_of cpus reached line) (λ behind. reached_by cpus behind lines)
 
--- a line gives this behind other lines that aren't refused, and tells this
+-- a line has this result after other lines that aren't rejected, and reports this
 pub record GivesBehind (cpus : ℕ) (lines : List (List ℕ)) (line : List ℕ) (sighting : Sighting) (given : GivenLine) : Type 0 where
   pub counted : IsCpuCount cpus
   pub reached : Reached
@@ -45,27 +45,27 @@ pub record GivesBehind (cpus : ℕ) (lines : List (List ℕ)) (line : List ℕ) 
   pub tells : read_line line ≡ Ok (Some sighting)
   pub gives : given_of cpus reached line ≡ Ok given
 
--- the number of the task that runs on a processor, if one does
+-- the number of the running task of a processor, or None
 abbrev pub runner : Tasks → ℕ → Option Pid
 runner tasks cpu = option_map (λ (e : ℕ × Task). let pid : Pid = record { 0 = e.0 } in pid) (running_on tasks cpu)
 
--- After a line of a switch its processor runs the next task, or none.
+-- After the line of a switch, its processor runs the next task, or none.
 abbrev pub SwitchRunsNext : Type 0
 SwitchRunsNext =
     (cpus : ℕ) (lines : List (List ℕ)) (line : List ℕ) (at : ℕ) (cpu : Cpu) (previous next : Option Pid) (how : How) (given : GivenLine)
     → GivesBehind cpus lines line (record { at = at; seen = seen.Switch cpu previous next how }) given
     → runner given.reached.world.tasks cpu.0 ≡ next
 
--- After a line of a wakeup its task is live, and doesn't sleep.
+-- After the line of a wakeup, its task is live and isn't blocked.
 abbrev pub WakeupWakes : Type 0
 WakeupWakes = (cpus : ℕ) (lines : List (List ℕ)) (line : List ℕ) (at : ℕ) (pid : Pid) (cpu : Cpu) (given : GivenLine)
     → GivesBehind cpus lines line (record { at = at; seen = seen.Wakeup pid cpu }) given
     → is_some_and (task_of given.reached.world.tasks pid.0) (λ task. is_active task.mode) ≡ true
 
--- A whole line of a text that isn't refused, behind these lines, gives some of the events that are
--- written: those before them make the world that the lines reach, and with them these make the
--- world behind the line. So what is said of a line's world is said of the world after a front of
--- the events that are written.
+-- A complete line after these lines, in a text that isn't rejected, has its own part of the written
+-- events: the events before them lead to the world that the earlier lines reach, and together with
+-- them to the world after the line. So the laws of a line's world hold for the world after a prefix
+-- of the written events.
 pub record IsWritten (cpus : ℕ) (lines : List (List ℕ)) (line : List ℕ) (events : List Event) : Type 0 where
   pub front : List Event
   pub behind : List Event
@@ -77,8 +77,7 @@ pub record IsWritten (cpus : ℕ) (lines : List (List ℕ)) (line : List ℕ) (e
   pub there : reached.world ≡ after front
   pub world : given.reached.world ≡ after (front ++ given.events)
 
--- So it is of each line of a text that isn't refused: of each part of it that stands before a
--- newline.
+-- This holds for each line of a text that isn't rejected: each part of it before a newline.
 abbrev pub LinesAreWritten : Type 0
 LinesAreWritten = (cpus : ℕ) (bytes : List ℕ) (events : List Event) (lines more : List (List ℕ)) (line : List ℕ)
     → import_of cpus bytes ≡ Ok events → parts_at 10 bytes ≡ lines ++ line ∷ more → more ≢ []

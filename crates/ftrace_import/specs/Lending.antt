@@ -1,4 +1,4 @@
--- The events of an import as they are lent, one by one.
+-- An iterator that lends the events of an import.
 use Rattle.std.specs.Prelude.{◌≡◌, ℕ, ◌+◌, ◌≤◌, List, [], ◌∷◌, length, drop, Bool, true, false}
 use Rattle.psi_base.specs.declared.event.Act.{Act}
 use Rattle.psi_base.specs.declared.event.Cpu.{Cpu}
@@ -8,32 +8,31 @@ use Rattle.import_spec.specs.Events.{made}
 use Rattle.ftrace_import.specs.declared.taking.Gathering.{Gathering}
 use Rattle.ftrace_import.specs.Gathers.{whole_events}
 
--- an import as its events are lent: the one that it stands at, which means nothing before the
--- first, and those that are left behind it, the end among them
+-- an import whose events are lent one by one: the current event, which means nothing before the
+-- first, and the remaining ones, including the end
 pub record Lending : Type 0 where
   pub event : Event
   pub left : List Event
 
--- which of two events is the one that is lent: what makes a task, or any other
+-- the lent one of two events: one that creates a task, or any other
 abbrev pub shown : Bool → Event → Event → Event
 shown true making other = making
 shown false making other = other
 
--- an import of which so many events were lent
+-- an import after `at` events were lent
 abbrev pub lending : Gathering → ℕ → Bool → Event → Event → Lending
 lending g at makes making other = record { event = shown makes making other; left = drop at (whole_events g) }
 
--- it goes on to the next event, or there is none
+-- it advances to the next event, or there is none
 abbrev pub GoesOn : Lending → Lending → Bool → Type 0
 GoesOn old new true = old.left ≡ new.event ∷ new.left
 GoesOn old new false = (old.left ≡ []) × (new.left ≡ [])
 
--- an act makes a task in the root group
+-- an act creates a task in the root group
 abbrev pub IsMade : Act → Type 0
 IsMade what = (pid : Pid) × (cpu : Cpu) × (what ≡ made pid cpu)
 
--- No more were lent than there are, and the event that is lent where a task is made makes one in
--- the root group.
+-- No more events were lent than there are, and `making` creates a task in the root group.
 pub record IsLending (g : Gathering) (at : ℕ) (making : Event) : Type 0 where
   pub place : at ≤ length g.kept.items + 1
   pub makes : IsMade making.act

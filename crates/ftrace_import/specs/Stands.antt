@@ -1,4 +1,4 @@
--- What holds while a text is imported.
+-- The invariant of an import.
 use Rattle.std.specs.Prelude.{◌≡◌, ℕ, ◌+◌, ◌≤◌, List, [], ◌∷◌, true, false, Option, IfSome, is_some}
 use Rattle.psi_base.specs.declared.event.Event.{Event}
 use Rattle.psi_base.specs.declared.event.How.{How}
@@ -14,7 +14,7 @@ use Rattle.import_spec.specs.declared.seen.Seen.{Seen}
 use Rattle.import_spec.specs.declared.seen.Seen.TheVariants as seen
 use Rattle.import_spec.specs.Events.{Reached, default_tick, latest_moment, most_imported}
 
--- what a trace of an import can name
+-- the limits of an imported trace
 abbrev pub limits : ℕ → Limits
 limits cpus = limits_of default_tick cpus
 
@@ -22,8 +22,8 @@ limits cpus = limits_of default_tick cpus
 abbrev pub IsCalm : Tasks → Type 0
 IsCalm tasks = (q : ℕ) → is_some_and (task_of tasks q) (λ t. t.stalled) ≡ false
 
--- The world of an import, in which so many events may still be written at a moment (ns): it is
--- legal, no task is in a stall, the root is the only group, and the trace goes on.
+-- The world of an import with room for `room` more events at a time (ns): it is legal, no task is
+-- in a stall, the root is the only group, and the trace hasn't ended.
 pub record Stands (cpus at room : ℕ) (w : World) : Type 0 where
   pub counted : IsCpuCount cpus
   pub legal : IsLegalWorld (limits cpus) w
@@ -34,28 +34,28 @@ pub record Stands (cpus at room : ℕ) (w : World) : Type 0 where
   pub early : at ≤ latest_moment
   pub few : w.lines + room ≤ most_imported
 
--- an import that has come so far
+-- an import that has come this far
 abbrev pub IsUnderWay : ℕ → Reached → Type 0
 IsUnderWay cpus reached = Stands cpus reached.moment 0 reached.world
 
--- events may be spelled, by verbs of the first version, and are legal in their turn
+-- events can be spelled, with verbs of the first version, and are legal in their turn
 pub record Run (cpus : ℕ) (w : World) (events : List Event) : Type 0 where
   pub fit : AllFit events
   pub known : AreKnown (verbs_of One) events
   pub legal : AreLegal (limits cpus) w events
 
--- events that go on from a world to the end
+-- events that continue from a world to the end
 pub record Ends (cpus : ℕ) (w : World) (events : List Event) : Type 0 where
   pub run : Run cpus w events
   pub ends : EndsLast events
 
 -- ---- what lines tell
 
--- a way in which a task that runs makes way
+-- a way in which a running task may leave its processor
 abbrev pub Leaves : How → Type 0
 Leaves how = (o : Option (ℕ × Task)) → is_some o ≡ true → is_wrong how o ≡ false
 
--- what a line tells is in range
+-- the values of a line are in range
 abbrev pub IsSeen : Seen → Type 0
 IsSeen (seen.Switch cpu previous next how) = IfSome next IsPid × Leaves how
 IsSeen (seen.Wakeup pid cpu) = IsPid pid

@@ -1,4 +1,4 @@
-//! What a line does, as it is kept until all lines are read.
+//! The acts of a line in a compact form, stored until all lines are read.
 ghost use Rattle.std.specs.Prelude.{◌≡◌, ◌∷◌, [], IfOk};
 ghost use Rattle.import_spec.specs.Events.{acts_of, migration_acts, next_acts, runs_there, switch_acts, turn_acts, wakeup_acts};
 ghost use Rattle.std.specs.Prelude.{None};
@@ -10,10 +10,10 @@ use psi_spec::{Mode, Task};
 use std::alloc::Global;
 use task_table::Table;
 
-/// An act of an import. All tasks are in the root group, so that no path need be kept.
+/// An act of an import. All tasks are in the root group, so no path is stored.
 #[derive(Clone, Copy)]
 pub(crate) enum Deed {
-    /// A task is made.
+    /// A task is created.
     Fork {
         pid: Pid,
         cpu: Cpu,
@@ -29,22 +29,22 @@ pub(crate) enum Deed {
         next: Option<Pid>,
         how: How,
     },
-    /// A task goes to a processor.
+    /// A task moves to a processor.
     Migrate {
         pid: Pid,
         cpu: Cpu,
     },
 }
 
-/// An event of an import, in a third of the room of an [`Event`].
+/// An event of an import, in a third of the size of an [`Event`].
 #[derive(Clone, Copy)]
 pub(crate) struct Kept {
-    /// Its moment (ns).
+    /// Its time (ns).
     pub(crate) at: Ns,
     pub(crate) deed: Deed,
 }
 
-/// The event that was kept.
+/// The event that a stored one represents.
 pub(crate) fn event_of(alloc: Global, kept: Kept) -> Result<Event, NoMemory>
     ensures { IfOk result (λ event. event ≡ event_by kept) }
 {
@@ -60,7 +60,7 @@ pub(crate) fn event_of(alloc: Global, kept: Kept) -> Result<Event, NoMemory>
     Ok(Event { at: kept.at, act })
 }
 
-/// Keeps one deed more.
+/// Appends one deed.
 #[tactic(auto, using(crate::proofs::Keeping::one_kept))]
 fn keep(kept: &mut Vec<Kept>, at: Ns, deed: Deed) -> Result<(), NoMemory>
     ensures { Adds kept.old.items kept.new.items result at (act_by deed ∷ []) }
@@ -69,7 +69,7 @@ fn keep(kept: &mut Vec<Kept>, at: Ns, deed: Deed) -> Result<(), NoMemory>
     Ok(())
 }
 
-/// Keeps no deed.
+/// Appends no deed.
 #[tactic(auto, using(crate::proofs::Keeping::none_kept))]
 fn keep_none(kept: &mut Vec<Kept>, at: Ns) -> Result<(), NoMemory>
     ensures { Adds kept.old.items kept.new.items result at [] }
@@ -79,7 +79,7 @@ fn keep_none(kept: &mut Vec<Kept>, at: Ns) -> Result<(), NoMemory>
     Ok(())
 }
 
-/// What a wakeup does.
+/// Appends the deeds of a wakeup.
 fn keep_wakeup(
     kept: &mut Vec<Kept>,
     at: Ns,
@@ -98,7 +98,7 @@ fn keep_wakeup(
     }
 }
 
-/// What a migration does.
+/// Appends the deeds of a migration.
 fn keep_migration(
     kept: &mut Vec<Kept>,
     at: Ns,
@@ -116,7 +116,7 @@ fn keep_migration(
     }
 }
 
-/// A task that runs on a processor is preempted, and goes to another.
+/// Preempts the running task of a processor, and moves it to another processor.
 #[tactic(auto, using(crate::proofs::Keeping::two_kept))]
 fn keep_pulled(kept: &mut Vec<Kept>, at: Ns, pid: Pid, cpu: Cpu, from: Cpu) -> Result<(), NoMemory>
     ensures { Adds kept.old.items kept.new.items result at
@@ -134,7 +134,7 @@ fn keep_pulled(kept: &mut Vec<Kept>, at: Ns, pid: Pid, cpu: Cpu, from: Cpu) -> R
     keep(kept, at, Deed::Migrate { pid, cpu })
 }
 
-/// What brings the next task to a processor, where it is to run, if there is one.
+/// Brings the next task, if any, to the processor on which it is to run.
 fn keep_next(
     table: &Table,
     kept: &mut Vec<Kept>,
@@ -159,7 +159,7 @@ fn keep_next(
     }
 }
 
-/// A task, if one is named, runs on a processor.
+/// Whether a task is named and is running on a processor.
 fn runs_there(table: &Table, cpu: Cpu, pid: Option<Pid>) -> bool
     ensures { result ≡ runs_there table.now.world.tasks cpu pid }
 {
@@ -172,7 +172,7 @@ fn runs_there(table: &Table, cpu: Cpu, pid: Option<Pid>) -> bool
     }
 }
 
-/// The task that runs on a processor makes way for the next.
+/// The running task of a processor leaves, and the next one starts.
 #[tactic(auto, using(crate::proofs::Keeping::some_part))]
 fn keep_turn(
     table: &Table,
@@ -214,7 +214,7 @@ fn keep_turn(
     }
 }
 
-/// What a switch does.
+/// Appends the deeds of a switch.
 #[tactic(auto, using(crate::proofs::Keeping::both_kept))]
 fn keep_switch(
     table: &Table,
@@ -235,7 +235,7 @@ fn keep_switch(
     keep_turn(table, kept, at, cpu, previous, next, how)
 }
 
-/// Keeps what a line does at a moment (ns), in the world of the table.
+/// Appends the deeds of a line at a time (ns), in the world of the table.
 pub(crate) fn keep_seen(
     table: &Table,
     kept: &mut Vec<Kept>,

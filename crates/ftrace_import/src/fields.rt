@@ -8,10 +8,10 @@ ghost use Rattle.ftrace_import.specs.Bytes.{IsLastBracket};
 use crate::places::{behind_last, count_before, count_digits};
 use psi_base::{How, Ns, Pid, read_digits};
 
-/// How many ns a second has.
+/// A second in ns.
 const SECOND: Ns = 1_000_000_000;
 
-/// The number that at most so many digits write.
+/// The number that 1 to `most` digits write, or `None`.
 fn number_in(digits: &[u8], most: usize) -> Option<u64>
     ensures value { result ≡ short_number most digits.now }
     ensures below { IfSome result (λ number. number < 10 ^ most) }
@@ -23,7 +23,7 @@ fn number_in(digits: &[u8], most: usize) -> Option<u64>
     read_digits(digits)
 }
 
-/// The unit (ns) of a fraction of a second of which so many digits are missing of nine.
+/// The unit (ns) of a fraction of a second with `missing` fewer digits than nine.
 fn unit(missing: usize) -> Ns
     requires { missing ≤ 8 }
     ensures unit { result ≡ 10 ^ missing }
@@ -55,7 +55,7 @@ fn time_of(word: &[u8]) -> Option<Ns>
     Some(seconds * SECOND + fraction * unit(9 - digits.len()))
 }
 
-/// What stands behind the byte at a place, and nothing where the bytes end there.
+/// The bytes after the byte at a place; empty if the bytes end there.
 fn behind(bytes: &[u8], at: usize) -> &[u8]
     requires { at ≤ length bytes.now }
     ensures { result.now ≡ drop (at + 1) bytes.now }
@@ -67,7 +67,7 @@ fn behind(bytes: &[u8], at: usize) -> &[u8]
     }
 }
 
-/// The time (ns) of a head.
+/// The time (ns) in a head.
 #[tactic(auto, unfolding(import_spec::specs::Tails::time_in))]
 pub(crate) fn time_in(head: &[u8]) -> Option<Ns>
     ensures { result ≡ time_in head.now }
@@ -76,7 +76,8 @@ pub(crate) fn time_in(head: &[u8]) -> Option<Ns>
     time_of(word)
 }
 
-/// How many digits stand in brackets at the start of these bytes, of which there is one at least.
+/// The number of digits in brackets at the start of these bytes; `None` unless there is at least
+/// one.
 #[inline(always)]
 #[tactic(auto, unfolding(import_spec::specs::Tails::is_bracketed))]
 fn digits_in_brackets(bytes: &[u8]) -> Option<usize>
@@ -100,7 +101,7 @@ fn digits_in_brackets(bytes: &[u8]) -> Option<usize>
 /// Digits in brackets.
 #[derive(Clone, Copy)]
 struct Bracketed {
-    /// Where the first of them stands.
+    /// The place of the first digit.
     start: usize,
     count: usize,
 }
@@ -123,7 +124,7 @@ fn last_in_brackets(bytes: &[u8]) -> Option<Bracketed>
     None
 }
 
-/// The processor of a head.
+/// The processor in a head.
 #[tactic(auto, unfolding(import_spec::specs::Tails::cpu_in))]
 pub(crate) fn cpu_in(head: &[u8]) -> Option<u32>
     ensures { result ≡ cpu_in head.now }
@@ -148,14 +149,14 @@ pub(crate) fn field_in(part: &[u8], key: &[u8]) -> Option<u32>
     }
 }
 
-/// The task with a number, where that isn't 0.
+/// The task with a number, or `None` for 0.
 pub(crate) fn pid_in(number: u32) -> Option<Pid>
     ensures { result ≡ pid_in number }
 {
     if number == 0 { None } else { Some(Pid(number)) }
 }
 
-/// How a task leaves, by its state.
+/// How a task leaves, according to its state.
 #[tactic(auto, unfolding(import_spec::specs::Tails::how_in))]
 pub(crate) fn how_in(state: &[u8]) -> Option<How>
     ensures { result ≡ how_in state.now }

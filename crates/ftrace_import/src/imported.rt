@@ -1,4 +1,4 @@
-//! The events of an import, one by one.
+//! An iterator that lends the events of an import.
 ghost use Rattle.std.specs.Prelude.{◌≡◌, ◌+◌, ◌≤◌, ℕ, List, false, IfOk, IsErrOf, MatchResult, Some, None, Ok};
 ghost use Rattle.outside.specs.Outside.{told, Lacks, counts_of};
 ghost use Rattle.outside.specs.Reads.{ReadsFile};
@@ -19,18 +19,18 @@ use psi_base::{Act, Cpu, Event, NoMemory, Ns, Path, Pid};
 use std::alloc::Global;
 use std::marker::Model;
 
-/// The events of an import, with the end, one by one: contracts see the one that it stands at and
-/// the list of those that are left. Each is lent until it goes on, so that none takes memory.
+/// The events of an import, including the end, lent one by one. Contracts see the current event and
+/// the list of the remaining ones. Each event is lent until the next call, so none is allocated.
 #[derive(Drop)]
 pub struct Imported {
     gathering: Gathering,
-    /// How many events were lent.
+    /// The number of events lent so far.
     at: usize,
-    /// Whether `making` is lent, or `other`.
+    /// The current event is `making`, not `other`.
     makes: bool,
-    /// What is lent where a task is made: its path stays the root.
+    /// The event that is lent if a task is created: its path is always the root's.
     making: Event,
-    /// What is lent of any other event.
+    /// The event that is lent otherwise.
     other: Event,
 }
 
@@ -44,7 +44,7 @@ impl Model for Imported {
     ghost invariant = { λ i. IsLending i.gathering i.at i.making };
 }
 
-/// Has an event that makes a task in the root group make another, at another moment (ns).
+/// Replaces the time (ns) and the task of an event that creates a task in the root group.
 fn make_anew(making: &mut Event, at: Ns, pid: Pid, cpu: Cpu)
     requires { IsMade making.old.act }
     ensures moment { making.new.at ≡ at }
@@ -64,7 +64,7 @@ fn make_anew(making: &mut Event, at: Ns, pid: Pid, cpu: Cpu)
     }
 }
 
-/// Makes another event anew.
+/// Replaces the other event. Always returns false, which selects it.
 fn tell_other(other: &mut Event, at: Ns, act: Act) -> bool
     ensures event { other.new ≡ record { at = at; act = act } }
     ensures result { result ≡ false }
@@ -73,8 +73,8 @@ fn tell_other(other: &mut Event, at: Ns, act: Act) -> bool
     false
 }
 
-/// Makes one of two events the one that was kept: the first where a task is made, and else the
-/// other.
+/// Writes the stored event into one of two events: `making` if it creates a task, otherwise
+/// `other`. Returns whether it is `making`.
 fn tell(kept: Kept, making: &mut Event, other: &mut Event) -> bool
     requires { IsMade making.old.act }
     ensures told { shown result making.new other.new ≡ event_by kept }
@@ -94,7 +94,7 @@ fn tell(kept: Kept, making: &mut Event, other: &mut Event) -> bool
 }
 
 impl Imported {
-    /// The events of what was gathered, with the end.
+    /// The collected events, including the end, before the first is lent.
     fn make(alloc: Global, gathering: Gathering) -> Result<Imported, NoMemory>
         ensures { IfOk result (λ events. events.left ≡ whole_events gathering) }
     {
@@ -119,7 +119,7 @@ impl Imported {
         })
     }
 
-    /// Goes on to the next event. False behind the end. It takes no memory.
+    /// Advances to the next event. Returns false after the end. Does not allocate.
     pub fn advance(&mut self) -> bool
         ensures { GoesOn self.old self.new result }
     {
@@ -138,7 +138,7 @@ impl Imported {
         true
     }
 
-    /// The event that it stands at.
+    /// The current event.
     pub fn event(&self) -> &Event
         ensures { result.now ≡ self.now.event }
     {
@@ -150,9 +150,8 @@ impl Imported {
     }
 }
 
-/// Imports a file's text of ftrace, whose events are then lent one by one. `Refused` with the first
-/// refused line and its first cause. It takes all memory that the events need, about 24 bytes for
-/// each.
+/// Imports a file's ftrace text, and lends its events one by one. Fails with `Refused` at the first
+/// rejected line, with its first cause. Allocates about 24 bytes for each event.
 pub fn read_import<S: Shelf>(
     alloc: Global,
     shelf: &mut S,

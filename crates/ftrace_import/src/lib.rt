@@ -1,4 +1,7 @@
-//! Import of ftrace text.
+//! The import of ftrace text: parses its marked lines (switches, wakeups and migrations), and turns
+//! them into the events of a trace.
+//!
+//! It doesn't write the trace, and knows no groups: all tasks are in the root group.
 #![tactic(auto)]
 
 mod deeds;

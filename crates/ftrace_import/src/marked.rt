@@ -1,4 +1,4 @@
-//! Which lines are marked, and what each of these tells.
+//! Which lines are marked, and their contents.
 ghost use Rattle.std.specs.Prelude.{◌≡◌, ◌≤◌, IfSome, IsNone, None, length, option_map};
 ghost use Rattle.import_spec.specs.Places.{first_place};
 ghost use Rattle.import_spec.specs.Marked.{begins_marked, if_formed, mark_of, migration_in, read_line, seen_in, sighting_of, switch_in, wakeup_in};
@@ -10,12 +10,12 @@ use import_spec::{ImportCause, LineKind, Seen, Sighting};
 use memchr::memchr;
 use psi_base::Cpu;
 
-/// A mark, of which only its kind and its size are known.
+/// A mark by its kind and size, without its text.
 #[derive(Clone, Copy)]
 struct ShortMark {
-    /// Which lines it marks.
+    /// The kind of line that it marks.
     kind: LineKind,
-    /// How many bytes it has.
+    /// The number of its bytes.
     size: usize,
 }
 
@@ -25,7 +25,7 @@ fn mark(kind: LineKind, size: usize) -> ShortMark
     ShortMark { kind, size }
 }
 
-/// The mark with which bytes begin.
+/// The mark that the bytes begin with, or `None`.
 #[tactic(auto, unfolding(import_spec::specs::Marked::mark_of))]
 fn mark_of(bytes: &[u8]) -> Option<ShortMark>
     ensures mark { result ≡ option_map mark_parts (mark_of bytes.now) }
@@ -44,14 +44,14 @@ fn mark_of(bytes: &[u8]) -> Option<ShortMark>
     }
 }
 
-/// The mark of a line, and where it begins.
+/// The mark of a line, and its place.
 #[derive(Clone, Copy)]
 struct Found {
     at: usize,
     mark: ShortMark,
 }
 
-/// The leftmost mark of a line. Each begins with a colon.
+/// The leftmost mark of a line. Every mark begins with a colon.
 fn first_mark(line: &[u8]) -> Option<Found>
     ensures none { IsNone result → first_place begins_marked line.now ≡ None }
     ensures some { IfSome result (λ found. IsFirstMark line.now found.at found.mark) }
@@ -67,7 +67,7 @@ fn first_mark(line: &[u8]) -> Option<Found>
     None
 }
 
-/// A switch on a processor, by its tail.
+/// The switch on a processor that a tail reports.
 #[tactic(auto, unfolding(import_spec::specs::Marked::switch_in))]
 fn switch_in(cpu: u32, tail: &[u8]) -> Option<Seen>
     ensures { result ≡ switch_in cpu tail.now }
@@ -86,7 +86,7 @@ fn switch_in(cpu: u32, tail: &[u8]) -> Option<Seen>
     })
 }
 
-/// A wakeup, by its tail.
+/// The wakeup that a tail reports.
 #[tactic(auto, unfolding(import_spec::specs::Marked::wakeup_in))]
 fn wakeup_in(tail: &[u8]) -> Option<Seen>
     ensures { result ≡ wakeup_in tail.now }
@@ -100,7 +100,7 @@ fn wakeup_in(tail: &[u8]) -> Option<Seen>
     })
 }
 
-/// A migration, by its tail.
+/// The migration that a tail reports.
 #[tactic(auto, unfolding(import_spec::specs::Marked::migration_in))]
 fn migration_in(tail: &[u8]) -> Option<Seen>
     ensures { result ≡ migration_in tail.now }
@@ -114,7 +114,7 @@ fn migration_in(tail: &[u8]) -> Option<Seen>
     })
 }
 
-/// What a tail tells, of a line of this kind on this processor.
+/// The contents of a tail, for a line of this kind on this processor.
 fn seen_in(kind: LineKind, cpu: u32, tail: &[u8]) -> Option<Seen>
     ensures { result ≡ seen_in kind cpu tail.now }
 {
@@ -125,7 +125,7 @@ fn seen_in(kind: LineKind, cpu: u32, tail: &[u8]) -> Option<Seen>
     }
 }
 
-/// What a marked line tells and when.
+/// The time and the contents of a marked line.
 #[tactic(auto, unfolding(import_spec::specs::Marked::sighting_of))]
 fn sighting_of(kind: LineKind, head: &[u8], tail: &[u8]) -> Option<Sighting>
     ensures { result ≡ sighting_of (record { kind = kind; head = head.now; tail = tail.now }) }
@@ -136,7 +136,7 @@ fn sighting_of(kind: LineKind, head: &[u8], tail: &[u8]) -> Option<Sighting>
     Some(Sighting { at, seen })
 }
 
-/// What a line tells and when that has a mark.
+/// The time and the contents of a line with this mark, or the cause against it.
 fn read_marked(line: &[u8], found: Found) -> Result<Option<Sighting>, ImportCause>
     requires { IsFirstMark line.now found.at found.mark }
     ensures { result ≡ if_formed (sighting_of (parted line.now found.at found.mark)) }
@@ -148,7 +148,8 @@ fn read_marked(line: &[u8], found: Found) -> Result<Option<Sighting>, ImportCaus
     }
 }
 
-/// What a line tells and when, if it is marked. `BadLine` where it is and isn't of the form.
+/// The time and the contents of a line; `None` if it isn't marked. `BadLine` if it is marked but
+/// malformed.
 pub(crate) fn read_line(line: &[u8]) -> Result<Option<Sighting>, ImportCause>
     ensures { result ≡ read_line line.now }
 {

@@ -1,4 +1,4 @@
-//! Where something stands in bytes.
+//! Searches in bytes.
 ghost use Rattle.std.specs.Prelude.{◌≡◌, ◌+◌, ◌<◌, ◌≤◌, IfSome, length};
 ghost use Rattle.std.specs.List.{position_or_len, prefix_len};
 ghost use Rattle.std.specs.Char.{is_ascii_digit};
@@ -7,7 +7,7 @@ ghost use Rattle.ftrace_import.specs.Bytes.{is_at, shown};
 
 use memchr::memrchr;
 
-/// The last place of a text of one byte or more.
+/// The last place of a non-empty text.
 #[inline(always)]
 pub(crate) fn last_text(bytes: &[u8], text: &[u8]) -> Option<usize>
     requires some { 0 < length text.now }
@@ -24,7 +24,7 @@ pub(crate) fn last_text(bytes: &[u8], text: &[u8]) -> Option<usize>
     None
 }
 
-/// What stands behind the last place of a text.
+/// The bytes after the last place of a text.
 #[inline(always)]
 pub(crate) fn behind_last<'a>(bytes: &'a [u8], text: &[u8]) -> Option<&'a [u8]>
     requires some { 0 < length text.now }
@@ -36,7 +36,7 @@ pub(crate) fn behind_last<'a>(bytes: &'a [u8], text: &[u8]) -> Option<&'a [u8]>
     }
 }
 
-/// How many bytes stand before the first of this value; all, where there is none.
+/// The number of bytes before the first one with this value; all if there is none.
 #[inline(always)]
 #[tactic(auto, using(crate::proofs::Bytes::runs))]
 pub(crate) fn count_before(bytes: &[u8], byte: u8) -> usize
@@ -53,7 +53,7 @@ pub(crate) fn count_before(bytes: &[u8], byte: u8) -> usize
     count
 }
 
-/// How many digits the bytes begin with.
+/// The number of leading digits.
 #[inline(always)]
 #[tactic(auto, using(crate::proofs::Bytes::runs))]
 pub(crate) fn count_digits(bytes: &[u8]) -> usize

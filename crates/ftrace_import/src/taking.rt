@@ -1,4 +1,4 @@
-//! The events of a text, gathered line by line.
+//! Collects the events of a text, line by line.
 ghost use Rattle.std.specs.Prelude.{◌≡◌, ◌-◌, ◌≤◌, [], IfOk, OnOk, None, drop, is_some, length, max, unwrap_or};
 ghost use Rattle.psi_spec.specs.Names.{names};
 ghost use Rattle.psi_spec.specs.Refusal.{AreLegal, cause_of};
@@ -16,25 +16,25 @@ use psi_base::{Cpu, Fault, NoMemory, Ns};
 use std::alloc::Global;
 use task_table::Table;
 
-/// The last moment (ns) that a trace may reach at the default tick.
+/// The latest time (ns) of a trace with the default tick.
 const LATEST: Ns = 2_000_000_000_000_000;
 
-/// How many events may stand before the end.
+/// The maximum number of events before the end.
 const MOST_EVENTS: usize = 3_999_999;
 
-/// An import that has come so far.
+/// The state of an import after the lines so far.
 #[derive(Drop)]
 pub struct Gathering {
     alloc: Global,
-    /// How many processors the machine has.
+    /// The number of processors.
     pub(crate) cpus: u32,
-    /// The world after all events that are kept.
+    /// The world after all stored events.
     table: Table,
     /// The events, without the end.
     pub(crate) kept: Vec<Kept>,
-    /// The time (ns) of the first marked line, if there was one.
+    /// The time (ns) of the first marked line, if any.
     first: Option<Ns>,
-    /// The moment (ns) of the last marked line.
+    /// The trace time (ns) of the last marked line.
     pub(crate) moment: Ns,
 }
 
@@ -55,7 +55,7 @@ pub(crate) fn start(alloc: Global, cpus: u32) -> Result<Gathering, NoMemory>
     })
 }
 
-/// A deed makes a task.
+/// Whether a deed creates a task.
 fn makes(deed: Deed) -> bool
     ensures { result ≡ is_some (names (act_by deed)).new_task }
 {
@@ -65,7 +65,7 @@ fn makes(deed: Deed) -> bool
     }
 }
 
-/// One of these deeds makes a task.
+/// Whether one of these deeds creates a task.
 fn make_task(kept: &[Kept]) -> bool
     ensures { result ≡ make_task (acts_in kept.now) }
 {
@@ -79,7 +79,7 @@ fn make_task(kept: &[Kept]) -> bool
     false
 }
 
-/// The first cause against a line that does this at a moment (ns), in the world of the table.
+/// The first cause against a line with these deeds at a trace time (ns), in the world of the table.
 fn acts_cause(table: &Table, cpus: u32, moment: Ns, cpu: Cpu, kept: &[Kept]) -> Option<ImportCause>
     ensures { result ≡ acts_cause cpus table.now.world moment cpu (acts_in kept.now) }
 {
@@ -96,7 +96,6 @@ fn acts_cause(table: &Table, cpus: u32, moment: Ns, cpu: Cpu, kept: &[Kept]) -> 
     }
 }
 
-/// Plays a legal event.
 fn play_one(alloc: Global, table: &mut Table, kept: Kept) -> Result<(), NoMemory>
     requires { cause_of table.old.limits table.old.world (event_by kept) ≡ None }
     ensures limits { OnOk result (table.new.limits ≡ table.old.limits) }
@@ -111,7 +110,7 @@ fn play_one(alloc: Global, table: &mut Table, kept: Kept) -> Result<(), NoMemory
     }
 }
 
-/// Plays events that are legal in their turn.
+/// Plays events, each of which is legal in its turn.
 fn play_all(alloc: Global, table: &mut Table, kept: &[Kept]) -> Result<(), NoMemory>
     requires { AreLegal table.old.limits table.old.world (events_by kept.now) }
     ensures limits { OnOk result (table.new.limits ≡ table.old.limits) }
@@ -126,7 +125,7 @@ fn play_all(alloc: Global, table: &mut Table, kept: &[Kept]) -> Result<(), NoMem
     Ok(())
 }
 
-/// The processor that has to be there.
+/// The processor that must exist.
 fn needed_cpu(seen: Seen) -> Cpu
     ensures { result ≡ needed_cpu seen }
 {
@@ -135,7 +134,7 @@ fn needed_cpu(seen: Seen) -> Cpu
     }
 }
 
-/// A time, where there is one, or else another (ns).
+/// The first time (ns) if there is one, and otherwise `at`.
 fn time_or(first: Option<Ns>, at: Ns) -> Ns
     ensures { result ≡ unwrap_or first at }
 {
@@ -145,15 +144,15 @@ fn time_or(first: Option<Ns>, at: Ns) -> Ns
     }
 }
 
-/// The moment (ns) of a line at this time, where the first marked line was at another, and the last
-/// had this moment.
+/// The trace time (ns) of a line at `at`, if the first marked line was at `first` and the last
+/// one's trace time was `moment`.
 fn moment_of(first: Ns, moment: Ns, at: Ns) -> Ns
     ensures { result ≡ max moment (at - first) }
 {
     moment.max(at.saturating_sub(first))
 }
 
-/// What was kept from a place on.
+/// The stored events from a place on.
 fn kept_from(kept: &Vec<Kept>, before: usize) -> &[Kept]
     requires { before ≤ length kept.now.items }
     ensures { result.now ≡ drop before kept.now.items }
@@ -161,7 +160,7 @@ fn kept_from(kept: &Vec<Kept>, before: usize) -> &[Kept]
     &kept[before..]
 }
 
-/// Takes what a line tells: keeps its events, and plays them.
+/// Takes the contents of a line: stores its events, and plays them.
 fn take_sighting(g: &mut Gathering, sighting: Sighting) -> Result<(), Fault<ImportCause>>
     requires so { IsGathered g.old }
     requires seen { IsSeen sighting.seen }
@@ -183,7 +182,7 @@ fn take_sighting(g: &mut Gathering, sighting: Sighting) -> Result<(), Fault<Impo
     Ok(())
 }
 
-/// Takes a line: keeps its events, if it is marked. Where it is refused, the import isn't used
+/// Takes a line: stores its events, if it is marked. If it is rejected, the import isn't used
 /// again.
 pub(crate) fn take_line(g: &mut Gathering, line: &[u8]) -> Result<(), Fault<ImportCause>>
     requires { IsGathered g.old }

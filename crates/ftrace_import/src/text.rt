@@ -1,4 +1,4 @@
-//! The import of a file's text.
+//! The import of a file.
 ghost use Rattle.std.specs.Prelude.{◌≡◌, ◌+◌, ◌≤◌, ℕ, List, [], IfOk, IsErrOf, MatchResult, Some, None, Ok, true, false};
 ghost use Rattle.outside.specs.Outside.{told, Lacks, counts_of};
 ghost use Rattle.outside.specs.Reads.{ReadsFile};
@@ -18,19 +18,19 @@ use psi_base::{Act, Event, Fault, NoMemory};
 use psi_lines::{LineFault, Lines};
 use std::alloc::Global;
 
-/// How many lines are read at most, and none may stand behind them.
+/// The maximum number of lines; nothing may follow them.
 const MOST_LINES: u32 = 16_000_000;
 
-/// Why there is no import.
+/// Why an import fails.
 #[derive(Clone, Copy, Debug, PartialEq, Eq)]
 pub enum ImportFault {
-    /// A line is refused: its number, from 1, and the first cause against it.
+    /// A line is rejected: its number, from 1, and the first cause against it.
     Refused { line: u32, cause: ImportCause },
     /// The shelf has no such name.
     NoFile,
     /// A read failed.
     ReadFault,
-    /// There was no memory.
+    /// Out of memory.
     NoMemory(NoMemory),
 }
 
@@ -45,7 +45,6 @@ impl From<NoMemory> for ImportFault {
     }
 }
 
-/// The fault of a line.
 fn fault_at(line: u32, fault: Fault<ImportCause>) -> ImportFault
     ensures { IsLineFault line fault result }
 {
@@ -55,7 +54,7 @@ fn fault_at(line: u32, fault: Fault<ImportCause>) -> ImportFault
     }
 }
 
-/// Why there is no import where a line isn't read.
+/// The fault of an import if a line can't be read.
 fn import_fault(fault: LineFault) -> ImportFault
     ensures { result ≡ import_fault fault }
 {
@@ -74,7 +73,7 @@ fn import_fault(fault: LineFault) -> ImportFault
     }
 }
 
-/// Looks behind the most lines, where nothing may stand.
+/// Checks that nothing follows the maximum number of lines.
 fn look_behind<S: Shelf>(
     g: &Gathering,
     lines: &mut Lines,
@@ -107,7 +106,7 @@ fn look_behind<S: Shelf>(
     }
 }
 
-/// Takes the next line. False where there is none.
+/// Takes the next line. Returns false if there is none.
 fn take_next<S: Shelf>(
     g: &mut Gathering,
     lines: &mut Lines,
@@ -141,7 +140,7 @@ fn take_next<S: Shelf>(
     }
 }
 
-/// Takes the next line, or looks behind the most lines.
+/// Takes the next line, or checks that nothing follows the maximum number of lines.
 fn next_step<S: Shelf>(
     g: &mut Gathering,
     lines: &mut Lines,
@@ -207,10 +206,11 @@ fn take_lines<S: Shelf>(
     }
 }
 
-/// Reads a file's text of ftrace, and keeps its events, on a machine with 1 to 64 processors. It
-/// reads 16,000,001 lines at most.
+/// Reads a file's ftrace text and stores its events, for a machine with 1 to 64 processors. It
+/// reads at most 16,000,001 lines.
 ///
-/// `NoFile` and `ReadFault` only where the shelf counted an absent name or a fault in this call.
+/// `NoFile` or `ReadFault` are returned only if the shelf counted an absent name or a fault in this
+/// call.
 pub fn gather<S: Shelf>(
     alloc: Global,
     shelf: &mut S,
@@ -239,10 +239,10 @@ pub fn gather<S: Shelf>(
     }
 }
 
-/// Imports a file's text of ftrace: its events, and the end. `Refused` with the first refused line
-/// and its first cause.
+/// Imports a file's ftrace text: its events, including the end. Fails with `Refused` at the first
+/// rejected line, with its first cause.
 ///
-/// The program writes its output from what [`gather`] keeps, which takes a third of the memory.
+/// The program writes its output from the result of [`gather`], which needs a third of the memory.
 pub fn import<S: Shelf>(
     alloc: Global,
     shelf: &mut S,
@@ -271,7 +271,7 @@ pub fn import<S: Shelf>(
     Ok(events)
 }
 
-/// All events of an import, with the end.
+/// All events of an import, including the end.
 fn all_events(alloc: Global, g: &Gathering) -> Result<Vec<Event>, NoMemory>
     ensures { IfOk result (λ events. events.items ≡ whole_events g.now) }
 {
