@@ -1,4 +1,4 @@
--- Where groups stand among those of a reading, and which of them stand right below another.
+-- The places of groups in a reading, and of the children of each group.
 use Rattle.std.specs.Prelude.{◌≡◌, ℕ, ◌<◌, ◌≤◌, List, [], ◌∷◌, ◌++◌, All, length, map, filter}
 use Rattle.std.specs.Prelude.{Bool, true, false, if◌then◌else◌, None, slice_index_or}
 use Rattle.psi_base.specs.declared.event.Preference.TheVariants.{Plain}
@@ -9,7 +9,7 @@ use Rattle.kill_spec.specs.Victims.{names_slot}
 
 -- ---- places
 
--- a group that stands at no place
+-- the group at a place that doesn't exist
 abbrev pub no_group : GroupReading
 no_group = record {
   slot = record { 0 = 0 };
@@ -29,23 +29,23 @@ group_at groups place = slice_index_or groups place no_group
 abbrev pub groups_at : List GroupReading → List ℕ → List GroupReading
 groups_at groups places = map (group_at groups) places
 
--- at each of these places stands a group
+-- each of these places has a group
 abbrev pub AreAmong : List GroupReading → List ℕ → Type 0
 AreAmong groups places = All (λ place. place < length groups) places
 
 -- ---- children
 
--- a group stands right below the one in a slot
+-- a group is a child of the one in a slot
 abbrev pub is_child : List GroupLife → ℕ → GroupReading → Bool
 is_child lives slot group = names_slot slot (slice_index_or (parents_of lives) group.slot.0 None)
 
--- how many groups are ever made right below the one in a slot
+-- the number of children that the group in a slot ever has
 abbrev pub child_count : List GroupLife → ℕ → ℕ
 child_count lives slot = length (filter (names_slot slot) (parents_of lives))
 
 -- ---- how they are kept
 
--- a list of places, and for how many there is room
+-- a list of places, and its capacity
 pub record PlacesView : Type 0 where
   pub places : List ℕ
   pub room : ℕ
@@ -53,7 +53,7 @@ pub record PlacesView : Type 0 where
 abbrev pub places_with : List ℕ → ℕ → PlacesView
 places_with places room = record { places = places; room = room }
 
--- a list has the places of those groups that pass a test, in order, and there is room for so many
+-- a list has the places of the groups that pass a test, in order, and a capacity of at least `room`
 pub record AreHeld (test : GroupReading → Bool) (groups : List GroupReading) (room : ℕ)
     (held : PlacesView) : Type 0 where
   pub passed : groups_at groups held.places ≡ filter test groups
@@ -65,15 +65,14 @@ abbrev pub AreBelow : List GroupLife → List GroupReading → List PlacesView �
 AreBelow lives groups below = (slot : ℕ) (d : PlacesView) → slot < length lives →
     AreHeld (is_child lives slot) groups (child_count lives slot) (slice_index_or below slot d)
 
--- what holds of the places that a reading keeps: those of all its groups, and of the children of
--- each
+-- the invariant of the places in a reading: those of all its groups, and of the children of each
 pub record ArePlaces (lives : List GroupLife) (groups : List GroupReading) (all : PlacesView)
     (below : List PlacesView) : Type 0 where
   pub each : AreHeld (λ group. true) groups (length lives) all
   pub slots : length below ≡ length lives
   pub children : AreBelow lives groups below
 
--- a list got one place more, if it was to get it
+-- a place was appended to a list if `is_placed`
 pub record HasPlaced (is_placed : Bool) (place : ℕ) (old new : PlacesView) : Type 0 where
   pub places : new.places ≡ (if is_placed then old.places ++ place ∷ [] else old.places)
   pub room : old.room ≤ new.room

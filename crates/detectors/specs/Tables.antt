@@ -1,5 +1,5 @@
--- What a detector makes of a reading by its own tables: which groups it has as matched, and their
--- last counts of scans.
+-- What a detector computes from a reading and its own tables: the groups that match, and their last
+-- scan counts.
 use Rattle.std.specs.Prelude.{◌≡◌, ℕ, ◌-◌, ◌*◌, max, List, [], map, filter, fold, slice_index_or}
 use Rattle.std.specs.Prelude.{nat_le, nat_lt}
 use Rattle.std.specs.Prelude.{◌&&◌, Bool, false, true, Option, None, Some, not, if◌then◌else◌}
@@ -19,7 +19,7 @@ use Rattle.detectors.specs.Views.{DetectorView, ReadingView}
 
 -- ---- matches
 
--- the patterns of a detector; one of the host's swap has none
+-- the patterns of a detector; a detector of the host's swap has none
 abbrev pub detector_patterns : DetectorSpec → List Pattern
 detector_patterns (detector.PressureAbove cgroup resource threshold duration_s) = cgroup
 detector_patterns (detector.PressureRisingBeyond cgroup resource threshold duration_s ratio) = cgroup
@@ -32,17 +32,17 @@ detector_patterns (detector.Exists cgroup negate) = cgroup
 abbrev pub match_table : List GroupLife → List Pattern → List Bool
 match_table lives patterns = map (λ (life : GroupLife). is_match patterns life.path) lives
 
--- a table has a group as matched
+-- a group matches, according to a table
 abbrev pub has : List Bool → GroupReading → Bool
 has matched group = slice_index_or matched group.slot.0 false
 
--- the groups that a table has as matched
+-- the groups that match, according to a table
 abbrev pub found : List Bool → List GroupReading → List GroupReading
 found matched groups = filter (has matched) groups
 
 -- ---- conditions on the matches
 
--- the greatest full average of a resource over a window among groups, and 0 among none
+-- the greatest full average of a resource over a window among groups, or 0 if there are none
 abbrev pub greatest_among : Res → ℕ → List GroupReading → ℕ
 greatest_among resource window groups = fold max 0 (map (full_average resource window) groups)
 
@@ -51,13 +51,13 @@ abbrev pub are_pressed : Res → ℕ → ℕ → List GroupReading → Bool
 are_pressed resource window threshold groups =
     nat_lt (threshold * 2048) (greatest_among resource window groups)
 
--- memory in use by some group is above a size
+-- the memory in use by some group is above a size
 abbrev pub is_some_above : Size → HostReading → List GroupReading → Bool
 is_some_above threshold host groups =
     list_any (λ (group : GroupReading). is_above threshold host group.current) groups
 
--- the condition that a detector wants for its duration, of a host and of its matches; one that
--- wants none has one that never holds
+-- the condition that a detector requires for its duration, on a host and its matches; for detectors
+-- without one it never holds
 abbrev pub condition_among : DetectorSpec → HostReading → List GroupReading → Bool
 condition_among (detector.PressureAbove cgroup resource threshold duration_s) host groups =
     are_pressed resource ten_seconds threshold groups
@@ -67,61 +67,61 @@ condition_among (detector.MemoryAbove cgroup threshold duration_s) host groups =
     is_some_above threshold host groups
 condition_among _ host groups = false
 
--- the greatest full average over 10 s of its matches, which a detector keeps that asks whether it
--- is rising
+-- the greatest full average over 10 s of its matches, for a detector that tests whether pressure is
+-- rising; 0 for others
 abbrev pub greatest_of : DetectorSpec → List GroupReading → ℕ
 greatest_of (detector.PressureRisingBeyond cgroup resource threshold duration_s ratio) groups =
     greatest_among resource ten_seconds groups
 greatest_of _ groups = 0
 
--- less of a host's swap is free than so many percent
+-- less than `percent` percent of a host's swap is free
 abbrev pub is_host_swap_short : ℕ → HostReading → Bool
 is_host_swap_short percent host = nat_lt (host.swap_free * 100) (percent * host.swap_total)
 
 -- ---- scans
 
--- a detector keeps counts of scans
+-- a detector stores scan counts
 abbrev pub keeps_scans : DetectorSpec → Bool
 keeps_scans (detector.MemoryReclaim cgroup duration_s) = true
 keeps_scans _ = false
 
--- of how many slots a detector for so many keeps counts
+-- the number of slots for which a detector stores scan counts
 abbrev pub scan_slots : DetectorSpec → ℕ → ℕ
 scan_slots spec slots = if keeps_scans spec then slots else 0
 
--- the count of scans of the group in a slot, if a table has it
+-- the scan count of the group in a slot, if a table has it
 abbrev pub scan_in : List (Option ℕ) → ℕ → Option ℕ
 scan_in scans slot = slice_index_or scans slot None
 
--- the count of scans of a group, if it was live
+-- the scan count of a group, if it was live
 abbrev pub scan_of : Option GroupReading → Option ℕ
 scan_of None = None
 scan_of (Some group) = Some group.scan
 
--- how far a count is above one before it, if there is one
+-- by how much a count exceeds an earlier one, or 0 if there is none
 abbrev pub risen_from : Option ℕ → ℕ → ℕ
 risen_from None scan = 0
 risen_from (Some before) scan = scan - before
 
--- a group's count is above that of a table
+-- a group's count exceeds that of a table
 abbrev pub has_risen : List (Option ℕ) → GroupReading → Bool
 has_risen scans group = nat_lt 0 (risen_from (scan_in scans group.slot.0) group.scan)
 
--- some group's count is
+-- the count of some group exceeds that of a table
 abbrev pub have_risen : List (Option ℕ) → List GroupReading → Bool
 have_risen scans groups = list_any (has_risen scans) groups
 
--- the count of scans of the group in a slot, among groups
+-- the scan count of the group in a slot, among groups
 abbrev pub scan_among : List GroupReading → ℕ → Option ℕ
 scan_among groups slot = scan_of (find (λ (group : GroupReading). group.slot.0 == slot) groups)
 
--- the count of scans in a slot after a reading of groups: a detector that keeps none has its table
--- as it was
+-- the scan count in a slot after a reading of groups; a detector without scan counts has its table
+-- unchanged
 abbrev pub scan_after : DetectorSpec → List (Option ℕ) → List GroupReading → ℕ → Option ℕ
 scan_after spec scans groups slot =
     if keeps_scans spec then scan_among groups slot else scan_in scans slot
 
--- the moment (ns) of the last rise after a reading at another, of which these are the matches
+-- the time (ns) of the last rise after a reading at `now` (ns) with these matches
 abbrev pub last_rise :
     DetectorSpec → List (Option ℕ) → Option ℕ → List GroupReading → ℕ → Option ℕ
 last_rise spec scans rose groups now =
@@ -129,18 +129,18 @@ last_rise spec scans rose groups now =
 
 -- ---- moments
 
--- a moment (ns), if there is one, is at least so long (ns) before another
+-- there is a time (ns), and it is at least `duration` (ns) before `at`
 abbrev pub is_long : Option ℕ → ℕ → ℕ → Bool
 is_long None duration at = false
 is_long (Some start) duration at = nat_le duration (at - start)
 
--- a moment (ns), if there is one, is at most so long (ns) before another
+-- there is a time (ns), and it is at most `duration` (ns) before `at`
 abbrev pub is_recent : Option ℕ → ℕ → ℕ → Bool
 is_recent None duration at = false
 is_recent (Some moment) duration at = nat_le (at - moment) duration
 
--- the moment (ns) at which the present run of a condition began, once the condition is known at one
--- more
+-- the time (ns) at which the current run of a condition began, after the condition was tested at
+-- `now` (ns)
 abbrev pub run_after : Option ℕ → Bool → ℕ → Option ℕ
 run_after run false now = None
 run_after None true now = Some now
@@ -148,8 +148,8 @@ run_after (Some start) true now = Some start
 
 -- ---- steps
 
--- what a detector answers by what it keeps, once it has taken a reading, where the greatest average
--- of its matches at the reading before is given
+-- the answer of a detector from its state after it has taken a reading; `before` is the greatest
+-- average of its matches at the previous reading
 abbrev pub answer_by : DetectorSpec → DetectorView → ℕ → Reading → Bool
 answer_by (detector.PressureAbove cgroup resource threshold duration_s) kept before now =
     is_long kept.run (of_seconds duration_s) now.at
@@ -167,22 +167,22 @@ answer_by (detector.Exists cgroup negate) kept before now =
     then not (list_any (has kept.matched) now.groups)
     else list_any (has kept.matched) now.groups
 
--- the same by its own arguments
+-- the same with the detector's own arguments
 abbrev pub answer_of : DetectorView → ℕ → Reading → Bool
 answer_of kept before now = answer_by kept.spec kept before now
 
--- by slot, whether the groups are matched once a reading came, where it is known after another
+-- by slot, whether the groups match: computed at the first reading, and known afterwards
 abbrev pub matched_after : Option ℕ → List Bool → List Bool → List Bool
 matched_after None known table = table
 matched_after (Some last) known table = known
 
--- a detector that has found its matches at its first reading
+-- a detector that has its matches, found at the first reading
 abbrev pub begun : DetectorView → List GroupLife → DetectorView
 begun detector lives =
     let table = match_table lives (detector_patterns detector.spec) in
     record detector { matched = matched_after detector.last detector.matched table }
 
--- a detector that has found its matches takes a reading
+-- a detector that has its matches takes a reading
 pub record IsTaken (old : DetectorView) (reading : ReadingView) (new : DetectorView) : Type 0 where
   pub spec : new.spec ≡ old.spec
   pub last : new.last ≡ Some reading.seen.at

@@ -1,4 +1,4 @@
--- What contracts see of a reading and of a detector.
+-- The values of a reading and of a detector in contracts.
 use Rattle.std.specs.Prelude.{ℕ, ◌<◌, ◌≤◌, List, [], ◌∷◌, ◌++◌, length, map, Bool, Option, None}
 use Rattle.std.specs.Prelude.{Some}
 use Rattle.psi_spec.specs.declared.machine.GroupLife.{GroupLife}
@@ -11,12 +11,12 @@ use Rattle.kill_spec.specs.LegalReadings.{Ascend, IsReading}
 
 -- ---- readings
 
--- A reading: all groups that a trace ever makes, by slot, and what is seen of the live ones.
+-- A reading: all groups that a trace ever creates, by slot, and what was read of the live ones.
 pub record ReadingView : Type 0 where
   pub lives : List GroupLife
   pub seen : Reading
 
--- what is seen at a moment (ns) of a host and of groups
+-- a reading of a host and groups at a time (ns)
 abbrev pub seen_at : ℕ → HostReading → List GroupReading → Reading
 seen_at at host groups = record { at = at; host = host; groups = groups }
 
@@ -24,7 +24,7 @@ seen_at at host groups = record { at = at; host = host; groups = groups }
 abbrev pub reading_of : List GroupLife → Reading → ReadingView
 reading_of lives seen = record { lives = lives; seen = seen }
 
--- a reading with one group more behind the others
+-- a reading with one more group at its end
 abbrev pub with_group : Reading → GroupReading → Reading
 with_group seen group = seen_at seen.at seen.host (seen.groups ++ group ∷ [])
 
@@ -33,22 +33,22 @@ abbrev pub ComesLast : ReadingView → GroupReading → Type 0
 ComesLast reading group =
     Ascend (map (path_of reading.lives) (with_group reading.seen group).groups)
 
--- What holds of each reading: there are at most 1,024 groups, and it is one of them.
+-- The invariant of a reading: there are at most 1,024 groups, and it is a reading of these.
 pub record IsReadingView (reading : ReadingView) : Type 0 where
   pub few : length reading.lives ≤ most_groups
   pub within : IsReading reading.lives reading.seen
 
--- there is room for as many
+-- there is a capacity for this count
 pub record IsRoom (count capacity : ℕ) : Type 0 where
   pub room : count ≤ capacity
 
 -- ---- detectors
 
--- A detector: its arguments; the moment (ns) of its last reading; by slot, whether it matches the
--- group; the moment (ns) at which the present run of its condition began; where it asks whether
--- pressure rises, the greatest full average over 10 s of its matches at the last reading, else 0;
--- where it asks for scans, by slot the count of the group at the last reading, if it was live; and
--- the last moment (ns) at which a match's count had risen.
+-- A detector: its arguments; the time (ns) of its last reading; by slot, whether the group matches;
+-- the time (ns) at which the current run of its condition began; the greatest full average over 10
+-- s of its matches at the last reading, if it tests whether pressure is rising, otherwise 0; by
+-- slot, the group's scan count at the last reading if it was live, if the detector tests scans; and
+-- the last time (ns) at which a match's count had risen.
 pub record DetectorView : Type 0 where
   pub spec : DetectorSpec
   pub last : Option ℕ
@@ -71,16 +71,16 @@ detector_with spec last matched run greatest scans rose = record {
   rose = rose;
 }
 
--- how many groups a detector is for
+-- the number of groups of a detector
 abbrev pub slots_of : DetectorView → ℕ
 slots_of detector = length detector.matched
 
--- a moment (ns) comes after another, if there is one
+-- a time (ns) is after another, if there is another
 abbrev pub IsAfter : Option ℕ → ℕ → Type 0
 IsAfter None at = Unit {0}
 IsAfter (Some last) at = last < at
 
--- a moment (ns), if there is one, isn't after another
+-- a time (ns), if there is one, isn't after another
 abbrev pub IsBy : Option ℕ → Option ℕ → Type 0
 IsBy None last = Unit {0}
 IsBy (Some moment) None = ⊥

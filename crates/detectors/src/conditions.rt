@@ -13,12 +13,12 @@ use psi_base::{Level, Path, Res, State};
 use psi_spec::GroupLife;
 use ruleset_json::{DetectorSpec, Size};
 
-/// The places of the averages over 10 s and over 60 s.
+/// The indexes of the averages over 10 s and over 60 s.
 const TEN_SECONDS: usize = 0;
 
 const SIXTY_SECONDS: usize = 1;
 
-/// A table has a group as matched.
+/// Whether a group matches, according to a table.
 pub(crate) fn has(matched: &[bool], group: &GroupReading) -> bool
     ensures { result ≡ has matched.now group.now }
 {
@@ -28,7 +28,7 @@ pub(crate) fn has(matched: &[bool], group: &GroupReading) -> bool
     }
 }
 
-/// Some pattern of a detector matches a path. One of the host's swap has no pattern.
+/// Whether some pattern of a detector matches a path. A detector of the host's swap has no pattern.
 #[tactic(auto, unfolding(path_match::specs::Match::is_match))]
 fn is_match(spec: &DetectorSpec, path: &Path) -> bool
     ensures { result ≡ is_match (detector_patterns spec.now) path.now }
@@ -43,7 +43,7 @@ fn is_match(spec: &DetectorSpec, path: &Path) -> bool
     }
 }
 
-/// Finds for each group, by slot, whether the detector matches it.
+/// Stores for each group, by slot, whether the detector matches it.
 pub(crate) fn find_matches(matched: &mut [bool], spec: &DetectorSpec, lives: &[GroupLife])
     requires { length matched.old ≡ length lives.now }
     ensures { matched.new ≡ match_table lives.now (detector_patterns spec.now) }
@@ -53,7 +53,6 @@ pub(crate) fn find_matches(matched: &mut [bool], spec: &DetectorSpec, lives: &[G
     }
 }
 
-/// The full average of a resource over a window.
 fn full_average(group: &GroupReading, resource: Res, window: usize) -> u64
     requires { window < 3 }
     ensures { result ≡ full_average resource window group.now }
@@ -61,7 +60,7 @@ fn full_average(group: &GroupReading, resource: Res, window: usize) -> u64
     group.averages[State::of(resource, Level::FullStalled) as usize][window]
 }
 
-/// The greatest full average of a resource over a window among the matches, and 0 among none.
+/// The greatest full average of a resource over a window among the matches, or 0 if there are none.
 fn greatest_full(matched: &[bool], groups: &[GroupReading], resource: Res, window: usize) -> u64
     requires { window < 3 }
     ensures { result ≡ greatest_among resource window (found matched.now groups.now) }
@@ -73,8 +72,8 @@ fn greatest_full(matched: &[bool], groups: &[GroupReading], resource: Res, windo
         .fold(0, |greatest, average| greatest.max(average))
 }
 
-/// The greatest full average over 10 s of the matches, for a detector that asks whether it is
-/// rising, and 0 for others.
+/// The greatest full average over 10 s of the matches, for a detector that tests whether pressure
+/// is rising; 0 for others.
 pub(crate) fn greatest_of(spec: &DetectorSpec, matched: &[bool], groups: &[GroupReading]) -> u64
     ensures { result ≡ greatest_of spec.now (found matched.now groups.now) }
 {
@@ -86,7 +85,7 @@ pub(crate) fn greatest_of(spec: &DetectorSpec, matched: &[bool], groups: &[Group
     }
 }
 
-/// Memory in use is above a size, of so many bytes or of so many percent of the host's memory.
+/// Whether memory in use is above a size in bytes or in percent of the host's memory.
 fn is_above(threshold: Size, host: &HostReading, current: u64) -> bool
     ensures { result ≡ is_above threshold host.now current }
 {
@@ -98,7 +97,7 @@ fn is_above(threshold: Size, host: &HostReading, current: u64) -> bool
     }
 }
 
-/// Memory in use by some match is above a size.
+/// Whether the memory in use by some match is above a size.
 fn is_some_above(
     matched: &[bool],
     groups: &[GroupReading],
@@ -113,7 +112,7 @@ fn is_some_above(
         .any(|group| is_above(threshold, host, group.current))
 }
 
-/// The condition that the detector wants for its duration holds.
+/// Whether the condition that the detector requires for its duration holds.
 pub(crate) fn has_condition(
     spec: &DetectorSpec,
     matched: &[bool],
@@ -144,14 +143,14 @@ pub(crate) fn has_condition(
     }
 }
 
-/// There is a match.
+/// Whether there is a match.
 pub(crate) fn has_match(matched: &[bool], groups: &[GroupReading]) -> bool
     ensures { result ≡ list_any (has matched.now) groups.now }
 {
     groups.iter().any(|group| has(matched, group))
 }
 
-/// Less of the host's swap is free than so many percent.
+/// Whether less than `percent` percent of the host's swap is free.
 pub(crate) fn is_swap_short(percent: u32, host: &HostReading) -> bool
     ensures { result ≡ is_host_swap_short percent host.now }
 {

@@ -5,7 +5,6 @@ use psi_base::NoMemory;
 use psi_spec::GroupLife;
 use std::alloc::Global;
 
-/// The same group.
 fn copy_life(alloc: Global, life: &GroupLife) -> Result<GroupLife, NoMemory>
     ensures { IfOk result (λ copy. copy ≡ life.now) }
 {
@@ -18,7 +17,7 @@ fn copy_life(alloc: Global, life: &GroupLife) -> Result<GroupLife, NoMemory>
     })
 }
 
-/// The same groups.
+/// Copies of these groups.
 pub(crate) fn copy_lives(alloc: Global, lives: &[GroupLife]) -> Result<Vec<GroupLife>, NoMemory>
     ensures { IfOk result (λ copies. copies.items ≡ lives.now) }
 {

@@ -15,23 +15,23 @@ use ruleset_json::DetectorSpec;
 use std::alloc::Global;
 use std::marker::Model;
 
-/// One of oomd's detectors, as the readings so far left it. It keeps none of them.
+/// One of oomd's detectors after the readings so far, none of which it stores.
 #[derive(Drop)]
 pub struct Detector {
     spec: DetectorSpec,
-    /// The moment of the last reading (ns).
+    /// The time of the last reading (ns).
     last: Option<Ns>,
-    /// By slot, whether it matches the group, from the first reading on.
+    /// By slot, whether the group matches; computed at the first reading.
     matched: Vec<bool>,
-    /// When the present run of its condition began (ns).
+    /// The time at which the current run of its condition began (ns).
     run: Option<Ns>,
-    /// The greatest full average over 10 s of its matches at the last reading, where it asks
-    /// whether it is rising; else 0.
+    /// The greatest full average over 10 s of its matches at the last reading, if it tests whether
+    /// pressure is rising; otherwise 0.
     greatest: u64,
-    /// By slot, the count of scans of the group at the last reading, if it was live, where it asks
-    /// for scans; else nothing.
+    /// By slot, the scan count of the group at the last reading, if it was live. Empty unless the
+    /// detector tests scans.
     scans: Vec<Option<u64>>,
-    /// When the count of scans of some match had risen last (ns).
+    /// The last time at which the scan count of some match had risen (ns).
     rose: Option<Ns>,
 }
 
@@ -48,7 +48,7 @@ impl Model for Detector {
         d.run d.greatest d.scans.items d.rose) };
 }
 
-/// Of how many slots a detector for so many keeps counts of scans.
+/// The number of slots for which a detector stores scan counts.
 fn scan_slots(spec: &DetectorSpec, slots: u32) -> u32
     ensures { result ≡ scan_slots spec.now slots }
 {
@@ -59,8 +59,8 @@ fn scan_slots(spec: &DetectorSpec, slots: u32) -> u32
 }
 
 impl Detector {
-    /// A detector with these arguments over so many groups, before the first reading. Takes all
-    /// memory that it will need.
+    /// A detector with these arguments over `slots` groups, before the first reading. Allocates
+    /// everything at the start.
     pub fn new(alloc: Global, spec: &DetectorSpec, slots: u32) -> Result<Detector, NoMemory>
         ensures { IfOk result (λ detector. (lives : List GroupLife) → length lives ≡ slots →
             StandsFor detector lives spec.now []) }
@@ -76,15 +76,15 @@ impl Detector {
         })
     }
 
-    /// The next reading, later than the last. True where the detector is true at it, after those
-    /// before. Takes no memory.
+    /// Takes the next reading, which is later than the last. Returns whether the detector is true
+    /// at it, after the readings before. Does not allocate.
     pub fn step(&mut self, reading: &Reading) -> bool
         requires later { IsAfter self.old.last reading.now.seen.at }
         requires slots { length reading.now.lives ≡ slots_of self.old }
         ensures answer { Answers self.old reading.now result }
         ensures stands { DetectorTakes self.old reading.now self.new }
 
-        // Also of a detector of which nothing is known.
+        // These also hold for a detector that represents no known readings.
         ensures last { self.new.last ≡ Some reading.now.seen.at }
         ensures slots { slots_of self.new ≡ slots_of self.old }
         ensures spec { self.new.spec ≡ self.old.spec }
@@ -105,7 +105,7 @@ impl Detector {
         }
     }
 
-    /// Takes the reading into what it keeps, once its matches are found.
+    /// Updates the state by the reading, after the matches were found.
     fn take(&mut self, reading: &Reading)
         requires later { IsAfter self.old.last reading.now.seen.at }
         requires slots { length reading.now.lives ≡ slots_of self.old }
@@ -128,8 +128,8 @@ impl Detector {
         self.last = Some(now);
     }
 
-    /// True where the detector is, once it has taken the reading, by what it keeps. The greatest
-    /// average at the reading before is given.
+    /// Whether the detector is true, from its state after it has taken the reading. `before` is the
+    /// previous reading's greatest average.
     fn answer(&self, before: u64, reading: &Reading) -> bool
         requires last { self.now.last ≡ Some reading.now.seen.at }
         requires before { before ≤ 204800 }

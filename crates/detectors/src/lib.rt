@@ -1,4 +1,7 @@
 //! Readings of groups, and whether oomd's detectors are true at them.
+//!
+//! It doesn't combine detectors into rulesets (kill_engine does), and doesn't choose victims
+//! (victim_rank does).
 #![tactic(auto)]
 
 mod conditions;

@@ -1,4 +1,4 @@
-//! The moments that a detector keeps.
+//! The times that a detector stores.
 ghost use Rattle.std.specs.Prelude.{◌≡◌, None, Some, if◌then◌else◌};
 ghost use Rattle.detectors.specs.Tables.{is_long, is_recent, run_after};
 ghost use Rattle.detectors.specs.Views.{IsBy};
@@ -13,7 +13,8 @@ pub(crate) fn of_seconds(seconds: u32) -> Ns
     u64::from(seconds) * 1_000_000_000
 }
 
-/// When the present run of a condition began (ns), once it holds or not now (ns).
+/// The time at which the current run of a condition began (ns), after the condition was tested at
+/// `now` (ns).
 pub(crate) fn run_after(run: Option<Ns>, holds: bool, now: Ns) -> Option<Ns>
     ensures { result ≡ run_after run holds now }
 {
@@ -26,14 +27,14 @@ pub(crate) fn run_after(run: Option<Ns>, holds: bool, now: Ns) -> Option<Ns>
     }
 }
 
-/// When there was a rise last (ns), once there is one or not now (ns).
+/// The time of the last rise (ns), after the counts were compared at `now` (ns).
 pub(crate) fn rise_after(rose: Option<Ns>, has_risen: bool, now: Ns) -> Option<Ns>
     ensures { result ≡ (if has_risen then Some now else rose) }
 {
     if has_risen { Some(now) } else { rose }
 }
 
-/// A run is at least so long (ns) now.
+/// Whether a run has lasted at least `duration` (ns) at `now`.
 pub(crate) fn is_long(run: Option<Ns>, duration: Ns, now: Ns) -> bool
     requires { IsBy run (Some now) }
     ensures { result ≡ is_long run duration now }
@@ -44,7 +45,7 @@ pub(crate) fn is_long(run: Option<Ns>, duration: Ns, now: Ns) -> bool
     }
 }
 
-/// A moment, if there is one, is at most so long (ns) ago now.
+/// Whether there is a time, at most `duration` (ns) before `now`.
 pub(crate) fn is_recent(moment: Option<Ns>, duration: Ns, now: Ns) -> bool
     requires { IsBy moment (Some now) }
     ensures { result ≡ is_recent moment duration now }

@@ -1,4 +1,4 @@
-//! Where groups stand among those of a reading.
+//! The places of groups in a reading.
 ghost use Rattle.std.specs.Prelude.{◌≡◌, ◌<◌, ◌≤◌, ℕ, [], IfOk, length, slice_index_or, true};
 ghost use Rattle.psi_spec.specs.Stall.{number_of_slot};
 ghost use Rattle.kill_spec.specs.Victims.{names_slot};
@@ -9,7 +9,7 @@ use psi_spec::GroupLife;
 use std::alloc::Global;
 use std::marker::Model;
 
-/// Places of groups among those of a reading, in order.
+/// Places of groups in a reading, in order.
 #[derive(Drop)]
 pub(crate) struct Places {
     places: Vec<u32>,
@@ -25,7 +25,7 @@ impl Model for Places {
 }
 
 impl Places {
-    /// No place yet, with room for so many.
+    /// No place yet, with a capacity of `room`.
     pub(crate) fn with_room(alloc: Global, room: usize) -> Result<Places, NoMemory>
         ensures none { IfOk result (λ made. made.places ≡ []) }
         ensures room { IfOk result (λ made. room ≤ made.room) }
@@ -35,14 +35,14 @@ impl Places {
         })
     }
 
-    /// Forgets all.
+    /// Removes all places.
     pub(crate) fn clear(&mut self)
         ensures { self.new ≡ places_with [] self.old.room }
     {
         self.places.clear();
     }
 
-    /// Puts a place behind the others. Takes no memory.
+    /// Appends a place. Does not allocate.
     pub(crate) fn push(&mut self, place: u32)
         requires { length self.old.places < self.old.room }
         ensures { HasPlaced true place self.old self.new }
@@ -60,7 +60,7 @@ impl Places {
     }
 }
 
-// How many groups are ever made right below the one in a slot.
+// The number of children that the group in a slot ever has.
 fn child_count(lives: &[GroupLife], slot: Slot) -> usize
     ensures { result ≡ child_count lives.now slot.0 }
 {
@@ -87,7 +87,7 @@ pub(crate) fn room_below(alloc: Global, lives: &[GroupLife]) -> Result<Vec<Place
     Ok(below)
 }
 
-/// Forgets the places of all children.
+/// Removes the places of all children.
 pub(crate) fn clear_below(below: &mut Vec<Places>)
     ensures slots { length below.new.items ≡ length below.old.items }
     ensures each { (slot : ℕ) (d : PlacesView) → slot < length below.old.items →
@@ -99,7 +99,7 @@ pub(crate) fn clear_below(below: &mut Vec<Places>)
     }
 }
 
-/// Puts a place behind those of the children of a group, if it has a parent. Takes no memory.
+/// Appends a place to the children of `parent`, if any. Does not allocate.
 pub(crate) fn place_below(below: &mut Vec<Places>, parent: Option<Slot>, place: u32)
     requires { (slot : ℕ) (d : PlacesView) → slot < length below.old.items →
         names_slot slot (number_of_slot parent) ≡ true →

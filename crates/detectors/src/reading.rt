@@ -15,19 +15,19 @@ use psi_spec::GroupLife;
 use std::alloc::Global;
 use std::marker::Model;
 
-/// What is seen at an evaluation: the moment, the host's memory, and the live groups in the byte
-/// order of their paths. It has all groups that a trace ever makes, and takes all memory at first.
+/// A reading for an evaluation: the time, the host's memory, and the live groups in the byte order
+/// of their paths. It also has all groups that a trace ever creates. Allocates everything at the
+/// start.
 #[derive(Drop)]
 pub struct Reading {
     lives: Vec<GroupLife>,
     at: Ns,
     host: HostReading,
-    /// The live groups, with room for all.
+    /// The live groups, with capacity for all groups.
     groups: Vec<GroupReading>,
-    /// Where all of them stand, in order.
+    /// The places of all live groups, in order.
     all: Places,
-    /// By slot, where the live children of a group stand among them, with room for all its
-    /// children.
+    /// By slot, the places of the group's live children, with capacity for all its children.
     below: Vec<Places>,
 }
 
@@ -47,7 +47,7 @@ impl Model for Reading {
 }
 
 impl Reading {
-    /// A reading of none of these groups, at 0, with room for all.
+    /// An empty reading at time 0, with capacity for all of `lives`.
     pub fn make(alloc: Global, lives: &[GroupLife]) -> Result<Reading, NoMemory>
         requires { length lives.now ≤ most_groups }
         ensures { IfOk result (λ reading.
@@ -67,8 +67,7 @@ impl Reading {
         })
     }
 
-    /// Begins a reading at a moment (ns), with the last sample of the host's memory, and no group
-    /// yet.
+    /// Starts a reading at a time (ns), with the last sample of the host's memory and no groups.
     pub fn start(&mut self, at: Ns, host: HostReading)
         requires { IsHostReading host }
         ensures { self.new ≡ reading_of self.old.lives (seen_at at host []) }
@@ -80,8 +79,8 @@ impl Reading {
         clear_below(&mut self.below);
     }
 
-    /// Puts a live group behind the others. Its path comes after theirs in byte order, so there is
-    /// room. Takes no memory.
+    /// Appends a live group. Its path comes after the others in byte order, so there is room. Does
+    /// not allocate.
     pub fn push(&mut self, group: GroupReading)
         requires group { IsGroupReading (length self.old.lives) group }
         requires order { ComesLast self.old group }
@@ -96,14 +95,14 @@ impl Reading {
         }
     }
 
-    /// The moment, in ns.
+    /// The time of the reading, in ns.
     pub fn at(&self) -> Ns
         ensures { result ≡ self.now.seen.at }
     {
         self.at
     }
 
-    /// The host's memory by its last sample.
+    /// The host's memory according to its last sample.
     pub fn host(&self) -> HostReading
         ensures host { result ≡ self.now.seen.host }
         ensures within { IsHostReading result }
@@ -119,7 +118,7 @@ impl Reading {
         &self.groups
     }
 
-    /// The live group at a place, from 0 on.
+    /// The live group at a place, from 0.
     pub fn group(&self, place: u32) -> &GroupReading
         requires { place < length self.now.seen.groups }
         ensures group { result.now ≡ group_at self.now.seen.groups place }
@@ -139,8 +138,7 @@ impl Reading {
         self.all.items()
     }
 
-    /// The places of the live groups right below the group in a slot, in the byte order of their
-    /// paths.
+    /// The places of the live children of the group in a slot, in the byte order of their paths.
     pub fn below(&self, slot: Slot) -> &[u32]
         requires { slot.0 < length self.now.lives }
         ensures groups { groups_at self.now.seen.groups result.now
@@ -153,7 +151,7 @@ impl Reading {
         self.below[slot.0 as usize].items()
     }
 
-    /// All groups that a trace ever makes, by slot.
+    /// All groups that a trace ever creates, by slot.
     pub fn lives(&self) -> &[GroupLife]
         ensures lives { result.now ≡ self.now.lives }
         ensures few { length result.now ≤ most_groups }

@@ -1,4 +1,4 @@
-//! Counts of scans of pages.
+//! Counts of scanned pages.
 ghost use Rattle.std.specs.Prelude.{◌≡◌, ◌<◌, ℕ, All, length, nat_lt};
 ghost use Rattle.detectors.specs.Tables.{found, have_risen, last_rise, risen_from, scan_after};
 ghost use Rattle.detectors.specs.Tables.{scan_among, scan_in, scan_slots};
@@ -10,7 +10,6 @@ use kill_spec::GroupReading;
 use psi_base::{Ns, Slot};
 use ruleset_json::DetectorSpec;
 
-/// The count of the group in a slot, if the table has it.
 fn scan_in(scans: &[Option<u64>], slot: Slot) -> Option<u64>
     ensures { result ≡ scan_in scans.now slot.0 }
 {
@@ -20,7 +19,7 @@ fn scan_in(scans: &[Option<u64>], slot: Slot) -> Option<u64>
     }
 }
 
-/// A count is above one before it, if there is one.
+/// Whether a count exceeds the previous one; false if there is none.
 fn has_risen(before: Option<u64>, scan: u64) -> bool
     ensures { result ≡ nat_lt 0 (risen_from before scan) }
 {
@@ -30,7 +29,7 @@ fn has_risen(before: Option<u64>, scan: u64) -> bool
     }
 }
 
-/// The count of some match is above that of the table.
+/// Whether the count of some match exceeds that of the table.
 pub(crate) fn have_risen(scans: &[Option<u64>], matched: &[bool], groups: &[GroupReading]) -> bool
     ensures { result ≡ have_risen scans.now (found matched.now groups.now) }
 {
@@ -40,8 +39,8 @@ pub(crate) fn have_risen(scans: &[Option<u64>], matched: &[bool], groups: &[Grou
         .any(|group| has_risen(scan_in(scans, group.slot), group.scan))
 }
 
-/// Takes the counts of these groups and forgets all others. Of groups in one slot, which there
-/// aren't, the first stands.
+/// Stores the counts of these groups, and discards all others. If two groups had the same slot,
+/// which is impossible, the first would win.
 pub(crate) fn take_scans(scans: &mut [Option<u64>], groups: &[GroupReading])
     requires { All (λ (group : GroupReading). group.slot.0 < length scans.old) groups.now }
     ensures { (slot : ℕ) → scan_in scans.new slot ≡ scan_among groups.now slot }
@@ -55,8 +54,8 @@ pub(crate) fn take_scans(scans: &mut [Option<u64>], groups: &[GroupReading])
     }
 }
 
-/// Takes the counts of a reading at a moment (ns) where the detector asks for scans, and tells when
-/// some match's count had risen last (ns). Else all stays as it is.
+/// Stores the counts of a reading at `now` (ns) if the detector tests scans, and returns the last
+/// time (ns) at which some match's count had risen. Otherwise nothing changes.
 pub(crate) fn take_rise(
     spec: &DetectorSpec,
     scans: &mut [Option<u64>],
