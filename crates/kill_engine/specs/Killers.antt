@@ -1,4 +1,4 @@
--- A killer, and for which readings it stands.
+-- A killer, and the readings that it represents.
 use Rattle.std.specs.Prelude.{◌≡◌, ℕ, ◌+◌, ◌≤◌, List, [], ◌∷◌, length, Option, All}
 use Rattle.psi_spec.specs.declared.machine.GroupLife.{GroupLife}
 use Rattle.ruleset_json.specs.declared.types.Rule.{Rule}
@@ -10,8 +10,8 @@ use Rattle.detectors.specs.Stands.{newest_moment}
 use Rattle.victim_rank.specs.Pasts.{IsPastOf, Kept}
 use Rattle.kill_engine.specs.Rulesets.{IsRulesetAt, RulesetStands, RulesetView}
 
--- A killer: its rulesets, what it keeps of the past of groups, the moment (ns) of its last reading,
--- and the kills at it.
+-- A killer: its rulesets, the stored past of groups, the time (ns) of its last reading, and the
+-- kills at it.
 pub record KillerView : Type 0 where
   pub rulesets : List RulesetView
   pub past : Kept
@@ -23,13 +23,13 @@ abbrev pub killer_of : List RulesetView → Kept → Option ℕ → List Kill �
 killer_of rulesets past last found =
     record { rulesets = rulesets; past = past; last = last; found = found }
 
--- of how many groups a killer takes readings
+-- the number of groups in a killer's readings
 abbrev pub killer_slots : KillerView → ℕ
 killer_slots killer = length killer.past.sizes
 
 -- ---- what a killer stands for
 
--- rulesets stand for readings, the first of them as the one with this number
+-- rulesets represent readings; the first one has this number
 abbrev pub RulesetsStand :
     List GroupLife → List Reading → ℕ → List RulesetView → List Rule → Type 0
 RulesetsStand lives history number [] [] = Unit {0}
@@ -39,14 +39,14 @@ RulesetsStand lives history number (state ∷ states) (rule ∷ rules) =
     RulesetStands lives history number state rule
     × RulesetsStand lives history (number + 1) states rules
 
--- the kills at the newest reading, if there is one
+-- the kills at the newest reading, if any
 abbrev pub newest_kills : List GroupLife → List Rule → List Reading → List Kill
 newest_kills lives rules [] = []
 newest_kills lives rules (now ∷ past) = kills lives rules now past
 
--- A killer with rules stands for readings of groups, the newest first: it has a place for each
--- group, each ruleset stands for them and so does the past, it has the moment of the newest, and
--- the kills at it.
+-- A killer with rules represents readings of groups, the newest first: it has a place for each
+-- group, each ruleset and the past represent the readings, and it has the time of the newest
+-- reading and the kills at it.
 pub record StandsFor (killer : KillerView) (lives : List GroupLife) (rules : List Rule)
     (history : List Reading) : Type 0 where
   pub slots : killer_slots killer ≡ length lives
@@ -55,19 +55,18 @@ pub record StandsFor (killer : KillerView) (lives : List GroupLife) (rules : Lis
   pub last : killer.last ≡ newest_moment history
   pub found : killer.found ≡ newest_kills lives rules history
 
--- a killer stands for readings of these groups
+-- a killer represents some readings of these groups
 abbrev pub IsStanding : KillerView → List GroupLife → Type 0
 IsStanding killer lives = (rules : List Rule) × (history : List Reading) ×
     StandsFor killer lives rules history
 
--- A killer decides at a reading: where it stood for readings before, these are the kills at this
--- one, after them.
+-- The kills that a killer decides at a reading, after the earlier readings that it represents.
 abbrev pub Decides : KillerView → ReadingView → List Kill → Type 0
 Decides old reading found = (rules : List Rule) (history : List Reading) →
     StandsFor old reading.lives rules history →
     found ≡ kills reading.lives rules reading.seen history
 
--- It takes the reading: it stands for it and those before it afterwards.
+-- A killer takes a reading: afterwards it represents this reading and those before it.
 abbrev pub KillerTakes : KillerView → ReadingView → KillerView → Type 0
 KillerTakes old reading new = (rules : List Rule) (history : List Reading) →
     StandsFor old reading.lives rules history →
@@ -75,18 +74,18 @@ KillerTakes old reading new = (rules : List Rule) (history : List Reading) →
 
 -- ---- rulesets one after another
 
--- rulesets stand for readings of these groups
+-- rulesets represent some readings of these groups
 abbrev pub AreStanding : List GroupLife → List RulesetView → Type 0
 AreStanding lives states = (rules : List Rule) × (history : List Reading) ×
     RulesetsStand lives history 0 states rules
 
--- the kills of rulesets at a reading, after those for which they stood
+-- the kills of rulesets at a reading, after the earlier readings that they represent
 abbrev pub AllDecide : List RulesetView → ReadingView → Kept → List Kill → Type 0
 AllDecide old reading past found = (rules : List Rule) (history : List Reading) →
     RulesetsStand reading.lives history 0 old rules → IsPastOf past history →
     found ≡ kills reading.lives rules reading.seen history
 
--- rulesets that stood for readings stand for one more and those before it afterwards
+-- rulesets take a reading: afterwards they represent this reading and those before it
 abbrev pub RulesetsTake : List RulesetView → ReadingView → Kept → List RulesetView → Type 0
 RulesetsTake old reading past new = (rules : List Rule) (history : List Reading) →
     RulesetsStand reading.lives history 0 old rules → IsPastOf past history →
@@ -94,8 +93,8 @@ RulesetsTake old reading past new = (rules : List Rule) (history : List Reading)
 
 -- ---- what is kept of each killer
 
--- What holds of each killer: its rulesets are few, and their detectors are for as many groups as it
--- and had their last reading when it did.
+-- The invariant of a killer: it has at most 64 rulesets, and their detectors have the same number
+-- of groups and the same last reading as the killer.
 pub record IsKiller (killer : KillerView) : Type 0 where
   pub few : length killer.rulesets ≤ 64
   pub at : All (λ state. IsRulesetAt killer.last (killer_slots killer) state) killer.rulesets

@@ -1,4 +1,4 @@
--- What is kept of a ruleset, and for which readings it stands.
+-- The state of a ruleset, and the readings that it represents.
 use Rattle.std.specs.Prelude.{◌≡◌, ℕ, ◌+◌, List, ◌∷◌, ◌++◌, length, find, map, option_map, slice_get}
 use Rattle.std.specs.Prelude.{Bool, Option, None, Some, All}
 use Rattle.std.specs.List.{AllZip, list_all, list_any}
@@ -20,19 +20,21 @@ use Rattle.victim_rank.specs.Pasts.{IsPastOf, Kept}
 
 -- ---- which readings detectors can take
 
--- a detector can take a reading: it is of as many groups, and later than the detector's last
+-- a detector can take a reading: it has the same number of groups, and is later than the detector's
+-- last
 pub record IsStateReady (reading : ReadingView) (detector : DetectorView) : Type 0 where
   pub later : IsAfter detector.last reading.seen.at
   pub slots : length reading.lives ≡ slots_of detector
 
--- a detector is for so many groups, and its last reading was at a moment (ns), if there was one
+-- a detector has this number of groups, and its last reading was at this time (ns), if there was
+-- one
 pub record IsAt (moment : Option ℕ) (slots : ℕ) (detector : DetectorView) : Type 0 where
   pub last : detector.last ≡ moment
   pub places : slots_of detector ≡ slots
 
 -- ---- groups of detectors
 
--- detectors stand for readings, each with its arguments
+-- detectors represent readings, each with its arguments
 abbrev pub DetectorsStand :
     List GroupLife → List Reading → List DetectorView → List DetectorSpec → Type 0
 DetectorsStand lives history detectors specs =
@@ -40,20 +42,21 @@ DetectorsStand lives history detectors specs =
     StandsFor detector lives spec history)
     detectors specs
 
--- detectors that stood for readings answer at one more: whether all are true
+-- the answer of detectors at a reading, after the earlier readings that they represent: whether all
+-- are true
 abbrev pub AllAnswer : List DetectorView → ReadingView → Bool → Type 0
 AllAnswer old reading answer = (specs : List DetectorSpec) (history : List Reading) →
     DetectorsStand reading.lives history old specs →
     answer ≡
     list_all (λ (spec : DetectorSpec). is_true reading.lives spec reading.seen history) specs
 
--- and they stand for it and those before it afterwards
+-- detectors take a reading: afterwards they represent this reading and those before it
 abbrev pub AllTake : List DetectorView → ReadingView → List DetectorView → Type 0
 AllTake old reading new = (specs : List DetectorSpec) (history : List Reading) →
     DetectorsStand reading.lives history old specs →
     DetectorsStand reading.lives (reading.seen ∷ history) new specs
 
--- groups of detectors stand for readings
+-- groups of detectors represent readings
 abbrev pub GroupsStand :
     List GroupLife → List Reading → List (List DetectorView) → List DetectorGroup → Type 0
 GroupsStand lives history groups specs =
@@ -61,54 +64,57 @@ GroupsStand lives history groups specs =
     DetectorsStand lives history group spec.detectors)
     groups specs
 
--- groups of detectors that stood for readings answer at one more: whether one of them holds
+-- the answer of groups of detectors at a reading, after the earlier readings that they represent:
+-- whether one of the groups holds
 abbrev pub SomeAnswers : List (List DetectorView) → ReadingView → Bool → Type 0
 SomeAnswers old reading answer = (specs : List DetectorGroup) (history : List Reading) →
     GroupsStand reading.lives history old specs →
     answer ≡
     list_any (λ (group : DetectorGroup). group_holds reading.lives group reading.seen history) specs
 
--- and they stand for it and those before it afterwards
+-- groups of detectors take a reading: afterwards they represent this reading and those before it
 abbrev pub GroupsTake : List (List DetectorView) → ReadingView → List (List DetectorView) → Type 0
 GroupsTake old reading new = (specs : List DetectorGroup) (history : List Reading) →
     GroupsStand reading.lives history old specs →
     GroupsStand reading.lives (reading.seen ∷ history) new specs
 
--- each detector of groups is so
+-- a property holds for each detector of groups of detectors
 abbrev pub EachDetector : (DetectorView → Type 0) → List (List DetectorView) → Type 0
 EachDetector Holds groups = All (λ (group : List DetectorView). All Holds group) groups
 
 -- ---- which groups actions match
 
--- for each action and by slot, whether its patterns match the group
+-- for each action and by slot, whether the action's patterns match the group
 abbrev pub match_tables : List GroupLife → List Action → List (List Bool)
 match_tables lives actions =
     map (λ (action : Action). match_table lives (action_patterns action)) actions
 
 -- ---- chains
 
--- the moment (ns) until which a ruleset rests after a kill that ended its chain
+-- the time (ns) until which a ruleset rests after a kill that ended its chain
 abbrev pub rest_of : List Action → Kill → ℕ
 rest_of actions kill = kill.at + delay_of (slice_get actions kill.action)
 
--- the moment (ns) until which it rests after its last such kill; without one it never rested
+-- the time (ns) until which a ruleset rests after its last such kill, or 0 without one
 abbrev pub rest_after : List Action → Option Kill → ℕ
 rest_after actions None = 0
 rest_after actions (Some kill) = rest_of actions kill
 
--- the kill of an action of a ruleset, both by their numbers, at a reading after those that are past
+-- the kill of an action of a ruleset, both identified by number, at a reading after any earlier
+-- ones that the past represents
 abbrev pub IsKillBy : ℕ → ℕ → Action → ReadingView → Kept → Option Kill → Type 0
 IsKillBy number act action reading past kill = (history : List Reading) → IsPastOf past history →
     kill ≡ kill_by number act reading.seen (victim reading.lives action reading.seen history)
 
--- kills, of which the last are those of a ruleset's chain, from the action with a number on
+-- the kills of a ruleset's chain, from the action with this number on, were appended to earlier
+-- kills
 abbrev pub HasChain :
     ℕ → ℕ → List Action → ReadingView → Kept → List Kill → List Kill → Type 0
 HasChain number act actions reading past before after =
     (history : List Reading) → IsPastOf past history →
     after ≡ before ++ chain reading.lives number act actions reading.seen history
 
--- the moment (ns) until which a ruleset rests after its chain, if a kill ends it
+-- the time (ns) until which a ruleset rests after its chain, if a kill ends it
 abbrev pub IsRestOf : ℕ → List Action → ReadingView → Kept → Option ℕ → Type 0
 IsRestOf number actions reading past until = (history : List Reading) → IsPastOf past history →
     until ≡
@@ -117,8 +123,8 @@ IsRestOf number actions reading past until = (history : List Reading) → IsPast
 
 -- ---- rulesets
 
--- A ruleset: its detectors in groups, its actions, which groups the patterns of each match, and the
--- moment (ns) until which it rests.
+-- A ruleset: its detectors in groups, its actions, the groups that the patterns of each action
+-- match, and the time (ns) until which it rests.
 pub record RulesetView : Type 0 where
   pub groups : List (List DetectorView)
   pub actions : List Action
@@ -131,9 +137,9 @@ abbrev pub ruleset_of :
 ruleset_of groups actions tables rests_until =
     record { groups = groups; actions = actions; tables = tables; rests_until = rests_until }
 
--- A ruleset stands for readings, the newest first, as the one with a number: its detectors do, it
--- has the actions and knows which of the groups they match, and it rests until its last
--- chain-ending kill at these readings is as long ago as the delay of the action that gave it.
+-- A ruleset with a number represents readings, the newest first: its detectors do, it has the
+-- actions and the groups that they match, and it rests after its last chain-ending kill at these
+-- readings, for the delay of that kill's action.
 pub record RulesetStands (lives : List GroupLife) (history : List Reading) (number : ℕ)
     (state : RulesetView) (rule : Rule) : Type 0 where
   pub groups : GroupsStand lives history state.groups rule.groups
@@ -146,17 +152,18 @@ pub record RulesetStands (lives : List GroupLife) (history : List Reading) (numb
 abbrev pub IsRulesetReady : ReadingView → RulesetView → Type 0
 IsRulesetReady reading state = EachDetector (IsStateReady reading) state.groups
 
--- a ruleset stands for readings of these groups, as the one with this number
+-- a ruleset with this number represents some readings of these groups
 abbrev pub IsStanding : List GroupLife → ℕ → RulesetView → Type 0
 IsStanding lives number state = (rule : Rule) × (history : List Reading) ×
     RulesetStands lives history number state rule
 
--- each detector of a ruleset is for so many groups, and its last reading was at a moment (ns), if
--- there was one
+-- each detector of a ruleset has this number of groups, and its last reading was at this time (ns),
+-- if there was one
 abbrev pub IsRulesetAt : Option ℕ → ℕ → RulesetView → Type 0
 IsRulesetAt moment slots state = EachDetector (IsAt moment slots) state.groups
 
--- kills, of which the last are those of a ruleset at a reading, after those for which it stood
+-- the kills of a ruleset at a reading, after the earlier readings that it represents, were appended
+-- to earlier kills
 abbrev pub HasKills : ℕ → RulesetView → ReadingView → Kept → List Kill → List Kill → Type 0
 HasKills number old reading past before after = (rule : Rule) (history : List Reading) →
     RulesetStands reading.lives history number old rule → IsPastOf past history →
@@ -165,7 +172,7 @@ HasKills number old reading past before after = (rule : Rule) (history : List Re
     ++ kills_at reading.lives number rule reading.seen history
     (kills_of reading.lives number rule history)
 
--- a ruleset that stood for readings stands for one more and those before it afterwards
+-- a ruleset takes a reading: afterwards it represents this reading and those before it
 abbrev pub RulesetTakes : ℕ → RulesetView → ReadingView → Kept → RulesetView → Type 0
 RulesetTakes number old reading past new = (rule : Rule) (history : List Reading) →
     RulesetStands reading.lives history number old rule → IsPastOf past history →

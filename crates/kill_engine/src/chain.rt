@@ -12,14 +12,14 @@ use psi_base::Ns;
 use ruleset_json::Action;
 use victim_rank::{MatchTable, Past, after_of, victim};
 
-/// The end (ns) of a rest of so many seconds. It may be later than any moment of 64 bits.
+/// The end (ns) of a rest of `delay_s` seconds. It may not fit in 64 bits.
 fn end_of_rest(at: Ns, delay_s: u32) -> u128
     ensures { result ≡ at + of_seconds delay_s }
 {
     u128::from(at) + u128::from(delay_s) * 1_000_000_000
 }
 
-/// The kill of an action, if it has a victim.
+/// The kill of an action, or `None` if it has no victim.
 fn kill_by(
     number: u32,
     act: u32,
@@ -43,7 +43,7 @@ fn kill_by(
     })
 }
 
-/// Puts a kill behind others. There is room.
+/// Appends a kill. There must be room.
 fn put(found: &mut Vec<Kill>, kill: Kill)
     requires { vec_len found.old + 1 ≤ vec_capacity found.old }
     ensures items { found.new.items ≡ found.old.items ++ kill ∷ [] }
@@ -55,9 +55,9 @@ fn put(found: &mut Vec<Kill>, kill: Kill)
     }
 }
 
-/// Takes the actions of a ruleset in turn, and puts their kills behind others, up to the first by
-/// an action that doesn't always continue: then it gives the moment (ns) until which the ruleset
-/// rests. Takes no memory.
+/// Takes the actions of a ruleset in order, and appends their kills. The first kill by an action
+/// without `always_continue` ends the chain: then returns the time (ns) until which the ruleset
+/// rests. Does not allocate.
 pub(crate) fn take_chain(
     actions: &[Action],
     tables: &[MatchTable],

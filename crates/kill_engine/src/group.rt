@@ -10,7 +10,7 @@ use ruleset_json::DetectorSpec;
 use std::alloc::Global;
 use std::marker::Model;
 
-/// The detectors of a group, which holds where all of them are true.
+/// The detectors of a group. The group holds if all of them are true.
 #[derive(Drop)]
 pub(crate) struct GroupState {
     detectors: Vec<Detector>,
@@ -25,7 +25,8 @@ impl Model for GroupState {
     ghost view = { λ g. g.detectors.items };
 }
 
-/// Steps all detectors, also behind a false one. True where all are.
+/// Steps every detector, without short-circuit, because detectors have state. Returns whether all
+/// are true.
 fn step_all(detectors: &mut [Detector], reading: &Reading) -> bool
     requires ready { All (IsStateReady reading.now) detectors.old }
     ensures answer { AllAnswer detectors.old reading.now result }
@@ -57,7 +58,7 @@ impl GroupState {
         Ok(GroupState { detectors })
     }
 
-    /// The next reading. True where the group holds at it. Takes no memory.
+    /// Takes the next reading, and returns whether the group holds at it. Does not allocate.
     pub(crate) fn step(&mut self, reading: &Reading) -> bool
         requires ready { All (IsStateReady reading.now) self.old }
         ensures answer { AllAnswer self.old reading.now result }

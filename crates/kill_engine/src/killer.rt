@@ -16,17 +16,17 @@ use std::alloc::Global;
 use std::marker::Model;
 use victim_rank::Past;
 
-/// How many kills there can be at an evaluation: of 16 actions of each of 64 rulesets.
+/// The maximum number of kills at an evaluation: 16 actions for each of 64 rulesets.
 const MOST_KILLS: usize = 1024;
 
-/// All rulesets, as the readings so far left them, and the kills at the last of these.
+/// All rulesets after the readings so far, and the kills at the last reading.
 #[derive(Drop)]
 pub struct Killer {
     rulesets: Vec<RuleState>,
     past: Past,
-    /// The moment of the last reading (ns).
+    /// The time of the last reading (ns).
     last: Option<Ns>,
-    /// The kills at the last reading, with room for as many as there can be.
+    /// The kills at the last reading, with capacity for the maximum number.
     found: Vec<Kill>,
 }
 
@@ -60,7 +60,7 @@ fn rulesets_of(
     Ok(rulesets)
 }
 
-/// Has all rulesets take a reading, in order, and puts their kills one after another.
+/// Passes a reading to all rulesets, in order, and collects their kills in that order.
 fn evaluate_all(rulesets: &mut [RuleState], reading: &Reading, past: &Past, found: &mut Vec<Kill>)
     requires few { length rulesets.old ≤ 64 }
     requires ready { All (IsRulesetReady reading.now) rulesets.old }
@@ -81,8 +81,8 @@ fn evaluate_all(rulesets: &mut [RuleState], reading: &Reading, past: &Past, foun
 }
 
 impl Killer {
-    /// A killer by these rules of groups with these lives, by slot, before the first reading. Takes
-    /// all memory that it will need.
+    /// A killer with these rules for these groups, by slot, before the first reading. Allocates
+    /// everything at the start.
     pub fn make(alloc: Global, rules: Rules, lives: &[GroupLife]) -> Result<Killer, NoMemory>
         requires { length lives.now ≤ most_groups }
         ensures { IfOk result (λ killer. StandsFor killer lives.now rules.rules []) }
@@ -95,8 +95,9 @@ impl Killer {
         })
     }
 
-    /// The next reading, later than the last: each ruleset that fires at it, and doesn't rest,
-    /// takes its actions in turn. [`Killer::kills`] has the kills then. Takes no memory.
+    /// Takes the next reading, which is later than the last: each ruleset that fires at it and
+    /// isn't resting takes its actions in order. [`Killer::kills`] returns the kills afterwards.
+    /// Does not allocate.
     pub fn evaluate(&mut self, reading: &Reading)
         requires later { IsAfter self.old.last reading.now.seen.at }
         requires stands { IsStanding self.old reading.now.lives }
@@ -111,7 +112,7 @@ impl Killer {
         self.last = Some(reading.at());
     }
 
-    /// The kills at the last reading, by ruleset and action; none before the first.
+    /// The kills at the last reading, in the order of rulesets and actions; empty before the first.
     pub fn kills(&self) -> &[Kill]
         ensures { result.now ≡ self.now.found }
     {

@@ -1,7 +1,9 @@
-//! Kills: at each evaluation the rulesets that fire and don't rest take their actions in turn.
+//! Kills: at each evaluation the rulesets that fire and aren't resting take their actions in order.
 //!
-//! [`Killer`] has all detectors and the past of all groups, takes one reading after another, and
-//! tells whom to kill at the last of them. It takes all memory at first.
+//! [`Killer`] has all detectors and the past of all groups. It takes readings in order, and returns
+//! the kills at the last one. It allocates everything at the start.
+//!
+//! It kills nothing and prints nothing: it only decides.
 #![tactic(auto)]
 
 mod chain;

@@ -15,15 +15,15 @@ use std::alloc::Global;
 use std::marker::Model;
 use victim_rank::{MatchTable, Past};
 
-/// A ruleset, as the readings so far left it.
+/// A ruleset after the readings so far.
 #[derive(Drop)]
 pub(crate) struct RuleState {
     groups: Vec<GroupState>,
     actions: ActionList,
-    /// Which groups each action matches.
+    /// The groups that each action matches.
     tables: Vec<MatchTable>,
-    /// The moment (ns) until which it rests: 0 where no kill ended its chain. It may be later than
-    /// any of 64 bits.
+    /// The time (ns) until which it rests, or 0 if no kill ended its chain. It may not fit in 64
+    /// bits.
     rests_until: u128,
 }
 
@@ -52,7 +52,7 @@ fn groups_of(
     Ok(groups)
 }
 
-/// Which groups the actions of a ruleset match, so that patterns are matched once, and not at each
+/// The groups that the actions of a ruleset match. Patterns are matched once, instead of at each
 /// evaluation.
 fn tables_of(
     alloc: Global,
@@ -69,7 +69,8 @@ fn tables_of(
     Ok(tables)
 }
 
-/// Steps the detectors of all groups, also behind one that holds. True where one does.
+/// Steps every group's detectors, without short-circuit, because detectors have state. Returns
+/// whether a group holds.
 fn step_groups(groups: &mut [GroupState], reading: &Reading) -> bool
     requires ready { EachDetector (IsStateReady reading.now) groups.old }
     ensures answer { SomeAnswers groups.old reading.now result }
@@ -101,7 +102,7 @@ impl RuleState {
         })
     }
 
-    /// Steps all its detectors. True where it fires at the reading.
+    /// Steps all its detectors, and returns whether it fires at the reading.
     fn fires(&mut self, reading: &Reading) -> bool
         requires ready { IsRulesetReady reading.now self.old }
         ensures answer { SomeAnswers self.old.groups reading.now result }
@@ -114,15 +115,15 @@ impl RuleState {
         step_groups(&mut self.groups, reading)
     }
 
-    /// It rests at a moment (ns).
+    /// Whether it rests at a time (ns).
     fn is_resting(&self, at: Ns) -> bool
         ensures { result ≡ nat_lt at self.now.rests_until }
     {
         u128::from(at) < self.rests_until
     }
 
-    /// The next reading: puts its kills behind others, as the ruleset with this number. Takes no
-    /// memory.
+    /// Takes the next reading as the ruleset with this number, and appends its kills. Does not
+    /// allocate.
     pub(crate) fn evaluate(
         &mut self,
         number: u32,

@@ -1,4 +1,4 @@
--- What a past that is kept makes of choices.
+-- Choices that depend on earlier readings only through the stored past.
 use Rattle.std.specs.Prelude.{◌≡◌, ℕ, List, length, filter, option_map, Option}
 use Rattle.psi_base.specs.declared.event.Slot.{Slot}
 use Rattle.psi_spec.specs.declared.machine.GroupLife.{GroupLife}
@@ -11,23 +11,23 @@ use Rattle.victim_rank.specs.Pasts.{IsPastOf, Kept}
 use Rattle.victim_rank.specs.Growth.{has_grown_more_over, is_growing_over}
 use Rattle.victim_rank.specs.Scopes.{ScopeView, among}
 
--- The victim of an action at a reading: where what is kept stands for the readings before it,
--- newest first, it is the slot of the group that the action kills after them, if it kills one.
+-- The victim of an action at a reading: the slot of the group that the action kills after any
+-- earlier readings (the newest first) that the stored past represents, or None.
 abbrev pub IsVictim : List GroupLife → Action → Reading → Kept → Option Slot → Type 0
 IsVictim lives act now kept result = (history : List Reading) → IsPastOf kept history →
     result ≡ option_map (λ (group : GroupReading). group.slot) (victim lives act now history)
 
--- a choice by a scope is that of its action after the readings for which what is kept stands
+-- a choice in a scope is that of its action after any readings that the stored past represents
 abbrev pub Chooses : ScopeView → Reading → Kept → Option GroupReading → Type 0
 Chooses scope now kept result = (history : List Reading) → IsPastOf kept history →
     result ≡ choice scope.lives scope.act now history (among scope.lives scope.act scope.above now)
 
--- the group at which at most so many more choices among children end
+-- the last group of at most `count` more choices, each among the children of the previous one
 abbrev pub Descends : ScopeView → Reading → Kept → ℕ → GroupReading → GroupReading → Type 0
 Descends scope now kept count chosen result = (history : List Reading) → IsPastOf kept history →
     result ≡ descended scope.lives scope.act now history count chosen
 
--- the choice by size or growth over sizes that each group had
+-- the choice by size or growth, given each group's past sizes
 abbrev pub size_choice : (GroupReading → List ℕ) → List GroupLife → ℕ → ℕ → ℕ →
     List GroupReading → Option GroupReading
 size_choice sizes lives size_threshold percentile ratio groups =

@@ -1,4 +1,4 @@
--- Where the largest of groups end, by keys in the order of sizes.
+-- The boundary of the largest groups, by keys in the order of sizes.
 use Rattle.std.specs.Prelude.{◌≡◌, ℕ, ◌+◌, ◌-◌, ◌*◌, ◌≤◌, List, Bool, Contains, true, ◌&&◌}
 use Rattle.std.specs.Prelude.{filter, length, nat_le, nat_lt}
 use Rattle.psi_spec.specs.World.{most_groups}
@@ -9,21 +9,21 @@ use Rattle.detectors.specs.Below.{AreAmong, group_at, groups_at}
 use Rattle.detectors.specs.Views.{ReadingView}
 use Rattle.victim_rank.specs.Scopes.{ScopeView, is_in_rank}
 
--- the key of the group at a place: a larger group has a greater key, and of two of one size the one
--- at the smaller place
+-- the key of the group at a place: a larger group has a greater key, and of two with the same size
+-- the one at the smaller place has
 abbrev pub size_key : List GroupReading → ℕ → ℕ
 size_key groups place = memory_in_use (group_at groups place) * 1024 + (1023 - place)
 
--- at a place is a group that passes a test and has at least this key
+-- the group at a place passes a test and has at least this key
 abbrev pub reaches : (GroupReading → Bool) → List GroupReading → ℕ → ℕ → Bool
 reaches test groups key place =
     nat_le key (size_key groups place) && test (group_at groups place)
 
--- how many of these places have such a group
+-- the number of these places with such a group
 abbrev pub count_reaching : (GroupReading → Bool) → List GroupReading → List ℕ → ℕ → ℕ
 count_reaching test groups places key = length (filter (reaches test groups key) places)
 
--- Places of a reading's groups, among which are all groups of a scope and a rank.
+-- Places in a reading that include all groups of a scope and a rank.
 pub record IsRanking (scope : ScopeView) (best_rank : ℕ) (reading : ReadingView)
     (places : List ℕ) : Type 0 where
   pub lives : reading.lives ≡ scope.lives

@@ -1,4 +1,4 @@
--- How the group that has grown most so far is told from the next.
+-- How the group that has grown most so far is compared with the next.
 use Rattle.std.specs.Prelude.{◌≡◌, ℕ, ◌*◌, ◌<◌, ◌≤◌, ◌^◌, List, length, sum, nat_lt, ◌==◌, ◌&&◌, ◌||◌}
 use Rattle.std.specs.Prelude.{Bool}
 use Rattle.kill_spec.specs.declared.reading.GroupReading.{GroupReading}
@@ -6,7 +6,7 @@ use Rattle.kill_spec.specs.Victims.{memory_in_use}
 use Rattle.detectors.specs.Below.{group_at}
 use Rattle.victim_rank.specs.declared.growth.Grown.{Grown}
 
--- a group with its growth over sizes that each group had
+-- the growth of a group over its past sizes
 pub record IsGrown (sizes_had : GroupReading → List ℕ) (grown : Grown) (seen : GroupReading)
     : Type 0 where
   pub current_is : grown.current ≡ memory_in_use seen
@@ -15,8 +15,7 @@ pub record IsGrown (sizes_had : GroupReading → List ℕ) (grown : Grown) (seen
   pub sizes_fit : grown.sizes ≤ 2 ^ 62
   pub sum_fits : grown.sum ≤ 2 ^ 62
 
--- a group with its growth leads one before it: it has grown more, or as much and it uses more
--- memory
+-- a group's growth beats an earlier one's: it is more, or equal and the group uses more memory
 abbrev pub leads_grown : Grown → Grown → Bool
 leads_grown next best =
     nat_lt (best.sizes * next.sum) (next.sizes * best.sum)

@@ -1,4 +1,4 @@
--- Growth of groups over sizes that each of them had, as a function of the group.
+-- The growth of groups over their past sizes, as a function of the group.
 use Rattle.std.specs.Prelude.{ℕ, ◌*◌, List, [], length, sum, nat_le, nat_lt, ◌==◌, ◌&&◌, ◌||◌, Bool}
 use Rattle.std.specs.Prelude.{slice_index_or}
 use Rattle.psi_spec.specs.declared.machine.GroupLife.{GroupLife}
@@ -6,22 +6,23 @@ use Rattle.kill_spec.specs.declared.reading.GroupReading.{GroupReading}
 use Rattle.kill_spec.specs.Victims.{is_larger, memory_in_use}
 use Rattle.victim_rank.specs.Pasts.{Kept}
 
--- the sizes (bytes) that are kept of a group
+-- the stored past sizes (bytes) of a group
 abbrev pub sizes_from : Kept → GroupReading → List ℕ
 sizes_from kept group = slice_index_or kept.sizes group.slot.0 []
 
--- a group has a past with memory in use, and its size is at least so many thousandths of the mean
--- of its past
+-- a group has past sizes that aren't all 0, and its size is at least `ratio` thousandths of their
+-- mean
 abbrev pub is_growing_over : (GroupReading → List ℕ) → ℕ → GroupReading → Bool
 is_growing_over sizes ratio group =
     nat_lt 0 (sum (sizes group))
     && nat_le (ratio * sum (sizes group)) (memory_in_use group * length (sizes group) * 1000)
 
--- a group's size over the mean of its past, times the sums of its own past and another's
+-- a group's size divided by the mean of its past, multiplied by the sums of its own past and
+-- another's
 abbrev pub growth_over : (GroupReading → List ℕ) → GroupReading → GroupReading → ℕ
 growth_over sizes group other = memory_in_use group * length (sizes group) * sum (sizes other)
 
--- a group has grown more than another, or as much and it is larger
+-- a group has grown more than another, or as much and is larger
 abbrev pub has_grown_more_over : (GroupReading → List ℕ) → List GroupLife →
     GroupReading → GroupReading → Bool
 has_grown_more_over sizes lives first second =

@@ -1,4 +1,4 @@
--- Among which groups a choice is made, and how an action compares them.
+-- The groups among which a choice is made, and how an action compares them.
 use Rattle.std.specs.Prelude.{◌≡◌, ℕ, length, ◌-◌, ◌&&◌, ◌==◌, List, Option, None, Some, Bool, true}
 use Rattle.std.specs.Prelude.{nat_lt, slice_index_or}
 use Rattle.psi_base.specs.declared.event.Slot.{Slot}
@@ -18,33 +18,35 @@ use Rattle.victim_rank.specs.Pasts.{Kept}
 
 -- ---- scopes
 
--- A choice of an action: of all groups that a trace ever makes, among the candidates of the action
--- or, where a group was chosen before, among the children of that one.
+-- The scope of a choice: all groups that a trace ever creates, the action, and the group that was
+-- chosen before, if any. The choice is made among that group's children, or else among the
+-- candidates of the action.
 pub record ScopeView : Type 0 where
   pub lives : List GroupLife
   pub act : Action
   pub above : Option Slot
 
--- the groups at a reading among which a choice is made
+-- the groups of a reading among which a choice is made
 abbrev pub among : List GroupLife → Action → Option Slot → Reading → List GroupReading
 among lives act None now = candidates lives (action_patterns act) now
 among lives act (Some above) now = children lives above.0 now
 
--- a group is one of them, if it was read
+-- a group of a reading is one of them
 abbrev pub is_in_scope : List GroupLife → Action → Option Slot → GroupReading → Bool
 is_in_scope lives act None group = group.populated && is_match (action_patterns act) (path_of lives group)
 is_in_scope lives act (Some above) group =
     group.populated && names_slot above.0 (slice_index_or (parents_of lives) group.slot.0 None)
 
--- the same by a scope
+-- the same for a scope
 abbrev pub is_in_view : ScopeView → GroupReading → Bool
 is_in_view scope group = is_in_scope scope.lives scope.act scope.above group
 
--- a group is one of a scope, and its preference has a rank
+-- a group is in a scope, and its preference has this rank
 abbrev pub is_in_rank : ScopeView → ℕ → GroupReading → Bool
 is_in_rank scope best_rank group = is_in_view scope group && rank_of group == best_rank
 
--- A scope is used with a reading and a past of the same groups, and its action is in its ranges.
+-- A scope is used with a reading and a past of the same groups, and its action's numbers are in
+-- range.
 pub record IsUse (scope : ScopeView) (reading : ReadingView) (kept : Kept) : Type 0 where
   pub fits : FitsAction scope.act
   pub lives : reading.lives ≡ scope.lives
@@ -59,12 +61,12 @@ IsSizes (action.PgScan cgroup after) = ⊥
 
 -- ---- measures
 
--- how far a count of scans is above an earlier one, if there is one
+-- by how much a scan count exceeds an earlier one, or 0 if there is none
 abbrev pub above_count : ℕ → Option ℕ → ℕ
 above_count scan None = 0
 above_count scan (Some before) = scan - before
 
--- the rise of a group's scans, by what is kept
+-- the rise of a group's scan count over the stored one
 abbrev pub rise_from : Kept → GroupReading → ℕ
 rise_from kept group = above_count group.scan (slice_index_or kept.scans group.slot.0 None)
 

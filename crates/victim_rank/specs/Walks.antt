@@ -1,4 +1,4 @@
--- How the best group so far is told from the next.
+-- How the best group so far is compared with the next.
 use Rattle.std.specs.Prelude.{◌≡◌, ◌<◌, List, length, nat_lt, ◌==◌, ◌&&◌, ◌||◌, Bool}
 use Rattle.ruleset_json.specs.declared.types.Action.{Action}
 use Rattle.kill_spec.specs.declared.reading.GroupReading.{GroupReading}
@@ -8,8 +8,7 @@ use Rattle.victim_rank.specs.Pasts.{Kept}
 use Rattle.victim_rank.specs.Scopes.{measure_of}
 use Rattle.victim_rank.specs.declared.foremost.Measured.{Measured}
 
--- a group with its measure leads one before it: its preference is better, or the same and its
--- measure is greater
+-- a group beats an earlier one: its preference is better, or equal and its measure is greater
 abbrev pub leads_measured : Measured → Measured → Bool
 leads_measured next best =
     nat_lt best.rank next.rank || (next.rank == best.rank && nat_lt best.measure next.measure)

@@ -20,9 +20,9 @@ use psi_base::Slot;
 use psi_spec::GroupLife;
 use ruleset_json::Action;
 
-// The choice by size or growth: the largest group of the best preference, if it has a share of the
-// memory of all; else the one of its preference that has grown most, if one is growing; else the
-// largest all the same.
+// The choice by size or growth: the largest group of the best preference if it has the required
+// share of all memory in use; else the growing group of that preference that has grown most; else
+// the largest group anyway.
 fn by_size_or_growth(
     scope: &Scope<'_>,
     reading: &Reading,
@@ -51,7 +51,6 @@ fn by_size_or_growth(
     grown_most(scope, best_rank, reading, past, ratio, few).or(Some(largest))
 }
 
-// The choice of an action among the groups of a scope.
 fn choose(scope: &Scope<'_>, reading: &Reading, past: &Past) -> Option<GroupReading>
     requires { IsUse scope.now reading.now past.now }
     ensures { Chooses scope.now reading.now.seen past.now result }
@@ -69,8 +68,7 @@ fn choose(scope: &Scope<'_>, reading: &Reading, past: &Past) -> Option<GroupRead
     }
 }
 
-// The group at which choices end that are made again and again among the children of the one that
-// was chosen.
+// Repeats the choice among the children of the last chosen group, and returns the last one.
 fn descend(scope: &Scope<'_>, reading: &Reading, past: &Past, chosen: GroupReading) -> GroupReading
     requires { IsUse scope.now reading.now past.now }
     ensures { Descends scope.now reading.now.seen past.now (length scope.now.lives) chosen result }
@@ -85,12 +83,14 @@ fn descend(scope: &Scope<'_>, reading: &Reading, past: &Past, chosen: GroupReadi
     last
 }
 
-/// The group that an action kills at a reading, after those for which the past stands, if it has a
-/// victim: the choice among the populated groups that its patterns match, which its table tells,
-/// and for a recursive action again and again among the children of the one that was chosen. It
-/// takes no memory. A choice by a measure walks the groups of its scope once; one by size or growth
-/// up to four times, and as `grown_most` says. A recursive action chooses once for each level, and
-/// there among the children alone.
+/// The group that an action kills at a reading, after the readings that the past represents; `None`
+/// if there is no victim. The first choice is among the populated groups that match according to
+/// `table`; a recursive action repeats the choice among the children of the chosen group. Does not
+/// allocate.
+///
+/// A choice by a measure walks the groups of its scope once. A choice by size or growth walks them
+/// up to four times, plus the walks of `grown_most`. A recursive action chooses once for each
+/// level, and there only among the children.
 pub fn victim(
     action: &Action,
     table: &MatchTable,

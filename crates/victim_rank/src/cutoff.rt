@@ -1,4 +1,4 @@
-//! Where the largest groups of a scope and a rank end, in the order of sizes.
+//! The boundary of the largest groups of a scope and a rank, in the order of sizes.
 ghost use Rattle.std.specs.Prelude.{◌≡◌, ◌<◌, ◌≤◌, ◌^◌, ◌*◌, ◌+◌, ◌-◌, Contains, IfSome, filter, length, nat_le, nat_lt, true};
 ghost use Rattle.detectors.specs.Below.{AreAmong, group_at, groups_at};
 ghost use Rattle.kill_spec.specs.LegalReadings.{IsGroupReading};
@@ -11,8 +11,8 @@ use crate::size::is_in_rank;
 use detectors::Reading;
 use kill_spec::GroupReading;
 
-/// The key of the group at a place in the order of sizes: a larger group has a greater key, and so
-/// has the group whose path comes first if two have the same size.
+/// The key of the group at a place in the order of sizes: a larger group has a greater key, and of
+/// two with the same size the one whose path comes first has.
 fn size_key(place: u32, group: &GroupReading) -> u128
     requires place { place < 1024 }
     ensures { result ≡ memory_in_use group.now * 1024 + (1023 - place) }
@@ -20,7 +20,7 @@ fn size_key(place: u32, group: &GroupReading) -> u128
     u128::from(group.current) * 1024 + u128::from(1023 - place)
 }
 
-/// How many groups of a scope and a rank have at least this key.
+/// The number of groups of a scope and a rank with at least this key.
 fn count_reaching(
     scope: &Scope<'_>,
     best_rank: u8,
@@ -59,9 +59,9 @@ fn greatest_key(scope: &Scope<'_>, best_rank: u8, reading: &Reading, places: &[u
     greatest
 }
 
-/// The key that exactly the `few` largest groups of a scope and a rank reach, found by binary
-/// search: each step halves the range of keys and walks the groups once. If there are not more than
-/// `few`, all groups reach the key.
+/// The key that exactly the `few` largest groups of a scope and a rank reach, by binary search:
+/// each step halves the range of keys and walks the groups once. If there are at most `few` groups,
+/// all of them reach the key.
 fn cutoff(scope: &Scope<'_>, best_rank: u8, reading: &Reading, places: &[u32], few: u128) -> u128
     requires ranking { IsRanking scope.now best_rank reading.now places.now }
     requires few { 0 < few }
@@ -85,7 +85,7 @@ fn cutoff(scope: &Scope<'_>, best_rank: u8, reading: &Reading, places: &[u32], f
 }
 
 /// Whether fewer than `few` groups of a scope and a rank are larger than the one at a place, which
-/// is one of them. The cutoff is found once, when it is first needed.
+/// is one of them. The cutoff is computed once, when it is first needed.
 pub(crate) fn is_among_largest(
     scope: &Scope<'_>,
     best_rank: u8,

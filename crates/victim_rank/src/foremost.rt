@@ -1,4 +1,4 @@
-//! The group that none beats by an action's measure.
+//! The group that no other beats by an action's measure.
 ghost use Rattle.std.specs.Prelude.{◌≡◌, ◌&&◌, ◌<◌, MatchOption, false, filter, length, map, true, if◌then◌else◌};
 ghost use Rattle.ruleset_json.specs.Ranges.{FitsAction};
 ghost use Rattle.kill_spec.specs.Readings.{path_of};
@@ -21,14 +21,15 @@ pub(crate) struct Measured {
     measure: u64,
 }
 
-// A group leads one before it: its preference is better, or the same and its measure is greater.
+// Whether a group beats an earlier one: its preference is better, or equal and its measure is
+// greater.
 fn leads(next: &Measured, best: &Measured) -> bool
     ensures { result ≡ leads_measured next.now best.now }
 {
     next.rank > best.rank || (next.rank == best.rank && next.measure > best.measure)
 }
 
-// The better one of two, if there is one before.
+// The better of two groups; the next one if there is none before.
 fn better(best: Option<Measured>, next: Measured) -> Measured
     ensures { MatchOption best (result ≡ next)
         (λ before. result ≡ (if leads_measured next before then next else before)) }
@@ -39,7 +40,7 @@ fn better(best: Option<Measured>, next: Measured) -> Measured
     }
 }
 
-// The measure of a group, if the choice is made among others with it and it is eligible.
+// The measure of a group, if it is in the scope and eligible.
 fn measured_in(
     scope: &Scope<'_>,
     host: HostReading,
@@ -63,8 +64,8 @@ fn measured_in(
     measured(scope.action(), host, past, group)
 }
 
-/// The eligible group that none beats: by preference, then by the action's measure, then by path.
-/// It walks the groups of the scope once.
+/// The eligible group that no other beats: by preference, then by the action's measure, then by
+/// path. Walks the groups of the scope once.
 pub(crate) fn foremost(scope: &Scope<'_>, reading: &Reading, past: &Past) -> Option<GroupReading>
     requires { IsUse scope.now reading.now past.now }
     ensures choice { result

@@ -13,8 +13,8 @@ use crate::size::is_in_rank;
 use detectors::Reading;
 use kill_spec::GroupReading;
 
-/// The place of a group in a reading, its size in bytes, the size times the number of sizes of its
-/// past, and their sum. The quotient is its size over the mean of its past.
+/// The place of a group in a reading, its size in bytes, its size multiplied by the number of its
+/// past sizes, and their sum. The quotient of the last two is its size over the mean of its past.
 #[derive(Clone, Copy)]
 pub(crate) struct Grown {
     place: u32,
@@ -23,7 +23,6 @@ pub(crate) struct Grown {
     sum: u64,
 }
 
-// The sum of sizes.
 fn sum(sizes: &[u64]) -> u64
     requires few { length sizes.now ≤ 4 }
     requires each { All (λ size. size ≤ 2 ^ 60) sizes.now }
@@ -37,7 +36,7 @@ fn sum(sizes: &[u64]) -> u64
     total
 }
 
-// A group against its past.
+// The growth of a group over its past.
 fn growth_of(past: &Past, place: u32, group: &GroupReading) -> Grown
     requires { group.now.current ≤ 2 ^ 60 }
     ensures place { result.place ≡ place }
@@ -52,7 +51,7 @@ fn growth_of(past: &Past, place: u32, group: &GroupReading) -> Grown
     }
 }
 
-// The growth is at least a ratio (thousandths).
+// Whether the growth is at least a ratio (thousandths).
 fn is_growing(ratio: u32, grown: &Grown) -> bool
     requires ratio { IsRatio ratio }
     requires sizes { grown.now.sizes ≤ 2 ^ 62 }
@@ -63,7 +62,7 @@ fn is_growing(ratio: u32, grown: &Grown) -> bool
     grown.sum > 0 && u128::from(grown.sizes) * 1000 >= u128::from(ratio) * u128::from(grown.sum)
 }
 
-// A group leads one before it: it has grown more, or as much and it uses more memory.
+// Whether a group beats an earlier one: it has grown more, or as much and uses more memory.
 fn leads(next: &Grown, best: &Grown) -> bool
     ensures { result ≡ leads_grown next.now best.now }
 {
@@ -72,7 +71,7 @@ fn leads(next: &Grown, best: &Grown) -> bool
     next_growth > best_growth || (next_growth == best_growth && next.current > best.current)
 }
 
-// There is no group before, or the next one leads it.
+// Whether there is no earlier group, or the next one beats it.
 fn leads_any(next: &Grown, best: Option<Grown>) -> bool
     ensures { MatchOption best (result ≡ true) (λ before.
         result ≡ leads_grown next.now before) }
@@ -83,8 +82,8 @@ fn leads_any(next: &Grown, best: Option<Grown>) -> bool
     }
 }
 
-/// The growing group that has grown most, among the `few` largest of a scope and a rank. It walks
-/// the groups once, and up to 72 times more to find where the largest end, if one is growing.
+/// The growing group that has grown most, among the `few` largest of a scope and a rank. Walks the
+/// groups once, and up to 72 times more to find the cutoff if a group is growing.
 pub(crate) fn grown_most(
     scope: &Scope<'_>,
     best_rank: u8,

@@ -1,8 +1,9 @@
-//! Which group an action kills: its choice among the groups of a reading, after those that came
-//! before.
+//! The choice of a victim: the group that an action kills at a reading, after the earlier readings.
 //!
-//! [`Past`] keeps what later choices need of each reading, and [`victim`] chooses. Both take no
-//! memory once a past is made. [`after_of`] says what comes after a kill.
+//! [`Past`] stores what later choices need of each reading, and [`victim`] chooses. Neither
+//! allocates after a past is created. [`after_of`] returns what follows a kill.
+//!
+//! It doesn't decide when an action is taken: kill_engine does.
 #![tactic(auto)]
 
 mod choice;

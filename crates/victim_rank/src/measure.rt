@@ -12,7 +12,7 @@ use kill_spec::{GroupReading, HostReading};
 use psi_base::{Level, Preference, Res, State};
 use ruleset_json::{Action, Size};
 
-/// The rank of a group's preference: what is preferred is chosen first, and what is avoided last.
+/// The rank of a group's preference: preferred groups are chosen first, and avoided ones last.
 pub(crate) fn rank(group: &GroupReading) -> u8
     ensures { result ≡ rank_of group.now }
 {
@@ -23,7 +23,7 @@ pub(crate) fn rank(group: &GroupReading) -> u8
     }
 }
 
-// The full averages of a resource over 10 s and 60 s together.
+// The sum of the full averages of a resource over 10 s and 60 s.
 fn pressure(group: &GroupReading, resource: Res) -> u64
     requires rows { length group.now.averages ≡ irq_quantity }
     requires each { All IsRow group.now.averages }
@@ -33,7 +33,7 @@ fn pressure(group: &GroupReading, resource: Res) -> u64
     averages[0] + averages[1]
 }
 
-// Swap in use is at least a size.
+// Whether the swap in use is at least a size.
 fn is_at_least(threshold: Size, host: HostReading, swap: u64) -> bool
     requires threshold { IsSize threshold }
     requires host { IsHostReading host }
@@ -48,14 +48,15 @@ fn is_at_least(threshold: Size, host: HostReading, swap: u64) -> bool
     }
 }
 
-// A number above 0.
+// A number, or `None` for 0.
 fn above_zero(measure: u64) -> Option<u64>
     ensures { MatchOption result (measure ≡ 0) (λ same. (0 < measure) × (same ≡ measure)) }
 {
     if measure > 0 { Some(measure) } else { None }
 }
 
-/// The measure by which an action compares a group with others, if it can choose the group at all.
+/// The measure by which an action compares a group with others; `None` if it can't choose the
+/// group.
 pub(crate) fn measured(
     action: &Action,
     host: HostReading,

@@ -1,4 +1,4 @@
-//! What is kept of earlier readings.
+//! The past that is stored of earlier readings.
 ghost use Rattle.std.specs.Prelude.{◌≡◌, ◌≤◌, ◌^◌, ℕ, [], ◌∷◌, All, IfOk, Some, length, map, option_map, replicate, slice_index_or, take, None};
 ghost use Rattle.kill_spec.specs.declared.reading.GroupReading.{GroupReading};
 ghost use Rattle.kill_spec.specs.Readings.{group_in};
@@ -16,13 +16,12 @@ use std::marker::Model;
 /// The last sizes of a group, at most four, the newest first.
 #[derive(Clone, Copy)]
 pub(crate) struct Sizes {
-    /// In bytes; those that count come first.
+    /// In bytes; only the first `count` are valid.
     bytes: [u64; 4],
-    /// How many count.
+    /// The number of sizes.
     count: usize,
 }
 
-// No size, for each of so many groups.
 fn no_sizes(alloc: Global, slots: u32) -> Result<Vec<Sizes>, NoMemory>
     ensures sizes { IfOk result (λ sizes. map sizes_of sizes.items ≡ replicate slots []) }
     ensures within { IfOk result (λ sizes. All AreSizes sizes.items) }
@@ -34,14 +33,13 @@ fn no_sizes(alloc: Global, slots: u32) -> Result<Vec<Sizes>, NoMemory>
     Ok(vec![in alloc; none; slots as usize]?)
 }
 
-// No count of scans, for each of so many groups.
 fn no_scans(alloc: Global, slots: u32) -> Result<Vec<Option<u64>>, NoMemory>
     ensures { IfOk result (λ scans. scans.items ≡ replicate slots None) }
 {
     Ok(vec![in alloc; None; slots as usize]?)
 }
 
-// These sizes behind a newer one, without the fifth.
+// Puts `newest` in front of the sizes, and drops the fifth.
 fn behind(newest: u64, sizes: Sizes) -> Sizes
     requires newest { newest ≤ 2 ^ 60 }
     requires within { AreSizes sizes }
@@ -55,7 +53,7 @@ fn behind(newest: u64, sizes: Sizes) -> Sizes
     }
 }
 
-// Puts the size of each group that was read before its others.
+// Puts the size of each group of the reading in front of its others.
 fn take_sizes(sizes: &mut [Sizes], reading: &Reading)
     requires slots { length sizes.old ≡ length reading.now.lives }
     requires within { All AreSizes sizes.old }
@@ -70,7 +68,7 @@ fn take_sizes(sizes: &mut [Sizes], reading: &Reading)
     }
 }
 
-// Takes the counts of the groups that were read, and forgets all others.
+// Stores the scan counts of the groups of the reading, and discards all others.
 fn take_scans(scans: &mut [Option<u64>], reading: &Reading)
     requires { length scans.old ≡ length reading.now.lives }
     ensures { (slot : ℕ) → slice_index_or scans.new slot None
@@ -82,8 +80,8 @@ fn take_scans(scans: &mut [Option<u64>], reading: &Reading)
     }
 }
 
-/// What is kept of each group, by its slot: its sizes (bytes) at the last four evaluations at which
-/// it was live, and its count of scans at the last evaluation, if it was live then.
+/// The stored past of each group, by slot: its sizes (bytes) at the last four evaluations at which
+/// it was live, and its scan count at the last evaluation, if it was live then.
 #[derive(Drop)]
 pub struct Past {
     sizes: Vec<Sizes>,
@@ -101,7 +99,7 @@ impl Model for Past {
 }
 
 impl Past {
-    /// The past of so many groups before the first evaluation.
+    /// The past of `slots` groups before the first evaluation. Allocates everything at the start.
     pub fn make(alloc: Global, slots: u32) -> Result<Past, NoMemory>
         ensures slots { IfOk result (λ past. length past.sizes ≡ slots) }
         ensures first { IfOk result (λ past. IsPastOf past []) }
@@ -112,7 +110,7 @@ impl Past {
         })
     }
 
-    /// Takes the reading of one more evaluation, without taking memory.
+    /// Stores the reading of the next evaluation. Does not allocate.
     pub fn push(&mut self, reading: &Reading)
         requires { length self.old.sizes ≡ length reading.now.lives }
         ensures slots { length self.new.sizes ≡ length self.old.sizes }
@@ -122,8 +120,8 @@ impl Past {
         take_scans(&mut self.scans, reading);
     }
 
-    // How many pages were scanned for a group since the last evaluation, and 0 where it wasn't live
-    // at it.
+    // The number of pages scanned for a group since the last evaluation, or 0 if it wasn't live
+    // then.
     pub(crate) fn rise(&self, group: &GroupReading) -> u64
         ensures { result ≡ rise_from self.now group.now }
     {

@@ -1,4 +1,4 @@
-//! Among which groups a choice is made.
+//! The groups among which a choice is made.
 ghost use Rattle.std.specs.Prelude.{◌≡◌, ◌<◌, ◌≤◌, None, Some, filter, length};
 ghost use Rattle.kill_spec.specs.Victims.{action_patterns, after_of};
 ghost use Rattle.detectors.specs.Below.{AreAmong, groups_at};
@@ -15,15 +15,15 @@ use psi_spec::GroupLife;
 use ruleset_json::{Action, After};
 use std::marker::Model;
 
-/// Among which groups a choice of an action is made, of all groups that a trace ever makes: its
-/// candidates, or the children of a group in which or below which some task is live.
+/// The groups among which an action chooses: its candidates, or the children of a group. Only
+/// groups with a live task in them or below them count.
 #[derive(Drop)]
 pub(crate) struct Scope<'a> {
     lives: &'a [GroupLife],
     action: &'a Action,
     /// By slot, whether the action's patterns match the group.
     matched: &'a [bool],
-    /// The group whose children they are.
+    /// The group among whose children the choice is made, if any.
     above: Option<Slot>,
 }
 
@@ -53,7 +53,7 @@ pub(crate) fn patterns(action: &Action) -> &Patterns
     }
 }
 
-/// What an action says of the time after it.
+/// The action's `After`: delay, recursive, always_continue.
 pub fn after_of(action: &Action) -> After
     ensures { result ≡ after_of action.now }
 {
@@ -66,7 +66,8 @@ pub fn after_of(action: &Action) -> After
 }
 
 impl<'a> Scope<'a> {
-    /// Among the candidates of an action, whose patterns match these groups, by slot.
+    /// The scope of an action's candidates. `matched` has by slot whether its patterns match the
+    /// group.
     pub(crate) fn candidates(
         lives: &'a [GroupLife],
         action: &'a Action,
@@ -83,7 +84,7 @@ impl<'a> Scope<'a> {
         }
     }
 
-    /// Among the children of a group.
+    /// The scope of a group's children.
     pub(crate) fn below(&self, above: Slot) -> Scope<'a>
         ensures { result ≡ record {
           lives = self.now.lives;
@@ -106,15 +107,15 @@ impl<'a> Scope<'a> {
         self.action
     }
 
-    /// All groups that a trace ever makes.
+    /// All groups that a trace ever creates.
     pub(crate) fn lives(&self) -> &'a [GroupLife]
         ensures { result.now ≡ self.now.lives }
     {
         self.lives
     }
 
-    /// The places of the groups of a reading among which those of the scope are found, in order: of
-    /// the children of the group above, or else of all.
+    /// The places in a reading to search for the groups of the scope, in order: those of the
+    /// children of the group above, or else all.
     pub(crate) fn places<'r>(&self, reading: &'r Reading) -> &'r [u32]
         requires { reading.now.lives ≡ self.now.lives }
         ensures groups { filter (is_in_view self.now)
@@ -125,14 +126,14 @@ impl<'a> Scope<'a> {
         ensures all { length reading.now.seen.groups ≤ most_groups }
         ensures read { IsReading reading.now.lives reading.now.seen }
     {
-        // The slot above is that of a group; for any other all groups would do.
+        // The slot above is always that of a group; for any other slot all places would be correct.
         match self.above {
             Some(above) if (above.0 as usize) < self.lives.len() => reading.below(above),
             _ => reading.places(),
         }
     }
 
-    /// Whether the choice is made among others with this group, which was read.
+    /// Whether a group of the reading is in the scope.
     pub(crate) fn has(&self, group: &GroupReading) -> bool
         requires { group.now.slot.0 < length self.now.lives }
         ensures { result ≡ is_in_view self.now group.now }

@@ -1,4 +1,4 @@
-//! The sizes of groups against one another.
+//! Comparisons of the sizes of groups.
 ghost use Rattle.std.specs.Prelude.{◌≡◌, ◌<◌, ◌^◌, ◌*◌, filter, length, nat_le, nat_lt};
 ghost use Rattle.ruleset_json.specs.Ranges.{IsPercent};
 ghost use Rattle.kill_spec.specs.Victims.{count_above, is_larger, memory_in_use, total_size};
@@ -10,7 +10,7 @@ use detectors::Reading;
 use kill_spec::GroupReading;
 use psi_spec::GroupLife;
 
-/// The memory that the groups of a scope use together, in bytes.
+/// The sum of the memory that the groups of a scope use, in bytes.
 pub(crate) fn total_size(scope: &Scope<'_>, reading: &Reading) -> u128
     requires { reading.now.lives ≡ scope.now.lives }
     ensures sum { result ≡ total_size (filter (is_in_view scope.now) reading.now.seen.groups) }
@@ -26,7 +26,7 @@ pub(crate) fn total_size(scope: &Scope<'_>, reading: &Reading) -> u128
     total
 }
 
-/// A group uses at least so many percent of the memory of all.
+/// Whether a group uses at least `size_threshold` percent of the total memory in use.
 pub(crate) fn is_large(size_threshold: u32, total: u128, group: &GroupReading) -> bool
     requires percent { IsPercent size_threshold }
     requires total { total < 2 ^ 120 }
@@ -35,7 +35,7 @@ pub(crate) fn is_large(size_threshold: u32, total: u128, group: &GroupReading) -
     u128::from(group.current) * 100 >= u128::from(size_threshold) * total
 }
 
-/// A group is one of a scope, and of a rank.
+/// Whether a group is in a scope and has this rank.
 pub(crate) fn is_in_rank(scope: &Scope<'_>, best_rank: u8, group: &GroupReading) -> bool
     requires { group.now.slot.0 < length scope.now.lives }
     ensures { result ≡ is_in_rank scope.now best_rank group.now }
@@ -43,7 +43,7 @@ pub(crate) fn is_in_rank(scope: &Scope<'_>, best_rank: u8, group: &GroupReading)
     rank(group) == best_rank && scope.has(group)
 }
 
-/// How many groups of a scope have a rank.
+/// The number of groups of a scope with this rank.
 pub(crate) fn count_in_rank(scope: &Scope<'_>, best_rank: u8, reading: &Reading) -> usize
     requires { reading.now.lives ≡ scope.now.lives }
     ensures { result ≡ length (filter (is_in_rank scope.now best_rank) reading.now.seen.groups) }
@@ -57,7 +57,7 @@ pub(crate) fn count_in_rank(scope: &Scope<'_>, best_rank: u8, reading: &Reading)
     count
 }
 
-/// How many of so many groups stand above a percentile: rounded up, and at least one.
+/// The number of `count` groups above a percentile: rounded up, and at least one.
 pub(crate) fn count_above(percentile: u32, count: usize) -> u128
     requires { IsPercent percentile }
     ensures { result ≡ count_above percentile count }

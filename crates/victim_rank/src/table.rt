@@ -10,8 +10,8 @@ use ruleset_json::Action;
 use std::alloc::Global;
 use std::marker::Model;
 
-/// Which groups the patterns of an action match, of all that a trace ever makes. Patterns are
-/// matched once, and not at each evaluation.
+/// By slot, whether the patterns of an action match the group, for all groups that a trace ever
+/// creates. Patterns are matched once, instead of at each evaluation.
 #[derive(Drop)]
 pub struct MatchTable {
     /// By slot.
@@ -27,7 +27,7 @@ impl Model for MatchTable {
 }
 
 impl MatchTable {
-    /// The table of an action for groups with these lives, by slot.
+    /// The table of an action for these groups, by slot.
     pub fn of(alloc: Global, action: &Action, lives: &[GroupLife]) -> Result<MatchTable, NoMemory>
         ensures { IfOk result (λ table.
             table ≡ match_table lives.now (action_patterns action.now)) }
