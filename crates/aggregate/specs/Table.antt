@@ -1,13 +1,13 @@
 -- A table of times: for each group, by its slot, a row with the times (ns) of each processor: in
--- the seven states, and what interrupts took.
+-- the seven states, and of interrupts.
 use Rattle.std.specs.Prelude.{◌≡◌, ◌≢◌, ◌⊎◌, All, ℕ, ◌*◌, ◌<◌, List, [], length, map, take, drop, replicate, slice_index_or, slice_set}
 use Rattle.std.specs.List.{range_with_len}
 
--- times of no length
+-- zero times
 abbrev pub no_times : List ℕ
 no_times = replicate 8 0
 
--- zeros for so many processors and groups
+-- zeros for these numbers of processors and groups
 abbrev pub new_table : ℕ → ℕ → List (List (List ℕ))
 new_table cpus slots = replicate slots (replicate cpus no_times)
 
@@ -20,7 +20,7 @@ pub record IsPlace (table : List (List (List ℕ))) (group processor : ℕ) : Ty
 abbrev pub put_times : List (List (List ℕ)) → ℕ → ℕ → List ℕ → List (List (List ℕ))
 put_times table slot cpu times = slice_set table slot (slice_set (slice_index_or table slot []) cpu times)
 
--- the row of a group in a list that has the rows one after the other
+-- the row of a group in a list of concatenated rows
 abbrev pub row_in : ℕ → List (List ℕ) → ℕ → List (List ℕ)
 row_in cpus flat slot = take cpus (drop (slot * cpus) flat)
 
@@ -32,20 +32,20 @@ rows_of cpus slots flat = map (row_in cpus flat) (range_with_len 0 slots)
 abbrev pub times_at : List (List (List ℕ)) → ℕ → ℕ → List ℕ
 times_at table slot cpu = slice_index_or (slice_index_or table slot []) cpu []
 
--- a table of so many processors and groups
+-- a table of these numbers of processors and groups
 pub record HasSizes (cpus slots : ℕ) (table : List (List (List ℕ))) : Type 0 where
   pub slots_are : length table ≡ slots
   pub cpus_are : All (λ row. length row ≡ cpus) table
 
--- two tables of as many groups and processors
+-- two tables with the same numbers of groups and processors
 pub record HaveSameSizes (table other : List (List (List ℕ))) : Type 0 where
   pub slots : length table ≡ length other
   pub cpus : (slot : ℕ) → length (slice_index_or table slot []) ≡ length (slice_index_or other slot [])
 
 -- ---- laws
 
--- A new table has its sizes, and keeps them as times are set. Tables of the same sizes are as large
--- as one another.
+-- A new table has the requested sizes, and setting times preserves them. Tables with the same sizes
+-- are equally large.
 pub record KeepsSizes : Type 0 where
   pub new : (cpus slots : ℕ) → HasSizes cpus slots (new_table cpus slots)
   pub set : (cpus slots : ℕ) (table : List (List (List ℕ))) (slot cpu : ℕ) (times : List ℕ) → HasSizes cpus slots table
@@ -55,7 +55,7 @@ pub record KeepsSizes : Type 0 where
   pub place : (cpus slots : ℕ) (table : List (List (List ℕ))) (slot cpu : ℕ) → HasSizes cpus slots table → slot < slots → cpu < cpus
       → IsPlace table slot cpu
 
--- What is set at a place stands there, and the other places are as they were.
+-- After times are set at a place, they are found there, and the other places are unchanged.
 pub record SetsOnePlace : Type 0 where
   pub here : (table : List (List (List ℕ))) (slot cpu : ℕ) (times : List ℕ) → IsPlace table slot cpu
       → times_at (put_times table slot cpu times) slot cpu ≡ times

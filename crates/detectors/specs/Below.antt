@@ -43,7 +43,7 @@ is_child lives slot group = names_slot slot (slice_index_or (parents_of lives) g
 abbrev pub child_count : List GroupLife → ℕ → ℕ
 child_count lives slot = length (filter (names_slot slot) (parents_of lives))
 
--- ---- how they are kept
+-- ---- how places are stored
 
 -- a list of places, and its capacity
 pub record PlacesView : Type 0 where

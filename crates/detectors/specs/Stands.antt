@@ -12,7 +12,7 @@ use Rattle.detectors.specs.Views.{DetectorView, IsBy, ReadingView, slots_of}
 use Rattle.detectors.specs.Tables.{detector_patterns, is_long, is_recent, keeps_scans, scan_in, scan_of}
 use Rattle.detectors.specs.Tables.{match_table, scan_slots}
 
--- ---- what readings tell a detector
+-- ---- what a detector uses of readings
 
 -- the time (ns) of the newest reading, or None
 abbrev pub newest_moment : List Reading → Option ℕ
@@ -58,7 +58,7 @@ is_scanned_kept lives spec duration at history =
     then is_scanned_within lives (detector_patterns spec) duration at history
     else false
 
--- ---- what a detector stands for
+-- ---- the readings that a detector represents
 
 -- A detector represents readings of groups, the newest first. It has the arguments, the time of the
 -- newest reading, a place for each group and, after a reading, the groups that match. The start of
@@ -91,7 +91,7 @@ DetectorTakes old reading new = (spec : DetectorSpec) (history : List Reading) �
     StandsFor old reading.lives spec history →
     StandsFor new reading.lives spec (reading.seen ∷ history)
 
--- ---- what is kept of each detector
+-- ---- the invariant of a detector
 
 -- The invariant of a detector: no run and no rise began after its last reading, no average exceeds
 -- 100 percent, and it has scan counts if it tests scans.

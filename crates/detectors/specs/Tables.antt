@@ -127,7 +127,7 @@ abbrev pub last_rise :
 last_rise spec scans rose groups now =
     if keeps_scans spec && have_risen scans groups then Some now else rose
 
--- ---- moments
+-- ---- times
 
 -- there is a time (ns), and it is at least `duration` (ns) before `at`
 abbrev pub is_long : Option ℕ → ℕ → ℕ → Bool

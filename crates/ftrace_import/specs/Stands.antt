@@ -49,7 +49,7 @@ pub record Ends (cpus : ℕ) (w : World) (events : List Event) : Type 0 where
   pub run : Run cpus w events
   pub ends : EndsLast events
 
--- ---- what lines tell
+-- ---- the contents of lines
 
 -- a way in which a running task may leave its processor
 abbrev pub Leaves : How → Type 0

@@ -27,7 +27,7 @@ killer_of rulesets past last found =
 abbrev pub killer_slots : KillerView → ℕ
 killer_slots killer = length killer.past.sizes
 
--- ---- what a killer stands for
+-- ---- the readings that a killer represents
 
 -- rulesets represent readings; the first one has this number
 abbrev pub RulesetsStand :
@@ -72,7 +72,7 @@ KillerTakes old reading new = (rules : List Rule) (history : List Reading) →
     StandsFor old reading.lives rules history →
     StandsFor new reading.lives rules (reading.seen ∷ history)
 
--- ---- rulesets one after another
+-- ---- rulesets in order
 
 -- rulesets represent some readings of these groups
 abbrev pub AreStanding : List GroupLife → List RulesetView → Type 0
@@ -91,7 +91,7 @@ RulesetsTake old reading past new = (rules : List Rule) (history : List Reading)
     RulesetsStand reading.lives history 0 old rules → IsPastOf past history →
     RulesetsStand reading.lives (reading.seen ∷ history) 0 new rules
 
--- ---- what is kept of each killer
+-- ---- the invariant of a killer
 
 -- The invariant of a killer: it has at most 64 rulesets, and their detectors have the same number
 -- of groups and the same last reading as the killer.

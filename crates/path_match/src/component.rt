@@ -10,9 +10,9 @@ use psi_base::Parts;
 /// The last star that the search has passed.
 #[derive(Clone, Copy)]
 struct LastStar {
-    /// Where the pattern continues after it.
+    /// The index at which the pattern continues after it.
     behind: usize,
-    /// Where the bytes that it matches end.
+    /// The end of the bytes that it matches.
     end: usize,
 }
 

@@ -1,6 +1,6 @@
 //! Patterns of control group paths, as in a rules file: parsed, matched against paths, and written.
 //!
-//! Which groups exist, and what is done with a match, is not its business.
+//! It doesn't know which groups exist, or what is done with a match.
 #![tactic(auto)]
 
 mod component;

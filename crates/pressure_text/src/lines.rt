@@ -1,4 +1,4 @@
-//! The lines that stand alone.
+//! The lines that commands print one by one.
 ghost use Rattle.std.specs.Prelude.{◌-◌, ◌<◌, ◌^◌};
 ghost use Rattle.outside.specs.Outside.{HasCause, StaysOver};
 ghost use Rattle.outside.specs.Calls.{PutsAll};

@@ -14,7 +14,7 @@ use Rattle.proc_plan.specs.declared.side.SideAct.{SideAct}
 use Rattle.proc_plan.specs.declared.side.SideAct.TheVariants as side
 use Rattle.proc_plan.specs.Sides.{sides_of}
 
--- ---- moments
+-- ---- times
 
 -- The sides of the events up to a time are the sides with a time up to it.
 abbrev pub SidesUpTo : Type 0

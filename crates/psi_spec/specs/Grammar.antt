@@ -189,7 +189,7 @@ abbrev pub or_bad : {A : Type 0} → ℕ → Option A → List (List ℕ) → Re
 or_bad i None words = Err (cause.BadField i)
 or_bad i (Some x) words = Ok (x, words)
 
--- the value of the first word, which is the field with this number, and the words behind it
+-- the value of the first word, which is the field with this number, and the words after it
 abbrev pub field : ℕ → (k : Kind) → List (List ℕ) → Result (Value k × List (List ℕ)) Cause
 field i k [] = Err (cause.BadField i)
 field i k (text ∷ words) = or_bad i (value_of k text) words

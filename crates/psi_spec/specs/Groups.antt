@@ -1,4 +1,4 @@
--- The groups of a world at a moment: which are live, and in which order they are printed.
+-- The groups of a world at a time: which are live, and in which order they are printed.
 use Rattle.std.specs.Prelude.{ℕ, ◌+◌, if◌then◌else◌, List, [], ◌∷◌, map, slice_index_or, nat_le, not, ◌&&◌, Bool, false, Option, None, Some}
 use Rattle.std.specs.Ordering.{nat_cmp}
 use Rattle.std.specs.Cmp.Lexicographic.{slice_cmp}
@@ -10,7 +10,7 @@ use Rattle.psi_spec.specs.World.{is_live}
 abbrev pub path_at : List GroupLife → ℕ → List ℕ
 path_at groups slot = slice_index_or (map (λ group. group.path) groups) slot []
 
--- ---- live groups at a moment
+-- ---- live groups at a time
 
 -- the group was removed by this time (ns)
 abbrev pub is_gone_by : Option ℕ → ℕ → Bool

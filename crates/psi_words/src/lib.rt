@@ -1,7 +1,7 @@
 //! Command lines: parses the words after the program's name into a command, with one simple `clap`
 //! command for each.
 //!
-//! Ranges and defaults are checked here; files are opened by nobody here.
+//! It checks ranges and defaults, and opens no files.
 #![tactic(auto)]
 
 mod given;

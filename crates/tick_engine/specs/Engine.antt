@@ -36,7 +36,7 @@ totals_in engine slot = (engine_group engine.groups slot).totals
 abbrev pub averages_in : EngineView → ℕ → AverageState
 averages_in engine slot = (engine_group engine.groups slot).averages
 
--- ---- what an engine stands for
+-- ---- the ticks that an engine represents
 
 -- the state of the group in a slot after ticks
 abbrev pub group_after : ℕ → List GroupLife → List Tick → ℕ → Group
@@ -81,7 +81,7 @@ abbrev pub EngineTakes : EngineView → Tick → EngineView → Type 0
 EngineTakes old tick new = (cpus : ℕ) (lives : List GroupLife) (triggers : List TriggerSpec) (ticks : List Tick) →
     StandsFor old cpus lives triggers ticks → StandsFor new cpus lives triggers (ticks ++ tick ∷ [])
 
--- ---- what is kept of each engine
+-- ---- the invariant of an engine
 
 -- each trigger is one that a trace may set on n groups
 abbrev pub AreWatchesWithin : ℕ → List TriggerWatch → Type 0

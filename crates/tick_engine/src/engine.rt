@@ -24,7 +24,7 @@ use std::marker::Model;
 
 /// The totals and averages of all groups and the signals of all triggers after the ticks so far:
 /// the kernel's `psi_avgs_work` and `update_triggers`, with the same ticks for all groups. It
-/// allocates everything up front, and nothing at a tick.
+/// allocates everything at the start, and nothing at a tick.
 #[derive(Drop)]
 pub struct Engine {
     last: LastTick,
@@ -108,7 +108,7 @@ impl Engine {
         requires next { IsNextTick self.old.last (tick_at now rows.now) }
         ensures stands { EngineTakes self.old (tick_at now rows.now) self.new }
 
-        // Also for an engine about which nothing is known.
+        // This also holds for an engine that represents no known ticks.
         ensures last { self.new.last ≡ tick_at now rows.now }
         ensures cpus { self.new.cpus ≡ self.old.cpus }
         ensures slots { length self.new.groups ≡ length self.old.groups }

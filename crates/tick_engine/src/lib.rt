@@ -1,7 +1,7 @@
 //! All groups and triggers at a tick: totals, averages and signals.
 //!
-//! It is given the times of each tick and doesn't know where they come from (replay_workers), nor
-//! who reads its results (rules, reports).
+//! Its caller (replay_workers) passes the times of each tick. It doesn't compute these times, and
+//! doesn't use its results: rules and reports do.
 #![tactic(auto)]
 
 mod engine;

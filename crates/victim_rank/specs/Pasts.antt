@@ -28,7 +28,7 @@ pub record IsPastOf (kept : Kept) (history : List Reading) : Type 0 where
 abbrev pub PastTakes : Kept → Reading → Kept → Type 0
 PastTakes old now new = (history : List Reading) → IsPastOf old history → IsPastOf new (now ∷ history)
 
--- ---- how it is kept
+-- ---- how the past is stored
 
 -- the sizes (bytes) stored for a group, the newest first
 abbrev pub sizes_of : Sizes → List ℕ
