@@ -1,4 +1,4 @@
--- Rows that stand one after the other in one list.
+-- Rows that are concatenated in one list.
 use Rattle.std.proofs.Common.{◌≡◌, ◌≢◌, ℕ, zero, suc, ◌+◌, ◌-◌, ◌*◌, ◌≤◌, ◌<◌, List, [], ◌++◌, length, take, drop, get_or, set, replicate, refl, sym, ap, ◌∙◌, arith, ◌⊎◌, ⊎_elim}
 use Rattle.std.proofs.Math.Nat.{mul-le-mul_right}
 use Rattle.std.proofs.Math.Seq.{take-set-lt}
@@ -65,7 +65,7 @@ rows_of-set cpus slots flat slot cpu times below inside =
     (λ apart. get_or-set_other rows slot other row [] apart ∙ get_or-rows_of cpus slots flat other [] within ∙ sym (row_kept cpus slots flat slot cpu times other inside apart))
     case))
 
--- a row beside one that was taken over is as it was
+-- copying a row doesn't change other rows
 row_beside : (cpus slots : ℕ) (flat row : List (List ℕ)) (slot other : ℕ) → length flat ≡ slots * cpus → slot < slots → length row ≡ cpus → other < slots → other ≢ slot →
     row_in cpus (take (slot * cpus) flat ++ (row ++ drop (slot * cpus + cpus) flat)) other ≡ row_in cpus flat other
 row_beside cpus slots flat row slot other long below wide within apart =
@@ -153,7 +153,7 @@ sizes_same cpus slots table other has also = record {
       ⊎_elim inside past case;
 }
 
--- tables of the same sizes stand in lists of the same length
+-- tables with the same sizes are stored in lists of the same length
 pub flats_same : (cpus slots : ℕ) (flat : List (List ℕ)) (other_cpus other_slots : ℕ) (other : List (List ℕ)) → length flat ≡ slots * cpus → length other ≡ other_slots * other_cpus →
     HaveSameSizes (rows_of cpus slots flat) (rows_of other_cpus other_slots other) → length flat ≡ length other
 flats_same cpus zero flat other_cpus other_slots other long also same =

@@ -24,7 +24,7 @@ use Rattle.detectors.proofs.Order.{either, slots_differ, slots_in}
 
 -- ---- places
 
--- more groups behind them change nothing
+-- more groups after them change nothing
 same_at : (groups more : List GroupReading) (places : List ℕ) → AreAmong groups places →
     groups_at (groups ++ more) places ≡ groups_at groups places
 same_at groups more [] among = refl
@@ -49,7 +49,7 @@ pub one_more : (groups : List GroupReading) (group : GroupReading) →
     length (groups ++ group ∷ []) ≡ length groups + 1
 one_more groups group = omega (arith, length-append groups (group ∷ []))
 
--- a group more, whose place was put behind the others if it passes the test
+-- one more group, whose place was appended if it passes the test
 pub held_more : (test : GroupReading → Bool) (groups : List GroupReading) (group : GroupReading) (room : ℕ) (old new : PlacesView) →
     AreHeld test groups room old → HasPlaced (test group) (length groups) old new →
     AreHeld test (groups ++ group ∷ []) room new
@@ -124,7 +124,7 @@ child_in lives slot s (group ∷ groups) each is =
     (either (eqb s group.slot.0) (list_any (eqb s) (slots_in (filter (is_child lives slot) groups))) (rw holds at is)))
     (λ fails. child_in lives slot s groups rest (rw fails at is))
 
--- slots that differ do so where some groups are left out
+-- distinct slots stay distinct if some groups are left out
 others_left : (slot : ℕ) (test : GroupReading → Bool) (groups : List GroupReading) →
     AllByRecursion (λ other. eqb slot other ≡ false) (slots_in groups) →
     AllByRecursion (λ other. eqb slot other ≡ false) (slots_in (filter test groups))

@@ -17,7 +17,7 @@ use Rattle.detectors.specs.Stands.{condition_of, greatest_kept, last_scan}
 
 -- ---- tables
 
--- a table has a group as matched where some pattern matches its path
+-- a group matches, according to a table, if some pattern matches its path
 pub has_match_of : (lives : List GroupLife) (patterns : List Pattern) (group : GroupReading) →
     group.slot.0 < length lives →
     has (match_table lives patterns) group ≡ is_match patterns (path_of lives group)
@@ -25,7 +25,7 @@ has_match_of lives patterns group inside =
     get_or-map (λ (life : GroupLife). is_match patterns life.path) lives group.slot.0 root false inside
     ∙ sym (ap (is_match patterns) (get_or-map (λ (life : GroupLife). life.path) lives group.slot.0 root [] inside))
 
--- each group is one of so many
+-- each group's slot is below n
 abbrev pub AreWithin : ℕ → List GroupReading → Type 0
 AreWithin slots groups = All (λ (group : GroupReading). group.slot.0 < slots) groups
 

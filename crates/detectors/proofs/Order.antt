@@ -41,7 +41,7 @@ differ lives group other before = ne_eqb group.slot.0 other.slot.0 (λ same.
     let P : List ℕ → Type 0 = λ path. ComesBefore path (path_of lives other) in
     not_itself (path_of lives other) (subst P paths before))
 
--- the path behind the next one comes after the first, too
+-- the path after the next one comes after the first, too
 skipped : (first second : List ℕ) (paths : List (List ℕ)) → Ascend (first ∷ second ∷ paths) →
     Ascend (first ∷ paths)
 skipped first second [] order = tt
@@ -71,7 +71,7 @@ slots_differ lives (group ∷ groups) order = (
   slots_differ lives groups (rest_ascends (path_of lives group) (map (path_of lives) groups) order),
 )
 
--- a slot among those of groups is one of so many
+-- a slot among those of groups is below n
 pub either : (a b : Bool) → (a || b) ≡ true → (a ≡ true) ⊎ (b ≡ true)
 either true b is = inl refl
 either false b is = inr is

@@ -1,4 +1,4 @@
--- The moments that a detector keeps tell for each duration what it asks of the readings.
+-- For each duration, the times that a detector stores have the answers about the readings.
 use Rattle.std.proofs.Common.{◌≡◌, ℕ, ◌-◌, refl, sym, arith}
 use Rattle.std.specs.Prelude.{Bool, true, false, ◌&&◌, ◌||◌, nat_le, if◌then◌else◌, Option, None}
 use Rattle.std.specs.Prelude.{Some}
@@ -32,12 +32,12 @@ and_false : (a b : Bool) → ((a && false) || b) ≡ b
 and_false true b = refl
 and_false false b = refl
 
--- one of two tests where the first implies the second
+-- one of two tests if the first implies the second
 weaker : (a b : Bool) → (a ≡ true → b ≡ true) → (a || b) ≡ b
 weaker true b implies = sym (implies refl)
 weaker false b implies = refl
 
--- the same where the second implies the first
+-- the same if the second implies the first
 stronger : (a b : Bool) → (b ≡ true → a ≡ true) → ((a && true) || b) ≡ a
 stronger true b implies = refl
 stronger false true implies = sym (implies refl)
@@ -58,7 +58,7 @@ long_next (Some start) (Some last) true now duration at by later =
 
 -- ---- rises
 
--- the moment of the last rise with one reading more
+-- the time of the last rise after one more reading
 pub recent_next : (rose last : Option ℕ) (risen : Bool) (now duration at : ℕ) → IsBy rose last →
     IsAfter last now →
     ((nat_le (at - now) duration && risen) || is_recent rose duration at)

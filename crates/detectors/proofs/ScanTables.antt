@@ -10,7 +10,7 @@ use Rattle.psi_base.specs.declared.event.Preference.TheVariants.{Prefer}
 use Rattle.kill_spec.specs.declared.reading.GroupReading.{GroupReading}
 use Rattle.detectors.specs.Tables.{scan_in, scan_of}
 
--- a group in place of one that there isn't
+-- the group used if there is none
 abbrev pub no_group : GroupReading
 no_group = record {
   slot = record { 0 = 0 };
@@ -26,7 +26,7 @@ no_group = record {
 abbrev pub in_slot : ℕ → List GroupReading → Option GroupReading
 in_slot slot groups = find (λ (group : GroupReading). group.slot.0 == slot) groups
 
--- one group more, where one was found and where none was
+-- one more group, if one was found and if none was
 same_put : (held : Option ℕ) (first : Option GroupReading) (group : GroupReading) →
     held ≡ scan_of first →
     option_or held (Some group.scan) ≡ scan_of (option_or first (Some group))
@@ -38,7 +38,7 @@ same_kept : (held : Option ℕ) (first : Option GroupReading) → held ≡ scan_
 same_kept held None is = is
 same_kept held (Some first) is = is
 
--- the first of groups in a slot is found again with one group more behind them
+-- the first of groups in a slot is still found with one more group after them
 found_here : (slot : ℕ) (group : GroupReading) → (group.slot.0 == slot) ≡ true →
     in_slot slot (group ∷ []) ≡ Some group
 found_here slot group is = rw is refl
@@ -51,7 +51,7 @@ put_at : (scans : List (Option ℕ)) (slot at : ℕ) (put : Option ℕ) → at �
     scan_in (set scans at put) slot ≡ put
 put_at scans slot at put same inside = rw (← same) (get_or-set_same scans at put None inside)
 
--- the table with the count of one group more, where none of its slot was taken
+-- the table with the count of one more group, if no group of its slot was stored
 pub scan_more : (scans : List (Option ℕ)) (groups : List GroupReading) (group : GroupReading) →
     group.slot.0 < length scans →
     ((slot : ℕ) → scan_in scans slot ≡ scan_of (in_slot slot groups)) →

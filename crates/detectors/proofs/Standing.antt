@@ -1,4 +1,4 @@
--- A detector that stands for readings stands for one more once it has taken it, and its answer is
+-- A detector that represents readings represents one more after taking it, and its answer is
 -- whether it is true.
 use Rattle.std.proofs.Common.{◌≡◌, ℕ, ◌-◌, List, [], ◌∷◌, length, refl, sym, ap, ◌∙◌}
 use Rattle.std.specs.Prelude.{Bool, true, false, ◌&&◌, ◌||◌, nat_le, if◌then◌else◌, Option, None}
@@ -43,7 +43,7 @@ scans_next : (keeps : Bool) (was now last : Option ℕ) → was ≡ (if keeps th
 scans_next true was now last is = refl
 scans_next false was now last is = is
 
--- the last counts where the detector keeps them
+-- the last counts if the detector stores them
 counts_kept : (keeps : Bool) (scans : List (Option ℕ)) (history : List Reading) → keeps ≡ true →
     ((slot : ℕ) → scan_in scans slot ≡ (if keeps then last_scan history slot else None)) →
     (slot : ℕ) → scan_in scans slot ≡ last_scan history slot

@@ -67,7 +67,7 @@ rulesets_again : (rules : List Rule) → FitsRules rules → rulesets_in (rules_
 unfolding rulesets_in
 rulesets_again rules fits = mapped_again place.Whole 64 rule_data rules fits.few
 
--- the text of rules is read again as these rules, where it has the data of these rules
+-- the text of rules is parsed as these rules, if it has the data of these rules
 pub rules_again : (rules : List Rule) → FitsRules rules → RulesHavePatterns rules → IsUtf8 (rules_text rules) → json.read (rules_text rules) ≡ Some (rules_data rules)
     → length (rules_text rules) ≤ 1048576 → rules_of (rules_text rules) ≡ Ok (record { rules = rules })
 unfolding rules_of

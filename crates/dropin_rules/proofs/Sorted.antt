@@ -1,4 +1,4 @@
--- Members that were put one after another stand in the order of their keys.
+-- Members that were put in order are in the order of their keys.
 use Rattle.std.proofs.Common.{◌≡◌, ℕ, List, [], ◌∷◌, refl}
 use Rattle.std.specs.Prelude.{codes}
 use Rattle.serde_json.specs.Data.{Data, Members, no_members, member, put, string}

@@ -49,8 +49,8 @@ none_up test bytes at none here k low under =
       | false ↦ λ other. let more : k ≢ at = grind (arith, nat_tests) in none k low (omega (arith, under, more))
     ] refl
 
--- No text begins from `low` on, where none does from `high` on and a search for its first byte
--- passed over the bytes between.
+-- No text begins from `low` on, if none does from `high` on and a search for its first byte skipped
+-- the bytes between.
 pub none_passed : (text bytes : List ℕ) (low high : ℕ) → 0 < length text → high ≤ length bytes → Nowhere (Passes (is_byte (get_or text 0 0)) (take high bytes)) low (length (take high bytes))
     → NonePasses (begins_with text) bytes high (length bytes) → NonePasses (begins_with text) bytes low (length bytes)
 none_passed text bytes low high some inside off none k from under =
@@ -63,7 +63,7 @@ none_passed text bytes low high some inside off none k from under =
       | inr late ↦ none k late under
     ]
 
--- no place is behind the last byte
+-- no place is after the last byte
 pub none_at_end : (test : List ℕ → Bool) (bytes : List ℕ) (at : ℕ) → length bytes ≤ at → NonePasses test bytes at (length bytes)
 none_at_end test bytes at end k low under = absurd (omega (arith, end, low, under))
 
@@ -80,7 +80,7 @@ first_found test bytes at inside none here = first_is test bytes at (record { in
 pub first_missing : (test : List ℕ → Bool) (bytes : List ℕ) (at : ℕ) → length bytes ≤ at → NonePasses test bytes 0 at → first_place test bytes ≡ None
 first_missing test bytes at end none = first_none test bytes (λ k low under. none k low (omega (arith, under, end)))
 
--- a text that stands in bytes fits there
+-- a text that occurs in bytes fits there
 begins_fits : (text rest : List ℕ) → begins_with text rest ≡ true → length text ≤ length rest
 begins_fits [] rest is = omega arith
 begins_fits (c ∷ cs) [] is = absurd (cc is)
@@ -110,7 +110,7 @@ pub ruleset runs = (run_more, run_stops, run_ends)
 
 -- ---- numbers
 
--- digits behind a number below a bound
+-- digits after a number below a bound
 value_low : (ds : List ℕ) (n m : ℕ) → all_ascii_digits ds ≡ true → n < m → value_after n ds < m * 10 ^ length ds
 value_low [] n m digits low = omega (arith, low)
 value_low (d ∷ ds) n m digits low =

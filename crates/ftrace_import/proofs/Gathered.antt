@@ -1,4 +1,4 @@
--- What is gathered behind a line.
+-- The state of an import after a line.
 use Rattle.std.proofs.Common.{◌≡◌, ℕ, ◌+◌, ◌-◌, ◌≤◌, ◌<◌, List, [], ◌∷◌, ◌++◌, refl, ap, ◌∙◌, sym, subst, arith, true, false, Option, None, Some, length, drop}
 use Rattle.std.specs.Prelude.{is_some, max, Ok, Err, slice_index_or}
 use Rattle.std.proofs.lemmas.List.{drop_more, length-append, length-map}
@@ -32,7 +32,7 @@ use Rattle.ftrace_import.proofs.Whole.{end_runs, ends_behind, run_on}
 pub making_on : (kept : List Kept) (at : ℕ) (one : Kept) → at < length kept → one ≡ slice_index_or kept at one → is_some (names (act_by one.deed)).new_task ≡ false → make_task (acts_in (drop at kept)) ≡ make_task (acts_in (drop (at + 1) kept))
 making_on kept at one inside is none = rw (drop_more kept at one inside, sym is, none) refl
 
--- one that does
+-- a deed that does
 pub making_one : (kept : List Kept) (at : ℕ) (one : Kept) → at < length kept → one ≡ slice_index_or kept at one → is_some (names (act_by one.deed)).new_task ≡ true → make_task (acts_in (drop at kept)) ≡ true
 making_one kept at one inside is some = rw (drop_more kept at one inside, sym is, some) refl
 
@@ -40,7 +40,7 @@ making_one kept at one inside is some = rw (drop_more kept at one inside, sym is
 pub making_end : (kept : List Kept) (at : ℕ) → length kept ≤ at → make_task (acts_in (drop at kept)) ≡ false
 making_end kept at end = rw (drop_of_length-le kept end) refl
 
--- the next event is legal, and those behind it are in the world that it makes
+-- the next event is legal, and those after it are legal in the world after it
 pub legal_next : (l : Limits) (w : World) (kept : List Kept) (at : ℕ) (one : Kept) → at < length kept → one ≡ slice_index_or kept at one → AreLegal l w (events_by (drop at kept)) → (cause_of l w (event_by one) ≡ None) × AreLegal l (after_event w (event_by one)) (events_by (drop (at + 1) kept))
 legal_next l w kept at one inside is legal =
     let same : drop at kept ≡ one ∷ drop (at + 1) kept = drop_more kept at one inside ∙ ap (λ (x : Kept). x ∷ drop (at + 1) kept) (sym is) in
@@ -65,7 +65,7 @@ gathered_none g counted limits_are fresh none = record {
   after_them = ap (λ (r : Reached). r.world) fresh ∙ sym (ap (λ ks. after_from first_world (events_by ks)) none);
 }
 
--- behind a line
+-- after a line
 pub taken_given : (cpus : ℕ) (old new : Gathering) (given : GivenLine) → IsGathered old → new.cpus ≡ old.cpus → new.table.limits ≡ old.table.limits → events_by new.kept.items ≡ events_by old.kept.items ++ given.events → reached_in new ≡ given.reached
     → Gives old.cpus (reached_in old) given → IsGathered new
 taken_given cpus old new given so same limits_same kept reached gives = record {
@@ -94,8 +94,8 @@ take_bad cpus reached line why is = ap (given_read cpus reached) (sym is)
 
 -- ---- what a line tells
 
--- what the code has of a line at a time, which tells this: its moment, what was kept before and
--- now, and the part that is new
+-- the code's data about a line at a time with these contents: its trace time, the events stored
+-- before and now, and the new part
 pub record Sighted (old : Gathering) (at : ℕ) (what : Seen) (moment before : ℕ) (cpu : Cpu) (part new : List Kept) : Type 0 where
   pub moment_is : moment ≡ line_moment (reached_in old) at
   pub cpu_is : cpu ≡ needed_cpu what

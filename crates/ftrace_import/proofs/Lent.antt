@@ -1,11 +1,11 @@
--- What is left of an import, where one event more is lent.
+-- The remaining events of an import after one more is lent.
 use Rattle.std.proofs.Common.{◌≡◌, ℕ, zero, suc, ◌+◌, ◌<◌, List, [], ◌∷◌, ◌++◌, length, drop, refl, sym, ap, arith}
 use Rattle.std.specs.Prelude.{slice_index_or}
 use Rattle.psi_base.specs.declared.event.Event.{Event}
 use Rattle.ftrace_import.specs.declared.deeds.Kept.{Kept}
 use Rattle.ftrace_import.specs.Deeds.{event_by, events_by}
 
--- one that was kept
+-- a stored one
 pub kept_lent : (kept : List Kept) (end : Event) (at next : ℕ) (one : Kept) → next ≡ at + 1 → at < length kept → one ≡ slice_index_or kept at one → drop at (events_by kept ++ end ∷ []) ≡ event_by one ∷ drop next (events_by kept ++ end ∷ [])
 kept_lent [] end at next one follows inside is = absurd (let no : ⊥ = omega (arith, inside) in no)
 kept_lent (first ∷ kept) end zero next one follows inside is = rw follows (ap (λ (k : Kept). event_by k ∷ (events_by kept ++ end ∷ [])) (sym is))
@@ -20,13 +20,13 @@ end_lent (first ∷ kept) end zero next follows is = absurd (let no : ⊥ = omeg
 end_lent (first ∷ kept) end (suc at) zero follows is = absurd (let no : ⊥ = omega (arith, follows) in no)
 end_lent (first ∷ kept) end (suc at) (suc next) follows is = end_lent kept end at next (omega (arith, follows)) (omega (arith, is))
 
--- where none are left, none are left behind any of them
+-- if none remain, none remain after any of them
 none_behind : (events : List Event) (at : ℕ) → events ≡ [] → drop at events ≡ []
 none_behind [] zero none = refl
 none_behind [] (suc at) none = refl
 none_behind (event ∷ events) at none = absurd (let no : ⊥ = cc none in no)
 
--- nothing behind the end
+-- nothing after the end
 pub none_lent : (kept : List Kept) (end : Event) (at : ℕ) → length kept < at → drop at (events_by kept ++ end ∷ []) ≡ []
 none_lent [] end zero behind = absurd (let no : ⊥ = omega (arith, behind) in no)
 none_lent [] end (suc at) behind = none_behind [] at refl

@@ -1,4 +1,5 @@
--- What a line gives: its events may be spelled and are legal, and the import goes on behind them.
+-- The result of a line: its events can be spelled and are legal, and the import continues after
+-- them.
 use Rattle.std.proofs.Common.{◌≡◌, ℕ, ◌+◌, ◌≤◌, ◌<◌, List, [], ◌∷◌, refl, ap, subst, arith, cond, Bool, true, false, Option, None, Some, ◌==◌, length}
 use Rattle.std.specs.Prelude.{◌&&◌, IfSome, nat_le, nat_lt, not, Result, Ok, Err}
 use Rattle.std.specs.FinMap as tasks_by
@@ -32,7 +33,7 @@ use Rattle.ftrace_import.proofs.Sights.{line_seen}
 
 -- ---- no cause
 
--- acts against which no cause stands at a moment (ns)
+-- acts to which no cause applies at a time (ns)
 record Pass (cpus : ℕ) (w : World) (moment : ℕ) (cpu : Cpu) (acts : List Act) : Type 0 where
   there : cpu.0 < cpus
   early : moment ≤ 2000000000000000
@@ -118,11 +119,11 @@ goes cpus at w (seen.Switch cpu previous next how) so is pass = (switches cpus a
 goes cpus at w (seen.Wakeup pid cpu) so is pass = (wakes cpus at _ cpu pid w (task_of w.tasks pid.0) so (omega arith) is pass.there refl pass.space).goes
 goes cpus at w (seen.Migration pid cpu) so is pass = moves cpus at _ cpu pid w (task_of w.tasks pid.0) so (omega arith) is pass.there refl
 
--- it stands at the moment of a line with room for its events
+-- the import is at the time of a line, with room for its events
 stands_at : (cpus : ℕ) (reached : Reached) (at : ℕ) (cpu : Cpu) (acts : List Act) → IsUnderWay cpus reached → Pass cpus reached.world (line_moment reached at) cpu acts → Stands cpus (line_moment reached at) (length acts) reached.world
 stands_at cpus reached at cpu acts so pass = stands_later cpus reached.moment 0 (line_moment reached at) (length acts) reached.world so (omega arith) pass.early pass.few
 
--- what a line gives may be spelled and is legal, and the import stands behind it
+-- the events of a line can be spelled and are legal, and the import's invariant holds after it
 pub record Gives (cpus : ℕ) (reached : Reached) (given : GivenLine) : Type 0 where
   pub fit : AllFit given.events
   pub known : AreKnown (verbs_of One) given.events
@@ -184,7 +185,7 @@ wakeup_wakes cpus reached at pid cpu given so is found = wakeup_or cpus reached 
 
 -- ---- what a line gives, by the cause against it
 
--- what is given where no cause stands
+-- the result if no cause applies
 abbrev pub given_behind : Reached → ℕ → Seen → GivenLine
 given_behind reached at what = record {
   events = events_at (line_moment reached at) (acts_of reached.world.tasks what);
@@ -195,7 +196,7 @@ given_behind reached at what = record {
   };
 }
 
--- the cause against a line that tells this at a time
+-- the cause against a line with these contents at a time
 abbrev pub cause_at : ℕ → Reached → ℕ → Seen → Option ImportCause
 cause_at cpus reached at what = acts_cause cpus reached.world (line_moment reached at) (needed_cpu what) (acts_of reached.world.tasks what)
 

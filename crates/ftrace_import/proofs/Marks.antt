@@ -21,7 +21,7 @@ unmarked rest other =
 no_colon : (line : List ℕ) (at : ℕ) → get_or line at 0 ≢ 58 → mark_of (drop at line) ≡ None
 no_colon line at other = unmarked (drop at line) (ne_eqb 58 (get_or (drop at line) 0 0) (λ same. other (sym (front line at) ∙ sym same)))
 
--- whether a mark stands here
+-- a mark is here
 pub marked_here : (o : Option Mark) (short : ShortMark) → option_map mark_parts o ≡ Some short → is_some o ≡ true
 marked_here None short is = absurd (cc is)
 marked_here (Some m) short is = refl

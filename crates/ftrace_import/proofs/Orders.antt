@@ -20,7 +20,7 @@ use Rattle.ftrace_import.specs.declared.text.ImportFault.TheVariants as import
 pub place_is : (name : List ℕ) (from : Progress) (p q : ℕ) (before now : List ReadCall) → ReadsFrom name from before now (Next p) → p ≡ q → ReadsFrom name from before now (Next q)
 place_is name from p q before now reads is = subst (λ n. ReadsFrom name from before now (Next n)) is reads
 
--- reads after which a line is refused, or has another fault that is no read's
+-- reads after which a line is rejected, or has another fault that isn't a failed read
 pub faulted_order : (name : List ℕ) (at place line : ℕ) (before now : List ReadCall) (why : Fault ImportCause) (found : ImportFault) → ReadsFrom name (Next at) before now (Next place) → IsLineFault line why found
     → ReadsFile name at before now (shelf_fault found)
 faulted_order name at place line before now (fault.Refused cause) found reads is = subst (λ f. ReadsFile name at before now (shelf_fault f)) (sym is) (file_read name at before now (Next place) reads)

@@ -69,7 +69,7 @@ runs_put cpu tasks k t off rests q =
       | false ↦ λ _. refl
     ] refl)
 
--- some task runs where one is known to
+-- some task is running if one is known to be
 runs_if : (tasks : Tasks) (cpu q : ℕ) → is_some_and (task_of tasks q) (is_running_on cpu) ≡ true → is_some (running_on tasks cpu) ≡ true
 runs_if tasks cpu q runs =
     elim (task_of tasks q) as (λ o. task_of tasks q ≡ o → is_some_and o (is_running_on cpu) ≡ true → is_some (running_on tasks cpu) ≡ true) [
@@ -77,7 +77,7 @@ runs_if tasks cpu q runs =
       | Some t ↦ λ is r. runs_there tasks q t cpu is r
     ] refl runs
 
--- some task runs where one ran before
+-- some task is running if one was running before
 runs_on : (cpu : ℕ) (before now : Tasks) → RunsAsBefore cpu before now → (o : Option (ℕ × Task)) → running_on before cpu ≡ o → is_some o ≡ true → is_some (running_on now cpu) ≡ true
 runs_on cpu before now same None is some = absurd (cc some)
 runs_on cpu before now same (Some e) is some =
@@ -89,14 +89,14 @@ either_way true b one other = one refl
 either_way false true one other = sym (other refl)
 either_way false false one other = refl
 
--- a task runs on a processor exactly where one did
+-- a task is running on a processor if and only if one was
 pub same_runs : (cpu : ℕ) (before now : Tasks) → RunsAsBefore cpu before now → is_some (running_on now cpu) ≡ is_some (running_on before cpu)
 same_runs cpu before now same =
     either_way (is_some (running_on before cpu)) (is_some (running_on now cpu))
     (runs_on cpu before now same (running_on before cpu) refl)
     (runs_on cpu now before (λ q. sym (same q)) (running_on now cpu) refl)
 
--- it is the one that is known to run there
+-- it is the task known to be running there
 runner_in : (tasks : Tasks) → RunsOnce tasks → (cpu : ℕ) (pid : Pid) (task : Task) → task_of tasks pid.0 ≡ Some task → is_running_on cpu task ≡ true → (o : Option (ℕ × Task)) → running_on tasks cpu ≡ o → option_map (λ (e : ℕ × Task). let pid : Pid = record { 0 = e.0 } in pid) o ≡ Some pid
 runner_in tasks once cpu pid task is runs None found = let some = runs_there tasks pid.0 task cpu is runs in absurd (cc (some, ap is_some found))
 runner_in tasks once cpu pid task is runs (Some e) found = ap (λ n. let o : Option Pid = Some (record { 0 = n }) in o) (only_runs tasks once cpu pid.0 task e is runs found)
@@ -108,7 +108,7 @@ runner_is tasks once cpu pid runs =
       | Some t ↦ λ is r. runner_in tasks once cpu pid t is r (running_on tasks cpu) refl
     ] refl runs
 
--- none runs where none is found
+-- no task is running if none is found
 pub no_runner : (tasks : Tasks) (cpu : ℕ) (o : Option (ℕ × Task)) → running_on tasks cpu ≡ o → is_some o ≡ false → runner tasks cpu ≡ None
 no_runner tasks cpu None is none = ap (option_map (λ (e : ℕ × Task). let pid : Pid = record { 0 = e.0 } in pid)) is
 no_runner tasks cpu (Some e) is none = absurd (cc none)

@@ -1,4 +1,4 @@
--- What a marked line tells: tasks have numbers, and none that runs is told to idle.
+-- The contents of a marked line: tasks have numbers, and a running task never leaves by `idle`.
 use Rattle.std.proofs.Common.{◌≡◌, ℕ, ◌^◌, ◌<◌, List, [], ◌∷◌, refl, ◌∙◌, subst, arith, cond, Bool, true, false, Option, None, Some, ◌==◌}
 use Rattle.std.specs.Prelude.{IfSome, codes, drop, length, nat_lt, take, Result, Ok, ◌+◌, ◌||◌}
 use Rattle.std.specs.List.{before_first}
@@ -18,7 +18,7 @@ use Rattle.import_spec.specs.Tails.{cpu_in, field_in, how_in, if_small, is_space
 use Rattle.import_spec.specs.Marked.{Marked, if_formed, marked_of, migration_in, read_line, read_marked, seen_in, sighting_of, switch_in, wakeup_in}
 use Rattle.ftrace_import.specs.Stands.{IsSeen, Leaves}
 
--- a step that found something, behind one that did
+-- a successful step after another
 pub record Bound {A B : Type 0} (o : Option A) (f : A → Option B) (y : B) : Type 0 where
   pub value : A
   pub first : o ≡ Some value

@@ -42,7 +42,7 @@ stands_first cpus counted = record {
   few = omega arith;
 }
 
--- at a later moment, and with room for fewer events
+-- at a later time, and with room for fewer events
 pub stands_later : (cpus at room now few : ℕ) (w : World) → Stands cpus at room w → at ≤ now → now ≤ 2000000000000000 → w.lines + few ≤ 3999999 → Stands cpus now few w
 stands_later cpus at room now few w so later early left = record {
   counted = so.counted;
@@ -55,11 +55,11 @@ stands_later cpus at room now few w so later early left = record {
   few = left;
 }
 
--- an act at a moment (ns)
+-- an act at a time (ns)
 abbrev pub event_at : ℕ → Act → Event
 event_at at what = record { at = at; act = what }
 
--- an act may be spelled and is legal, and the world behind it is one of an import
+-- an act can be spelled and is legal, and the world after it is that of an import
 pub record Step (cpus at room : ℕ) (w : World) (what : Act) : Type 0 where
   pub fits : Fits (event_at at what)
   pub known : IsKnown (verbs_of One) (event_at at what)
@@ -92,8 +92,8 @@ step_is cpus at room w what so none fits known same goes calm =
 
 -- ---- several acts
 
--- acts at one moment may be spelled and are legal in their turn, and the world behind them is one
--- of an import
+-- acts at one time can be spelled and are legal in their turn, and the world after them is that of
+-- an import
 pub record Goes (cpus at room : ℕ) (w : World) (acts : List Act) : Type 0 where
   pub fit : AllFit (events_at at acts)
   pub known : AreKnown (verbs_of One) (events_at at acts)
@@ -115,7 +115,7 @@ goes_then cpus at mid room w what acts step rest = record {
 pub goes_one : (cpus at room : ℕ) (w : World) (what : Act) → Step cpus at room w what → Goes cpus at room w (what ∷ [])
 goes_one cpus at room w what step = goes_then cpus at room room w what [] step (goes_none cpus at room _ step.later)
 
--- acts, and those behind them
+-- acts, and later ones
 pub goes_on : (cpus at mid room : ℕ) (w : World) (xs ys : List Act) → Goes cpus at mid w xs → Goes cpus at room (after_from w (events_at at xs)) ys → Goes cpus at room w (xs ++ ys)
 goes_on cpus at mid room w [] ys front rest = rest
 goes_on cpus at mid room w (x ∷ xs) ys front rest =
@@ -180,7 +180,7 @@ some_ready : (o : Option Task) (cpu : ℕ) → is_some_and o (is_ready_on cpu) �
 some_ready None cpu ready = absurd (cc ready)
 some_ready (Some t) cpu ready = refl
 
--- the running task makes way for the next, or the next starts where none ran
+-- the running task leaves and the next one starts, or the next one starts on an idle processor
 pub step_switch : (cpus at room : ℕ) (w : World) (cpu : Cpu) (next : Option Pid) (how : How) → Stands cpus at (room + 1) w → cpu.0 < cpus → IsNext w.tasks cpu.0 next → is_wrong how (running_on w.tasks cpu.0) ≡ false → Step cpus at room w (act.Switch cpu next how)
 step_switch cpus at room w cpu None how so there ready right =
     let calm = calm_running w.tasks so.calm cpu.0 (running_on w.tasks cpu.0) refl in

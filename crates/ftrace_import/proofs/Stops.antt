@@ -46,7 +46,7 @@ or_refused-line : (number : ℕ) (given : Result GivenLine ImportCause) (behind 
 or_refused-line number (Ok given) behind refusal later is = later given.reached (followed-err given.events (behind given.reached) refusal is)
 or_refused-line number (Err why) behind refusal later is = same_number number why refusal is
 
--- the lines from one on are refused at no line before it
+-- the lines from a given one on are rejected at no line before it
 from_line : (cpus : ℕ) (reached : Reached) (number : ℕ) (parts : List (List ℕ)) (refusal : Refused) → import_from cpus reached number parts ≡ Err refusal → number ≤ refusal.line
 unfolding import_from
 from_line cpus reached number [] refusal is = absurd (cc is)
@@ -99,11 +99,11 @@ keeps_lines files given given_now old new lent result lends only at = record {
   refused = at;
 }
 
--- where it was taken, or there is none
+-- if it was taken, or there is none
 pub taken_keeps : {A : Type 0} (files : Option Files) (given given_now : ℕ) (old new : Reader) (lent : Result (Option (Bor (List ℕ))) LineFault) (x : A) → LendsLine files given given_now old new lent → KeepsLines (told files old.name) old new (Ok x)
 taken_keeps files given given_now old new lent x lends = keeps_lines files given given_now old new lent (Ok x) lends (λ is. absurd (cc is)) (λ number why is. absurd (cc is))
 
--- where it was read, and isn't taken
+-- if it was read, and isn't taken
 pub faulted_keeps : {A : Type 0} (files : Option Files) (given given_now : ℕ) (old new : Reader) (lent : Result (Option (Bor (List ℕ))) LineFault) (why : Fault ImportCause) (found : ImportFault) → LendsLine files given given_now old new lent → IsLineFault old.number why found
     → KeepsLines {A = A} (told files old.name) old new (Err found)
 faulted_keeps files given given_now old new lent why found lends faults =
@@ -111,7 +111,7 @@ faulted_keeps files given given_now old new lent why found lends faults =
     (λ is. absurd (line_was_read old.number why found faults (err_same found import.ReadFault is)))
     (λ number because is. line_number old.number why found number because faults (err_same found (import.Refused number because) is))
 
--- where it wasn't read
+-- if it wasn't read
 pub unread_keeps : {A : Type 0} (files : Option Files) (given given_now : ℕ) (old new : Reader) (lent : Result (Option (Bor (List ℕ))) LineFault) (why : LineFault) (found : ImportFault) → LendsLine files given given_now old new lent → lent ≡ Err why → IsNumbered old.number (lent_line old.number lent) → found ≡ import_fault why
     → KeepsLines {A = A} (told files old.name) old new (Err found)
 unread_keeps files given given_now old new lent why found lends is numbered from =
@@ -122,7 +122,7 @@ unread_keeps files given given_now old new lent why found lends is numbered from
 no_newline : (held : List ℕ) → held ≡ [] → HasNoNewline held (length held)
 no_newline held none = rw none (λ k below. absurd (omega (arith, below)))
 
--- a look behind the lines takes none
+-- a check that nothing follows the lines takes none
 look_keeps : {A : Type 0} (known : Option (List ℕ)) (old new : Reader) (result : Result A ImportFault) → ((bytes : List ℕ) → known ≡ Some bytes → left new bytes ≡ left old bytes) → new.number ≡ old.number → (IsErrOf result import.ReadFault → new.held ≡ [])
     → ((number : ℕ) (why : ImportCause) → IsErrOf result (import.Refused number why) → number ≡ old.number) → KeepsLines known old new result
 look_keeps known old new result same number none at = record {
@@ -134,7 +134,7 @@ look_keeps known old new result same number none at = record {
 pub ended_keeps : {A : Type 0} (known : Option (List ℕ)) (old new : Reader) (x : A) → ((bytes : List ℕ) → known ≡ Some bytes → left new bytes ≡ left old bytes) → new.number ≡ old.number → KeepsLines known old new (Ok x)
 ended_keeps known old new x same number = look_keeps known old new (Ok x) same number (λ is. absurd (cc is)) (λ number why is. absurd (cc is))
 
--- more stands there, and is refused
+-- more follows, and is rejected
 pub many_keeps : {A : Type 0} (known : Option (List ℕ)) (old new : Reader) (line : ℕ) (had : ImportCause) → ((bytes : List ℕ) → known ≡ Some bytes → left new bytes ≡ left old bytes) → new.number ≡ old.number → line ≡ old.number → KeepsLines {A = A} known old new (Err (import.Refused line had))
 many_keeps {A} known old new line had same number at =
     look_keeps {A = A} known old new (Err (import.Refused line had)) same number (λ is. absurd (cc is))

@@ -119,7 +119,7 @@ rest_long cpus reached number bytes few is = ⊎_elim
     ∙ ap (λ r. or_refused_line number r (λ next. rest_from cpus next (number + 1) c.behind)) (given_long cpus reached number c.line few (long_first bytes c is)))
     (cut 10 bytes)
 
--- something behind the most lines
+-- something follows the maximum number of lines
 pub rest_many : (cpus : ℕ) (reached : Reached) (number : ℕ) (bytes : List ℕ) → 16000000 < number → bytes ≢ [] → rest_from cpus reached number bytes ≡ Err (import_refused number cause.TooManyLines)
 rest_many cpus reached number bytes many some = ⊎_elim
     (λ none.

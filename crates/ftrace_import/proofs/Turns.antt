@@ -71,12 +71,12 @@ turned_off cpus at room w cpu how (Some e) so there found some leaves =
 
 -- ---- the turn
 
--- where some task runs
+-- if some task is running
 turned_some : (cpus at room : ℕ) (w : World) (cpu : Cpu) (next : Option Pid) (how : How) → Stands cpus at (room + 1) w → cpu.0 < cpus → IsNext w.tasks cpu.0 next → is_some (running_on w.tasks cpu.0) ≡ true → Leaves how → Turned cpus at room cpu next w (act.Switch cpu next how ∷ [])
 turned_some cpus at room w cpu None how so there ready some leaves = turned_off cpus at room w cpu how (running_on w.tasks cpu.0) so there refl some leaves
 turned_some cpus at room w cpu (Some pid) how so there ready some leaves = turned_to cpus at room w cpu pid how so there ready (leaves (running_on w.tasks cpu.0) some)
 
--- where none runs
+-- if none is running
 turned_none : (cpus at have room : ℕ) (w : World) (cpu : Cpu) (next : Option Pid) → Stands cpus at have w → length (start_acts cpu next) + room ≤ have → cpu.0 < cpus → IsNext w.tasks cpu.0 next → is_some (running_on w.tasks cpu.0) ≡ false → Turned cpus at room cpu next w (start_acts cpu next)
 turned_none cpus at have room w cpu None so few there ready none = record {
   goes = goes_none cpus at room w (less_room cpus at have room w so (omega (arith, few)));
@@ -84,7 +84,7 @@ turned_none cpus at have room w cpu None so few there ready none = record {
 }
 turned_none cpus at have room w cpu (Some pid) so few there ready none = turned_to cpus at room w cpu pid Idle (less_room cpus at have (room + 1) w so (omega (arith, few))) there ready none
 
--- the acts of a turn, where a task runs or not
+-- the acts of a turn, whether a task is running or not
 abbrev pub turn_by : Bool → Cpu → Option Pid → How → List Act
 turn_by some cpu next how = cond some (act.Switch cpu next how ∷ []) (start_acts cpu next)
 
@@ -106,7 +106,7 @@ turned_already cpus at have room w cpu (Some pid) so few runs = record {
   runs = runner_is w.tasks so.legal.once cpu.0 pid runs;
 }
 
--- the world behind acts and those behind them
+-- the world after acts and later ones
 pub events_behind : (at : ℕ) (w : World) (xs ys : List Act) → after_from w (events_at at (xs ++ ys)) ≡ after_from (after_from w (events_at at xs)) (events_at at ys)
 events_behind at w xs ys = ap (after_from w) (map-append (event_at at) xs ys) ∙ after_from-append w (events_at at xs) (events_at at ys)
 

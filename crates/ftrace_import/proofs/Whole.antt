@@ -21,7 +21,7 @@ use Rattle.ftrace_import.proofs.Lines.{Gives, gives, switch_runs, wakeup_wakes}
 
 -- ---- events in a row
 
--- events, and those behind them
+-- events, and later ones
 pub run_on : (cpus : ℕ) (w : World) (xs ys : List Event) → Run cpus w xs → Run cpus (after_from w xs) ys → Run cpus w (xs ++ ys)
 run_on cpus w [] ys front rest = rest
 run_on cpus w (x ∷ xs) ys front rest =
@@ -29,7 +29,7 @@ run_on cpus w (x ∷ xs) ys front rest =
     let behind = run_on cpus (after_event w x) xs ys inner rest in
     record { fit = (front.fit.0, behind.fit); known = (front.known.0, behind.known); legal = (front.legal.0, behind.legal) }
 
--- the end stays last behind other events
+-- the end is still last after other events
 pub ends_behind : (xs ys : List Event) → EndsLast ys → EndsLast (xs ++ ys)
 ends_behind xs ys ends = (xs ++ ends.0, ends.1, ap (λ zs. xs ++ zs) ends.2 ∙ sym (append_assoc xs ends.0 (record { at = ends.1; act = act.End } ∷ [])))
 
@@ -49,7 +49,7 @@ end_runs cpus reached so =
 end_ends : (cpus : ℕ) (reached : Reached) → IsUnderWay cpus reached → Ends cpus reached.world (end_at reached ∷ [])
 end_ends cpus reached so = record { run = end_runs cpus reached so; ends = ([], reached.moment, refl) }
 
--- what a line gives, and what goes on behind it
+-- the result of a line, and the results after it
 pub then_ends : (cpus : ℕ) (reached : Reached) (given : GivenLine) (rest : List Event) → Gives cpus reached given → Ends cpus given.reached.world rest → Ends cpus reached.world (given.events ++ rest)
 then_ends cpus reached given rest gives behind = record {
   run = run_on cpus reached.world given.events rest (record { fit = gives.fit; known = gives.known; legal = gives.legal }) (subst (λ (w : World). Run cpus w rest) gives.world behind.run);
@@ -112,7 +112,7 @@ imported_is_trace cpus bytes events versions counted is first =
       accepted = record { fit = all.run.fit; legal = all.run.legal; ends = all.ends };
     }
 
--- lines that aren't refused leave an import under way
+-- lines that aren't rejected preserve the import's invariant
 behind_if : (cpus : ℕ) (reached behind : Reached) (line : List ℕ) (next : Reached → Option Reached) → IsUnderWay cpus reached → (r : Result GivenLine ImportCause) → given_of cpus reached line ≡ r
     → ((now : Reached) → IsUnderWay cpus now → next now ≡ Some behind → IsUnderWay cpus behind) → behind_given r next ≡ Some behind → IsUnderWay cpus behind
 behind_if cpus reached behind line next so (Err why) found goes is = absurd (cc is)
@@ -123,7 +123,7 @@ under_way cpus [] reached behind so is = subst (λ (r : Reached). IsUnderWay cpu
 under_way cpus (line ∷ lines) reached behind so is =
     behind_if cpus reached behind line (λ now. reached_by cpus now lines) so (given_of cpus reached line) refl (λ now under. under_way cpus lines now behind under) is
 
--- a line that tells something gives what that gives, and it is in range
+-- a line with contents has their result, and they are in range
 record Told (cpus : ℕ) (reached : Reached) (sighting : Sighting) (given : GivenLine) : Type 0 where
   seen : IsSeen sighting.seen
   gives : given_at cpus reached sighting.at sighting.seen ≡ Ok given

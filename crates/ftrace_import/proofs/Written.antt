@@ -46,7 +46,7 @@ world_after cpus reached line given front there is =
 
 -- ---- a line of a text
 
--- a whole line gives events, and the rest of the text those behind them
+-- a complete line has its events, and the rest of the text the later ones
 record Splits (cpus : ℕ) (reached : Reached) (number : ℕ) (line : List ℕ) (rest : List (List ℕ)) (events : List Event) : Type 0 where
   given : GivenLine
   behind : List Event
@@ -72,7 +72,7 @@ splits cpus reached number line (next ∷ parts) events some is = splits_if cpus
 
 -- ---- a line behind others
 
--- as IsWritten, behind what was reached by events so far
+-- like IsWritten, after the events so far
 record WrittenFrom (cpus : ℕ) (begun : Reached) (lines : List (List ℕ)) (line : List ℕ) (events : List Event) : Type 0 where
   front : List Event
   behind : List Event

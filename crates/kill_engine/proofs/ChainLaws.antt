@@ -1,4 +1,4 @@
--- How a chain goes on behind an action, and when a ruleset rests.
+-- How a chain continues after an action, and when a ruleset rests.
 use Rattle.std.proofs.Common.{◌≡◌, ℕ, ◌+◌, ◌<◌, ◌≤◌, List, [], ◌∷◌, ◌++◌, length, drop, get_or, refl, sym, ◌∙◌, ap, subst, true, false, Option, None, Some}
 use Rattle.std.specs.Prelude.{find, slice_get, option_map}
 use Rattle.std.proofs.lemmas.List.{append-nil, drop_all, drop_more}
@@ -21,7 +21,7 @@ behind lives number actions now past act = chain lives number act (drop act acti
 abbrev pub turn : List GroupLife → ℕ → Reading → List Reading → ℕ → Action → Option Kill
 turn lives number now past act action = kill_by number act now (victim lives action now past)
 
--- where an action stands among others
+-- the place of an action among others
 abbrev pub StandsAt : List Action → ℕ → Action → Type 0
 StandsAt actions act action = action ≡ get_or actions act action
 
@@ -51,7 +51,7 @@ pub none_rests : (lives : List GroupLife) (number : ℕ) (actions : List Action)
     None ≡ option_map (rest_of actions) (find (ends_chain actions) (behind lives number actions now past act))
 none_rests lives number actions now past act over = rw (none_behind lives number actions now past act over) refl
 
--- a kill has its moment and the number of its action
+-- a kill has its time and the number of its action
 record IsOf (now : Reading) (act : ℕ) (kill : Kill) : Type 0 where
   pub at : kill.at ≡ now.at
   pub by : kill.action ≡ act
@@ -66,7 +66,7 @@ is_of number act now (Some group) kill is =
 again : (actions : List Action) (act : ℕ) (action : Action) (kill : Kill) → act < length actions → StandsAt actions act action → kill.action ≡ act → slice_get actions kill.action ≡ Some action
 again actions act action kill below here by = rw by (slice_get_read actions (length actions) act action refl below here)
 
--- A kill by an action that always continues: the rest of the chain is behind it.
+-- A kill by an action that always continues: the rest of the chain follows.
 pub goes_on : (lives : List GroupLife) (number : ℕ) (actions : List Action) (now : Reading) (past : List Reading) (act : ℕ) (action : Action) (kill : Kill) → act < length actions → StandsAt actions act action →
     Some kill ≡ turn lives number now past act action → (after_of action).always_continue ≡ true →
     behind lives number actions now past act ≡ kill ∷ behind lives number actions now past (act + 1)
@@ -81,7 +81,7 @@ not_ended lives number actions now past act action kill below here given on =
     let mine : ends_chain actions kill ≡ false = rw (again actions act action kill below here of.by, on) refl in
     rw (goes_on lives number actions now past act action kill below here given on, mine) refl
 
--- A kill by another ends it, and nothing is behind it.
+-- A kill by another action ends the chain, and nothing follows.
 pub stops : (lives : List GroupLife) (number : ℕ) (actions : List Action) (now : Reading) (past : List Reading) (act : ℕ) (action : Action) (kill : Kill) → act < length actions → StandsAt actions act action →
     Some kill ≡ turn lives number now past act action → (after_of action).always_continue ≡ false →
     behind lives number actions now past act ≡ kill ∷ []

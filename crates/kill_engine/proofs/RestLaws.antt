@@ -11,16 +11,16 @@ use Rattle.kill_spec.specs.Victims.{◌or_else◌}
 use Rattle.kill_spec.specs.Kills.{chain, ends_chain, is_resting, kills_at, last_ending}
 use Rattle.kill_engine.specs.Rulesets.{rest_after, rest_of}
 
--- a ruleset rests where its rest isn't over
+-- a ruleset rests if its rest isn't over
 pub paused : (actions : List Action) (at : ℕ) (last : Option Kill) → nat_lt at (rest_after actions last) ≡ is_resting actions at last
 paused actions at None = grind arith
 paused actions at (Some kill) = refl
 
--- one that doesn't fire has no kills
+-- a ruleset that doesn't fire has no kills
 pub not_fired : (lives : List GroupLife) (number : ℕ) (rule : Rule) (now : Reading) (past : List Reading) (earlier : List (List Kill)) → ruleset_fires lives rule now past ≡ false → kills_at lives number rule now past earlier ≡ []
 not_fired lives number rule now past earlier off = rw off refl
 
--- one that rests has none
+-- a resting ruleset has none
 pub rested : (lives : List GroupLife) (number : ℕ) (rule : Rule) (now : Reading) (past : List Reading) (earlier : List (List Kill)) → nat_lt now.at (rest_after rule.actions (last_ending rule.actions earlier)) ≡ true → kills_at lives number rule now past earlier ≡ []
 rested lives number rule now past earlier resting =
     let is : is_resting rule.actions now.at (last_ending rule.actions earlier) ≡ true = rw (sym (paused rule.actions now.at (last_ending rule.actions earlier))) resting in
@@ -39,7 +39,7 @@ taken lives number rule now past earlier fired over =
 pub kept : (actions : List Action) (kills : List Kill) (earlier : List (List Kill)) → kills ≡ [] → rest_after actions (last_ending actions (kills ∷ earlier)) ≡ rest_after actions (last_ending actions earlier)
 kept actions kills earlier none = rw none refl
 
--- so it does where none of its kills ended its chain
+-- the same if none of its kills ended its chain
 pub kept_on : (actions : List Action) (kills : List Kill) (earlier : List (List Kill)) → None ≡ option_map (rest_of actions) (find (ends_chain actions) kills) → rest_after actions (last_ending actions (kills ∷ earlier)) ≡ rest_after actions (last_ending actions earlier)
 kept_on actions kills earlier none =
     elim (find (ends_chain actions) kills) as (λ f. None ≡ option_map (rest_of actions) f → rest_after actions (f or_else last_ending actions earlier) ≡ rest_after actions (last_ending actions earlier)) [

@@ -1,4 +1,4 @@
--- Rulesets one after another.
+-- Rulesets in order.
 use Rattle.std.proofs.Common.{◌≡◌, ℕ, zero, suc, ◌+◌, ◌<◌, List, [], ◌∷◌, ◌++◌, length, drop, get_or, refl, sym, ap, subst, arith, None}
 use Rattle.std.specs.Prelude.{All}
 use Rattle.psi_spec.specs.declared.machine.GroupLife.{GroupLife}
@@ -12,7 +12,7 @@ use Rattle.kill_engine.specs.Rulesets.{DetectorsStand, IsAt, IsRulesetAt, Rulese
 use Rattle.kill_engine.specs.Killers.{RulesetsStand}
 use Rattle.kill_engine.proofs.ZipLaws.{zipped_all}
 
--- one ruleset more behind others
+-- one more ruleset at the end
 pub rulesets_push : (lives : List GroupLife) (history : List Reading) (number : ℕ) (states : List RulesetView) (rules : List Rule) (state : RulesetView) (rule : Rule) →
     RulesetsStand lives history number states rules → ((n : ℕ) → RulesetStands lives history n state rule) →
     RulesetsStand lives history number (states ++ state ∷ []) (rules ++ rule ∷ [])
@@ -21,7 +21,7 @@ rulesets_push lives history number [] (first ∷ rules) state rule stand each = 
 rulesets_push lives history number (first ∷ states) [] state rule stand each = absurd stand
 rulesets_push lives history number (first ∷ states) (one ∷ rules) state rule stand each = (stand.0, rulesets_push lives history (number + 1) states rules state rule stand.1 each)
 
--- the rule of the ruleset at a place, and those behind it
+-- the rule of the ruleset at a place, and the later ones
 pub record IsRuled (lives : List GroupLife) (history : List Reading) (number : ℕ) (states : List RulesetView) (rules : List Rule) (i : ℕ) : Type 0 where
   pub rule : Rule
   pub rest : drop i rules ≡ rule ∷ drop (i + 1) rules
@@ -40,7 +40,7 @@ ruled_at lives history number (first ∷ states) (one ∷ rules) (suc i) stand b
     let n : number + suc i ≡ number + 1 + i = omega arith in
     record { rule = later.rule; rest = rw e later.rest; stands = λ d. rw n (later.stands d) }
 
--- behind the last ruleset there is no rule
+-- after the last ruleset there is no rule
 pub ruled_end : (lives : List GroupLife) (history : List Reading) (number : ℕ) (states : List RulesetView) (rules : List Rule) →
     RulesetsStand lives history number states rules → drop (length states) rules ≡ []
 ruled_end lives history number [] [] stand = refl
@@ -48,7 +48,8 @@ ruled_end lives history number [] (one ∷ rules) stand = absurd stand
 ruled_end lives history number (first ∷ states) [] stand = absurd stand
 ruled_end lives history number (first ∷ states) (one ∷ rules) stand = ruled_end lives history (number + 1) states rules stand.1
 
--- where each ruleset stands for readings in place of others, all do
+-- if each new ruleset represents the later readings whenever the old one represents the earlier
+-- ones, all do
 pub ruled_map : (lives : List GroupLife) (before after : List Reading) (number : ℕ) (old new : List RulesetView) (rules : List Rule) →
     length new ≡ length old →
     ((k : ℕ) (d : RulesetView) (rule : Rule) → k < length old → RulesetStands lives before (number + k) (get_or old k d) rule → RulesetStands lives after (number + k) (get_or new k d) rule) →

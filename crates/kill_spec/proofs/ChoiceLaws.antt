@@ -30,7 +30,7 @@ less_is Less is = refl
 less_is Equal is = absurd (false≢true is)
 less_is Greater is = absurd (false≢true is)
 
--- by a measure, and where two groups have the same by another relation
+-- by a measure, and for two groups with the same one by another relation
 abbrev pub by_then : (GroupReading → ℕ) → (GroupReading → GroupReading → Bool) → GroupReading →
     GroupReading → Bool
 by_then measure beats first second = nat_lt (measure second) (measure first) ||
@@ -87,11 +87,11 @@ then_order P R beats leads measure order = record {
       (order.first x y before) trails;
 }
 
--- a later group leads an earlier one where its measure is greater
+-- a later group beats an earlier one if its measure is greater
 abbrev pub leads_larger : (GroupReading → ℕ) → GroupReading → GroupReading → Bool
 leads_larger measure = by_then measure no_lead
 
--- a later group leads an earlier one where its preference is better, or the same and its measure is
+-- a later group beats an earlier one if its preference is better, or equal and its measure is
 -- greater
 abbrev pub leads_by : (GroupReading → ℕ) → GroupReading → GroupReading → Bool
 leads_by measure = by_then rank_of (leads_larger measure)
@@ -158,7 +158,7 @@ not_empty : (X : Type 0) (first : GroupReading) (groups : List GroupReading) →
 not_empty X first groups is = absurd (false≢true
     (ap (λ (l : List GroupReading). elim l as (λ _. Bool) [ [] ↦ true | x ∷ xs ↦ false ]) is))
 
--- the best of groups is their choice by a relation that tells what beats
+-- the best of groups is their choice by a test that decides the relation
 choice_is : (Beats : GroupReading → GroupReading → Type 0)
     (beats : GroupReading → GroupReading → Bool) →
     ((x y : GroupReading) → beats x y ≡ true → Beats x y) →

@@ -9,7 +9,7 @@ use Rattle.kill_spec.specs.Laws.{HeldFor, BreakStartsAnew, HeldForTells, LongerI
 
 -- ---- tests
 
--- what holds where one test holds and one of two others
+-- what follows if one test holds and one of two others
 either : (a b c : Bool) → (a && (b || c)) ≡ true → (a ≡ true) × ((b ≡ true) ⊎ (c ≡ true))
 either true true c is = (refl, inl refl)
 either true false c is = (refl, inr is)
@@ -29,7 +29,7 @@ weakened a b c d e first second is =
 
 -- ---- when a condition has held
 
--- one that holds has held where it had before
+-- a condition that holds has held if it had before
 held_more : (condition : Reading → Bool) (duration at : ℕ) (reading : Reading) (past : List Reading) → condition reading ≡ true →
     HeldFor condition duration at past → HeldFor condition duration at (reading ∷ past)
 held_more condition duration at reading past holds held = record {
@@ -64,7 +64,7 @@ told condition duration at (reading ∷ past) is =
     (λ held. held_more condition duration at reading past parts.0 (told condition duration at past held))
     parts.1
 
--- it has held since the first of readings at each of which it holds
+-- it has held since the first of readings at all of which it holds
 since_holds : (condition : Reading → Bool) (duration at : ℕ) (since : List Reading) (first : Reading) (earlier : List Reading) →
     All (λ r. condition r ≡ true) since → condition first ≡ true → duration ≤ at - first.at →
     held_for condition duration at (since ++ first ∷ earlier) ≡ true

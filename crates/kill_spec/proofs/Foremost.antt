@@ -20,7 +20,7 @@ abbrev pub Each : (GroupReading → Type 0) → List GroupReading → Type 0
 Each P [] = Unit {0}
 Each P (first ∷ groups) = P first × Each P groups
 
--- each of groups stands so to each behind it
+-- a relation holds between each group and all later ones
 abbrev pub Pairs : (GroupReading → GroupReading → Type 0) → List GroupReading → Type 0
 Pairs R [] = Unit {0}
 Pairs R (first ∷ groups) = Each (R first) groups × Pairs R groups
@@ -114,13 +114,13 @@ find_one p (first ∷ groups) group there passes each = by_test _ (p first)
 
 -- ---- the walk
 
--- the better one of two groups, of which the first stands before the second: by a test that the
--- second leads
+-- the better of two groups, the first of which is before the second: by a test that the second
+-- beats the first
 abbrev pub better : (GroupReading → GroupReading → Bool) → GroupReading → GroupReading →
     GroupReading
 better leads best next = if leads next best then next else best
 
--- the best of groups, where there is one so far
+-- the best of groups, if there is one so far
 abbrev pub foremost_of : (GroupReading → GroupReading → Bool) → GroupReading → List GroupReading →
     GroupReading
 foremost_of leads best [] = best
@@ -132,10 +132,8 @@ foremost leads (Some best) groups = Some (foremost_of leads best groups)
 foremost leads None [] = None
 foremost leads None (next ∷ groups) = Some (foremost_of leads next groups)
 
--- A relation orders groups: no two beat each other, and what beats a second that beats a third
--- beats the third. Of two groups,
--- of which the first stands before the second, one beats the other, and the second does where it
--- leads.
+-- A relation orders groups: no two beat each other, and beating is transitive. For two groups, the
+-- first of which is before the second, one beats the other, and the second does if it leads.
 pub record Orders (P : GroupReading → Type 0) (R : GroupReading → GroupReading → Type 0)
     (beats leads : GroupReading → GroupReading → Bool) : Type 0 where
   pub one_way : (x y : GroupReading) → beats x y ≡ true → beats y x ≡ false

@@ -1,5 +1,4 @@
--- How kills follow from chains: whose victim each is, and how far apart those stand that end a
--- chain.
+-- How kills follow from chains: whose victim each is, and how far apart chain-ending kills are.
 use Rattle.std.proofs.Common.{◌≡◌, ℕ, zero, suc, ◌+◌, ◌≤◌, List, [], ◌∷◌, refl, sym, ap, subst, Bool, true, false, None, Some, arith, ◌⊎◌, ⊎_elim, inl, inr}
 use Rattle.std.specs.Prelude.{find, ◌&&◌, not, slice_get, Contains, if◌then◌else◌}
 use Rattle.psi_spec.specs.declared.machine.GroupLife.{GroupLife}
@@ -35,7 +34,7 @@ find_found test (first ∷ xs) x is =
 
 -- ---- chains
 
--- actions that stand in a list from a number on
+-- actions that are in a list from a number on
 abbrev StandsFrom : List Action → ℕ → List Action → Type 0
 StandsFrom actions act rest = (i : ℕ) → slice_get actions (act + i) ≡ slice_get rest i
 
@@ -75,7 +74,7 @@ chain_kills lives number act actions (first ∷ rest) now past kill here has =
           (contains_cons _ _ kill c)
     ] refl has
 
--- a chain has one kill that ends it: the first of these is it
+-- a chain has one kill that ends it, and the first such kill is it
 one_ending : (lives : List GroupLife) (number act : ℕ) (actions rest : List Action) (now : Reading) (past : List Reading) (kill : Kill) → StandsFrom actions act rest → Contains (chain lives number act rest now past) kill → ends_chain actions kill ≡ true → find (ends_chain actions) (chain lives number act rest now past) ≡ Some kill
 one_ending lives number act actions [] now past kill here has ends = contains_none kill _ has
 one_ending lives number act actions (first ∷ rest) now past kill here has ends =
@@ -127,7 +126,7 @@ of_actions lives number rule now past kill has =
 abbrev rest_of : List Action → Kill → ℕ
 rest_of actions kill = kill.at + delay_of (slice_get actions kill.action)
 
--- the last chain-ending kill of these rests at least as long as this kill does
+-- the last chain-ending kill of these rests at least as long as this kill
 record IsOutlasted (actions : List Action) (lists : List (List Kill)) (kill : Kill) : Type 0 where
   pub last : Kill
   pub is_last : last_ending actions lists ≡ Some last

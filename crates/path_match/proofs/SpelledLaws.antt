@@ -34,7 +34,7 @@ spelled_text text pattern formed spells = ⊎_elim
 
 -- ---- parts that spell patterns
 
--- as many parts, each of which spells its pattern
+-- the same number of parts, each of which spells its pattern
 abbrev pub SpellAll : List (List ℕ) → List Pattern → Type 0
 SpellAll parts patterns = (length parts ≡ length patterns) × All (λ pair. SpellsPattern pair.0 pair.1) (zip parts patterns)
 

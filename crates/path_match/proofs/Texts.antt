@@ -1,4 +1,4 @@
--- The text of patterns, one after another.
+-- The text of patterns, in order.
 use Rattle.std.proofs.Common.{◌≡◌, ◌≤◌, ℕ, arith, length, take, List, [], ◌∷◌, ◌++◌, Bool, true, false, refl, sym, ap, ◌∙◌, append_assoc}
 use Rattle.std.specs.Prelude.{codes, if◌then◌else◌, map}
 use Rattle.std.specs.Str.{bytes_eq}
@@ -12,7 +12,7 @@ unfolding components
 slashless_if true text is = rw is refl
 slashless_if false text is = rw is (spells_parts (behind_slash text))
 
--- the text of a pattern is its own, but for the slash that may stand first
+-- the text of a pattern is its own, except for an optional leading slash
 pub slashless : (text : List ℕ) → pattern_text (components text) ≡ (if bytes_eq text (codes "/") then codes "/" else behind_slash text)
 slashless text = slashless_if _ text refl
 
@@ -20,7 +20,7 @@ slashless text = slashless_if _ text refl
 pub root_text : (text : List ℕ) → bytes_eq text (codes "/") ≡ true → text ≡ pattern_text (components text)
 root_text text is = (bytes_eq-Decides text (codes "/")).0 is ∙ sym (slashless_if true text is)
 
--- what is written behind the first
+-- the text written after the first pattern
 abbrev pub behind : List (List ℕ) → List ℕ
 behind [] = []
 behind (part ∷ parts) = 44 ∷ (pattern_text (components part) ++ behind parts)
@@ -34,7 +34,7 @@ pub text_began : (whole parts : List (List ℕ)) (first before now piece : List 
     → now ++ behind parts ≡ before ++ patterns_text (map components whole)
 text_began whole parts first before now piece is text put = rw (put, is, text, text_from first parts) (append_assoc before (pattern_text (components first)) (behind parts))
 
--- what stands in front stays there when more is written
+-- a prefix stays unchanged when more is written
 pub front_more : (front text more : List ℕ) → take (length front) text ≡ front → take (length front) (text ++ more) ≡ front
 front_more front text more is =
     let long : length front ≤ length text = grind (arith, length-take (length front) text, ap length is) in

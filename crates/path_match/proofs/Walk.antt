@@ -1,4 +1,4 @@
--- The walk over a component of a pattern: at each moment what is left of it says whether the whole
+-- The walk over a component of a pattern: at each step the rest of it says whether the whole
 -- matches.
 use Rattle.std.proofs.Common.{◌≡◌, ◌≢◌, ℕ, zero, suc, ◌+◌, ◌-◌, ◌<◌, ◌≤◌, List, [], ◌∷◌, length, drop, get_or, refl, sym, ap, ◌∙◌, arith, Bool, true, false, ⊎_elim, add-one}
 use Rattle.std.specs.Prelude.{Option, None, Some, ◌==◌, ◌&&◌, ◌||◌, if◌then◌else◌}
@@ -8,7 +8,7 @@ use Rattle.std.proofs.lemmas.List.{drop_more, drop-drop, drop_all, length-drop, 
 use Rattle.path_match.specs.Match.{is_component_match, some_end, begins}
 use Rattle.path_match.specs.declared.component.LastStar.{LastStar}
 
--- only stars are left, where no byte is
+-- only stars remain if no byte does
 all_if : (test x y : Bool) → x ≡ y → (test && x) ≡ (if test then y else false)
 all_if true x y same = same
 all_if false x y same = refl
@@ -23,7 +23,7 @@ or_same : (b : Bool) → b ≡ (b || b)
 or_same true = refl
 or_same false = refl
 
--- the whole passes, or some end of what is behind the first byte
+-- the whole passes, or some suffix of the bytes after the first does
 some_end-step : (test : List ℕ → Bool) (bytes : List ℕ) → some_end test bytes ≡ (test bytes || some_end test (drop 1 bytes))
 some_end-step test [] = or_same (test [])
 some_end-step test (byte ∷ bytes) = refl
@@ -66,8 +66,8 @@ passed (suc n) (c ∷ pattern) (byte ∷ bytes) inside none matched =
     let rest = passed n pattern bytes (omega arith) (λ k below. none (suc k) (omega arith)) both.1 in
     (omega (arith, rest.0), rest.1)
 
--- where a pattern matches some end of the bytes, what is behind its front matches some end of what
--- is behind as many bytes
+-- if a pattern matches some suffix of the bytes, the rest after its prefix matches some suffix of
+-- the rest after as many bytes
 some_passed : (n : ℕ) (pattern bytes : List ℕ) → n ≤ length pattern → HasNoStar n pattern → some_end (is_component_match pattern) bytes ≡ true →
     some_end (is_component_match (drop n pattern)) (drop n bytes) ≡ true
 some_passed n pattern [] inside none matched =
@@ -84,16 +84,15 @@ some_passed n pattern (byte ∷ bytes) inside none matched =
 
 -- ---- the steps
 
--- Behind a star that was passed: the bytes of the pattern from there on are no stars and stand for
--- as many bytes behind the star's run, and the whole matches where the rest does, or where the run
--- is longer.
+-- After a star was passed: the bytes of the pattern from there on are no stars and match as many
+-- bytes after the star's run, and the whole matches if the rest does, or if the run is longer.
 pub record AfterStar (pattern bytes : List ℕ) (at next behind end : ℕ) : Type 0 where
   pub inside : behind ≤ at
   pub as_many : end + (at - behind) ≡ next
   pub none : HasNoStar (at - behind) (drop behind pattern)
   pub whole : is_component_match pattern bytes ≡ (is_component_match (drop at pattern) (drop next bytes) || some_end (is_component_match (drop behind pattern)) (drop (end + 1) bytes))
 
--- what is left at a moment of the walk says whether the whole matches
+-- the rest at a step of the walk says whether the whole matches
 abbrev pub Walked : List ℕ → List ℕ → ℕ → ℕ → Option LastStar → Type 0
 Walked pattern bytes at next None = is_component_match pattern bytes ≡ is_component_match (drop at pattern) (drop next bytes)
 Walked pattern bytes at next (Some star) = AfterStar pattern bytes at next star.behind star.end
@@ -103,7 +102,7 @@ or_absorbs true y is = refl
 or_absorbs false true is = sym (is refl)
 or_absorbs false false is = refl
 
--- where a longer run matches, the rest matches some end of the bytes that are left
+-- if a longer run matches, the rest matches some suffix of the remaining bytes
 longer_run : (pattern bytes : List ℕ) (at next behind end : ℕ) → AfterStar pattern bytes at next behind end → at ≤ length pattern →
     some_end (is_component_match (drop behind pattern)) (drop (end + 1) bytes) ≡ true → some_end (is_component_match (drop at pattern)) (drop next bytes) ≡ true
 longer_run pattern bytes at next behind end after within matched =
@@ -115,7 +114,8 @@ longer_run pattern bytes at next behind end after within matched =
     let some = some_passed n (drop behind pattern) (drop (end + 1) bytes) front after.none matched in
     some_end-behind (is_component_match (drop at pattern)) (drop next bytes) (rw (rest, ends) at some)
 
--- where the rest matches if it matches some end of what is left, it says whether the whole matches
+-- if the rest matches whenever it matches some suffix of the remaining bytes, it says whether the
+-- whole matches
 pub settled : (pattern bytes : List ℕ) (at next : ℕ) (star : Option LastStar) → Walked pattern bytes at next star → at ≤ length pattern →
     (some_end (is_component_match (drop at pattern)) (drop next bytes) ≡ true → is_component_match (drop at pattern) (drop next bytes) ≡ true) →
     is_component_match pattern bytes ≡ is_component_match (drop at pattern) (drop next bytes)
@@ -124,7 +124,7 @@ settled pattern bytes at next (Some star) walked within same =
     walked.whole ∙ or_absorbs (is_component_match (drop at pattern) (drop next bytes)) (some_end (is_component_match (drop star.behind pattern)) (drop (star.end + 1) bytes))
     (λ longer. same (longer_run pattern bytes at next star.behind star.end walked within longer))
 
--- the walk ends where no byte is left
+-- the walk ends if no byte remains
 pub ended : (pattern bytes : List ℕ) (at next : ℕ) (star : Option LastStar) → Walked pattern bytes at next star → at ≤ length pattern → length bytes ≤ next →
     is_component_match pattern bytes ≡ is_component_match (drop at pattern) []
 ended pattern bytes at next star walked within end =
@@ -176,7 +176,7 @@ byte_passed pattern bytes at next (Some star) walked inside before other same =
       whole = walked.whole ∙ ap (λ b. b || some_end (is_component_match (drop star.behind pattern)) (drop (star.end + 1) bytes)) (byte_matched pattern bytes at next inside before other same);
     }
 
--- no byte of the pattern is left, or one that is no star and isn't the next byte
+-- no byte of the pattern remains, or the next one is no star and isn't the next byte
 abbrev pub Fails : List ℕ → List ℕ → ℕ → ℕ → Type 0
 Fails pattern bytes at next = at < length pattern → (get_or pattern at 0 ≢ 42) × (get_or pattern at 0 ≢ get_or bytes next 0)
 
@@ -201,7 +201,7 @@ run_grows pattern bytes at next behind end after before other =
 
 -- ---- the number of steps
 
--- where the run of the last star ends, or the first byte before any
+-- the end of the last star's run, or the first byte before any star
 abbrev pub run_end : Option LastStar → ℕ
 run_end None = 0
 run_end (Some star) = star.end

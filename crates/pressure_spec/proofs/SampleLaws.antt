@@ -23,7 +23,7 @@ use Rattle.pressure_spec.proofs.SignalLaws.{signals_apart}
 
 -- ---- histories
 
--- the times of a group at the last of ticks, and those before them where there is none
+-- the times of a group at the last tick, or those before the ticks if there is none
 abbrev pub last_row : ℕ → List (List ℕ) → List Tick → List (List ℕ)
 last_row slot before [] = before
 last_row slot before (tick ∷ ticks) = last_row slot (row_at tick slot) ticks
@@ -33,7 +33,8 @@ pub last_totals-append : (before : List ℕ) (history more : List (ℕ × List �
 last_totals-append before [] more = refl
 last_totals-append before (entry ∷ history) more = last_totals-append entry.1 history more
 
--- a history over more ticks goes on with the times and the totals at the last of those before them
+-- a history over more ticks continues with the times and the totals at the last of the earlier
+-- ticks
 history_from-append : (life : GroupLife) (slot : ℕ) (before : List (List ℕ)) (totals : List ℕ) (ticks more : List Tick) →
     history_from life slot before totals (ticks ++ more)
     ≡ history_from life slot before totals ticks ++ history_from life slot (last_row slot before ticks) (last_totals totals (history_from life slot before totals ticks)) more
@@ -113,15 +114,15 @@ averages_gone cpus lives ticks tick slot gone = ap (averages_after (life_of live
 
 -- ---- triggers
 
--- the moments of a history aren't before this one
+-- the times of a history aren't before this one
 abbrev pub NotBefore : ℕ → List (ℕ × List ℕ) → Type 0
 NotBefore at history = All (λ (entry : ℕ × List ℕ). at ≤ entry.0) history
 
--- the moments of a history are before this one
+-- the times of a history are before this one
 abbrev pub Before : ℕ → List (ℕ × List ℕ) → Type 0
 Before at history = All (λ (entry : ℕ × List ℕ). entry.0 < at) history
 
--- a test that all elements fail keeps none of them, and one that all pass keeps each
+-- a filter whose test all elements fail is empty, and one whose test all pass changes nothing
 pub filter_none : {X : Type 0} (p : X → Bool) → (xs : List X) → All (λ x. p x ≡ false) xs → filter p xs ≡ []
 filter_none p [] all = refl
 filter_none p (x ∷ xs) all = rw (all 0 x (omega arith)) (filter_none p xs (λ k d below. all (suc k) d (omega arith)))
@@ -133,7 +134,7 @@ filter_all p (x ∷ xs) all = rw (all 0 x (omega arith)) (ap (λ rest. x ∷ res
 is_late : (a b : ℕ) → b ≤ a → nat_lt a b ≡ false
 is_late a b late = grind arith
 
--- a moment that isn't after another, as a test
+-- a time that isn't after another, as a test
 pub is_there : (a b : ℕ) → a ≤ b → nat_le a b ≡ true
 is_there a b there = grind arith
 
@@ -190,7 +191,7 @@ trigger_over_first trigger history early =
 
 -- ---- moments of a history
 
--- a history has moments of its ticks
+-- the times of a history are those of its ticks
 history_moments : (P : ℕ → Type 0) (life : GroupLife) (slot : ℕ) (before : List (List ℕ)) (totals : List ℕ) (ticks : List Tick) →
     All (λ (tick : Tick). P tick.at) ticks → All (λ (entry : ℕ × List ℕ). P entry.0) (history_from life slot before totals ticks)
 history_moments P life slot before totals [] all = All-nil _
@@ -204,7 +205,7 @@ history_moments P life slot before totals (tick ∷ ticks) all =
     elim (is_live_at life tick.at) as (λ live. All Q (if live then (tick.at, now) ∷ history_from life slot row now ticks else history_from life slot row totals ticks))
     [ true ↦ All-cons Q (tick.at, now) (history_from life slot row now ticks) (all 0 tick (omega arith)) there | false ↦ gone ]
 
--- the history of ticks before a moment is before it
+-- the history of ticks before a time is before it
 pub history_before : (cpus : ℕ) (lives : List GroupLife) (ticks : List Tick) (slot at : ℕ) → All (λ (tick : Tick). tick.at < at) ticks → Before at (history_of cpus lives ticks slot)
 history_before cpus lives ticks slot at all = history_moments (λ moment. moment < at) (life_of lives slot) slot (no_row cpus) no_totals ticks all
 
@@ -371,7 +372,7 @@ last_row_is slot before (tick ∷ ticks) = last_row_is slot tick ticks
 pub no_tick_row : (cpus slots slot : ℕ) → slot < slots → row_at (no_tick cpus slots) slot ≡ no_row cpus
 no_tick_row cpus slots slot below = get_or-replicate slots slot (no_row cpus) [] below
 
--- the row of a group at the last of ticks of so many groups
+-- the row of a group at the last of ticks with n groups
 pub last_row_at : (cpus slots slot : ℕ) (ticks : List Tick) → slot < slots → last_row slot (no_row cpus) ticks ≡ row_at (last_tick (no_tick cpus slots) ticks) slot
 last_row_at cpus slots slot ticks below = ap (λ row. last_row slot row ticks) (sym (no_tick_row cpus slots slot below)) ∙ last_row_is slot (no_tick cpus slots) ticks
 

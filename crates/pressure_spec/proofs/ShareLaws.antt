@@ -86,7 +86,7 @@ share_is_mean rows place least most all =
           (le-div_iff_mul-le some).1 low,
     )
 
--- the places of the states stand in their order
+-- the places of the states are in their order
 pub state_place : (quantity : ℕ) → quantity < irq_quantity → get_or pressure_places quantity 0 ≡ quantity
 state_place zero below = refl
 state_place (suc zero) below = refl
@@ -129,7 +129,7 @@ time_within_sum (times ∷ rows) place (suc k) d below =
 pub share_within_sum : ShareWithinSum
 share_within_sum rows place = share_most rows place (time_sum rows place) (λ k d below. time_within_sum rows place k d below)
 
--- the weights of processors together, of which each is at most this
+-- the sum of the weights of processors, each of which is at most this
 weight_most : (rows : List (List ℕ)) (most : ℕ) → All (λ times. weight times ≤ most) rows → total_weight rows ≤ length rows * most
 weight_most [] most all = omega arith
 weight_most (times ∷ rows) most all =

@@ -5,7 +5,7 @@ use Rattle.std.proofs.lemmas.List.Sums.{fold-append}
 use Rattle.pressure_spec.specs.Signal.{TriggerState, new_trigger, is_free, seen, trigger_step, fires, trigger_after}
 use Rattle.pressure_spec.specs.Laws.{fired_after, SignalsApart, PendingIsSignalled, RemembersLast, QuietWhenStill, still}
 
--- the last signal was at a moment or after it
+-- the last signal was at a time or after it
 pub record SignalledSince (trigger : TriggerState) (size from : ℕ) : Type 0 where
   pub size_is : trigger.size ≡ size
   pub last : ℕ

@@ -106,7 +106,7 @@ totals_kept last tick slot totals next within =
       irq = omega (arith, within.irq, sum);
     }
 
--- and of one that is
+-- and of a legal one
 pub totals_sampled : (last tick : Tick) (slot : ℕ) (totals : List ℕ) → IsNextTick last tick → AreTotalsUntil last slot totals →
     AreTotalsUntil tick slot (plus totals (shares (growths (row_at last slot) (row_at tick slot))))
 totals_sampled last tick slot totals next within =
@@ -164,7 +164,7 @@ totals_within cpus lives ticks slot below ordered =
 
 -- ---- the bound of interrupt totals
 
--- no interrupt time is above the moment of a tick, which is within the last moment
+-- no interrupt time exceeds the time of a tick, which is at most the latest time
 pub record IsIrqEarly (tick : Tick) (slot : ℕ) : Type 0 where
   pub moment : tick.at ≤ last_moment
   pub irq : (cpu : ℕ) → time_in tick.table slot cpu irq_place ≤ tick.at

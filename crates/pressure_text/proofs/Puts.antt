@@ -1,4 +1,4 @@
--- Texts that are sent one after another.
+-- Texts that are sent in order.
 use Rattle.std.proofs.Common.{◌≡◌, ℕ, List, [], ◌∷◌, ◌++◌, ◌/◌, sym, ap, map, append_assoc}
 use Rattle.std.specs.Prelude.{codes, decimal, slice_index, Option, Result, Ok, Err}
 use Rattle.std.specs.List.{flat_map}
@@ -13,26 +13,26 @@ use Rattle.psi_spec.specs.Grammar.{joined}
 use Rattle.pressure_spec.specs.File.{file_line, percent_text}
 use Rattle.pressure_text.specs.Pieces.{spaced_number}
 
--- a front of the first text is one of both
+-- a prefix of the first text is a prefix of both
 pub front_of_both : (old new : Option (List ℕ)) (xs ys : List ℕ) → AppendsFront old new xs →
     AppendsFront old new (xs ++ ys)
 front_of_both old new xs ys front = AppendsFront-then old old new [] xs ys (Appends-none old) front
 
--- the first text, and then a front of the second, are a front of both
+-- the first text, followed by a prefix of the second, is a prefix of both
 pub front_then : (old mid new : Option (List ℕ)) (xs ys : List ℕ) → Appends old mid xs →
     AppendsFront mid new ys → AppendsFront old new (xs ++ ys)
 front_then old mid new xs ys first front =
     let all : xs ++ (ys ++ []) ≡ xs ++ ys = ap (λ zs. xs ++ zs) (append-nil ys) in
     rw (← all) (AppendsFront-then old mid new xs ys [] first front)
 
--- what is put behind a text is put behind it in whole, or as a front of both
+-- what is sent after a text is appended as a whole, or as a prefix of both
 pub puts_then : {T E : Type 0} →
     (old mid new : Option (List ℕ)) (result : Result T E) (xs ys : List ℕ) → Appends old mid xs →
     PutsAll mid new result ys → PutsAll old new result (xs ++ ys)
 puts_then old mid new (Ok value) xs ys first put = Appends-then old mid new xs ys first put
 puts_then old mid new (Err fault) xs ys first put = front_then old mid new xs ys first put
 
--- a word, and numbers behind it, with one space between them
+-- a word, followed by numbers, with one space between them
 pub joined_numbers : (word ns : List ℕ) → joined (word ∷ map decimal ns) ≡ word ++ flat_map spaced_number ns
 joined_numbers word [] = sym (append-nil word)
 joined_numbers word (n ∷ ns) = ap (λ w. word ++ 32 ∷ w) (joined_numbers (decimal n) ns)

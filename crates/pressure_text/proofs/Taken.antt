@@ -24,7 +24,7 @@ use Rattle.pressure_text.specs.FileRead.{average_at, behind, number_at, past, tw
 
 -- ---- steps
 
--- a step that found something was taken after one that did
+-- a successful step was taken after a successful one
 pub bind_some : {A B : Type 0} (r : Option A) (f : A → Option B) (y : B) → r >>= f ≡ Some y →
     (x : A) × (r ≡ Some x) × (f x ≡ Some y)
 bind_some None f y is = absurd cc
@@ -35,7 +35,7 @@ pub if_some : {A : Type 0} (test : Bool) (x y : A) → (if test then Some x else
 if_some true x y is = (refl, cc)
 if_some false x y is = absurd cc
 
--- what was found, and what is left behind it, of two that are the same
+-- the value and the rest, of two equal results
 pub parts_same : {A : Type 0} (x a : A) (y b : List ℕ) →
     (let one : A × List ℕ = (x, y) in let other : A × List ℕ = (a, b) in one ≡ other) →
     (x ≡ a) × (y ≡ b)
@@ -67,7 +67,7 @@ behind_is (byte ∷ text) (first ∷ bytes) rest is =
     let same = eqb-true first byte both.0 in
     let more = behind_is text bytes rest both.1 in cc
 
--- nothing is found where the text isn't at the front
+-- nothing is found if the bytes don't begin with the text
 behind_none : (text bytes : List ℕ) → ((rest : List ℕ) → bytes ≢ text ++ rest) →
     behind text bytes ≡ None
 behind_none text bytes other =
@@ -90,7 +90,7 @@ stripped text bytes r cases = found_behind text bytes r (strip_prefix_is Decides
 
 -- ---- a number at the front
 
--- no digit stands at the front
+-- no digit is at the start
 abbrev pub NoDigit : List ℕ → Type 0
 NoDigit bytes = is_ascii_digit (get_or bytes 0 0) ≡ false
 

@@ -1,4 +1,4 @@
--- What is read of a pressure file is what it tells, and what it tells is read.
+-- The contents of a pressure file are parsed, and what is parsed is its contents.
 use Rattle.std.proofs.Common.{◌≡◌, ℕ, zero, suc, ◌/◌, ◌%◌, ◌^◌, ◌<◌, ◌≤◌, List, [], ◌∷◌, ◌++◌}
 use Rattle.std.proofs.Common.{refl, sym, ap, ◌∙◌, arith, append_assoc, Bool, true, false, length}
 use Rattle.std.proofs.Common.{get_or, ◌↔◌}
@@ -26,13 +26,13 @@ use Rattle.pressure_text.specs.Told.{numbers_told, spelled_line}
 use Rattle.pressure_text.proofs.Taken.{average_again, average_is, behind_again, behind_is, bind_some}
 use Rattle.pressure_text.proofs.Taken.{found_same, number_again, number_is, past_is}
 
--- a line of these numbers
+-- a line with these numbers
 abbrev pub line : ℕ → ℕ → ℕ → ℕ → PressureLine
 line short middle long total = record { hundredths = short ∷ middle ∷ long ∷ []; total_us = total }
 
 -- ---- a line
 
--- a line in its pieces, with what stands behind it
+-- a line in its pieces, with the bytes after it
 line_parts : (level : Level) (short middle long total : ℕ) (rest : List ℕ) →
     told_line level (short ∷ middle ∷ long ∷ []) total ++ rest ≡
     level_word level ++ (codes " avg10=" ++ (hundredths_text short ++ (codes " avg60=" ++ (hundredths_text middle ++ (codes " avg300=" ++ (hundredths_text long ++ (codes " total=" ++ (decimal total ++ (codes "\n" ++ rest)))))))))
@@ -132,13 +132,13 @@ three_of (a ∷ b ∷ []) three = absurd (omega arith)
 three_of (a ∷ b ∷ c ∷ []) three = refl
 three_of (a ∷ b ∷ c ∷ d ∷ xs) three = absurd (omega arith)
 
--- a line of these averages, and what is left
+-- a line with these averages, and the rest
 made : List ℕ → ℕ → List ℕ → Option (PressureLine × List ℕ)
 made averages total rest =
     let numbers : PressureLine = record { hundredths = averages; total_us = total } in
     Some (numbers, rest)
 
--- a line that a file can tell is read
+-- a line that a file can contain is parsed
 told_again : (level : Level) (found : PressureLine) (rest : List ℕ) → IsTellable found →
     line_at level (spelled_line level found ++ rest) ≡ Some (found, rest)
 unfolding made
@@ -192,7 +192,7 @@ file_is bytes file is =
       spelled = some_read.spelled ∙ ap (λ xs. spelled_line SomeStalled file.some_line ++ xs) behind_first;
     }
 
--- a file is read exactly where the bytes tell it
+-- a file is parsed if and only if the bytes spell it
 pub reads_told : (bytes : List ℕ) (file : PressureFile) → (file_at bytes ≡ Some file) ↔ Tells bytes file
 reads_told bytes file = (file_is bytes file, file_again bytes file)
 
@@ -232,7 +232,7 @@ percent_is average =
     let part : in_hundredths average % 100 ≡ hundredths average = omega arith in
     rw (whole, part) refl
 
--- a line that is written is one that tells whole hundredths and microseconds
+-- a written line contains whole hundredths and microseconds
 line_told : (level : Level) (averages : List ℕ) (total : ℕ) →
     file_line level averages total ≡ spelled_line level (numbers_told averages total)
 line_told level averages total =
@@ -248,7 +248,7 @@ in_most average most = omega arith
 abbrev Fit : List ℕ → ℕ → Type 0
 Fit averages total = ((k : ℕ) → k < 3 → get_or averages k 0 ≤ 204800) × (total < 2 ^ 64)
 
--- what a line tells of such, it can tell
+-- the contents of such a line are in range
 can_tell : (averages : List ℕ) (total : ℕ) → Fit averages total → IsTellable (numbers_told averages total)
 can_tell averages total fit =
     let most : (k : ℕ) → k < 3 → in_hundredths (get_or averages k 0) ≤ 10000 =
@@ -324,7 +324,7 @@ irq_reads_again averages total fits row = record {
 
 -- ---- what a call returns that reads as the definition does
 
--- the call found what the bytes tell
+-- the call found what the bytes spell
 abbrev pub IsExact : {A : Type 0} → Option A → (A → Type 0) → Type 0
 IsExact {A} result Told = (read : A) → (result ≡ Some read) ↔ Told read
 
@@ -338,7 +338,7 @@ none_told : {A : Type 0} (Told : A → Type 0) (result : Option A) → IsExact r
 none_told Told None exact none read told = let found = (exact read).1 told in absurd cc
 none_told Told (Some other) exact none read told = absurd cc
 
--- it found nothing exactly where they tell nothing
+-- it found nothing if and only if they spell nothing
 read_none : {A : Type 0} (Told : A → Type 0) (result : Option A) → IsExact result Told →
     IsNone result ↔ ((read : A) → ¬ Told read)
 read_none Told result exact = (none_told Told result exact, none_of Told result exact)

@@ -1,4 +1,4 @@
--- The events of a trace, taken one after the other.
+-- The events of a trace, taken in order.
 use Rattle.std.proofs.Common.{◌≡◌, ◌≢◌, ℕ, zero, suc, ◌+◌, ◌≤◌, ◌<◌, List, [], ◌∷◌, ◌++◌, length, take, drop, refl, sym, ap, ◌∙◌, subst, arith, inl, inr, true}
 use Rattle.std.specs.Prelude.{slice_index_or, Ok, Err}
 use Rattle.std.proofs.lemmas.List.{take_all, take_more}
@@ -15,7 +15,7 @@ use Rattle.proc_plan.specs.Plans.{HasTaken, HasTakenAll, IsFaultAt, IsRefusal, P
 use Rattle.proc_plan.proofs.Finishing.{ended_is_accepted}
 use Rattle.proc_plan.proofs.Taking.{lines_of}
 
--- each event can be spelled where all can
+-- each event can be spelled if all can
 pub fit_at : (events : List Event) (i : ℕ) (d : Event) → AllFit events → i < length events → Fits (slice_index_or events i d)
 fit_at [] i d fit room = absurd (omega (arith, room))
 fit_at (event ∷ events) zero d fit room = fit.0
@@ -27,7 +27,7 @@ parted [] i d room = absurd (omega (arith, room))
 parted (event ∷ events) zero d room = refl
 parted (event ∷ events) (suc i) d room = ap (λ es. event ∷ es) (parted events i d (omega (arith, room)))
 
--- a planner has taken the first events of all, where a fresh one was taken on from
+-- if the planner was new, it has now taken the first of all events
 abbrev pub HasFirst : PlannerView → PlannerView → List Event → Type 0
 HasFirst old now events = (limits : Limits) → HasTaken old limits [] → HasTaken now limits events
 
@@ -36,7 +36,7 @@ pub took_next : (old now new : PlannerView) (events : List Event) (i : ℕ) (eve
 took_next old now new events i event x room is before takes = λ limits fresh.
     subst (HasTaken new limits) (sym (take_more events i event room ∙ ap (λ e. take i events ++ e ∷ []) (sym is))) (takes limits (take i events) (before limits fresh)).1
 
--- an event that is refused is the first one
+-- a rejected event is the first one
 pub refused_next : (old now new : PlannerView) (events : List Event) (i : ℕ) (event : Event) (why : Fault Cause) (line : ℕ) (at : Fault Refusal) → i < length events → event ≡ slice_index_or events i event → HasFirst old now (take i events) → PlannerTakes now new event (Err why) → new ≡ now → line ≡ new.table.world.lines → IsFaultAt (line + 2) why at
     → (limits : Limits) → HasTaken old limits [] → IsRefusal limits events at
 refused_next old now new events i event (fault.Refused why) line at room is before takes same counted told = λ limits fresh.

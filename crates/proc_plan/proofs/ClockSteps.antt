@@ -52,7 +52,7 @@ current_below plan (suc k) whole within =
     let next : suc k ≡ k + 1 = omega arith in
     subst (λ o. IfSome o (λ (running : Slot × Bool). running.0.0 < length plan.parents)) (sym (ap (current_after plan) next ∙ (current_by_change plan k (slice_index_or plan.changes k none) is).0)) (whole.slots k (slice_index_or plan.changes k none) is).current
 
--- each mask has the states that its counts tell
+-- each mask has the states that its counts imply
 pub told : (plan : PlanView) (clocks : ClocksView) (k : ℕ) → AreClocks plan clocks k → AreTold plan.parents clocks
 unfolding holds_after
 told plan clocks k are slot state =
@@ -94,7 +94,7 @@ only_one old minus plus one other a b = omega (arith, a, b)
 same_follow : (old minus plus one other : Counts) → Follows old minus plus one → Follows old minus plus other → one ≡ other
 same_follow old minus plus one other a b = counts_are one other.io other.stalled other.running other.stalled_running (only_one _ _ _ _ _ a.io b.io) (only_one _ _ _ _ _ a.stalled b.stalled) (only_one _ _ _ _ _ a.running b.running) (only_one _ _ _ _ _ a.stalled_running b.stalled_running)
 
--- what making a change tells of the clocks
+-- how making a change updates the clocks
 pub record AreMade (plan : PlanView) (change : Change) (old new : ClocksView) : Type 0 where
   pub room : length new.cells ≡ length old.cells
   pub counts : AllFollow plan.parents change old new

@@ -1,4 +1,4 @@
--- The plans of a planner stand for the events that it took.
+-- The plans of a planner represent the events that it took.
 use Rattle.std.proofs.Common.{◌≡◌, ℕ, ◌<◌, List, [], ◌∷◌, length, map, refl, sym, ap, ◌∙◌, subst, arith}
 use Rattle.std.specs.Prelude.{Option, Some}
 use Rattle.std.specs.List.{All}
@@ -82,7 +82,7 @@ somes_same (change ∷ one) (next ∷ other) same =
     let rest = somes_same one other (cc same) in
     rw (here, rest) refl
 
--- the plans that stand for events are those of the events
+-- the plans that represent events are the plans of these events
 pub standing_plans : PlansAreOfEvents
 standing_plans plans cpus events stand cpu below =
     let changes = somes_same (plan_at plans cpu).changes (changes_from cpu first_world events) (stand.changes cpu below ∙ sym (changes_are_numbered cpu events).0) in
@@ -91,7 +91,7 @@ standing_plans plans cpus events stand cpu below =
 
 -- ---- a whole trace
 
--- events that were taken make up a trace where they ended it
+-- the events taken make up a trace if they ended it
 pub ended_is_accepted : EndedIsAccepted
 ended_is_accepted planner limits events taken ended = record {
   fit = taken.fit;

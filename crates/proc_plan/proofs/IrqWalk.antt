@@ -17,12 +17,13 @@ use Rattle.proc_plan.proofs.Upward.{at_itself, not_below, parent_number}
 
 -- ---- the walk up from the running task's group
 
--- where the walk stands, a group has its time, and where it went up from, none is left for it
+-- at the current place of the walk a group gets its time, and the groups that the walk has left
+-- have theirs
 one_time : (on : Bool) (time irq : ℕ) → (time + (if on then irq else 0)) + (if on && false then irq else 0) ≡ time + (if on && true then irq else 0)
 one_time true time irq = omega arith
 one_time false time irq = omega arith
 
--- a group whose account is on has its time where the walk stands, and the walk goes on to the
+-- a group whose accounting is on gets its time at the walk's place, and the walk continues to the
 -- parent
 pub step_up : (parents : List (Option Slot)) (ons : ℕ → Bool) (times : List ℕ) (place at irq : ℕ) → AreOlder (parent_numbers parents) → place < length times →
     irq_at (slice_set times place (irq_at times place + (if ons place then irq else 0))) at + (if ons at && leads_to (parent_numbers parents) (number_of_slot (slice_index_or parents place None)) at then irq else 0)
@@ -41,7 +42,7 @@ step_up parents ons times place at irq older room =
     rw (under, get_or-set_other times place at more 0 (λ is. other.1 (sym is))) refl)
     (eqb_tells place at))
 
--- what is added where the walk stands is what interrupts take there
+-- the time added at the walk's place is the time that interrupts take there
 pub added_here : (on under : Bool) (irq : ℕ) → under ≡ true → (if on then irq else 0) ≡ (if on && under then irq else 0)
 added_here true under irq is = rw is refl
 added_here false under irq is = refl
@@ -90,7 +91,7 @@ taken_is plan clocks k change slot are =
     one_test (cell_at clocks slot).on (is_current_in plan.parents slot change.current) change.irq
     ∙ ap (λ on. if on then irq_in plan.parents slot change else 0) (are.ons slot)
 
--- no time is added where interrupts took none
+-- no time is added if interrupts took none
 pub nothing_grows : (parents : List (Option ℕ)) (clocks : ClocksView) (current : Option (Slot × Bool)) (irq : ℕ) (times : List ℕ) → irq ≡ 0 → AllGrow parents clocks current irq times times
 nothing_grows parents clocks current irq times none slot below = none_more ((cell_at clocks slot).on && is_current_in parents slot current)
   where

@@ -1,4 +1,4 @@
--- What the readers of a plan tell.
+-- The results of a plan's methods.
 use Rattle.std.proofs.Common.{◌≡◌, ℕ, zero, suc, ◌+◌, ◌-◌, ◌≤◌, ◌<◌, List, length, refl, sym, ap, ◌∙◌, subst, arith, Bool, true, false, Option, None, Some, IsSome, IfSome, ◌==◌}
 use Rattle.std.specs.Prelude.{nat_le, slice_get, slice_index_or, ◌↔◌}
 use Rattle.std.specs.Option.{option_or}
@@ -19,13 +19,13 @@ use Rattle.proc_plan.proofs.Upward.{at_itself}
 
 -- ---- moments
 
--- the moment of the change at a place
+-- the time of the change at a place
 pub moment_at : (plan : PlanView) (i : ℕ) (d : Change) → i < length plan.changes → (slice_index_or plan.changes i d).at ≡ last_change plan (i + 1)
 moment_at plan i d room =
     let next : i + 1 ≡ suc i = omega arith in
     sym (get_or-map (λ (change : Change). change.at) plan.changes i d 0 room) ∙ sym (ap (last_change plan) next)
 
--- moments never fall from change to change
+-- times never fall from change to change
 rises : (plan : PlanView) → AreInOrder plan → (i n : ℕ) → i + n ≤ length plan.changes → last_change plan i ≤ last_change plan (i + n)
 rises plan order i zero room = let same : last_change plan i ≡ last_change plan (i + 0) = ap (last_change plan) (let e : i ≡ i + 0 = omega arith in e) in omega (arith, same)
 rises plan order i (suc n) room =
@@ -37,7 +37,7 @@ rises plan order i (suc n) room =
 earlier : (one other at : ℕ) → one ≤ other → nat_le other at ≡ true → nat_le one at ≡ true
 earlier one other at low is = grind (arith, nat_tests)
 
--- those up to a moment come first
+-- those up to a time come first
 pub come_first : (plan : PlanView) (at : ℕ) → AreInOrder plan → IsPartitionedBy (λ (change : Change). nat_le change.at at) plan.changes
 come_first plan at order i j d low room up =
     let later = rises plan order (i + 1) (j - i) (omega (arith, low, room)) in
@@ -57,8 +57,8 @@ last_before plan at (suc k) d room early =
     let same : last_change plan (suc k) ≡ last_change plan (k + 1) = ap (last_change plan) (let e : suc k ≡ k + 1 = omega arith in e) in
     omega (arith, here, same, moment_at plan k d (omega (arith, room)))
 
--- What the place behind them tells: it is how many come up to the moment, the change before it
--- isn't later, and the next is.
+-- The place after them is the number of changes up to the time: the change before it isn't later,
+-- and the next one is.
 pub record IsUntil (plan : PlanView) (at k : ℕ) : Type 0 where
   pub until : k ≡ changes_up_to plan at
   pub within : k ≤ length plan.changes

@@ -1,4 +1,4 @@
--- What sides tell of the tasks in a group, and of slots.
+-- What sides imply about the tasks in a group, and about slots.
 use Rattle.std.proofs.Common.{◌≡◌, ℕ, ◌+◌, ◌≤◌, ◌<◌, List, [], ◌∷◌, ◌++◌, refl, sym, ap, ◌∙◌, subst, arith, Bool, true, false, Option, None, Some, length, ⊎_elim}
 use Rattle.std.specs.Prelude.{count_by, map, ◌==◌, All, IfSome, if◌then◌else◌}
 use Rattle.std.specs.List.{AllByRecursion}
@@ -36,7 +36,7 @@ use Rattle.proc_plan.specs.SideLaws.{comes, goes, slot_of_side, MembersAreTold, 
 
 -- ---- comings and goings
 
--- how many sides tell that a task came into a group, and that one left it
+-- the numbers of sides by which a task joins a group and leaves it
 abbrev comings : ℕ → List Side → ℕ
 comings slot sides = count_by (λ (side : Side). comes slot side.what) sides
 
@@ -48,7 +48,7 @@ abbrev is_group : ℕ → Option Slot → Bool
 is_group slot None = false
 is_group slot (Some group) = group.0 == slot
 
--- a sample tells of none
+-- no side of a sample is of a task that joins
 sample_comings : (slot at : ℕ) (groups : List GroupLife) (a : Act) → comings slot (sample_by at groups a) ≡ 0
 sample_comings slot at groups (act.Group path) = refl
 sample_comings slot at groups _ = refl
@@ -60,7 +60,7 @@ sample_goings slot at groups _ = refl
 same_group : (old new slot : ℕ) → (old == new) ≡ true → one (old == slot) ≡ one (new == slot)
 same_group old new slot is = ⊎_elim (λ same. ap (λ n. one (n == slot)) same.1) (λ other. absurd (cc (is, other.0))) (eqb_tells old new)
 
--- a passage tells how a task left and came
+-- a passage has the side of a task that leaves and of one that joins
 passage_tells : (at slot : ℕ) (old new : Option Slot) → comings slot (passage at old new) + one (is_group slot old) ≡ goings slot (passage at old new) + one (is_group slot new)
 passage_tells at slot None None = refl
 passage_tells at slot None (Some new) = omega arith
@@ -112,7 +112,7 @@ members_are_told limits events legal slot =
 
 -- ---- slots
 
--- a side's slot is one of so many
+-- a side's slot is below n
 abbrev IsOn : ℕ → Side → Type 0
 IsOn slots side = IfSome (slot_of_side side.what) (λ slot. slot.0 < slots)
 

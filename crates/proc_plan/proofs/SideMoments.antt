@@ -16,7 +16,7 @@ use Rattle.proc_plan.specs.SideLaws.{SidesUpTo, SidesAreInOrder}
 
 -- ---- moments
 
--- sides at a moment, one after the other
+-- sides at one time
 abbrev AtOnce : ℕ → List Side → Type 0
 AtOnce at sides = AllByRecursion (λ (side : Side). side.at ≡ at) sides
 

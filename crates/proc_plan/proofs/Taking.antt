@@ -40,17 +40,17 @@ written n new old same = subst (λ m. take m (new ++ drop (length new) old) ≡ 
 
 -- ---- one event more
 
--- what it tells comes behind what was told
+-- the values of one more event are appended
 told_from-push : {A : Type 0} (tells : World → Event → List A) (w : World) (events : List Event) (event : Event) → told_from tells w (events ++ event ∷ []) ≡ told_from tells w events ++ tells (after_from w events) event
 told_from-push tells w [] event = append-nil (tells w event)
 told_from-push tells w (first ∷ events) event = ap (λ rest. tells w first ++ rest) (told_from-push tells (after_event w first) events event) ∙ sym (append_assoc (tells w first) (told_from tells (after_event w first) events) (tells (after_from (after_event w first) events) event))
 
--- events are legal with one that is legal behind them
+-- events followed by a legal event are legal
 pub legal_push : (limits : Limits) (w : World) (events : List Event) (event : Event) → AreLegal limits w events → cause_of limits (after_from w events) event ≡ None → AreLegal limits w (events ++ event ∷ [])
 legal_push limits w [] event legal allowed = (allowed, tt)
 legal_push limits w (first ∷ events) event legal allowed = (legal.0, legal_push limits (after_event w first) events event legal.1 allowed)
 
--- events can be spelled with one that can be behind them
+-- events followed by one that can be spelled can be spelled
 pub fit_push : (events : List Event) (event : Event) → AllFit events → Fits event → AllFit (events ++ event ∷ [])
 fit_push [] event all fits = (fits, tt)
 fit_push (first ∷ events) event all fits = (all.0, fit_push events event all.1 fits)
@@ -86,18 +86,18 @@ told_or : (cpus cpu : ℕ) (one : Option (Cpu × Change)) (other : Option Change
 told_or cpus cpu None other below rest some = rest some
 told_or cpus cpu (Some one) other below rest some = picked (one.0.0 == cpu) cpus cpu one other below rest refl some
 
--- a processor of which a touch tells is one of those that its changes have
+-- a processor in a touch is one of the processors of its changes
 told_below : (touch : Touch) (cpus cpu : ℕ) → AllTouched (λ cpu change. cpu < cpus) touch → IsSome (told_of touch cpu) → cpu < cpus
 told_below touch cpus cpu all some = told_or cpus cpu touch.first (told_first cpu touch.second None) all.0 (told_or cpus cpu touch.second None all.1 (λ none. cc none)) some
 
--- what a touch that switches no account tells of a processor is what the event changes there
+-- a touch that switches no accounting has the event's change of each processor
 told_plainly : (cpus : ℕ) (w : World) (event : Event) (touch : Touch) (cpu : ℕ) → IsTouch cpus w event touch → cpu < cpus → (account : Option (Slot × Bool)) → touch.account ≡ account → IsSome (told_of touch cpu) → IsSome (change_of w event cpu)
 told_plainly cpus w event touch cpu is below None none some =
     subst (λ (o : Option Change). IsSome o) (ap (λ g. account_first event.at (shown (running_on (after_event w event).tasks cpu)) g (told_of touch cpu)) (sym none) ∙ is.told cpu below) some
 told_plainly cpus w event touch cpu is below (Some account) there some =
     subst (λ (o : Option Change). IsSome o) (ap (λ g. account_first event.at (shown (running_on (after_event w event).tasks cpu)) g (told_of touch cpu)) (sym there) ∙ is.told cpu below) refl
 
--- there is room for what a legal event changes, where there is for its act
+-- there is room for the changes of a legal event if there is room for its act
 pub room_for : (w : World) (event : Event) (touch : Touch) (task : Option Task) (changes : List ChangesView) (cpus : ℕ) → task ≡ before w.tasks event.act → IsTouch cpus w event touch → AllTouched (λ cpu change. cpu < cpus) touch → length changes ≡ cpus → HasRoomFor event.act task changes
     → (cpu : ℕ) → IsSome (told_of touch cpu) → HasRoom changes cpu
 room_for w event touch task changes cpus same is all each room cpu some =
@@ -105,7 +105,7 @@ room_for w event touch task changes cpus same is all each room cpu some =
     let here = touched_here w event cpu (told_plainly cpus w event touch cpu is below touch.account refl some) in
     room cpu (ap (λ t. touched event.act t cpu) same ∙ here) (omega (arith, below, each))
 
--- so there is on every processor, where it switches an account
+-- there is room on every processor if it switches accounting
 pub room_for_all : (w : World) (event : Event) (touch : Touch) (task : Option Task) (changes : List ChangesView) (cpus : ℕ) → task ≡ before w.tasks event.act → IsTouch cpus w event touch → length changes ≡ cpus → HasRoomFor event.act task changes
     → IsSome touch.account → (cpu : ℕ) → HasRoomWithin changes cpu
 room_for_all w event touch task changes cpus same is each room some cpu below =
@@ -202,7 +202,7 @@ taken_more old new event touch trigger first second limits events step taken =
 
 -- ---- the planner as a player
 
--- what a planner's clause tells is what a player owes
+-- the planner's clause implies the player's
 pub planner_takes : (old new : PlannerView) (event : Event) (result : Result (Unit {0}) (Fault Cause)) → PlannerTakes old new event result → PlayerTakes (HasTaken old) (HasTaken new) event result
 planner_takes old new event (Ok x) takes = takes
 planner_takes old new event (Err (fault.Refused why)) takes = takes

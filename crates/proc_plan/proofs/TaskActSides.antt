@@ -1,4 +1,4 @@
--- A task act tells of changes alone: no trigger, and no side where no task exits by it.
+-- A task act adds changes alone: no trigger, and no side if no task exits by it.
 use Rattle.std.proofs.Common.{◌≡◌, ℕ, List, [], refl, ap, true, false, Option, None, Some}
 use Rattle.psi_base.specs.declared.event.How.{How}
 use Rattle.psi_base.specs.declared.event.How.TheVariants.{Preempt, Sleep, IoWait, Exit, Idle}
@@ -33,7 +33,7 @@ changed_stays : (at : ℕ) (f : Task → Task) → ((t : Task) → (f t).slot �
 changed_stays at f keeps None = refl
 changed_stays at f keeps (Some t) = stays at (Some t) (Some (f t)) (ap (λ slot. Some slot) (keeps t))
 
--- so does one that leaves its processor, but where it exits
+-- so does a task that leaves its processor without exiting
 left_stays : (at : ℕ) (how : How) → is_exit how ≡ false → (old : Option Task) → [] ≡ passage at (group_of old) (group_of (left_if how old))
 left_stays at how stay None = refl
 left_stays at Preempt stay (Some t) = stays at (Some t) (Some t) refl

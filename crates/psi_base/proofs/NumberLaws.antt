@@ -19,7 +19,7 @@ pub value_after-le : (n : ℕ) (ds : List ℕ) → n ≤ value_after n ds
 value_after-le n [] = omega arith
 value_after-le n (d ∷ ds) = omega (arith, value_after-le (n * 10 + (d - 48)) ds)
 
--- the digit at a place, and the digits behind it
+-- the digit at a place, and the digits after it
 digit_at : (n i : ℕ) (bytes : List ℕ) → i < length bytes → drop i bytes ≡ get_or bytes i 0 ∷ drop (i + 1) bytes
 digit_at n i bytes inside = drop_more bytes i 0 inside
 

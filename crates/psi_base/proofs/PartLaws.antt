@@ -27,7 +27,7 @@ parts_at-suc at zero (byte ∷ bytes) inside found none = rw (found, parts_at-sa
 parts_at-suc at (suc i) (byte ∷ bytes) inside found none =
     parts_at-other at byte bytes (none 0 (omega arith)) ∙ ap (onto_first byte) (parts_at-suc at i bytes (omega arith) found (λ k below. none (suc k) (omega arith)))
 
--- the rest of the bytes behind the first such byte, as a slice gives it
+-- the rest of the bytes after the first such byte, as a slice returns it
 pub parts_at-first : (at i : ℕ) (bytes rest : List ℕ) → i < length bytes → get_or bytes i 0 ≡ at → HasNone at bytes i → rest ≡ drop (i + 1) bytes → parts_at at bytes ≡ take i bytes ∷ parts_at at rest
 parts_at-first at i bytes rest inside found none behind = rw behind (rw add-one (parts_at-suc at i bytes inside found none))
 
@@ -72,7 +72,7 @@ front_of at (suc n) [] inside none = absurd (omega arith)
 front_of at (suc n) (byte ∷ bytes) inside none =
     onto_front at byte n bytes (none 0 (omega arith)) (front_of at n bytes (omega arith) (λ k below. none (suc k) (omega arith)))
 
--- the first part, and what stands behind it
+-- the first part, and the bytes after it
 pub parts_at-line : (at : ℕ) (line after : List ℕ) → HasNone at line (length line) → parts_at at (line ++ at ∷ after) ≡ line ∷ parts_at at after
 parts_at-line at [] after none = parts_at-same at after
 parts_at-line at (byte ∷ line) after none =

@@ -66,7 +66,7 @@ components (part ∷ parts) h =
     let here = second_of (nat_lt 0 (length part)) (list_all is_path_byte part) (not (bytes_eq part (codes "."))) (not (bytes_eq part (codes ".."))) both.0 in
     ap (λ b. b && list_all (list_all is_path_byte) parts) here ∙ components parts both.1
 
--- a slash and components behind it
+-- a slash followed by components
 behind_slash : (bytes : List ℕ) → (slice_index bytes 0 == 47) ≡ true → list_all is_component (parts_at 47 (drop 1 bytes)) ≡ true → IsAscii bytes
 behind_slash [] slash all = λ i. omega arith
 behind_slash (byte ∷ bytes) slash all = cons_ascii byte bytes (grind (arith, nat_tests)) (parts_ascii bytes (components (parts_at 47 bytes) all))

@@ -66,7 +66,7 @@ switched_on path on groups at slot one found =
 pub removed_on : (path : List ℕ) (at : ℕ) (groups : List GroupLife) (slot : ℕ) → is_on (map (marked_removed path at) groups) slot ≡ is_on groups slot
 removed_on path at groups slot = ap is_on_life (slice_get-map (marked_removed path at) groups slot) ∙ removed_here (slice_get groups slot) path at
 
--- a new group is on, as one that isn't made counts as on
+-- accounting is on for a new group, as it is for a group that doesn't exist
 pub made_on : (groups : List GroupLife) (group : GroupLife) (slot : ℕ) → group.on ≡ true → is_on (groups ++ group ∷ []) slot ≡ is_on groups slot
 made_on [] group zero on = on
 made_on [] group (suc slot) on = refl

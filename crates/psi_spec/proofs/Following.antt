@@ -10,7 +10,7 @@ use Rattle.psi_spec.specs.World.{World, Limits, after_event, after_from, ends}
 use Rattle.psi_spec.specs.Refusal.{AreLegal, cause_of}
 use Rattle.psi_spec.specs.Trace.{EndsLast}
 
--- a first cause that doesn't stand
+-- a first cause that doesn't apply
 pub first_none : (b : Bool) (why : Cause) (others : Option Cause) → (if b then Some why else others) ≡ None → b ≡ false
 first_none true why others is = absurd (cc is)
 first_none false why others is = refl

@@ -23,11 +23,11 @@ use Rattle.psi_spec.proofs.GroupLaws.{by_step, first_of_two, found_behind, same_
 
 -- ---- a group is made
 
--- parents with a group behind
+-- parents with one more group at the end
 pub parents_behind : (groups : List GroupLife) (group : GroupLife) → parents_of (groups ++ group ∷ []) ≡ parents_of groups ++ number_of_slot group.parent ∷ []
 parents_behind groups group = map-append (λ (g : GroupLife). number_of_slot g.parent) groups (group ∷ [])
 
--- paths with a group behind
+-- paths with one more group at the end
 paths_behind : (groups : List GroupLife) (group : GroupLife) → map (λ (g : GroupLife). g.path) (groups ++ group ∷ []) ≡ map (λ (g : GroupLife). g.path) groups ++ group.path ∷ []
 paths_behind groups group = map-append (λ (g : GroupLife). g.path) groups (group ∷ [])
 
@@ -45,7 +45,7 @@ newest : (more : Option ℕ) (parent : ℕ) → more ≡ Some parent → (slot n
 newest None parent is slot n same new = absurd (cc is)
 newest (Some p) parent is slot n same new = let equal : p ≡ parent = cc is in omega (arith, equal, same, new)
 
--- a parent that is older stays so, with one more behind that is older
+-- older parents stay older after one more is appended that is older
 older_behind : (parents : List (Option ℕ)) (more : Option ℕ) → AreOlder parents → IfSome more (λ parent. parent < length parents) → AreOlder (parents ++ more ∷ [])
 older_behind parents more older new slot parent is =
     let len : length (parents ++ more ∷ []) ≡ length parents + 1 = length-append parents (more ∷ []) in
@@ -57,7 +57,7 @@ older_behind parents more older new slot parent is =
     or)
     (place (length parents) slot)
 
--- each slot but the first has a parent, with one more behind that has one
+-- each slot but the first has a parent, after one more with a parent is appended
 parented_behind : (parents : List (Option ℕ)) (parent : ℕ) → HaveParents parents → HaveParents (parents ++ Some parent ∷ [])
 parented_behind parents parent have slot first room =
     let len : length (parents ++ Some parent ∷ []) ≡ length parents + 1 = length-append parents (Some parent ∷ []) in
@@ -81,7 +81,7 @@ path_behind groups group slot same =
     let len : length (map (λ (g : GroupLife). g.path) groups) ≡ length groups = length-map groups (λ (g : GroupLife). g.path) in
     ap (λ paths. slice_index_or paths slot []) (paths_behind groups group) ∙ get_or_push (map (λ (g : GroupLife). g.path) groups) group.path [] slot (len ∙ sym same)
 
--- parents stay what the paths say, with a group behind whose parent has the path above
+-- parents still match the paths after a group is appended whose parent has the path above
 above_behind : (groups : List GroupLife) (group : GroupLife) (parent : ℕ) → AreOlder (parents_of groups) → AreAbove groups → number_of_slot group.parent ≡ Some parent → parent < length groups → path_at groups parent ≡ parent_path group.path → AreAbove (groups ++ group ∷ [])
 above_behind groups group parent older above child room path slot high is =
     let len : length (parents_of groups) ≡ length groups = length-map groups (λ (g : GroupLife). number_of_slot g.parent) in
@@ -115,7 +115,7 @@ got_behind [] group (suc slot) same = absurd (omega (arith, same))
 got_behind (first ∷ groups) group zero same = absurd (omega (arith, same))
 got_behind (first ∷ groups) group (suc slot) same = got_behind groups group slot (omega (arith, same))
 
--- each live group is found, with one more behind whose path no live one had
+-- each live group is found after one more is appended whose path no live one had
 one_live_behind : (groups : List GroupLife) (group : GroupLife) → IsOneLive groups → is_live group ≡ true → slot_of groups group.path ≡ None → IsOneLive (groups ++ group ∷ [])
 one_live_behind groups group one live new slot other is alive =
     let len : length (groups ++ group ∷ []) ≡ length groups + 1 = length-append groups (group ∷ []) in
@@ -166,7 +166,7 @@ groups_made groups path at parent few new over are =
       one_live = one_live_behind groups group are.one_live refl new;
     }
 
--- the root stays, where another group is removed
+-- the root doesn't change if another group is removed
 root_stays : (path : List ℕ) (at : ℕ) → is_root path ≡ false → marked_removed path at root ≡ root
 root_stays path at other =
     elim (bytes_eq root.path path) as (λ b. bytes_eq root.path path ≡ b → (if b then record root { gone = Some at } else root) ≡ root) [
@@ -236,7 +236,7 @@ the_some : (o : Option ℕ) → not (is_some o) ≡ false → (n : ℕ) × (o �
 the_some None h = absurd (cc h)
 the_some (Some n) h = (n, refl)
 
--- the first of three tests of which none holds
+-- the first of three tests, none of which holds
 first_false : (a b c : Bool) → (a || b || c) ≡ false → a ≡ false
 first_false false b c h = refl
 first_false true b c h = cc h
@@ -269,7 +269,7 @@ groups_kept limits w event legal are = groups_act limits w event.at event.act le
 
 -- ---- parents
 
--- nothing behind
+-- nothing follows
 nothing_behind : (parents : List (Option ℕ)) → parents ≡ parents ++ []
 nothing_behind parents = sym (append-nil parents)
 

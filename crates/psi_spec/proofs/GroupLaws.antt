@@ -32,7 +32,7 @@ or_false : (b c : Bool) → c ≡ false → (b || c) ≡ b
 or_false true c h = refl
 or_false false c h = h
 
--- more steps than a slot's number tell nothing more
+-- more steps than a slot's number change nothing
 enough_steps : (parents : List (Option ℕ)) → AreOlder parents → (n m : ℕ) (o : Option ℕ) (high : ℕ) → IfSome o (λ s. s ≤ n) → IfSome o (λ s. s ≤ m) → climbs n parents o high ≡ climbs m parents o high
 enough_steps parents older n m None high at_n at_m = refl
 enough_steps parents older zero zero (Some slot) high at_n at_m = refl
@@ -107,7 +107,7 @@ abbrev pub first_of_two : Option ℕ → Option ℕ → Option ℕ
 first_of_two None other = other
 first_of_two (Some slot) other = Some slot
 
--- with a group behind, a search finds what it found, or that group
+-- after a group is appended, a search finds what it found, or that group
 pub found_behind : (from : ℕ) (groups : List GroupLife) (group : GroupLife) (path : List ℕ) → slot_from from (groups ++ group ∷ []) path ≡ first_of_two (slot_from from groups path) (if is_live group && bytes_eq group.path path then Some (from + length groups) else None)
 found_behind from [] group path = let same : from ≡ from + 0 = omega arith in ap (λ n. if is_live group && bytes_eq group.path path then Some n else None) same
 found_behind from (first ∷ groups) group path =
@@ -159,7 +159,7 @@ removed_not_found from at path (group ∷ groups) other =
       | false ↦ λ it. ap (λ o. if is_live group && bytes_eq group.path other then Some from else o) rest ∙ kept_here from path group (slot_from (from + 1) groups other) other it
     ] refl
 
--- a slot that is found is one that there is
+-- a slot that is found exists
 pub found_below : (from : ℕ) (groups : List GroupLife) (path : List ℕ) (slot : ℕ) → slot_from from groups path ≡ Some slot → (from ≤ slot) × (slot < from + length groups)
 found_below from [] path slot is = absurd (cc is)
 found_below from (group ∷ groups) path slot is =

@@ -9,7 +9,7 @@ use Rattle.psi_spec.specs.Refusal.{cause_of, applies, cause_order}
 
 -- ---- what the absence of a cause says
 
--- a cause that a search passes doesn't stand
+-- a cause that a search passes doesn't apply
 pub passed : (test : Cause → Bool) (causes : List Cause) (at : ℕ) (why : Cause) → find test causes ≡ None → slice_get causes at ≡ Some why → test why ≡ false
 passed test [] at why none is = absurd (cc is)
 passed test (first ∷ causes) zero why none is =
@@ -23,7 +23,7 @@ passed test (first ∷ causes) (suc at) why none is =
       | false ↦ λ i. passed test causes at why i is
     ] none
 
--- causes that don't stand against a legal event
+-- causes that don't apply to a legal event
 pub record NoneStands (limits : Limits) (w : World) (event : Event) : Type 0 where
   pub unknown_group : applies cause.UnknownGroup limits w event ≡ false
   pub unknown_task : applies cause.UnknownTask limits w event ≡ false
@@ -32,7 +32,7 @@ pub record NoneStands (limits : Limits) (w : World) (event : Event) : Type 0 whe
   pub not_ready : applies cause.NotReady limits w event ≡ false
   pub wrong_how : applies cause.WrongHow limits w event ≡ false
 
--- no cause stands against a legal event
+-- no cause applies to a legal event
 pub none_stands : (limits : Limits) (w : World) (event : Event) → cause_of limits w event ≡ None → NoneStands limits w event
 unfolding cause_of
 none_stands limits w event legal =

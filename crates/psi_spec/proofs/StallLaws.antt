@@ -19,7 +19,7 @@ map_same f g from (suc n) same =
     let rest = map_same f g (from + 1) n (λ i low high. same i (omega (arith, low)) (omega (arith, high))) in
     cc (here, rest)
 
--- what stands in a list with another behind it
+-- the elements of a list with another list after it
 pub get_left : {A : Type 0} (xs ys : List A) (i : ℕ) → i < length xs → slice_get (xs ++ ys) i ≡ slice_get xs i
 get_left [] ys i low = absurd (omega (arith, low))
 get_left (x ∷ xs) ys zero low = refl
@@ -35,7 +35,7 @@ times events = map (λ (event : Event). event.at) events
 times-push : (events : List Event) (event : Event) → times (events ++ event ∷ []) ≡ times events ++ event.at ∷ []
 times-push events event = map-append (λ (e : Event). e.at) events (event ∷ [])
 
--- moments up to the last event don't depend on what comes after
+-- times up to the last event don't depend on later events
 moment_kept : (events : List Event) (event : Event) (at i : ℕ) → i ≤ length events → slice_index_or (times (events ++ event ∷ [])) i at ≡ slice_index_or (times events) i event.at
 moment_kept events event at i within =
     let len : length (times events) ≡ length events = length-map events (λ (e : Event). e.at) in

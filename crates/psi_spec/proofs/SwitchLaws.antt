@@ -10,7 +10,7 @@ use Rattle.psi_spec.specs.World.{root, is_live, is_root, slot_from, slot_of, mar
 use Rattle.psi_spec.specs.Stall.{number_of_slot, parents_of}
 use Rattle.psi_spec.specs.LegalGroups.{IsOneLive}
 
--- what doesn't tell whether a group is on stays
+-- events that don't switch accounting leave it unchanged
 pub switched_leaves : {A : Type 0} (f : GroupLife → A) → ((group : GroupLife) (on : Bool) → f (record group { on = on }) ≡ f group) → (path : List ℕ) (on : Bool) (group : GroupLife) → f (marked_switched path on group) ≡ f group
 switched_leaves f left path on group =
     elim (is_live group && bytes_eq group.path path) as (λ b. f (if b then record group { on = on } else group) ≡ f group) [ true ↦ left group on | false ↦ refl ]
@@ -56,7 +56,7 @@ one_live_switched path on groups one slot new is live =
     ∙ ap (slot_of groups) (sym path_is)
     ∙ one slot old.0 old.1 was
 
--- the root stays, where another group is switched
+-- the root doesn't change if another group is switched
 pub root_unswitched : (path : List ℕ) (on : Bool) → is_root path ≡ false → marked_switched path on root ≡ root
 root_unswitched path on other =
     elim (bytes_eq root.path path) as (λ b. bytes_eq root.path path ≡ b → (if b then record root { on = on } else root) ≡ root) [

@@ -1,4 +1,4 @@
--- Tasks by their numbers: what is found after a change, and that what is found tells all.
+-- Tasks by their numbers: what is found after a change, and that look-ups determine the tasks.
 use Rattle.std.proofs.Common.{◌≡◌, ℕ, List, [], ◌∷◌, ap, ◌∙◌, sym, arith, cond, Bool, true, false, Option, None, Some, ◌==◌}
 use Rattle.std.specs.Prelude.{T, ◌&&◌}
 use Rattle.std.specs.Ordering.{nat_cmp, is_lt}

@@ -1,4 +1,4 @@
--- A header line, cut behind `cpus=`.
+-- A header line, cut after `cpus=`.
 use Rattle.std.proofs.Common.{◌≡◌, ◌≢◌, ℕ, ◌^◌, ◌<◌, ◌≤◌, List, [], ◌∷◌, ◌++◌, length, take, drop, refl, sym, ap, ◌∙◌, arith, true, false, get_or, take-append-drop, inl, inr, ⊎_elim}
 use Rattle.std.specs.Prelude.{Option, None, Some, decimal, codes}
 use Rattle.std.specs.Str.{bytes_eq}
@@ -18,7 +18,7 @@ pub header-before : (version n : ℕ) → header version n ≡ before_cpus versi
 unfolding header
 header-before version n = refl
 
--- what stands ahead of the number of processors in the first version
+-- the bytes before the number of processors in the first version
 abbrev pub first_before : List ℕ
 first_before = codes "psitrace 1 cpus="
 
@@ -42,7 +42,7 @@ header_short n fits = rw (header-prefix n) (let short = decimal_short n fits in 
 
 -- ---- fronts
 
--- a line that has a front
+-- a line with a prefix
 pub with_front : (line front rest known : List ℕ) → front ≡ known → bytes_eq (take (length front) line) front ≡ true → rest ≡ drop (length front) line → line ≡ known ++ rest
 with_front line front rest known same starts is =
     sym (take-append-drop (length front) line) ∙ ap (λ bytes. bytes ++ drop (length front) line) ((bytes_eq-Decides (take (length front) line) front).0 starts) ∙ ap (λ bytes. front ++ bytes) (sym is) ∙ ap (λ bytes. bytes ++ rest) same
@@ -112,7 +112,7 @@ same_behind version other xs ys is also same =
     also)
     is
 
--- no number stands there
+-- no number is there
 pub header_of-wrong : (line : List ℕ) (version : ℕ) (rest : List ℕ) → IsVersion version → line ≡ before_cpus version ++ rest → ((n : ℕ) → n < 2 ^ 64 → rest ≡ decimal n → ⊥) → header_of versions line ≡ None
 header_of-wrong line version rest known cut none =
     header_of-none line (λ other n is low high spelled. none n (omega (arith, high)) (same_behind version other rest (decimal n) known is (sym cut ∙ spelled ∙ header-before other n)))

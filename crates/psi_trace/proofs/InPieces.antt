@@ -14,7 +14,7 @@ joined-spaced : (text : List ℕ) (words : List (List ℕ)) → joined (text ∷
 joined-spaced text [] = sym (append-nil text)
 joined-spaced text (next ∷ words) = ap (λ bytes. text ++ 32 ∷ bytes) (joined-spaced next words)
 
--- an event is spelled by its time, and behind it its words with a space ahead of each
+-- the spelling of an event is its time, followed by its words with a space before each
 pub spelling-spaced : (event : Event) → spelling event ≡ decimal event.at ++ spaced (act_words event.act)
 unfolding spelling
 spelling-spaced event = joined-spaced (decimal event.at) (act_words event.act)

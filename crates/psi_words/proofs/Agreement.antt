@@ -44,7 +44,7 @@ is_45 x is = grind arith
 not_45 : (x : ℕ) → (x == 45) ≡ false → nat_eq 45 x ≡ false
 not_45 x is = grind arith
 
--- behind `--`
+-- after `--`
 dashes_agree : (names : List (List ℕ)) (rest : List ℕ)
     → bytes_eq (45 ∷ 45 ∷ rest) (codes "--") ≡ false
     → word_of names (45 ∷ 45 ∷ rest) ≡ word_by names (long_of (45 ∷ 45 ∷ rest))
@@ -83,7 +83,7 @@ abbrev pub are_apart : List Part → Bool
 are_apart [] = true
 are_apart (p ∷ ps) = not (has_part (id_of p) ps) && are_apart ps
 
--- the same, and nothing where two have one id
+-- the same, or None if two have one id
 abbrev pub parts_say : List Part → Option Given
 parts_say ps = if are_apart ps then Some (given_of ps) else None
 
@@ -196,7 +196,7 @@ agrees_plainly names (word ∷ words) free =
     agrees_plain names word (Some (map plain words)) (said names behind words) free
     (agrees_plainly names words free)
 
--- the words agree, where an option may wait that has one of the names
+-- the words agree, if an option with one of the names may be pending
 abbrev AllAgree : List (List ℕ) → List (List ℕ) → Type 0
 AllAgree names words = Agrees names (parts names None words) (said names at_word words)
     × ((name : List ℕ) → is_among name names ≡ true
@@ -317,7 +317,7 @@ fits_is before (p ∷ ps) =
 apart_if : (ps : List Part) (b : Bool) → fits [] ps ≡ b → are_apart ps ≡ b
 apart_if ps b is = ap (λ d. d && are_apart ps) (sym (all_new ps)) ∙ (sym (fits_is [] ps) ∙ is)
 
--- where the parts don't fit, the words say nothing
+-- if the parts don't fit, the words have no meaning
 pub refused_words : (names words : List (List ℕ)) → is_among positional_id names ≡ false
     → judged [] (parts names None words) ≡ false → said names at_word words ≡ None
 refused_words names words free unfit =
@@ -329,7 +329,7 @@ refused_words names words free unfit =
     go (Some ps) same unfit =
         same.1 ∙ ap (λ b. if b then Some (given_of ps) else None) (apart_if ps false unfit)
 
--- where they fit, the words say what they say
+-- if they fit, the words have their meaning
 pub accepted_words : (names words : List (List ℕ)) (ps : List Part)
     → is_among positional_id names ≡ false → parts names None words ≡ Some ps
     → judged [] (parts names None words) ≡ true

@@ -37,7 +37,7 @@ built_is names =
       subs = [];
     }) (filled_all names)
 
--- where clap's definition has no fault, the parts fit, and nowhere else
+-- the parts fit if and only if clap's definition has no fault
 pub fault_is : (names words : List (List ℕ)) → is_among positional_id names ≡ false → AreTexts words
     → is_nil (fault_of (plain_app names) words) ≡ judged [] (parts names None words)
 fault_is names words free texts =
@@ -168,7 +168,7 @@ found_said app names words m is free fit has = go (parts names None words) refl
         let same = sym (rows_said names ps free say.0) ∙ ap given_in (sym rows) in
         (say.1 ∙ ap Some same, subst AreValued (sym rows) (rows_valued ps))
 
--- where clap refuses, the words say nothing
+-- if clap rejects them, the words have no meaning
 pub refused_said : (app : App) (names words : List (List ℕ)) (e : Error) → app ≡ plain_app names
     → is_among positional_id names ≡ false → AreTexts words
     → (is_simple_and_free app ≡ true → HasKind (fault_of app words) e)

@@ -21,7 +21,7 @@ abbrev pub text_of : Part → List ℕ
 text_of (given name value) = value
 text_of (plain word) = word
 
--- a part ahead of the rest, where that is any
+-- a part before the rest, or None if there is no rest
 abbrev pub then_part : Part → Option (List Part) → Option (List Part)
 then_part p rest = option_map (λ ps. p ∷ ps) rest
 

@@ -232,7 +232,7 @@ open_reads names word n rest r position free other is among on acc last false kn
     ∙ (ap (λ w. is_nil (total names w rest)) goes
     ∙ (on (joined acc last) place_same ∙ sym (judged_new acc last r is_old))))
 
--- a word that is refused
+-- a rejected word
 pub refused_reads : (names : List (List ℕ)) (w : Walk) (word : List ℕ) (rest : List (List ℕ))
     → is_nil (turn_fault (top names) [] w word) ≡ false
     → is_nil (total names w (word ∷ rest)) ≡ false

@@ -67,7 +67,7 @@ pub new_row : (p : Part) (ps : List Part) → has_part (id_of p) ps ≡ false
 new_row (given name value) ps new = row_added (given name value) ps new
 new_row (plain word) ps new = row_added (plain word) ps new
 
--- a part that was there is refused
+-- a repeated part is rejected
 pub use_again : (p : Part) (ps : List Part) → has_part (id_of p) ps ≡ true
     → use_fault false (rule_for p) (text_of p ∷ []) (map row ps) ≡ kind.ArgumentConflict ∷ []
 use_again (given name value) ps old = rw (row_has name ps, old) refl
@@ -216,7 +216,7 @@ end_is names acc last false known free new =
 
 -- ---- a word
 
--- where the walk stands
+-- the current place of the walk
 abbrev pub at_word : Held → Waiting → Bool → ℕ → Walk
 at_word h waiting trailing position =
     record {

@@ -1,4 +1,4 @@
--- Lists of which each item is read in order: the steps of a loop over the items.
+-- Lists whose items are parsed in order: the steps of a loop over the items.
 use Rattle.std.proofs.Common.{◌≡◌, ℕ, ◌<◌, ◌≤◌, ◌+◌, List, [], ◌∷◌, ◌++◌, Result, Ok, Err, length, map, drop, get_or, refl, sym, ap, arith, ◌∙◌}
 use Rattle.std.proofs.lemmas.Grind.{common_steps}
 use Rattle.std.proofs.lemmas.List.{length-map, get_or-map, drop_all, append-nil}
@@ -38,7 +38,7 @@ each_taken f vs i d front x whole inside so_far is =
     let step : each f i (drop i (map view vs)) ≡ followed (x ∷ []) (each f (i + 1) (drop (i + 1) (map view vs))) = each_step f vs i d inside ∙ ap (λ r. r >>= (λ y. followed (y ∷ []) (each f (i + 1) (drop (i + 1) (map view vs))))) is in
     sym (followed_more front x _) ∙ ap (followed front) (sym step) ∙ so_far
 
--- an item was refused
+-- an item was rejected
 pub each_refused : {A : Type 0} (f : ℕ → Data → Result A RulesFault) (vs : List Value) (i : ℕ) (d : Value) (front : List A) (e : RulesFault) (whole : Result (List A) RulesFault) → i < length vs
     → followed front (each f i (drop i (map view vs))) ≡ whole
     → f i (view (get_or vs i d)) ≡ Err e
@@ -47,7 +47,7 @@ each_refused f vs i d front e whole inside so_far is =
     let step : each f i (drop i (map view vs)) ≡ Err e = each_step f vs i d inside ∙ ap (λ r. r >>= (λ y. followed (y ∷ []) (each f (i + 1) (drop (i + 1) (map view vs))))) is in
     sym so_far ∙ ap (followed front) step
 
--- the same at the value that stands there
+-- the same for the value that is there
 pub item_taken : {A : Type 0} (f : ℕ → Data → Result A RulesFault) (vs : List Value) (i : ℕ) (v : Value) (front : List A) (x : A) (whole : Result (List A) RulesFault) → i < length vs
     → v ≡ get_or vs i v
     → followed front (each f i (drop i (map view vs))) ≡ whole

@@ -1,5 +1,5 @@
--- A list is read exactly where each item is, and refused exactly with the fault of its first item
--- that is.
+-- A list is accepted if and only if each item is, and rejected with the fault of its first rejected
+-- item.
 use Rattle.std.proofs.Common.{◌≡◌, ℕ, zero, suc, ◌+◌, ◌<◌, List, [], ◌∷◌, length, refl, sym, ap, subst, ◌∙◌, arith}
 use Rattle.std.specs.Prelude.{Some, Result, Ok, Err}
 use Rattle.std.specs.List.{slice_get}
@@ -35,7 +35,7 @@ before_later f i d ds x at was before (suc k) e below is =
     let P : ℕ → Type 0 = λ n. IsOk (f n e) in
     subst P later (before k e (omega arith) is)
 
--- a list that begins so is refused for its first item, or for what is behind it
+-- a list that begins so is rejected for its first item, or for its rest
 refused_cons : {A : Type 0} (f : ℕ → Data → Result A RulesFault) (i : ℕ) (d : Data) (ds : List Data) (e : RulesFault) (first : Result A RulesFault) (rest : Result (List A) RulesFault) → f i d ≡ first
     → ((why : RulesFault) → rest ≡ Err why → IsFirstFault f (i + 1) ds why)
     → (first >>= (λ x. rest >>= (λ xs. Ok (x ∷ xs)))) ≡ Err e

@@ -1,4 +1,4 @@
--- What digits behind a point spell.
+-- The value of digits after a point.
 use Rattle.std.proofs.Common.{◌≡◌, ℕ, ◌<◌, ◌≤◌, List, [], ◌∷◌, ◌++◌, Bool, Some, None, true, false, length, refl, sym, ap, ◌∙◌, arith}
 use Rattle.std.specs.Prelude.{◌&&◌, nat_le, nat_lt, codes, take, if◌then◌else◌}
 use Rattle.psi_base.specs.Number.{digits_after, digits_of}
@@ -8,7 +8,7 @@ three_most : (a b c n : ℕ) → digits_of (a ∷ b ∷ c ∷ []) ≡ Some n →
 unfolding digits_after
 three_most a b c n is = grind (arith, is)
 
--- one to three digits, with zeros behind them
+-- one to three digits, padded with zeros
 few_most : (digits : List ℕ) (n : ℕ) → 0 < length digits → length digits ≤ 3 → digits_of (take 3 (digits ++ codes "00")) ≡ Some n → n ≤ 999
 few_most [] n some few reads = absurd (omega (arith, some))
 few_most (a ∷ []) n some few reads = three_most a 48 48 n reads

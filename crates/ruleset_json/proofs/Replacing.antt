@@ -13,6 +13,6 @@ replaces [] n groups actions was below = absurd (omega arith)
 replaces (rule ∷ rules) zero groups actions was below = refl
 replaces (rule ∷ rules) (suc n) groups actions was below = ap (λ rs. rule ∷ rs) (replaces rules n groups actions was (omega arith))
 
--- one that stands there is in its ranges
+-- a value that is present is in its range
 pub stands : (rules : List Rule) (n : ℕ) (rule : Rule) → rule ≡ get_or rules n rule → n < length rules → All FitsRule rules → FitsRule rule
 stands rules n rule is below fits = subst FitsRule (sym is) (fits n rule below)

@@ -64,7 +64,7 @@ row_parts false false true d rest = refl
 row_parts false false false true rest = refl
 row_parts false false false false rest = refl
 
--- the first cause in the order of causes is the first of those of any line, and then of those by
+-- the first cause in the order of causes is the first of those of any line, or else of those by
 -- verbs
 pub first_is : (limits : Limits) (w : World) (event : Event) → cause_of limits w event ≡ event_cause limits w event
 first_is limits w event = by_verb limits w event.at event.act ∙ row_parts w.ended (nat_lt event.at w.last) (nat_lt limits.latest event.at) (nat_le 4000000 w.lines) _
@@ -73,7 +73,7 @@ first_is limits w event = by_verb limits w event.at event.act ∙ row_parts w.en
 pub first_of_line : (limits : Limits) (w : World) (event : Event) (why : Cause) → line_cause limits w event.at ≡ Some why → cause_of limits w event ≡ Some why
 first_of_line limits w event why h = first_is limits w event ∙ ap (λ first. or_cause first (act_cause limits.cpus w.groups w.tasks w.irqs w.triggers w.pressures event.at event.act)) h
 
--- where none comes that any line can have, the first is the first of the act
+-- if no cause of any line applies, the first cause is the first of the act
 pub first_of_verb : (limits : Limits) (w : World) (event : Event) → line_cause limits w event.at ≡ None → cause_of limits w event ≡ act_cause limits.cpus w.groups w.tasks w.irqs w.triggers w.pressures event.at event.act
 first_of_verb limits w event h = first_is limits w event ∙ ap (λ first. or_cause first (act_cause limits.cpus w.groups w.tasks w.irqs w.triggers w.pressures event.at event.act)) h
 

@@ -135,7 +135,7 @@ placed_on tasks pid new q c =
 abbrev pub IsOff : Option Task → Type 0
 IsOff o = (c : ℕ) → passing (is_running_on c) o ≡ None
 
--- where neither the old task of a number nor the new one runs, its place stays
+-- if neither the old task of a number nor the new one is running, its place doesn't change
 stays : (tasks : Tasks) (pid : ℕ) (new : Option Task) (place : Option (ℕ × Task)) (c : ℕ) → passing (is_running_on c) (task_of tasks pid) ≡ None → passing (is_running_on c) new ≡ None → ((q : ℕ) → task_on tasks q c ≡ task_with q place) → (q : ℕ) → task_on (placed tasks pid new) q c ≡ task_with q place
 stays tasks pid new place c old_off new_off each q =
     placed_on tasks pid new q c
@@ -150,8 +150,8 @@ index_kept running tasks index pid new old_off new_off = record {
   each = λ q c. stays tasks pid new (slice_index_or running c None) c (old_off c) (new_off c) (λ k. index.each k c) q;
 }
 
--- What is so of one place, where the task of a number changes: it has no other task, and then it
--- has the new one where that runs there; elsewhere neither the old one runs nor the new one.
+-- One place, after the task of a number changes: if the place had no other task, it has the new one
+-- if that is running there; elsewhere neither the old task nor the new one is running.
 pub record ChangesAt (running : List (Option (ℕ × Task))) (tasks : Tasks) (pid : ℕ) (new : Option Task) (cpu : ℕ) (place : Option (ℕ × Task)) : Type 0 where
   pub room : cpu < length running
   pub free : (q : ℕ) → (q == pid) ≡ false → task_with q (slice_index_or running cpu None) ≡ None
@@ -181,7 +181,7 @@ pub and_false : (a b : Bool) → b ≡ false → (a && b) ≡ false
 and_false true b h = h
 and_false false b h = refl
 
--- a task of which a test fails doesn't pass
+-- a task that fails a test doesn't pass
 fails : (test : Task → Bool) (t : Task) → test t ≡ false → passing test (Some t) ≡ None
 fails test t h = rw h refl
 
@@ -221,7 +221,7 @@ index_off running tasks index cpu e at new off =
 shown_here : (pid cpu : ℕ) (t : Task) → is_running_on cpu t ≡ true → (q : ℕ) → cond (q == pid) (passing (is_running_on cpu) (Some t)) None ≡ task_with q (Some (pid, t))
 shown_here pid cpu t runs q = ap (λ o. cond (q == pid) o None) (holds (is_running_on cpu) t runs) ∙ sym (with_is q pid t)
 
--- a task starts on a processor where none runs
+-- a task starts on an idle processor
 pub index_on : (running : List (Option (ℕ × Task))) (tasks : Tasks) → IsIndex running tasks → (cpu pid : ℕ) (new : Task) → cpu < length running → slice_index_or running cpu None ≡ None → IsOff (task_of tasks pid) → is_running_on cpu new ≡ true → IsIndex (slice_set running cpu (Some (pid, new))) (put tasks pid new)
 index_on running tasks index cpu pid new room at off runs =
     index_at running tasks index pid (Some new) cpu (Some (pid, new)) (record {
@@ -242,7 +242,7 @@ placed_there running tasks index cpu pid t is runs (Some e) at =
       | false ↦ λ h none. cc none
     ] refl has
 
--- a task changes, and runs where it ran or on no processor as before
+-- a task changes, and is running on the same processor as before, or on none as before
 pub index_replaced : (running : List (Option (ℕ × Task))) (tasks : Tasks) → IsIndex running tasks → (pid : ℕ) (old new : Task) → task_of tasks pid ≡ Some old → ((c : ℕ) → is_running_on c new ≡ is_running_on c old) → IsIndex (if is_running new.mode then slice_set running new.cpu.0 (Some (pid, new)) else running) (put tasks pid new)
 index_replaced running tasks index pid old new is same =
     elim (is_running new.mode) as (λ b. is_running new.mode ≡ b → IsIndex (if b then slice_set running new.cpu.0 (Some (pid, new)) else running) (put tasks pid new)) [
@@ -261,13 +261,13 @@ index_replaced running tasks index pid old new is same =
           index_kept running tasks index pid (Some new) (λ c. ap (passing (is_running_on c)) is ∙ fails (is_running_on c) old (sym (same c) ∙ and_false (new.cpu.0 == c) (is_running new.mode) off)) new_off
     ] refl
 
--- such a task has a place where it runs
+-- such a task has a place at its processor
 pub replaced_room : (running : List (Option (ℕ × Task))) (tasks : Tasks) → IsIndex running tasks → (pid : ℕ) (old new : Task) → task_of tasks pid ≡ Some old → ((c : ℕ) → is_running_on c new ≡ is_running_on c old) → is_running new.mode ≡ true → new.cpu.0 < length running
 replaced_room running tasks index pid old new is same runs =
     let here : is_running_on new.cpu.0 new ≡ true = rw (itself new.cpu.0) runs in
     has_place running new.cpu.0 (pid, old) (placed_there running tasks index new.cpu.0 pid old is (sym (same new.cpu.0) ∙ here) (slice_index_or running new.cpu.0 None) refl)
 
--- where no task runs and none lives, the list is right
+-- if no task is running and none is live, the list is right
 pub index_first : (running : List (Option (ℕ × Task))) → ((i : ℕ) → slice_index_or running i None ≡ None) → IsIndex running no_tasks
 index_first running none = record {
   each = λ pid cpu. ap (passing (is_running_on cpu)) (map.get-empty nat_cmp pid) ∙ ap (task_with pid) (sym (none cpu));

@@ -85,7 +85,7 @@ members_less members tasks pid task are is = by_sums _ (remove tasks pid) (λ sl
     omega (arith, there, before, by, not_in_it))
     (eqb_tells slot task.slot.0))
 
--- a task put where one was removed is put
+-- a task put after a removal of the same number is put
 put_again : (tasks : Tasks) (pid : ℕ) (new : Task) → put (remove tasks pid) pid new ≡ put tasks pid new
 put_again tasks pid new = same_tasks (put (remove tasks pid) pid new) (put tasks pid new) (λ q.
     get_put (remove tasks pid) pid new q

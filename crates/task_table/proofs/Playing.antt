@@ -1,4 +1,4 @@
--- What the table's clauses tell of it as a player.
+-- The clauses of the table show that it is a player.
 use Rattle.std.proofs.Common.{◌≡◌, List, ◌+◌, [], ◌∷◌, ◌++◌, length, ap, ◌∙◌, sym, arith, subst, None, Some}
 use Rattle.std.specs.Prelude.{Result, Ok, Err}
 use Rattle.psi_base.specs.declared.event.Event.{Event}
@@ -19,7 +19,7 @@ lines_from w (event ∷ events) = omega (arith, lines_from (after_event w event)
 pub lines_of : (events : List Event) → (after events).lines ≡ length events
 lines_of events = omega (arith, lines_from first_world events)
 
--- what the table's clause tells is what a player owes
+-- the table's clause implies the player's
 pub table_takes : (old new : TableView) (event : Event) (result : Result (Unit {0}) (Fault Cause)) → PlaysEvent old event new result → PlayerTakes (IsPlayed old.limits old.world) (IsPlayed new.limits new.world) event result
 table_takes old new event (Ok x) plays = λ limits events played.
     let legal : cause_of limits old.world event ≡ None = subst (λ l. cause_of l old.world event ≡ None) played.limits_are plays.legal in

@@ -31,7 +31,7 @@ pub blocked_off : (o : Option Task) → is_some_and o (λ t. is_active t.mode) �
 blocked_off None h = tt
 blocked_off (Some t) h = inactive t.mode h
 
--- nor does one that is ready
+-- nor is a ready one
 pub not_running : (o : Option Task) → is_some_and o (λ t. not (is_ready t.mode)) ≡ false → IfSome o (λ t. is_running t.mode ≡ false)
 not_running None h = tt
 not_running (Some t) h = ready_still t.mode (not_false (is_ready t.mode) h)

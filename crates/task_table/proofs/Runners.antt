@@ -1,4 +1,4 @@
--- Who runs on a processor: one that is known to is the one that is found.
+-- The running task of a processor: any task known to be running there is the one found.
 use Rattle.std.proofs.Common.{◌≡◌, ℕ, ◌≤◌, List, [], ◌∷◌, refl, ap, ◌∙◌, sym, arith, cond, Bool, true, false, Option, Some, ◌==◌, length, map}
 use Rattle.std.specs.Prelude.{filter, find, is_some}
 use Rattle.std.specs.Ordering.{nat_cmp}
@@ -9,7 +9,7 @@ use Rattle.psi_spec.specs.declared.machine.Task.{Task}
 use Rattle.psi_spec.specs.World.{Tasks, is_running_on, running_on, task_of}
 use Rattle.psi_counts.specs.Touch.{RunsOnce}
 
--- the task of a number, in front or behind
+-- the task of a number, in the first or the second part
 here_or_behind : (pid : ℕ) (e : ℕ × Task) (es : List (ℕ × Task)) (o : Option Task) → tasks_by.find nat_cmp pid (e ∷ es) ≡ o → cond (pid == e.0) (Some e.1) (tasks_by.find nat_cmp pid es) ≡ o
 here_or_behind pid e es o is = ap (λ b. cond b (Some e.1) (tasks_by.find nat_cmp pid es)) (sym (unsigned_tied pid e.0)) ∙ is
 
@@ -26,7 +26,7 @@ found_if test (e ∷ es) pid task is passes =
           ] (here_or_behind pid e es (Some task) is)
     ] refl
 
--- where a task runs on a processor, some task does
+-- if a task is running on a processor, a search finds some task
 pub runs_there : (tasks : Tasks) (pid : ℕ) (task : Task) (cpu : ℕ) → task_of tasks pid ≡ Some task → is_running_on cpu task ≡ true → is_some (running_on tasks cpu) ≡ true
 runs_there tasks pid task cpu is runs = found_if (is_running_on cpu) (tasks_by.entries tasks) pid task (sym (tasks_by.get-entries tasks pid) ∙ is) runs
 
@@ -47,12 +47,11 @@ counted_if test (e ∷ es) pid task is passes =
           ] (here_or_behind pid e es (Some task) is)
     ] refl
 
--- numbers of which a test says that they are the same
+-- numbers that a test shows equal
 same_number : (a b : ℕ) → (a == b) ≡ true → b ≡ a
 same_number a b is = grind (arith, nat_tests)
 
--- where one entry passes at most, the one that is found by the test has the number of a task that
--- passes
+-- if at most one entry passes, the entry found by the test has the number of any task that passes
 only_found : (test : Task → Bool) (es : List (ℕ × Task)) (pid : ℕ) (task : Task) (e : ℕ × Task) → tasks_by.find nat_cmp pid es ≡ Some task → test task ≡ true → find (λ e. test e.1) es ≡ Some e → passing test es ≤ 1 → e.0 ≡ pid
 only_found test [] pid task e is passes found once = absurd (cc is)
 only_found test (x ∷ es) pid task e is passes found once =
@@ -70,6 +69,6 @@ only_found test (x ∷ es) pid task e is passes found once =
           ] (here_or_behind pid x es (Some task) is)
     ] refl found once
 
--- the task that is found on a processor is one that is known to run there
+-- the task found on a processor is any task known to be running there
 pub only_runs : (tasks : Tasks) → RunsOnce tasks → (cpu pid : ℕ) (task : Task) (e : ℕ × Task) → task_of tasks pid ≡ Some task → is_running_on cpu task ≡ true → running_on tasks cpu ≡ Some e → e.0 ≡ pid
 only_runs tasks once cpu pid task e is runs found = only_found (is_running_on cpu) (tasks_by.entries tasks) pid task e (sym (tasks_by.get-entries tasks pid) ∙ is) runs found (once cpu)

@@ -101,7 +101,7 @@ placed_other listed es fs k task beyond h = same_tasks (listed_tasks listed fs) 
     ∙ sym (task_placed (listed_tasks listed es) k task q))
     (cases_lt q (length listed)))
 
--- no task is found where there is none
+-- no task is found if there is none
 lacks : (q : ℕ) → task_of no_tasks q ≡ None
 lacks q = map.get-empty nat_cmp q
 
@@ -120,13 +120,13 @@ none_in places listed es empty none = same_tasks (listed_tasks listed es) no_tas
 pub count_none : (places : ℕ) (listed : List (Option Task)) (es : List (ℕ × Task)) → listed ≡ replicate places None → es ≡ [] → 0 ≡ map.len (listed_tasks listed es)
 count_none places listed es empty none = rw (none_in places listed es empty none) (sym (map.len-empty nat_cmp Task))
 
--- a list as long as the one whose place it takes stands there whole
+-- a list that replaces another of the same length replaces all of it
 pub whole : (size : ℕ) (new old : List (Option Task)) → size ≡ length new → take size (new ++ drop (length new) old) ≡ new
 whole size new old same = rw same (take-append_seam new (drop (length new) old))
 
 -- ---- how many there are
 
--- one more after a task was put where there was none
+-- one more task after a task was put under a new number
 pub count_more : (count : ℕ) (tasks after : Tasks) (k : ℕ) (task : Task) → count ≡ map.len tasks → is_some (task_of tasks k) ≡ false → after ≡ put tasks k task → count + 1 ≡ map.len after
 count_more count tasks after k task counts none is = rw (is, counts) (sym (map.len-insert nat_cmp_total tasks k task ∙ ap (λ b. cond b (map.len tasks) (map.len tasks + 1)) none))
 
@@ -138,11 +138,11 @@ count_put count tasks after k task counts some is = rw (is, counts) (sym (map.le
 pub count_less : (count : ℕ) (tasks after : Tasks) (k : ℕ) → count ≡ map.len tasks → is_some (task_of tasks k) ≡ true → after ≡ remove tasks k → count - 1 ≡ map.len after
 count_less count tasks after k counts some is = rw (is, counts) (sym (map.len-remove nat_cmp_total tasks k ∙ ap (λ b. cond b (map.len tasks - 1) (map.len tasks)) some))
 
--- as many where there was none to remove
+-- the same number of tasks if there was none to remove
 pub count_kept : (count : ℕ) (tasks after : Tasks) (k : ℕ) → count ≡ map.len tasks → is_some (task_of tasks k) ≡ false → after ≡ remove tasks k → count ≡ map.len after
 count_kept count tasks after k counts none is = rw (is, counts) (sym (map.len-remove nat_cmp_total tasks k ∙ ap (λ b. cond b (map.len tasks - 1) (map.len tasks)) none))
 
--- there is one where one is found
+-- there is a task if one is found
 pub count_some : (count : ℕ) (tasks : Tasks) (k : ℕ) → count ≡ map.len tasks → is_some (task_of tasks k) ≡ true → 1 ≤ count
 count_some count tasks k counts some =
     ⊎_elim

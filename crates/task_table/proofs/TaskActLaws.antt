@@ -1,4 +1,4 @@
--- What holds of the act for which a task act stands.
+-- Properties of the act that a task act represents.
 use Rattle.std.proofs.Common.{◌≡◌, ℕ, ◌+◌, ◌≤◌, List, refl, ap, ◌∙◌, sym, Bool, true, false, Option, None, Some, ◌==◌, arith, subst}
 use Rattle.std.specs.Prelude.{if◌then◌else◌, ◌||◌, slice_index_or}
 use Rattle.std.proofs.lemmas.Bool.{false≢true}
@@ -58,7 +58,7 @@ same_end : (ended ends : Bool) → ends ≡ false → (ended || ends) ≡ ended
 same_end true ends goes_on = refl
 same_end false ends goes_on = goes_on
 
--- the world after it has other tasks, one line more, and its moment
+-- the world after it has other tasks, one line more, and its time
 world_after : (w : World) (at : ℕ) (a : TaskAct) → after_event w (as_event at a) ≡ record w { tasks = tasks_after w.groups w.tasks (as_act a); lines = w.lines + 1; last = at }
 world_after w at a =
     let rest = leaves_rest at w.groups w.irqs a in
@@ -87,8 +87,7 @@ task_played cpus cpus_next latest tasks tasks_next groups irqs triggers pressure
 
 -- ---- its touch
 
--- of two processors, of which the second may be left out where it is the first, the change of
--- either
+-- the change of either of two processors; the second may be left out if it equals the first
 either_told : (one other left : Bool) (x y z : Change) → (one ≡ true → x ≡ z) → (other ≡ true → y ≡ z) → (left ≡ true → other ≡ true → one ≡ true)
     → (if one then Some x else if left then None else if other then Some y else None) ≡ (if one || other then Some z else None)
 either_told true other left x y z of_one of_other same = ap Some (of_one refl)
@@ -105,12 +104,12 @@ one_told false x z of_one = refl
 same_number : (one other : ℕ) → (one == other) ≡ true → one ≡ other
 same_number one other is = grind (arith, eqb_tells)
 
--- what is told of a processor, where there may be none
+-- the change of a processor, if there is one
 told_left : (at : ℕ) (changed : TaskUpdate) (running : List (Option (ℕ × Task))) (left : Bool) (there : Cpu) (cpu : ℕ) → told_first cpu (touched_change at changed running (if left then None else Some there)) None ≡ (if left then None else if there.0 == cpu then Some (change_for at changed (slice_index_or running there.0 None) 0 there.0) else None)
 told_left at changed running true there cpu = refl
 told_left at changed running false there cpu = refl
 
--- the change of a processor, and of the one where a task is
+-- the changes of a processor and of a task's processor
 two_told : (at : ℕ) (changed : TaskUpdate) (running : List (Option (ℕ × Task))) (named : Cpu) (old : Option Task) (cpu : ℕ) → told_first cpu (touched_change at changed running (Some named)) (told_first cpu (touched_change at changed running (unless_on named old)) None) ≡ (if named.0 == cpu || is_some_and old (is_at cpu) then Some (change_for at changed (slice_index_or running cpu None) 0 cpu) else None)
 two_told at changed running named None cpu =
     let change : ℕ → Change = λ n. change_for at changed (slice_index_or running n None) 0 n in
@@ -121,14 +120,14 @@ two_told at changed running named (Some task) cpu =
     ∙ either_told (named.0 == cpu) (task.cpu.0 == cpu) (task.cpu.0 == named.0) (change named.0) (change task.cpu.0) (change cpu) (λ is. ap change (same_number named.0 cpu is)) (λ is. ap change (same_number task.cpu.0 cpu is))
     (λ left other. subst (λ n. (n == cpu) ≡ true) (same_number task.cpu.0 named.0 left) other)
 
--- the change of the processor where a task is
+-- the change of a task's processor
 one_in : (at : ℕ) (changed : TaskUpdate) (running : List (Option (ℕ × Task))) (old : Option Task) (cpu : ℕ) → told_first cpu (touched_change at changed running (cpu_in old)) None ≡ (if is_some_and old (is_at cpu) then Some (change_for at changed (slice_index_or running cpu None) 0 cpu) else None)
 one_in at changed running None cpu = refl
 one_in at changed running (Some task) cpu =
     let change : ℕ → Change = λ n. change_for at changed (slice_index_or running n None) 0 n in
     one_told (task.cpu.0 == cpu) (change task.cpu.0) (change cpu) (λ is. ap change (same_number task.cpu.0 cpu is))
 
--- what is told of the processors of a task act is what it changes there
+-- the touch of a task act has its changes of processors
 pub task_told : (at : ℕ) (a : TaskAct) (changed : TaskUpdate) (running : List (Option (ℕ × Task))) (cpu : ℕ) →
     told_first cpu (touched_change at changed running (cpus_touched a changed.old).0) (told_first cpu (touched_change at changed running (cpus_touched a changed.old).1) None)
     ≡ (if touched (as_act a) changed.old cpu then Some (change_for at changed (slice_index_or running cpu None) (irq_told cpu (as_act a)) cpu) else None)

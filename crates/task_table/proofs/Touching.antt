@@ -1,4 +1,4 @@
--- What a table's step tells is the touch of its event.
+-- A table's step returns the touch of its event.
 use Rattle.std.proofs.Common.{◌≡◌, ℕ, ◌+◌, ◌<◌, List, Bool, Some, None, length, refl, ap, ◌∙◌, sym, subst}
 use Rattle.std.specs.Prelude.{Option, IfSome, ◌||◌, if◌then◌else◌, slice_index_or}
 use Rattle.psi_base.specs.declared.event.Event.{Event}
@@ -29,8 +29,8 @@ touch_told : (w : World) (event : Event) (tasks : Tasks) (changed : TaskUpdate) 
 unfolding change_of
 touch_told w event tasks changed running touch is none are index told cpu = rw (none, ← are, running_told running tasks index cpu, ← is.new, ← is.old) (told cpu)
 
--- The touch that a table tells of an event is the event's, and each of its changes is on a
--- processor that there is, in slots that there are, of one task, and at the event's moment.
+-- The touch that a table returns is the event's. Each of its changes is on an existing processor,
+-- in existing slots, of one task, and at the event's time.
 pub record IsTold (limits : Limits) (w : World) (event : Event) (touch : Touch) : Type 0 where
   pub is : IsTouch limits.cpus w event touch
   pub cpus : AllTouched (λ cpu change. cpu < limits.cpus) touch
@@ -38,7 +38,7 @@ pub record IsTold (limits : Limits) (w : World) (event : Event) (touch : Touch) 
   pub ones : AllTouched (λ cpu change. IsOfOne change) touch
   pub moment : AllTouched (λ cpu change. change.at ≡ event.at) touch
 
--- a touch that tells each change of a legal event is so, where no account is switched
+-- a touch with each change of a legal event is such a touch, if no accounting is switched
 told_legal : (limits : Limits) (w : World) (event : Event) (touch : Touch) → cause_of limits w event ≡ None → AreWithin limits.cpus (length w.groups) w.tasks
     → account_of w.groups event.act ≡ None → touch.account ≡ None → ((cpu : ℕ) → told_of touch cpu ≡ change_of w event cpu) → IsBeside touch.first touch.second → IsTold limits w event touch
 told_legal limits w event touch legal within plain none told beside =
@@ -68,7 +68,7 @@ pub unswitched : (groups : List GroupLife) (o : Option (List ℕ × Bool)) → a
 unswitched groups None none = refl
 unswitched groups (Some switched) none = absurd (cc none)
 
--- where an account is switched, a touch of that alone is so
+-- if accounting is switched, a touch of that alone is such a touch
 nowhere : (IsSo : ℕ → Change → Type 0) (touch : Touch) → touch.first ≡ None → touch.second ≡ None → AllTouched IsSo touch
 nowhere IsSo touch first second =
     (subst (λ o. IfSome o (λ touched. IsSo touched.0.0 touched.1)) (sym first) tt, subst (λ o. IfSome o (λ touched. IsSo touched.0.0 touched.1)) (sym second) tt)

@@ -1,4 +1,4 @@
--- An engine that stands for ticks stands for one more after the next.
+-- An engine that represents ticks represents one more after the next.
 use Rattle.std.proofs.Common.{◌≡◌, ℕ, zero, suc, ◌≤◌, ◌<◌, List, [], ◌∷◌, ◌++◌, length, get_or, refl, sym, ap, subst, ◌∙◌, arith, true, false}
 use Rattle.std.specs.Prelude.{All, Bool, Option, None, Some, map, nat_le, ◌&&◌, ◌||◌, if◌then◌else◌, slice_get}
 use Rattle.std.specs.List.{range_with_len}
@@ -45,7 +45,7 @@ group_next cpus lives ticks tick slot below =
 
 -- ---- triggers
 
--- a trigger that has begun sees one tick more where its group is live
+-- an active trigger sees one more tick if its group is live
 pub trigger_next_live : (cpus : ℕ) (lives : List GroupLife) (ticks : List Tick) (tick : Tick) (spec : TriggerSpec) → spec.at ≤ tick.at → is_live_at (life_of lives spec.slot.0) tick.at ≡ true →
     trigger_step (trigger_over spec (history_of cpus lives ticks spec.slot.0)) tick.at (at_state (totals_after cpus lives (ticks ++ tick ∷ []) spec.slot.0) (watched_state spec)) ≡ trigger_over spec (history_of cpus lives (ticks ++ tick ∷ []) spec.slot.0)
 trigger_next_live cpus lives ticks tick spec there live =
@@ -93,7 +93,7 @@ begun_is cpus lives ticks tick spec groups ordered later group =
     ap (trigger_if (nat_le spec.at tick.at)) first in
     elim (has_begun ticks spec) as (λ test. has_begun ticks spec ≡ test → begun_trigger groups tick.at spec (if test then Some trigger else None) ≡ trigger_if (nat_le spec.at tick.at) trigger) [ true ↦ there | false ↦ new ] refl
 
--- after one tick more a trigger has begun where its line isn't later
+-- after one more tick a trigger is active if its line isn't later
 begun_next : (spec : TriggerSpec) (before : Tick) (ticks : List Tick) (tick : Tick) → AreNextTicks before ticks → (last_tick before ticks).at < tick.at → has_begun (ticks ++ tick ∷ []) spec ≡ nat_le spec.at tick.at
 begun_next spec before ticks tick ordered later =
     let test = λ (tick : Tick). nat_le spec.at tick.at in
@@ -132,7 +132,7 @@ if_same : {A : Type 0} (test : Bool) (a : A) → (if test then a else a) ≡ a
 if_same true a = refl
 if_same false a = refl
 
--- a trigger that is there is stepped where its group is live, and one that isn't there stays away
+-- an active trigger is stepped if its group is live, and an inactive one stays inactive
 stepped_if : (live there : Bool) (trigger after : TriggerState) (now total : ℕ) → (there ≡ true → (if live then trigger_step trigger now total else trigger) ≡ after) →
     (if live then stepped (trigger_if there trigger) now total else trigger_if there trigger) ≡ trigger_if there after
 stepped_if live true trigger after now total is = if_some live (trigger_step trigger now total) trigger after (is refl)
@@ -163,7 +163,7 @@ signals_if true false trigger now total = refl
 signals_if false true trigger now total = refl
 signals_if false false trigger now total = refl
 
--- a watch signals at one tick more where its trigger has fired
+-- a watch signals at one more tick if its trigger has fired
 pub signals_next : (cpus : ℕ) (lives : List GroupLife) (ticks : List Tick) (tick : Tick) (old new : List Group) (spec : TriggerSpec) → CanWatch cpus lives ticks tick old new spec →
     watch_signals new tick.at (watch_begun old tick.at (watch_after cpus lives ticks spec)) ≡ has_fired cpus lives ticks tick spec
 unfolding has_fired
@@ -235,7 +235,7 @@ pub ticked_many : {tick : Tick} {old new : EngineView} → IsTicked tick old new
 ticked_many {tick} {old} {new} is =
     ap length is.watches ∙ length-map (map (watch_begun old.groups tick.at) old.watches) (watch_stepped new.groups tick.at) ∙ length-map old.watches (watch_begun old.groups tick.at)
 
--- the groups that stand for ticks stand for one more
+-- the groups that represent ticks represent one more
 groups_next : (old new : EngineView) (cpus : ℕ) (lives : List GroupLife) (triggers : List TriggerSpec) (ticks : List Tick) (tick : Tick) → IsTicked tick old new → StandsFor old cpus lives triggers ticks →
     (slot : ℕ) → slot < length lives → engine_group new.groups slot ≡ group_after cpus lives (ticks ++ tick ∷ []) slot
 groups_next old new cpus lives triggers ticks tick is stands slot below =
@@ -244,7 +244,7 @@ groups_next old new cpus lives triggers ticks tick is stands slot below =
     ∙ ap (group_step (last_tick (no_tick cpus (length lives)) ticks) tick slot) (stands.groups slot below)
     ∙ group_next cpus lives ticks tick slot below
 
--- a trigger of an engine that stands for ticks can be taken over the next
+-- a trigger of an engine that represents ticks can be stepped at the next
 can_watch : (old new : EngineView) (cpus : ℕ) (lives : List GroupLife) (triggers : List TriggerSpec) (ticks : List Tick) (tick : Tick) →
     IsEngine old → IsNextTick old.last tick → IsTicked tick old new → StandsFor old cpus lives triggers ticks → All (λ spec. CanWatch cpus lives ticks tick old.groups new.groups spec) triggers
 can_watch old new cpus lives triggers ticks tick engine next is stands = λ k d below.
@@ -260,7 +260,7 @@ can_watch old new cpus lives triggers ticks tick engine next is stands = λ k d 
       group_now = groups_next old new cpus lives triggers ticks tick is stands spec.slot.0 slot;
     }
 
--- an engine that stands for ticks stands for one more after the next
+-- an engine that represents ticks represents one more after the next
 pub stands_next : (old new : EngineView) (cpus : ℕ) (lives : List GroupLife) (triggers : List TriggerSpec) (ticks : List Tick) (tick : Tick) →
     IsEngine old → IsNextTick old.last tick → IsTicked tick old new → StandsFor old cpus lives triggers ticks → StandsFor new cpus lives triggers (ticks ++ tick ∷ [])
 stands_next old new cpus lives triggers ticks tick engine next is stands =

@@ -58,7 +58,7 @@ step_within last tick slot group next within =
     elim (is_live_group group tick.at) as (λ live. AreTotalsWithin tick slot (if live then sampled group tick.at (shares (growths (row_at last slot) (row_at tick slot))) else group))
     [ true ↦ totals_sampled last tick slot group.totals next within | false ↦ totals_kept last tick slot group.totals next within ]
 
--- and then those of states within the last moment
+-- and then those of states up to the latest time
 pub states_within : (tick : Tick) (groups : List Group) → tick.at ≤ last_moment → AreGroupsWithin tick groups → All (λ group. AreStatesWithin last_moment group) groups
 states_within tick groups early within = λ slot d below quantity inside.
     let same = get_or_default groups slot d no_group below in
@@ -67,7 +67,7 @@ states_within tick groups early within = λ slot d below quantity inside.
 
 -- ---- the last tick
 
--- a tick that has the first so many rows of the next, and else those of the last
+-- a tick with the first `count` rows of the next tick, and the other rows of the last one
 pub record TakesRows (last tick mixed : Tick) (count : ℕ) : Type 0 where
   pub at : mixed.at ≡ last.at
   pub taken : (slot : ℕ) → slot < count → row_at mixed slot ≡ row_at tick slot

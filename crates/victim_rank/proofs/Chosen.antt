@@ -1,4 +1,4 @@
--- What was chosen by what is kept is the choice after the readings for which it stands.
+-- A choice from the stored past is the choice after the readings that it represents.
 use Rattle.std.proofs.Common.{◌≡◌, ℕ, zero, suc, ◌+◌, ◌-◌, ◌<◌, List, [], ◌∷◌, length, refl, sym}
 use Rattle.std.proofs.Common.{ap, ◌∙◌, arith, true, false}
 use Rattle.std.proofs.Math.Path.{fun_ext}
@@ -46,7 +46,7 @@ pub rises_are : (kept : Kept) (history : List Reading) → IsPastOf kept history
 rises_are kept history past = fun_ext (λ group. ap (above_count group.scan)
     (past.scans group.slot.0) ∙ rise_is history group)
 
--- the groups of a scope stand in the order of their paths
+-- the groups of a scope are in the order of their paths
 pub among_order : (lives : List GroupLife) (act : Action) (above : Option Slot) (now : Reading) →
     Ascend (map (path_of lives) now.groups) → Pairs (IsBefore lives) (among lives act above now)
 among_order lives act above now ascend = rw (among_is lives act above now)

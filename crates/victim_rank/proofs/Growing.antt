@@ -93,7 +93,7 @@ growth_order lives sizes =
 
 -- ---- the walk
 
--- the groups of which the one is chosen that has grown most, by one test
+-- the groups from which the most grown one is chosen, by one test
 abbrev pub is_choosable : (GroupReading → List ℕ) → List GroupLife → ℕ → ℕ → (GroupReading → Bool) →
     List GroupReading → GroupReading → Bool
 is_choosable sizes lives ratio few p groups group =
@@ -111,7 +111,7 @@ choosable_is sizes lives ratio few p groups =
     (filter (λ other. is_larger lives other group) (filter p groups))) few && is_growing_over
     sizes ratio group) groups
 
--- the groups of the scope and the rank tell them
+-- two lists with the same groups of the scope and the rank have the same choosable groups
 pub same_choosable : (sizes : GroupReading → List ℕ) (lives : List GroupLife) (ratio few : ℕ)
     (p : GroupReading → Bool) (found groups : List GroupReading) →
     filter p found ≡ filter p groups →
@@ -129,7 +129,7 @@ has_past sizes ratio group growing =
     growing).0 in
     grind (arith, nat_tests)
 
--- where the walk has passed all groups, the best so far is the one that has grown most
+-- after the walk has passed all groups, the best so far is the group that has grown most
 pub walked_growth : (lives : List GroupLife) (sizes : GroupReading → List ℕ) (ratio few : ℕ)
     (p : GroupReading → Bool) (groups : List GroupReading) → Ascend (map (path_of lives) groups) →
     (best : Option GroupReading) → foremost (leads_over sizes) best [] ≡ foremost (leads_over sizes)
@@ -168,11 +168,11 @@ growing_as sizes ratio next group is = rw (is.sizes_is, is.sum_is) refl
 abbrev pub best_group : List GroupReading → Option Grown → Option GroupReading
 best_group groups best = option_map (λ (grown : Grown). group_at groups grown.place) best
 
--- what is told of a group that leads the best so far, if there is one
+-- whether a group beats the best so far; true if there is none
 abbrev pub LeadsAny : Option Grown → Grown → Bool → Type 0
 LeadsAny best next leads = MatchOption best (leads ≡ true) (λ before. leads ≡ leads_grown next before)
 
--- of two, the next one is the better where it leads, and else the one before
+-- the better of two is the next one if it beats the one before, and otherwise the one before
 next_better : (leads : GroupReading → GroupReading → Bool) (best next : GroupReading) →
     leads next best ≡ true → next ≡ better leads best next
 next_better leads best next is = rw is refl
@@ -185,7 +185,7 @@ passes_first : (p : GroupReading → Bool) (group : GroupReading) (groups : List
     p group ≡ true → filter p (group ∷ groups) ≡ group ∷ filter p groups
 passes_first p group groups passes = rw passes refl
 
--- the walk goes on with a group that leads the best so far, where it can be chosen
+-- the walk continues with a group that beats the best so far, if it can be chosen
 pub next_taken : (sizes : GroupReading → List ℕ) (p : GroupReading → Bool)
     (groups : List GroupReading) (best : Option Grown) (next : Grown) (group : GroupReading)
     (leads : Bool) (rest : List GroupReading) →
@@ -203,7 +203,7 @@ next_taken sizes p groups (Some best) next group leads rest was is told holds pa
     (next_better (leads_over sizes) before group over)
     ∙ ap (foremost (leads_over sizes) (Some before)) (sym (passes_first p group rest passes))
 
--- with the best so far where another doesn't lead it
+-- with the best so far if another doesn't beat it
 pub next_trails : (sizes : GroupReading → List ℕ) (p : GroupReading → Bool)
     (groups : List GroupReading) (best : Option Grown) (next : Grown) (group : GroupReading)
     (leads : Bool) (rest : List GroupReading) →

@@ -41,7 +41,8 @@ pub each_every : (P : GroupReading → Type 0) (groups : List GroupReading) →
 each_every P [] every = tt
 each_every P (first ∷ groups) every = (every first, each_every P groups every)
 
--- where two lists have the same groups that pass a test, they have the same that pass another too
+-- if two lists have the same groups that pass a test, they also have the same groups that pass
+-- another
 pub kept_by : (p q : GroupReading → Bool) (found groups : List GroupReading) →
     filter p found ≡ filter p groups →
     filter (λ group. p group && q group) found ≡ filter (λ group. p group && q group) groups
@@ -61,7 +62,7 @@ children_view lives act above groups =
     ∙ filter_same _ _ groups (each_every _ groups
     (λ group. twice (is_child lives above.0 group) group.populated))
 
--- among the children of a group stand all groups of a scope below it
+-- the children of a group include all groups of a scope below it
 pub below_view : (scope : ScopeView) (above : Slot) (found groups : List GroupReading) →
     scope.above ≡ Some above → found ≡ filter (is_child scope.lives above.0) groups →
     filter (is_in_view scope) found ≡ filter (is_in_view scope) groups
@@ -71,14 +72,14 @@ below_view scope above found groups is children =
     subst P (sym is) (ap (filter (is_in_scope scope.lives scope.act (Some above))) children
     ∙ children_view scope.lives scope.act above groups)
 
--- those of a rank are the same, where those of the scope are
+-- those of a rank are the same if those of the scope are
 pub same_in_rank : (scope : ScopeView) (best_rank : ℕ) (found groups : List GroupReading) →
     filter (is_in_view scope) found ≡ filter (is_in_view scope) groups →
     filter (is_in_rank scope best_rank) found ≡ filter (is_in_rank scope best_rank) groups
 same_in_rank scope best_rank found groups same =
     kept_by (is_in_view scope) (λ group. rank_of group == best_rank) found groups same
 
--- the groups of a scope are those that the test tells
+-- the groups of a scope are those that pass the test
 pub among_is : (lives : List GroupLife) (act : Action) (above : Option Slot) (now : Reading) →
     among lives act above now ≡ filter (is_in_scope lives act above) now.groups
 among_is lives act None now =
@@ -96,7 +97,7 @@ or_false false true false is = refl
 or_false false false false is = refl
 or_false a b true is = absurd (true≢false is)
 
--- where all leads by size, that is all there is to it
+-- by size alone, a group leads if it is larger
 pub leads_plainly : (next best : GroupReading) →
     leads_larger memory_in_use next best ≡ nat_lt (memory_in_use best) (memory_in_use next)
 leads_plainly next best = or_false (nat_lt (memory_in_use best) (memory_in_use next))
@@ -123,7 +124,7 @@ pub foremost_none : (leads : GroupReading → GroupReading → Bool) (best : Opt
 foremost_none leads None = refl
 foremost_none leads (Some best) = refl
 
--- where the walk has passed all groups, the best so far is the one that none beats
+-- after the walk has passed all groups, the best so far is the group that no other beats
 pub walked : (lives : List GroupLife) (act : Action) (above : Option Slot) (now : Reading)
     (measure : GroupReading → ℕ) (q : GroupReading → Bool) →
     Ascend (map (path_of lives) now.groups) →

@@ -117,7 +117,7 @@ best_of_is lives groups best is = filter_same (λ
     (let low = rank_below lives best group below in grind (arith, nat_tests))) ∙ sym fails))
     is.1)
 
--- where its rank is that of the best, a group is the best or smaller
+-- if a group's rank is that of the best, it is the best or smaller
 below_size : (lives : List GroupLife) (best group : GroupReading) →
     IsBelow (beats_by lives memory_in_use) best group → has_rank best group ≡ true →
     IsBelow (is_larger lives) best group
@@ -159,7 +159,7 @@ largest_is lives groups best is = best_unbeaten (is_larger lives)
     (greater_order lives memory_in_use).one_way (filter (has_rank best) groups) best
     (best_in groups best is.0, all_below lives groups best is)
 
--- a group has so many percent of a total
+-- a group has at least a percentage of a total
 abbrev pub is_share : ℕ → ℕ → GroupReading → Bool
 is_share size_threshold total group = nat_le (size_threshold * total) (memory_in_use group * 100)
 

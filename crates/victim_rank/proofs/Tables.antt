@@ -1,4 +1,4 @@
--- A table by slots that takes groups of different slots, one after another.
+-- A table by slots that is updated by groups of different slots, in order.
 use Rattle.std.proofs.Common.{◌≡◌, ◌≢◌, ℕ, ◌<◌, List, [], ◌∷◌, ◌++◌, length, get_or, set, take}
 use Rattle.std.proofs.Common.{refl, sym, ap, ◌∙◌, arith, false}
 use Rattle.std.specs.Prelude.{Option, None, Some, ◌==◌, find, map, option_map}
@@ -18,7 +18,7 @@ use Rattle.kill_spec.proofs.Foremost.{Each, Pairs, by_test, each_all, each_map}
 use Rattle.kill_spec.proofs.ChoiceLaws.{IsBefore, in_order}
 use Rattle.victim_rank.specs.Tables.{newer_sizes}
 
--- what the places of groups become, one after another
+-- how groups change their places, in order
 abbrev pub taken : {A : Type 0} → (GroupReading → A → A) → A → List A → List GroupReading → List A
 taken f d xs [] = xs
 taken f d xs (group ∷ groups) = taken f d (set xs group.slot.0 (f group (get_or xs group.slot.0 d)))

@@ -8,7 +8,7 @@ use Rattle.kill_engine.specs.Rulesets.{RulesetStands, RulesetView}
 use Rattle.kill_engine.proofs.RulesetLaws as laws
 use Rattle.kill_engine.proofs.killer.evaluate_all.Goals as goal
 
--- a ruleset that wasn't evaluated yet stands for what it stood for
+-- a ruleset that wasn't evaluated yet represents what it did before
 pub evaluate-requires-clause-stands : goal.evaluate-requires-clause-stands
 evaluate-requires-clause-stands c =
     let i = c.rulesets.number in

@@ -3,7 +3,7 @@ use Rattle.outside.proofs.Grows.{AppendsFront-then, PutsAll-failed, flat_map-at}
 use Rattle.pressure_text.specs.Pieces.{spaced_number}
 use Rattle.pressure_text.proofs.pieces.put_numbers.Goals as goal
 
--- the numbers before the one that failed, and a front of that one, are a front of all
+-- the numbers before the failed one, followed by a prefix of that one, are a prefix of all
 pub returns-in_err-put_spaced-clause-bytes : goal.returns-in_err-put_spaced-clause-bytes
 returns-in_err-put_spaced-clause-bytes g c =
     let parts = flat_map-at spaced_number c.args.numbers.now c.loop-number.number-index 0 (omega arith) in

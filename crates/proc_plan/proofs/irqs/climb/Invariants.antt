@@ -7,8 +7,8 @@ use Rattle.slot_clocks.specs.Walk.{height}
 use Rattle.proc_plan.specs.Clocks.{irq_at, irq_taken}
 use Rattle.proc_plan.proofs.irqs.climb.Given as goal
 
--- adding the time from where the walk stands gives each group what adding it from the running
--- task's group gives
+-- adding the time from the walk's place gives each group the same as adding it from the running
+-- task's group
 abbrev pub invariant-up : goal.invariant-up
 invariant-up l = record {
   room : length l.times ≡ length l.fn.times;
