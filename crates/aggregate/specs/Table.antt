@@ -32,7 +32,7 @@ rows_of cpus slots flat = map (row_in cpus flat) (range_with_len 0 slots)
 abbrev pub times_at : List (List (List ℕ)) → ℕ → ℕ → List ℕ
 times_at table slot cpu = slice_index_or (slice_index_or table slot []) cpu []
 
--- a table of these numbers of processors and groups
+-- a table with these numbers of processors and groups
 pub record HasSizes (cpus slots : ℕ) (table : List (List (List ℕ))) : Type 0 where
   pub slots_are : length table ≡ slots
   pub cpus_are : All (λ row. length row ≡ cpus) table

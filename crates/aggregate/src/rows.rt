@@ -80,7 +80,7 @@ impl Rows {
     }
 }
 
-/// The rows of these times, which are stored row after row.
+/// The table with these times, which are stored row after row.
 fn rows_with(cpus: u32, slots: u32, times: Vec<Times>) -> Rows
     requires { length times.items ≡ slots * cpus }
     ensures { result ≡ table.rows_of cpus slots times.items }

@@ -77,7 +77,7 @@ parent_is lives slot life is below =
     ap (λ (group : GroupLife). number_of_slot group.parent) is
     ∙ sym (get_or-map (λ (group : GroupLife). number_of_slot group.parent) lives slot life None below)
 
--- ---- all that is kept
+-- ---- everything that is stored
 
 pub places_kept : (lives : List GroupLife) (groups : List GroupReading) (group : GroupReading) (parent : Option ℕ) (place : ℕ)
     (all all_new : PlacesView) (below below_new : List PlacesView) → ArePlaces lives groups all below →

@@ -6,7 +6,7 @@ use Rattle.std.proofs.lemmas.Bool.{leb-true, le-leb}
 use Rattle.detectors.specs.Views.{IsAfter, IsBy}
 use Rattle.detectors.specs.Tables.{is_long, is_recent, run_after}
 
--- ---- no moment is after the last reading
+-- ---- no time is after the last reading
 
 pub run_by : (run last : Option ℕ) (holds : Bool) (now : ℕ) → IsBy run last → IsAfter last now →
     IsBy (run_after run holds now) (Some now)

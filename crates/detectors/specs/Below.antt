@@ -29,7 +29,7 @@ group_at groups place = slice_index_or groups place no_group
 abbrev pub groups_at : List GroupReading → List ℕ → List GroupReading
 groups_at groups places = map (group_at groups) places
 
--- each of these places has a group
+-- each place in the list has a group
 abbrev pub AreAmong : List GroupReading → List ℕ → Type 0
 AreAmong groups places = All (λ place. place < length groups) places
 

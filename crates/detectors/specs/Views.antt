@@ -20,7 +20,7 @@ pub record ReadingView : Type 0 where
 abbrev pub seen_at : ℕ → HostReading → List GroupReading → Reading
 seen_at at host groups = record { at = at; host = host; groups = groups }
 
--- a reading of these groups
+-- a reading with all groups of a trace
 abbrev pub reading_of : List GroupLife → Reading → ReadingView
 reading_of lives seen = record { lives = lives; seen = seen }
 
@@ -33,7 +33,7 @@ abbrev pub ComesLast : ReadingView → GroupReading → Type 0
 ComesLast reading group =
     Ascend (map (path_of reading.lives) (with_group reading.seen group).groups)
 
--- The invariant of a reading: there are at most 1,024 groups, and it is a reading of these.
+-- The invariant of a reading: there are at most 1,024 groups, and what was read is within them.
 pub record IsReadingView (reading : ReadingView) : Type 0 where
   pub few : length reading.lives ≤ most_groups
   pub within : IsReading reading.lives reading.seen

@@ -17,7 +17,7 @@ fn copy_life(alloc: Global, life: &GroupLife) -> Result<GroupLife, NoMemory>
     })
 }
 
-/// Copies of these groups.
+/// Copies of groups.
 pub(crate) fn copy_lives(alloc: Global, lives: &[GroupLife]) -> Result<Vec<GroupLife>, NoMemory>
     ensures { IfOk result (λ copies. copies.items ≡ lives.now) }
 {

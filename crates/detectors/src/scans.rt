@@ -39,8 +39,8 @@ pub(crate) fn have_risen(scans: &[Option<u64>], matched: &[bool], groups: &[Grou
         .any(|group| has_risen(scan_in(scans, group.slot), group.scan))
 }
 
-/// Stores the counts of these groups, and discards all others. If two groups had the same slot,
-/// which is impossible, the first would win.
+/// Stores the scan counts of a reading's groups, and discards all others. If two groups had the
+/// same slot, which is impossible, the first would win.
 pub(crate) fn take_scans(scans: &mut [Option<u64>], groups: &[GroupReading])
     requires { All (λ (group : GroupReading). group.slot.0 < length scans.old) groups.now }
     ensures { (slot : ℕ) → scan_in scans.new slot ≡ scan_among groups.now slot }

@@ -1,4 +1,4 @@
-//! Why a drop-in file is rejected, and where.
+//! Why a drop-in file is rejected, and at which place.
 use psi_base::Fault;
 use ruleset_json::{Place, RulesCause, RulesFault};
 

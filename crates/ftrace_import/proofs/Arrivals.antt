@@ -95,7 +95,7 @@ comes_ready cpus at room cpu pid w task so live ready there = record {
   ready = rw (live, there, ready) refl;
 }
 
--- ---- a task that runs elsewhere
+-- ---- a task that is running elsewhere
 
 -- the processor of a live task is there
 place_of : (cpus at room : ℕ) (w : World) → Stands cpus at room w → (k : ℕ) (t : Task) → task_of w.tasks k ≡ Some t → t.cpu.0 < cpus

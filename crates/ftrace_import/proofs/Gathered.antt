@@ -92,7 +92,7 @@ pub take_bad : (cpus : ℕ) (reached : Reached) (line : List ℕ) (why : ImportC
 unfolding given_of
 take_bad cpus reached line why is = ap (given_read cpus reached) (sym is)
 
--- ---- what a line tells
+-- ---- the contents of a line
 
 -- the code's data about a line at a time with these contents: its trace time, the events stored
 -- before and now, and the new part
@@ -112,7 +112,7 @@ sighted old at what first moment before cpu part new begins moved needed count b
   kept = kept;
 }
 
--- what is kept isn't less than before
+-- at least as much is stored as before
 pub kept_longer : (old new : List Kept) (events : List Event) (before : ℕ) → before ≡ length old → events_by new ≡ events_by old ++ events → before ≤ length new
 kept_longer old new events before is kept =
     let all = sym (length-map new event_by) ∙ ap length kept ∙ length-append (events_by old) events in

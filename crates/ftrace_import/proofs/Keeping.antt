@@ -1,4 +1,4 @@
--- What is kept, deed by deed.
+-- The stored deeds, one by one.
 use Rattle.std.proofs.Common.{◌≡◌, ℕ, List, [], ◌∷◌, ◌++◌, refl, ap, ◌∙◌, sym, append_assoc, Option, None, Some}
 use Rattle.std.specs.Prelude.{is_some, map, length, drop}
 use Rattle.std.proofs.lemmas.List.{append-nil, drop_at, length-map, map-append}
@@ -34,7 +34,7 @@ some_part (Some e) = refl
 pub kept_new : (old new : List Kept) (events : List Event) → events_by new ≡ events_by old ++ events → events_by (drop (length old) new) ≡ events
 kept_new old new events is = sym (drop-map event_by (length old) new) ∙ ap (drop (length old)) is ∙ drop_at (events_by old) events (length old) (length-map old event_by)
 
--- the acts of what is kept
+-- the acts of stored events
 pub acts_of_events : (kept : List Kept) → acts_in kept ≡ map (λ (e : Event). e.act) (events_by kept)
 acts_of_events [] = refl
 acts_of_events (one ∷ kept) = ap (λ acts. act_by one.deed ∷ acts) (acts_of_events kept)

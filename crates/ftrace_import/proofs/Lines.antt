@@ -112,7 +112,7 @@ switches : (cpus at have : ℕ) (w : World) (cpu : Cpu) (previous next : Option 
 switches cpus at have w cpu previous next how so few there is space =
     turns cpus at have 0 w cpu previous next how so (omega (arith, few)) there is.0 is.1 (λ _. makes_next w cpu previous next how space)
 
--- ---- whatever it tells
+-- ---- any contents
 
 goes : (cpus at : ℕ) (w : World) (what : Seen) → Stands cpus at (length (acts_of w.tasks what)) w → IsSeen what → Pass cpus w at (needed_cpu what) (acts_of w.tasks what) → Goes cpus at 0 w (acts_of w.tasks what)
 goes cpus at w (seen.Switch cpu previous next how) so is pass = (switches cpus at _ w cpu previous next how so (omega arith) pass.there is pass.space).goes
@@ -183,7 +183,7 @@ pub wakeup_wakes : (cpus : ℕ) (reached : Reached) (at : ℕ) (pid : Pid) (cpu 
 unfolding given_at
 wakeup_wakes cpus reached at pid cpu given so is found = wakeup_or cpus reached at pid cpu given so is _ refl found
 
--- ---- what a line gives, by the cause against it
+-- ---- the result of a line, by the cause against it
 
 -- the result if no cause applies
 abbrev pub given_behind : Reached → ℕ → Seen → GivenLine

@@ -130,7 +130,7 @@ rest_many cpus reached number bytes many some = ⊎_elim
     ∙ ap (λ r. or_refused_line number r (λ next. rest_from cpus next (number + 1) c.behind)) (given_many cpus reached number c.line many))
     (cut 10 bytes)
 
--- ---- what the next line gives
+-- ---- the result of the next line
 
 pub next_taken : (old new : Gathering) (number : ℕ) (line : List ℕ) (before behind : List ℕ → List ℕ) (known : Option (List ℕ)) → number ≤ 16000000 → HasTaken (given_of old.cpus (reached_in old) line) old new
     → ((bytes : List ℕ) → known ≡ Some bytes → BeginsWithLine (before bytes) line (behind bytes)) → LineTaken number old new before behind known
@@ -167,7 +167,7 @@ followed_on : (xs ys : List Event) (rest : Answer) → events_followed (xs ++ ys
 followed_on xs ys (Ok events) = ap (λ es. let r : Answer = Ok es in r) (append_assoc xs ys events)
 followed_on xs ys (Err refusal) = refl
 
--- before the line with this number: what was kept, and what it leaves of the text
+-- before the line with this number: what was stored, and the rest of the text
 pub record SoFar (cpus number : ℕ) (g : Gathering) (before behind : List ℕ → List ℕ) (known : Option (List ℕ)) : Type 0 where
   pub so : IsGathered g
   pub cpus_are : g.cpus ≡ cpus

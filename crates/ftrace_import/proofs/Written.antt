@@ -13,7 +13,7 @@ use Rattle.import_spec.specs.Import.{Refused, events_followed, import_from, impo
 use Rattle.ftrace_import.specs.Laws.{LinesAreWritten, behind_given, reached_by}
 use Rattle.ftrace_import.proofs.Whole.{given_whole}
 
--- ---- the world behind a line
+-- ---- the world after a line
 
 world_or : (reached : Reached) (at moment : ℕ) (what : Seen) (given : GivenLine) (o : Option ImportCause) → given_or reached at moment (acts_of reached.world.tasks what) o ≡ Ok given → given.reached.world ≡ after_from reached.world given.events
 world_or reached at moment what given (Some why) is = absurd (cc is)
@@ -70,7 +70,7 @@ unfolding import_from
 splits cpus reached number line [] events some is = absurd (some refl)
 splits cpus reached number line (next ∷ parts) events some is = splits_if cpus reached number line (next ∷ parts) events (line_given cpus reached number line) refl is
 
--- ---- a line behind others
+-- ---- a line after others
 
 -- like IsWritten, after the events so far
 record WrittenFrom (cpus : ℕ) (begun : Reached) (lines : List (List ℕ)) (line : List ℕ) (events : List Event) : Type 0 where

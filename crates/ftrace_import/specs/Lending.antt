@@ -14,7 +14,7 @@ pub record Lending : Type 0 where
   pub event : Event
   pub left : List Event
 
--- the lent one of two events: one that creates a task, or any other
+-- the event that is lent, of two: `making` if it creates a task, otherwise the other
 abbrev pub shown : Bool → Event → Event → Event
 shown true making other = making
 shown false making other = other

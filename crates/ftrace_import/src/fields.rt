@@ -76,8 +76,7 @@ pub(crate) fn time_in(head: &[u8]) -> Option<Ns>
     time_of(word)
 }
 
-/// The number of digits in brackets at the start of these bytes; `None` unless there is at least
-/// one.
+/// The number of digits in brackets at the start of the bytes, at least one, or `None`.
 #[inline(always)]
 #[tactic(auto, unfolding(import_spec::specs::Tails::is_bracketed))]
 fn digits_in_brackets(bytes: &[u8]) -> Option<usize>

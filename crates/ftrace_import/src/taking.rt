@@ -65,7 +65,7 @@ fn makes(deed: Deed) -> bool
     }
 }
 
-/// Whether one of these deeds creates a task.
+/// Whether one of the deeds creates a task.
 fn make_task(kept: &[Kept]) -> bool
     ensures { result ≡ make_task (acts_in kept.now) }
 {
@@ -110,7 +110,7 @@ fn play_one(alloc: Global, table: &mut Table, kept: Kept) -> Result<(), NoMemory
     }
 }
 
-/// Plays events, each of which is legal in its turn.
+/// Plays events that are legal in their turn.
 fn play_all(alloc: Global, table: &mut Table, kept: &[Kept]) -> Result<(), NoMemory>
     requires { AreLegal table.old.limits table.old.world (events_by kept.now) }
     ensures limits { OnOk result (table.new.limits ≡ table.old.limits) }
@@ -144,8 +144,8 @@ fn time_or(first: Option<Ns>, at: Ns) -> Ns
     }
 }
 
-/// The trace time (ns) of a line at `at`, if the first marked line was at `first` and the last
-/// one's trace time was `moment`.
+/// The trace time (ns) of a line at `at`, if the first marked line was at `first` and the trace
+/// time of the last was `moment`.
 fn moment_of(first: Ns, moment: Ns, at: Ns) -> Ns
     ensures { result ≡ max moment (at - first) }
 {

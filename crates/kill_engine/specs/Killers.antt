@@ -55,7 +55,7 @@ pub record StandsFor (killer : KillerView) (lives : List GroupLife) (rules : Lis
   pub last : killer.last ≡ newest_moment history
   pub found : killer.found ≡ newest_kills lives rules history
 
--- a killer represents some readings of these groups
+-- a killer represents some readings of the groups
 abbrev pub IsStanding : KillerView → List GroupLife → Type 0
 IsStanding killer lives = (rules : List Rule) × (history : List Reading) ×
     StandsFor killer lives rules history
@@ -74,7 +74,7 @@ KillerTakes old reading new = (rules : List Rule) (history : List Reading) →
 
 -- ---- rulesets in order
 
--- rulesets represent some readings of these groups
+-- rulesets represent some readings of the groups
 abbrev pub AreStanding : List GroupLife → List RulesetView → Type 0
 AreStanding lives states = (rules : List Rule) × (history : List Reading) ×
     RulesetsStand lives history 0 states rules

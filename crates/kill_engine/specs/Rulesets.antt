@@ -101,7 +101,7 @@ rest_after actions None = 0
 rest_after actions (Some kill) = rest_of actions kill
 
 -- the kill of an action of a ruleset, both identified by number, at a reading after any earlier
--- ones that the past represents
+-- readings that the past represents
 abbrev pub IsKillBy : ℕ → ℕ → Action → ReadingView → Kept → Option Kill → Type 0
 IsKillBy number act action reading past kill = (history : List Reading) → IsPastOf past history →
     kill ≡ kill_by number act reading.seen (victim reading.lives action reading.seen history)
@@ -152,7 +152,7 @@ pub record RulesetStands (lives : List GroupLife) (history : List Reading) (numb
 abbrev pub IsRulesetReady : ReadingView → RulesetView → Type 0
 IsRulesetReady reading state = EachDetector (IsStateReady reading) state.groups
 
--- a ruleset with this number represents some readings of these groups
+-- a ruleset with this number represents some readings of the groups
 abbrev pub IsStanding : List GroupLife → ℕ → RulesetView → Type 0
 IsStanding lives number state = (rule : Rule) × (history : List Reading) ×
     RulesetStands lives history number state rule

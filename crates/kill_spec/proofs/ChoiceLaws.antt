@@ -210,7 +210,7 @@ unbeaten_choice lives Beats beats leads order tells told (first ∷ groups) asce
     (choice_is Beats beats tells told order.one_way first groups (foremost_of leads first groups)
     best)
 
--- ---- what the tests tell
+-- ---- the results of the tests
 
 pub then_tells : (a b : ℕ) (f : Bool) (F : Type 0) → (f ≡ true → F) →
     (nat_lt b a || (a == b && f)) ≡ true → (b < a) ⊎ ((a ≡ b) × F)

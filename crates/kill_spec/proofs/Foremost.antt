@@ -10,7 +10,7 @@ use Rattle.kill_spec.specs.Victims.{unbeaten}
 
 -- ---- members, by recursion
 
--- a group is one of these
+-- a group is in the list
 abbrev pub Has : List GroupReading → GroupReading → Type 0
 Has [] group = ⊥
 Has (first ∷ groups) group = (first ≡ group) ⊎ Has groups group

@@ -23,7 +23,7 @@ use Rattle.kill_spec.specs.Victims.{action_patterns, largest_few, unbeaten, vict
 use Rattle.kill_spec.proofs.Foremost.{Has, by_test, contains_at}
 use Rattle.kill_spec.proofs.ChoiceLaws.{not_none, same_some}
 
--- ---- what is chosen is one of those
+-- ---- the chosen group is among them
 
 found_has : (p : GroupReading → Bool) (groups : List GroupReading) (group : GroupReading) →
     find p groups ≡ Some group → Has groups group

@@ -30,7 +30,7 @@ abbrev pub of_seconds : ℕ → ℕ
 of_seconds n = n * 1000000000
 
 -- A condition has been true for a duration (ns) at a time (ns): at every reading from the newest
--- back to one that is at least that much earlier.
+-- back to a reading at least that much earlier.
 abbrev pub held_for : (Reading → Bool) → ℕ → ℕ → List Reading → Bool
 held_for condition duration at [] = false
 held_for condition duration at (reading ∷ past) =

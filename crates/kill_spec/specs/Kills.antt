@@ -30,8 +30,8 @@ kill_by rule act now None = None
 kill_by rule act now (Some group) = Some (kill_of now.at rule act group)
 
 -- The kills of a chain of actions at a reading, after earlier readings: actions are taken in order,
--- each action with a victim kills it, and the first of these that doesn't always continue ends the
--- chain. `rule` and `act` are the numbers of the ruleset and of the first action.
+-- each action with a victim kills it, and the first such action that doesn't always continue ends
+-- the chain. `rule` and `act` are the numbers of the ruleset and of the first action.
 abbrev pub chain : List GroupLife → ℕ → ℕ → List Action → Reading → List Reading → List Kill
 chain lives rule act [] now past = []
 chain lives rule act (first ∷ rest) now past =
@@ -40,7 +40,7 @@ chain lives rule act (first ∷ rest) now past =
 
 -- ---- rests
 
--- a kill by one of these actions ended its chain, since the action doesn't always continue
+-- a kill ended its chain, since its action (by its number) doesn't always continue
 abbrev pub ends_chain : List Action → Kill → Bool
 ends_chain actions kill = is_some_and (slice_get actions kill.action) (λ act. not (after_of act).always_continue)
 

@@ -70,8 +70,7 @@ DescentEnds = (lives : List GroupLife) (act : Action) (now : Reading) (past : Li
 
 -- ---- kills
 
--- A kill ended the chain of a ruleset at a time: it is among the ruleset's kills at some of these
--- readings.
+-- A kill ended the chain of a ruleset at a time: it is among the ruleset's kills at some reading.
 abbrev pub EndedBy : List GroupLife → ℕ → Rule → List Reading → Kill → Type 0
 EndedBy lives number rule readings kill =
     Any (λ kills. Contains kills kill) (kills_of lives number rule readings) × (ends_chain rule.actions kill ≡ true)

@@ -36,18 +36,18 @@ Ascend [] = Unit {0}
 Ascend (first ∷ []) = Unit {0}
 Ascend (first ∷ second ∷ paths) = ComesBefore first second × Ascend (second ∷ paths)
 
--- a reading of these groups: each one is in range, and their paths ascend
+-- a reading within `lives`: each group is in range, and their paths ascend
 pub record IsReading (lives : List GroupLife) (reading : Reading) : Type 0 where
   pub host : IsHostReading reading.host
   pub each : All (IsGroupReading (length lives)) reading.groups
   pub order : Ascend (map (path_of lives) reading.groups)
 
--- a reading is later than the newest of these
+-- a reading is later than the newest earlier one
 abbrev pub IsLater : Reading → List Reading → Type 0
 IsLater now [] = Unit {0}
 IsLater now (before ∷ past) = before.at < now.at
 
--- readings of these groups, the newest first, each later than those before it
+-- readings within `lives`, the newest first, each later than those before it
 abbrev pub AreReadings : List GroupLife → List Reading → Type 0
 AreReadings lives [] = Unit {0}
 AreReadings lives (now ∷ past) = IsReading lives now × IsLater now past × AreReadings lives past

@@ -24,7 +24,7 @@ use Rattle.kill_spec.specs.declared.reading.HostReading.{HostReading}
 use Rattle.kill_spec.specs.Readings.{Reading, full_average, group_in, path_of, rise, sixty_seconds, ten_seconds}
 use Rattle.kill_spec.specs.Detectors.{matches}
 
--- ---- what actions say
+-- ---- the arguments of actions
 
 -- the patterns of an action
 abbrev pub action_patterns : Action → List Pattern
@@ -110,7 +110,7 @@ abbrev pub pressure_measure : Res → GroupReading → ℕ
 pressure_measure resource group =
     full_average resource ten_seconds group + full_average resource sixty_seconds group
 
--- the choice among the eligible groups: the one that none beats by a measure
+-- the choice among the eligible groups: the group that none beats by a measure
 abbrev pub chosen_by : List GroupLife → (GroupReading → Bool) → (GroupReading → ℕ) → List GroupReading → Option GroupReading
 chosen_by lives is_eligible measure groups = unbeaten (beats_by lives measure) (filter is_eligible groups)
 
@@ -213,8 +213,8 @@ choice lives (action.Pressure cgroup resource after) now past groups =
 choice lives (action.PgScan cgroup after) now past groups =
     chosen_by lives (λ group. nat_lt 0 (rise past group)) (rise past) groups
 
--- the group at which a descent through children ends: where it continues from the chosen child, or
--- this group if no child is chosen
+-- the group at which a descent through children ends: the end of the descent from the chosen child,
+-- or this group if no child is chosen
 abbrev pub below : Option GroupReading → GroupReading → (GroupReading → GroupReading) → GroupReading
 below None group next = group
 below (Some child) group next = next child

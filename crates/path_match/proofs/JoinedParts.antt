@@ -6,7 +6,7 @@ use Rattle.std.proofs.lemmas.Bool.{and_parts, and_from, eqb-true}
 use Rattle.psi_base.specs.Path.{onto_first, parts_at}
 use Rattle.psi_base.proofs.PartLaws.{HasFirst, HasNone, first_part, parts_at-all, parts_at-line}
 
--- ---- what all elements pass
+-- ---- tests that all elements pass
 
 pub list_all-map : {X Y : Type 0} (test : Y → Bool) (f : X → Y) (xs : List X) → list_all test (map f xs) ≡ list_all (λ x. test (f x)) xs
 list_all-map test f [] = refl

@@ -43,7 +43,7 @@ has_components path is = ⊎_elim
     of_parts path (eqb-true (slice_index path 0) 47 first.0) last.1)
     (or_cases _ _ is)
 
--- ---- what has no star matches itself alone
+-- ---- a pattern without a star matches only itself
 
 plain_bytes : (part : List ℕ) → is_component part ≡ true → list_all is_path_byte part ≡ true
 plain_bytes part good = (and_parts (nat_lt 0 (length part)) (list_all is_path_byte part) (and_parts _ _ (and_parts _ _ good).0).0).1

@@ -13,7 +13,7 @@ use Rattle.path_match.specs.Laws.{SpellsPattern, SlashIsFree}
 use Rattle.path_match.proofs.JoinedParts.{joined_by-parts, list_all-map, list_all-weaker, none_of, parts-joined_by}
 use Rattle.path_match.proofs.MatchLaws.{components-root}
 
--- ---- what is read
+-- ---- parsed patterns
 
 -- what was read from parts that are all good, and few
 pub read_if : {A : Type 0} (good few : Bool) (all read : A) → (if good then (if few then Ok all else Err TooMany) else Err BadPattern) ≡ Ok read → (good ≡ true) × (few ≡ true) × (read ≡ all)

@@ -13,7 +13,7 @@ use Rattle.path_match.proofs.JoinedParts.{joined_by-parts, list_all-join, list_a
 use Rattle.path_match.proofs.MatchLaws.{all_cons}
 use Rattle.path_match.proofs.PatternLaws.{formed_bytes, read_if, reads_patterns, spelled_components, spells_components}
 
--- ---- no comma stands in a pattern's text
+-- ---- a pattern's text has no comma
 
 -- a byte of a pattern's text
 abbrev pub is_text_byte : ℕ → Bool
@@ -68,7 +68,7 @@ each_spells (part ∷ parts) good =
     let P : List ℕ × Pattern → Type 0 = λ pair. SpellsPattern pair.0 pair.1 in
     all_cons P (part, components part) (zip parts (map components parts)) (spells_components part both.0) (each_spells parts both.1)
 
--- ---- what is read
+-- ---- parsed patterns
 
 read_from : {A : Type 0} (good few : Bool) (all : A) → good ≡ true → few ≡ true → (if good then (if few then Ok all else Err TooMany) else Err BadPattern) ≡ Ok all
 read_from good few all is_good is_few = rw (is_good, is_few) refl

@@ -55,7 +55,7 @@ match_star c pattern bytes is = rw (eq-eqb c 42 is) refl
 pub match_byte : (c : ℕ) (pattern bytes : List ℕ) → c ≢ 42 → is_component_match (c ∷ pattern) bytes ≡ begins c (is_component_match pattern) bytes
 match_byte c pattern bytes other = rw (ne_eqb c 42 other) refl
 
--- bytes at the front of the pattern, which are no stars, match as many bytes
+-- the first bytes of the pattern, which are no stars, match as many bytes
 passed : (n : ℕ) (pattern bytes : List ℕ) → n ≤ length pattern → HasNoStar n pattern → is_component_match pattern bytes ≡ true →
     (n ≤ length bytes) × (is_component_match (drop n pattern) (drop n bytes) ≡ true)
 passed zero pattern bytes inside none matched = (omega arith, matched)

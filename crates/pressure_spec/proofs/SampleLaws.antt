@@ -189,7 +189,7 @@ trigger_over_first trigger history early =
     ap (λ entries. trigger_after (new_trigger trigger.at (first_value trigger history) trigger.threshold_us trigger.window_us) (values_of trigger entries)) none
     ∙ ap (λ entries. new_trigger trigger.at (at_state (last_totals no_totals entries) (watched_state trigger)) trigger.threshold_us trigger.window_us) all
 
--- ---- moments of a history
+-- ---- times of a history
 
 -- the times of a history are those of its ticks
 history_moments : (P : ℕ → Type 0) (life : GroupLife) (slot : ℕ) (before : List (List ℕ)) (totals : List ℕ) (ticks : List Tick) →
@@ -357,7 +357,7 @@ fired_apart cpus lives trigger before between first second rises fired again =
     signals_apart trigger.at (first_value trigger history) trigger.threshold_us trigger.window_us (seen_by trigger history) rest (first.at, value) (second.at, later) one.fired
     (rw whole at two.fired)
 
--- ---- ticks that come one after another
+-- ---- ticks in order
 
 -- the last of more ticks
 pub last_tick-push : (before : Tick) (ticks : List Tick) (tick : Tick) → last_tick before (ticks ++ tick ∷ []) ≡ tick

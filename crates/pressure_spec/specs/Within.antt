@@ -22,7 +22,7 @@ pub record AreAmountsWithin (most most_irq : ℕ) (amounts : List ℕ) : Type 0 
   pub states : (quantity : ℕ) → quantity < irq_quantity → slice_index amounts quantity ≤ most
   pub irq : slice_index amounts irq_quantity ≤ most_irq
 
--- ---- what is true of averages
+-- ---- the range of averages
 
 -- three averages of at most 100 percent
 pub record IsRow (row : List ℕ) : Type 0 where

@@ -46,7 +46,7 @@ pub found_same : {A : Type 0} (x a : A) (y b : List ℕ) →
     (x ≡ a) × (y ≡ b)
 found_same x a y b is = parts_same x a y b cc
 
--- ---- a text at the front
+-- ---- a leading text
 
 pub behind_again : (text rest : List ℕ) → behind text (text ++ rest) ≡ Some rest
 unfolding behind
@@ -88,7 +88,7 @@ pub stripped : (text bytes : List ℕ) (r : Option (Bor (List ℕ))) →
     MatchOption r (behind text bytes ≡ None) (λ x. behind text bytes ≡ Some x.now)
 stripped text bytes r cases = found_behind text bytes r (strip_prefix_is Decides-eqb bytes text r cases)
 
--- ---- a number at the front
+-- ---- a leading number
 
 -- no digit is at the start
 abbrev pub NoDigit : List ℕ → Type 0
@@ -120,7 +120,7 @@ number_is bytes n rest is =
     let whole = take-append-drop (prefix_len is_ascii_digit bytes) bytes in
     (sym whole ∙ ap (λ xs. xs ++ drop (prefix_len is_ascii_digit bytes) bytes) (spelled.0 ∙ ap decimal same.0) ∙ ap (λ xs. decimal n ++ xs) same.1, omega (arith, spelled.1, same.0))
 
--- ---- two digits at the front
+-- ---- two leading digits
 
 two_text : (n : ℕ) → n < 100 → two_digits n ≡ (48 + n / 10) ∷ (48 + n % 10) ∷ []
 two_text n below = rw (decimal_digit (n / 10) (omega arith), decimal_digit (n % 10) (omega arith)) refl
@@ -148,7 +148,7 @@ two_is (tens ∷ ones ∷ bytes) n rest is =
     let second : 48 + n % 10 ≡ ones = omega (arith, same.0, low.0, high.0, high.1) in
     (rw (two_text n below, first, second, same.1) refl, below)
 
--- ---- an average at the front
+-- ---- a leading average
 
 average_parts : (n : ℕ) (rest : List ℕ) →
     hundredths_text n ++ rest ≡ decimal (n / 100) ++ (codes "." ++ (two_digits (n % 100) ++ rest))
@@ -185,7 +185,7 @@ average_is bytes n rest is =
     let point_is : whole.0.1 ≡ codes "." ++ (two_digits (n % 100) ++ rest) = behind_point ∙ ap (λ xs. codes "." ++ xs) rest_is in
     (number.0 ∙ ap (λ m. decimal m ++ whole.0.1) first ∙ ap (λ xs. decimal (n / 100) ++ xs) point_is ∙ sym (average_parts n rest), most)
 
--- ---- a piece behind its label
+-- ---- a piece after its label
 
 pub past_is : {A : Type 0} (label : List ℕ) (read : List ℕ → Option A) (bytes : List ℕ) (found : A) →
     past label read bytes ≡ Some found →

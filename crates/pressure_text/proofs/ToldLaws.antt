@@ -223,7 +223,7 @@ irq_is bytes line is =
 pub irq_told : (bytes : List ℕ) (line : PressureLine) → (irq_at bytes ≡ Some line) ↔ TellsIrq bytes line
 irq_told bytes line = (irq_is bytes line, irq_again bytes line)
 
--- ---- what was written
+-- ---- written files
 
 percent_is : (average : ℕ) → percent_text average ≡ hundredths_text (in_hundredths average)
 percent_is average =
@@ -322,7 +322,7 @@ irq_reads_again averages total fits row = record {
   spelled = line_told FullStalled averages total;
 }
 
--- ---- what a call returns that reads as the definition does
+-- ---- the results of a call that parses as defined
 
 -- the call found what the bytes spell
 abbrev pub IsExact : {A : Type 0} → Option A → (A → Type 0) → Type 0

@@ -71,7 +71,7 @@ they_stand planner limits events groups is taken same = record {
   finish = ap (λ (w : World). w.last) taken.world;
 }
 
--- ---- what stands
+-- ---- what the plans represent
 
 somes_same : (one other : List Change) → map (λ (change : Change). let o : Option Change = Some change in o) one ≡ map (λ (change : Change). let o : Option Change = Some change in o) other → one ≡ other
 somes_same [] [] same = refl

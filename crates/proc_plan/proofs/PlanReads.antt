@@ -17,7 +17,7 @@ use Rattle.slot_clocks.specs.Walk.{slot_in}
 use Rattle.proc_plan.specs.Plans.{AreConcerned, IsOnNone, OthersAreAside}
 use Rattle.proc_plan.proofs.Upward.{at_itself}
 
--- ---- moments
+-- ---- times
 
 -- the time of the change at a place
 pub moment_at : (plan : PlanView) (i : ℕ) (d : Change) → i < length plan.changes → (slice_index_or plan.changes i d).at ≡ last_change plan (i + 1)
@@ -79,7 +79,7 @@ point_counts plan at k order room point =
       next = next;
     }
 
--- ---- what a change stands on
+-- ---- the chains of a change
 
 part_off : (parents : List (Option ℕ)) (slot : ℕ) (side : Option (Slot × Counts)) → leads_to parents (number_of_slot (slot_in side)) slot ≡ false → is_part_in parents slot side ≡ false
 part_off parents slot None off = refl
@@ -89,8 +89,8 @@ current_off : (parents : List (Option ℕ)) (slot : ℕ) (current : Option (Slot
 current_off parents slot None off = refl
 current_off parents slot (Some running) off = off
 
--- a slot that is off the chain that a change begins with is off what it takes, and no switched
--- account is the slot's
+-- a slot that isn't on the first chain of a change isn't on that of the counts it subtracts, nor is
+-- its accounting switched
 account_off : (parents : List (Option ℕ)) (slot : ℕ) (account : Option (Slot × Bool)) (minus : Option (Slot × Counts)) → IfSome account (λ _. minus ≡ None) → leads_to parents (number_of_slot (option_or (slot_in account) (slot_in minus))) slot ≡ false
     → (is_part_in parents slot minus ≡ false) × (is_account_of slot account ≡ false)
 account_off parents slot None minus none off = (part_off parents slot minus off, refl)

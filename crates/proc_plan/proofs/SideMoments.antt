@@ -14,7 +14,7 @@ use Rattle.proc_plan.specs.declared.side.Side.{Side}
 use Rattle.proc_plan.specs.Sides.{came, went, passage, group_of, sample_by, sides_by}
 use Rattle.proc_plan.specs.SideLaws.{SidesUpTo, SidesAreInOrder}
 
--- ---- moments
+-- ---- times
 
 -- sides at one time
 abbrev AtOnce : ℕ → List Side → Type 0

@@ -55,7 +55,7 @@ pub fit_push : (events : List Event) (event : Event) → AllFit events → Fits 
 fit_push [] event all fits = (fits, tt)
 fit_push (first ∷ events) event all fits = (all.0, fit_push events event all.1 fits)
 
--- ---- what stands against an event
+-- ---- causes against an event
 
 -- it is the cause against it in the planner's own world
 pub cause_in : (planner : PlannerView) (limits : Limits) (events : List Event) (event : Event) → HasTaken planner limits events → cause_of limits (after events) event ≡ cause_of planner.table.limits planner.table.world event
@@ -65,7 +65,7 @@ cause_in planner limits events event taken = rw (taken.limits_are, taken.world) 
 pub fault_in : (planner : PlannerView) (limits : Limits) (events : List Event) (event : Event) (fault : Fault Cause) → HasTaken planner limits events → IsGroupFault (cause_of planner.table.limits planner.table.world event) fault → IsGroupFault (cause_of limits (after events) event) fault
 fault_in planner limits events event fault taken is = subst (λ why. IsGroupFault why fault) (sym (cause_in planner limits events event taken)) is
 
--- ---- room for what it changes
+-- ---- room for its changes
 
 touched_here : (w : World) (event : Event) (cpu : ℕ) → IsSome (change_of w event cpu) → touched event.act (before w.tasks event.act) cpu ≡ true
 unfolding change_of
@@ -139,7 +139,7 @@ slots_fit limits w touch legal below = (fitting touch.first below.0, fitting tou
     fitting None low = tt
     fitting (Some one) low = lower_slots one.1 (length w.groups) most_groups legal.groups.few low
 
--- so are those of the changes that switching an account makes
+-- so are those of the changes that switch accounting
 pub account_slots_fit : (limits : Limits) (w : World) (event : Event) (touch : Touch) → cause_of limits w event ≡ None → IsLegalWorld limits w → IsTouch limits.cpus w event touch
     → IfSome touch.account (λ account. (cpu : ℕ) → cpu < limits.cpus → HasSlotsBelow most_groups (account_change event.at (shown (running_on (after_event w event).tasks cpu)) account))
 account_slots_fit limits w event touch allowed legal is = fitting touch.account refl

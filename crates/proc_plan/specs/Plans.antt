@@ -36,19 +36,19 @@ use Rattle.proc_plan.specs.Sides.{IsSmall, sides_of}
 
 -- ---- plans
 
--- a plan of these changes and parents
+-- a plan with changes and parents
 abbrev pub plan_view : List Change → List (Option Slot) → PlanView
 plan_view changes parents = record { changes = changes; parents = parent_numbers parents }
 
--- the plan with these changes and the parents of these groups
+-- the plan with these changes and the parents of groups
 abbrev pub plan_over : List GroupLife → List Change → PlanView
 plan_over groups changes = record { changes = changes; parents = parents_of groups }
 
--- the plan of each processor, with its listed changes and the parents of these groups
+-- the plan of each processor, with its listed changes and the parents of groups
 abbrev pub plans_over : List GroupLife → List ChangesView → List PlanView
 plans_over groups changes = map (λ (changes : ChangesView). plan_over groups changes.list) changes
 
--- ---- what a change leaves alone
+-- ---- slots that a change doesn't affect
 
 -- These are the slots whose chains the change after the first k affects: the slot of the counts
 -- that it subtracts, or the slot whose accounting it switches; the slot of the counts that it adds;
@@ -58,11 +58,11 @@ AreConcerned plan k starts = (change : Change) → slice_get plan.changes k ≡ 
     starts ≡ option_or (slot_in change.account) (slot_in change.minus) ∷ slot_in change.plus ∷ slot_in (current_after plan k)
     ∷ slot_in change.current ∷ []
 
--- a slot is on none of these chains
+-- a slot is on no chain of the list
 abbrev pub IsOnNone : List (Option ℕ) → List (Option Slot) → ℕ → Type 0
 IsOnNone parents starts slot = All (λ start. leads_to parents (number_of_slot start) slot ≡ false) starts
 
--- the change after the first k doesn't affect any slot that is on none of these chains
+-- the change after the first k affects only slots on chains of the list
 abbrev pub OthersAreAside : PlanView → ℕ → List (Option Slot) → Type 0
 OthersAreAside plan k starts = (slot : ℕ) (change : Change) → slice_get plan.changes k ≡ Some change →
     IsOnNone plan.parents starts slot → IsAside plan slot k change
@@ -78,7 +78,7 @@ pub record PlansView : Type 0 where
   pub sides : List Side
   pub finish : ℕ
 
--- the plans of these parts
+-- the plans with these parts
 abbrev pub plans_view : List PlanView → List GroupLife → List TriggerSpec → List Side → ℕ → PlansView
 plans_view plans lives triggers sides finish = record { plans = plans; lives = lives; triggers = triggers; sides = sides; finish = finish }
 
@@ -113,7 +113,7 @@ pub record StandFor (plans : PlansView) (cpus : ℕ) (events : List Event) : Typ
   pub sides : plans.sides ≡ sides_of events
   pub finish : plans.finish ≡ (after events).last
 
--- The plans that represent events are the plans of these events.
+-- If plans represent events, each processor's plan is `plan_of` for those events.
 abbrev pub PlansAreOfEvents : Type 0
 PlansAreOfEvents =
     (plans : PlansView) (cpus : ℕ) (events : List Event) → StandFor plans cpus events → (cpu : ℕ) → cpu < cpus
@@ -159,7 +159,7 @@ pub record PlannerView : Type 0 where
   pub triggers : List TriggerSpec
   pub sides : List Side
 
--- the planner of these parts
+-- the planner with these parts
 abbrev pub planner_view : TableView → List (List Change) → List TriggerSpec → List Side → PlannerView
 planner_view table changes triggers sides = record { table = table; changes = changes; triggers = triggers; sides = sides }
 

@@ -2,8 +2,7 @@
 
 ghost use Rattle.proc_plan.specs.Plans.{EndedIsAccepted, PlansAreOfEvents};
 
-/// The plans that represent events are the plans of these events, which the laws of plans are
-/// about.
+/// If plans represent events, each processor's plan is `plan_of`, the subject of the laws of plans.
 pub fn law_standing_plans()
     ensures { PlansAreOfEvents }
 {}

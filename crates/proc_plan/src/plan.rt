@@ -102,8 +102,8 @@ impl Plan {
 
     /// The slots whose chains the change with a number from 1 affects: the slot of the counts that
     /// it subtracts, or the slot whose accounting it switches; the slot of the counts that it adds;
-    /// and the slots of the tasks that are running before and after it. It doesn't affect slots on
-    /// none of these chains.
+    /// and the slots of the tasks that are running before and after it. It affects no slot outside
+    /// these chains.
     pub fn concerned(&self, k: u64) -> [Option<Slot>; 4]
         requires from { 1 ≤ k }
         requires to { k ≤ length self.now.changes }

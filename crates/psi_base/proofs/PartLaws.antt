@@ -33,7 +33,7 @@ parts_at-first at i bytes rest inside found none behind = rw behind (rw add-one 
 
 pub ruleset parts = (parts_at-all, parts_at-first)
 
--- there is a first part, at least as long as the bytes at the front without the byte
+-- there is a first part, at least as long as the leading bytes without the separator
 pub record HasFront (at n : ℕ) (bytes : List ℕ) : Type 0 where
   pub first : List ℕ
   pub rest : List (List ℕ)

@@ -2,13 +2,13 @@
 use Rattle.std.specs.Prelude.{ℕ, ◌+◌, ◌*◌, ◌-◌, ◌^◌, List, [], ◌∷◌, length, slice_index, nat_lt, ◌==◌, ◌&&◌, ◌||◌, not, if◌then◌else◌, Option, Some, None}
 use Rattle.std.specs.Str.{all_ascii_digits}
 
--- the value of these digits, appended to the digits of n
+-- the value of digits that are appended to the digits of n
 abbrev pub value_after : ℕ → List ℕ → ℕ
 value_after n [] = n
 value_after n (c ∷ cs) = value_after (n * 10 + (c - 48)) cs
 
--- the value of these digits, appended to those of n, if all are digits and the value fits in 64
--- bits
+-- the value of digits that are appended to the digits of n, if all are digits and the value fits in
+-- 64 bits
 unfoldable pub digits_after : ℕ → List ℕ → Option ℕ
 digits_after n bytes = if all_ascii_digits bytes && nat_lt (value_after n bytes) (2 ^ 64) then Some (value_after n bytes) else None
 

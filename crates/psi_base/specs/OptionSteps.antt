@@ -1,4 +1,4 @@
--- Steps of parsing, each of which may find nothing.
+-- Steps of parsing that may find nothing.
 use Rattle.std.specs.Prelude.{Option, None, Some}
 
 -- the next step of parsing, unless the previous one found nothing

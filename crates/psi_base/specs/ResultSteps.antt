@@ -1,4 +1,4 @@
--- Steps of parsing, each of which may find a fault.
+-- Steps of parsing that may find a fault.
 use Rattle.std.specs.Prelude.{Result, Ok, Err}
 
 -- the next step of parsing, unless the previous one found a fault

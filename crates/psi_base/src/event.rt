@@ -202,7 +202,7 @@ pub struct TriggerSpec {
 }
 
 /// Why a line of a trace is rejected. If several causes apply, the first one in the specified order
-/// is reported; that order differs from the order of these variants.
+/// is reported; that order differs from the order of the variants.
 #[derive(Clone, Copy, Debug, PartialEq, Eq)]
 pub enum Cause {
     /// The first line isn't a header, or is incomplete.

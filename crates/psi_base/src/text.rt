@@ -36,7 +36,7 @@ impl Model for Text {
 }
 
 impl Text {
-    /// A copy of these bytes, in memory of its own.
+    /// A copy of the bytes, in memory of its own.
     pub fn make(alloc: Global, bytes: &[u8]) -> Result<Text, NoMemory>
         ensures { IfOk result (λ t. t ≡ bytes.now) }
     {

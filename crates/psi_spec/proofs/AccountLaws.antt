@@ -1,4 +1,4 @@
--- Whether the account of a group is on after an event.
+-- Whether the accounting of a group is on after an event.
 use Rattle.std.proofs.Common.{◌≡◌, ℕ, zero, suc, ◌+◌, ◌<◌, List, [], ◌∷◌, ◌++◌, refl, ap, ◌∙◌, sym, Bool, true, false, arith, Option, None, Some, ◌==◌, length, map}
 use Rattle.std.specs.Prelude.{◌&&◌, if◌then◌else◌, slice_get}
 use Rattle.std.specs.Option.{option_map}
@@ -32,7 +32,7 @@ removed_here None path at = refl
 removed_here (Some group) path at =
     elim (is_live group && bytes_eq group.path path) as (λ b. (let g : GroupLife = if b then record group { gone = Some at } else group in g.on) ≡ group.on) [ true ↦ refl | false ↦ refl ]
 
--- the account of the group whose path was named is switched, and that of any other stays
+-- the accounting of the group with the named path is switched, and that of others doesn't change
 switched_here : (path : List ℕ) (on : Bool) (groups : List GroupLife) (at slot : ℕ) → IsOneLive groups → slot_of groups path ≡ Some at → (o : Option GroupLife) → slice_get groups slot ≡ o →
     is_on_life (option_map (marked_switched path on) o) ≡ (if at == slot then on else is_on_life o)
 switched_here path on groups at slot one found None is =
@@ -62,7 +62,7 @@ pub switched_on : (path : List ℕ) (on : Bool) (groups : List GroupLife) (at sl
 switched_on path on groups at slot one found =
     ap is_on_life (slice_get-map (marked_switched path on) groups slot) ∙ switched_here path on groups at slot one found (slice_get groups slot) refl
 
--- the account of a group that was removed, and those of others, stay
+-- the accounting of a removed group, and that of others, doesn't change
 pub removed_on : (path : List ℕ) (at : ℕ) (groups : List GroupLife) (slot : ℕ) → is_on (map (marked_removed path at) groups) slot ≡ is_on groups slot
 removed_on path at groups slot = ap is_on_life (slice_get-map (marked_removed path at) groups slot) ∙ removed_here (slice_get groups slot) path at
 

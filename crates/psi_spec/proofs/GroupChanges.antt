@@ -21,7 +21,7 @@ use Rattle.psi_spec.proofs.RefusalLaws.{is_none, passed}
 use Rattle.psi_spec.proofs.SwitchLaws.{one_live_switched, parents_switched, paths_switched, root_unswitched}
 use Rattle.psi_spec.proofs.GroupLaws.{by_step, first_of_two, found_behind, same_bytes, bytes_itself, found_below, found_path, parents_without, paths_without, one_live_without}
 
--- ---- a group is made
+-- ---- a group is created
 
 -- parents with one more group at the end
 pub parents_behind : (groups : List GroupLife) (group : GroupLife) → parents_of (groups ++ group ∷ []) ≡ parents_of groups ++ number_of_slot group.parent ∷ []
@@ -192,7 +192,7 @@ groups_removed groups path at other are =
       one_live = one_live_without path at groups are.one_live;
     }
 
--- the account of a group is switched
+-- the accounting of a group is switched
 pub groups_switched : (groups : List GroupLife) (path : List ℕ) (on : Bool) → is_root path ≡ false → AreGroups groups → AreGroups (map (marked_switched path on) groups)
 groups_switched groups path on other are =
     let len : length (map (marked_switched path on) groups) ≡ length groups = length-map groups (marked_switched path on) in

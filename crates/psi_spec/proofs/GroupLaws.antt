@@ -80,7 +80,7 @@ pub ancestors_older : AncestorsAreOlder
 unfolding is_under
 ancestors_older parents low high older is = none_newer parents older low (Some low) high is low (omega arith)
 
--- ---- groups made later
+-- ---- later groups
 
 -- a parent is a slot that there is
 next_below : (parents : List (Option ℕ)) → AreOlder parents → (slot : ℕ) → slot < length parents → (o : Option ℕ) → slice_index_or parents slot None ≡ o → IfSome o (λ s. s < length parents)

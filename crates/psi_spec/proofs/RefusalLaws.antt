@@ -7,7 +7,7 @@ use Rattle.psi_base.specs.declared.event.Cause.TheVariants as cause
 use Rattle.psi_spec.specs.World.{World, Limits}
 use Rattle.psi_spec.specs.Refusal.{cause_of, applies, cause_order}
 
--- ---- what the absence of a cause says
+-- ---- the absence of a cause
 
 -- a cause that a search passes doesn't apply
 pub passed : (test : Cause → Bool) (causes : List Cause) (at : ℕ) (why : Cause) → find test causes ≡ None → slice_get causes at ≡ Some why → test why ≡ false

@@ -1,4 +1,4 @@
--- Groups after the account of one was switched: all but whether it is on stays.
+-- Groups after the accounting of one was switched: everything else is unchanged.
 use Rattle.std.proofs.Common.{◌≡◌, ℕ, ◌+◌, List, [], ◌∷◌, refl, ap, ◌∙◌, sym, Bool, true, false, Option, None, Some, map}
 use Rattle.std.specs.Prelude.{◌&&◌, if◌then◌else◌, slice_get}
 use Rattle.std.specs.Option.{option_map}

@@ -33,7 +33,7 @@ task_placed tasks p (Some t) q = get_put tasks p t q
 pub no_entries : tasks_by.entries no_tasks ≡ []
 no_entries = nil_from_length (tasks_by.entries no_tasks) (sym (tasks_by.len-entries no_tasks) ∙ tasks_by.len-empty nat_cmp Task)
 
--- ---- entries stand in order
+-- ---- the order of entries
 
 -- a number is equal to itself
 pub itself : (k : ℕ) → (k == k) ≡ true

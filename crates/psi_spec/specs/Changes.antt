@@ -33,9 +33,9 @@ abbrev pub is_at : ℕ → Task → Bool
 is_at cpu task = task.cpu.0 == cpu
 
 -- An effect touches a processor, given the task that it changes: the processor that a fork or a
--- switch names; the ones that a task leaves and comes to if it is put on a run queue; the task's
--- own if it stays there; the one whose task interrupts delay; and every processor if the accounting
--- of a group is switched.
+-- switch names; the processors that a task leaves and reaches if it is put on a run queue; the
+-- task's own if it stays there; the processor whose task interrupts delay; and every processor if
+-- the accounting of a group is switched.
 abbrev pub touched_by : Effect → Option Task → ℕ → Bool
 touched_by none old cpu = false
 touched_by (forks pid path named) old cpu = named.0 == cpu

@@ -42,7 +42,7 @@ pub record Header : Type 0 where
 unfoldable pub header : ℕ → ℕ → List ℕ
 header version cpus = codes "psitrace " ++ decimal version ++ codes " cpus=" ++ decimal cpus
 
--- a function from values of these kinds, in order, to an act
+-- a function from values of kinds, in order, to an act
 abbrev pub Maker : List Kind → Type 0
 Maker [] = Act
 Maker (k ∷ ks) = Value k → Maker ks
@@ -178,7 +178,7 @@ pub record Fits (event : Event) : Type 0 where
   pub at : event.at < 2 ^ 64
   pub act : ActFits event.act
 
--- an event has one of these verbs
+-- the verb of an event is in the list
 abbrev pub IsKnown : List Verb → Event → Type 0
 IsKnown verbs event = IsAmong (phrase_of event.act).verb verbs
 
@@ -194,8 +194,8 @@ abbrev pub field : ℕ → (k : Kind) → List (List ℕ) → Result (Value k ×
 field i k [] = Err (cause.BadField i)
 field i k (text ∷ words) = or_bad i (value_of k text) words
 
--- the act that the values of words make, of which the first is the field with this number, or the
--- leftmost bad field
+-- the act from the values of words, the first of them the field with this number, or the leftmost
+-- bad field
 abbrev pub made_from : ℕ → (ks : List Kind) → Maker ks → List (List ℕ) → Result Act Cause
 made_from i [] made [] = Ok made
 made_from i [] made (text ∷ words) = Err (cause.BadField i)
@@ -207,7 +207,7 @@ made_from i (k ∷ ks) make words = do
 unfoldable pub act_from : Verb → List (List ℕ) → Result Act Cause
 act_from verb words = made_from 1 (kinds_of verb) (form_of verb).act words
 
--- the verb that a word is, of these
+-- the verb of the list with this word, or None
 unfoldable pub verb_of : List Verb → List ℕ → Option Verb
 verb_of verbs text = named verb_word verbs text
 
@@ -216,7 +216,7 @@ abbrev pub act_in : Option Verb → List (List ℕ) → Result Act Cause
 act_in None words = Err cause.BadVerb
 act_in (Some verb) words = act_from verb words
 
--- the act that a verb of these and its fields spell
+-- the act that a verb of the list and its fields spell
 unfoldable pub act_at : List Verb → List (List ℕ) → Result Act Cause
 act_at verbs [] = Err cause.BadVerb
 act_at verbs (text ∷ words) = act_in (verb_of verbs text) words
@@ -245,6 +245,6 @@ header_line head = header (version_number head.version) head.cpus
 abbrev pub headers_of : Version → List Header
 headers_of version = map (λ cpus. let head : Header = record { version = version; cpus = cpus } in head) (range_with_len 1 64)
 
--- the header of one of these versions that a line is
+-- the header that a line spells, with a version of the list, or None
 unfoldable pub header_of : List Version → List ℕ → Option Header
 header_of versions line = named header_line (flat_map headers_of versions) line

@@ -35,7 +35,7 @@ pub record IsFirstBad (ks : List Kind) (parts : List (List ℕ)) (at : ℕ) : Ty
 abbrev pub HasTime : List (List ℕ) → Type 0
 HasTime parts = IsGood (Some kind.number) (slice_get parts 0)
 
--- the second part of a line is the word of this verb, which is one of these
+-- the second part of a line is the word of this verb, which is in the list
 abbrev pub HasVerb : List Verb → List (List ℕ) → Verb → Type 0
 HasVerb verbs parts verb = IsAmong verb verbs × (slice_get parts 1 ≡ Some (verb_word verb))
 
@@ -49,7 +49,7 @@ pub record HasBadField (verbs : List Verb) (parts : List (List ℕ)) (number : �
   pub first : IsFirstBad (kinds_of verb) (drop 2 parts) at
 
 -- The cause against the parts of a line, judging the text alone: the first part isn't a time; or
--- else the second part is missing or isn't one of these verbs; or else the leftmost field that is
+-- else the second part is missing or isn't a verb of the list; or else the leftmost field that is
 -- missing, malformed or superfluous. There is no other.
 abbrev pub IsCause : List Verb → List (List ℕ) → Cause → Type 0
 IsCause verbs parts cause.BadTime = HasTime parts → ⊥

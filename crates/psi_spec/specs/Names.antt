@@ -4,9 +4,9 @@ use Rattle.psi_base.specs.declared.event.Pid.{Pid}
 use Rattle.psi_base.specs.declared.event.Act.{Act}
 use Rattle.psi_base.specs.declared.event.Act.TheVariants as act
 
--- what an act names: the path of a group that must exist, of one that is created, of one that is
--- removed, of one whose accounting is switched (and whether on), a task that must exist, one that
--- is created, and a processor that must exist
+-- what an act names: the paths of a group that must exist, of a new group, of a group to remove and
+-- of a group whose accounting is switched (and whether on), a task that must exist, a new task, and
+-- a processor that must exist
 pub record Names : Type 0 where
   pub live_path : Option (List ℕ)
   pub new_path : Option (List ℕ)

@@ -52,7 +52,7 @@ pub record IsAccepted (limits : Limits) (events : List Event) : Type 0 where
   pub legal : AreLegal limits first_world events
   pub ends : EndsLast events
 
--- each event has one of these verbs
+-- the verb of each event is in the list
 abbrev pub AreKnown : List Verb → List Event → Type 0
 AreKnown verbs [] = Unit {0}
 AreKnown verbs (event ∷ events) = IsKnown verbs event × AreKnown verbs events
@@ -118,7 +118,7 @@ abbrev pub at_end : ℕ → Option Cause → Result (List Event) Refusal
 at_end line None = Ok []
 at_end line (Some why) = Err (refused line why)
 
--- an event in front of the later ones
+-- an event followed by the later ones
 abbrev pub followed : List Event → Result (List Event) Refusal → Result (List Event) Refusal
 followed front (Ok events) = Ok (front ++ events)
 followed front (Err refusal) = Err refusal
@@ -128,7 +128,7 @@ abbrev pub or_refused : {A : Type 0} → ℕ → Result A Cause → (A → Resul
 or_refused line (Err why) next = Err (refused line why)
 or_refused line (Ok event) next = next event
 
--- The events of these parts of the input between newlines, or the first bad line. The first part is
+-- The events of the parts of the input between newlines, or the first bad line. The first part is
 -- the line with this number, and the last part is what follows the last newline.
 unfoldable pub events_from : List Verb → Limits → World → ℕ → List (List ℕ) → Result (List Event) Refusal
 events_from verbs limits w line [] = at_end line (rest_cause w [])

@@ -16,7 +16,7 @@ pub record IsTriggerWithin (latest slots : ℕ) (trigger : TriggerSpec) : Type 0
   pub slot : trigger.slot.0 < slots
   pub window : is_window trigger.threshold_us trigger.window_us ≡ true
 
--- the triggers of each trace: at most 256, and each is one that a trace may set
+-- the triggers of each trace: at most 256, and each is in the ranges of a trace
 pub record AreTriggersWithin (latest slots : ℕ) (triggers : List TriggerSpec) : Type 0 where
   pub few : length triggers ≤ 256
   pub each : All (λ trigger. IsTriggerWithin latest slots trigger) triggers

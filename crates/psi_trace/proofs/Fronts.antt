@@ -1,4 +1,4 @@
--- Lines at the front of bytes, field by field.
+-- Lines as prefixes of bytes, field by field.
 use Rattle.std.proofs.Common.{◌≡◌, ℕ, ◌+◌, ◌-◌, ◌*◌, ◌^◌, ◌<◌, ◌≤◌, List, [], ◌∷◌, ◌++◌, length, take, drop, get_or, suc, refl, sym, ap, ◌∙◌, subst, arith, true, take-append-drop, append_assoc}
 use Rattle.std.specs.Prelude.{Option, IfSome, decimal, codes}
 use Rattle.std.specs.Str.{all_ascii_digits, bytes_eq}
@@ -85,7 +85,7 @@ has_room_for_four count number below few = let most = pow-le-pow_right {n = 10} 
 pub four_small : (bytes : List ℕ) (place four : ℕ) → AreFour bytes place four → four ≤ 9999
 four_small bytes place four is = omega (arith, is.value, is.first.is, is.first.high, is.second.is, is.second.high, is.third.is, is.third.high, is.fourth.is, is.fourth.high)
 
--- ---- a number and the byte behind it
+-- ---- a number and the byte after it
 
 spelled_digits : (bytes : List ℕ) (number count : ℕ) → AreDigits bytes number count → 0 < count → (get_or bytes 0 0 ≡ 48 → count ≡ 1) → number < 2 ^ 64 → take count bytes ≡ decimal number
 spelled_digits bytes number count are some first fits =

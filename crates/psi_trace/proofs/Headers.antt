@@ -40,7 +40,7 @@ header-prefix n = header-before 1 n ∙ ap (λ bytes. bytes ++ decimal n) (befor
 pub header_short : (n : ℕ) → n < 2 ^ 64 → length (header 1 n) ≤ 36
 header_short n fits = rw (header-prefix n) (let short = decimal_short n fits in omega (arith, short))
 
--- ---- fronts
+-- ---- prefixes
 
 -- a line with a prefix
 pub with_front : (line front rest known : List ℕ) → front ≡ known → bytes_eq (take (length front) line) front ≡ true → rest ≡ drop (length front) line → line ≡ known ++ rest
@@ -53,7 +53,7 @@ without_front line front known rest same other is =
     let starts : take (length front) line ≡ front = ap (take (length front)) is ∙ ap (λ bytes. take (length bytes) (known ++ rest)) same ∙ take-append_seam known rest ∙ sym same in
     let equal = (bytes_eq-Decides (take (length front) line) front).1 starts in cc
 
--- a line with neither front is no header
+-- a line with neither prefix is no header
 pub no_front : (line one two : List ℕ) → one ≡ first_before → two ≡ second_before → bytes_eq (take (length one) line) one ≡ false → bytes_eq (take (length two) line) two ≡ false → (version n : ℕ) → IsVersion version → line ≢ header version n
 no_front line one two first second not_first not_second version n is spelled = ⊎_elim
     (λ same. without_front line one first_before (decimal n) first not_first (spelled ∙ header-before version n ∙ ap (λ bytes. bytes ++ decimal n) (before-first version same)))
@@ -88,7 +88,7 @@ no_header line (Some head) is none =
 pub header_of-none : (line : List ℕ) → ((version n : ℕ) → IsVersion version → 1 ≤ n → n ≤ 64 → line ≢ header version n) → header_of versions line ≡ None
 header_of-none line none = no_header line (header_of versions line) refl none
 
--- ---- headers by what stands behind their fronts
+-- ---- headers by what follows their prefixes
 
 front_same : (front xs ys : List ℕ) → front ++ xs ≡ front ++ ys → xs ≡ ys
 front_same [] xs ys is = is
@@ -124,7 +124,7 @@ header_of-other line version n rest known cut is fits out =
     let same = decimal_injective n m fits (omega (arith, high)) (sym is ∙ same_behind version other rest (decimal m) known also (sym cut ∙ spelled ∙ header-before other m)) in
     omega (arith, same, out, low, high))
 
--- ---- the same, of what was read
+-- ---- the same for a parsed header
 
 pub header_found : (line : List ℕ) (version n : ℕ) → IsVersion version → header_of versions line ≡ Some (header_with version n) → IsVersion version × (1 ≤ n) × (n ≤ 64) × (line ≡ header version n)
 header_found line version n known is =

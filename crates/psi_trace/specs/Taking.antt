@@ -35,7 +35,7 @@ abbrev pub takes_path : Option Verb → Bool
 takes_path None = false
 takes_path (Some verb) = has_path (kinds_of verb)
 
--- the first part is one of these verbs, and has a path among its fields
+-- the first part is a verb of the list, and has a path among its fields
 abbrev pub names_path : List Verb → List (List ℕ) → Bool
 names_path verbs [] = false
 names_path verbs (text ∷ words) = takes_path (verb_of verbs text)

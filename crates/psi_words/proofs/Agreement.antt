@@ -69,7 +69,7 @@ word_agrees names (x ∷ y ∷ rest) dashed other =
     → word_of names (k ∷ y ∷ rest) ≡ word_by names (long_of (k ∷ y ∷ rest)))
     (sym (is_45 x dashed)) (dash_agrees names y rest (y == 45) refl) other
 
--- ---- what parts say
+-- ---- the meaning of parts
 
 -- what parts say, if no two have one id
 abbrev pub given_of : List Part → Given
@@ -161,7 +161,7 @@ say_plain names word ps free known =
     go false true has apart same = rw (has, apart, same, has) refl
     go false false has apart same = rw (has, apart) refl
 
--- ---- what words say
+-- ---- the meaning of words
 
 -- the parts say this, and their options have these names
 abbrev pub Agrees : List (List ℕ) → Option (List Part) → Option Given → Type 0
@@ -259,7 +259,7 @@ all_agree names (word ∷ rest) free =
       value_parts names word rest (is_dashed word) refl free more,
     )
 
--- ---- parts fit where no two have one id
+-- ---- parts fit if no two have one id
 
 same_both_ways : (xs ys : List ℕ) → bytes_eq xs ys ≡ bytes_eq ys xs
 same_both_ways xs ys = go (bytes_eq xs ys) (bytes_eq ys xs) refl refl

@@ -109,7 +109,7 @@ refused_by app names words e is free texts fails other =
     ∙ not_nil (fault_of (plain_app names) words) e
     (subst (λ a. HasKind (fault_of a words) e) is (fails (simple_app app names is))) other
 
--- ---- what the rows say
+-- ---- the meaning of the rows
 
 matches_as : (names words : List (List ℕ))
     → matches_of (plain_app names) words ≡ rows_after (built_rules names) [] words
@@ -177,7 +177,7 @@ pub refused_said : (app : App) (names words : List (List ℕ)) (e : Error) → a
 refused_said app names words e is free texts fails other =
     refused_words names words free (refused_by app names words e is free texts fails other)
 
--- ---- what a look-up finds
+-- ---- the result of a look-up
 
 both_true : (a b : Bool) → a && b ≡ true → (a ≡ true) × (b ≡ true)
 both_true true b is = (refl, is)

@@ -19,7 +19,7 @@ use Rattle.psi_words.proofs.Turning.{positional_walked}
 use Rattle.psi_words.proofs.Turning.{given_turn, given_walked, open_turn}
 use Rattle.psi_words.proofs.Turning.{open_walked, open_held}
 
--- ---- where the positional stands
+-- ---- the place of the positional
 
 pub has_after : (id : List ℕ) (xs : List Part) (p : Part)
     → has_part id (xs ++ p ∷ []) ≡ has_part id xs || (bytes_eq (id_of p) id || false)
@@ -60,7 +60,7 @@ positional_joined names acc (Some (given n v)) known free =
     (not_positional names n (bytes_eq n positional_id) refl known free)
 positional_joined names acc (Some (plain w)) known free = has_after positional_id acc (plain w)
 
--- ---- what is proved of the words
+-- ---- the result for the words
 
 abbrev pub Reads : List (List ℕ) → List (List ℕ) → Type 0
 Reads names words = (acc : List Part) (last : Option Part) (t : Bool) → Known names last

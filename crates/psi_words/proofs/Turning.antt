@@ -15,7 +15,7 @@ use Rattle.psi_words.proofs.Rules.{built_option, built_positional, built_rules, 
 use Rattle.psi_words.proofs.Rules.{by_index_1, by_index_2}
 use Rattle.psi_words.proofs.Walking.{row, held_for, top, is_nil, at_word, nil_else}
 
--- ---- what a word looks like
+-- ---- the form of a word
 
 pub bare_long : (word : List ℕ) → is_dashed word ≡ false → long_of word ≡ None
 bare_long [] bare = refl

@@ -78,7 +78,7 @@ pub use_new : (p : Part) (ps : List Part) → has_part (id_of p) ps ≡ false
 use_new (given name value) ps new = rw (row_has name ps, new) refl
 use_new (plain word) ps new = rw (row_has positional_id ps, new) refl
 
--- ---- what is held
+-- ---- the stored rows
 
 abbrev pub held_for : List Part → Option Part → Held
 held_for acc last =

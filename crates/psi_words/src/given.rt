@@ -42,7 +42,7 @@ fn empty<'a>(alloc: Global) -> Command<'a>
         .disable_help_flag(true)
 }
 
-// A clap command with options of these names, and a positional.
+// A clap command with options that have these names, and a positional.
 fn command<'a>(alloc: Global, names: &[&'a str]) -> Result<Command<'a>, AllocError>
     ensures { IfOk result (λ command. app_of command ≡ plain_app (names_in names.now)) }
 {

@@ -118,7 +118,7 @@ found_or at k default (Some d) = value_at at k d
 unfoldable pub argument_at : Place → (a : Argument) → Option Data → Result (ArgumentValue a.kind) RulesFault
 argument_at at a args = found_or at a.kind a.default (option_and_then (get (key_word a.key)) args)
 
--- a function of the values of these arguments, in order
+-- a function of arguments' values, in order
 abbrev pub ArgumentsMaker : List Argument → Type 0 → Type 0
 ArgumentsMaker [] Made = Made
 ArgumentsMaker (a ∷ known) Made = ArgumentValue a.kind → ArgumentsMaker known Made

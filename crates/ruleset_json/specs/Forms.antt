@@ -91,7 +91,7 @@ size_of text =
 
 -- ---- words
 
--- the text is one of these words
+-- the text is a word of the list
 abbrev pub is_one_of : List (List ℕ) → List ℕ → Bool
 is_one_of words text = list_any (bytes_eq text) words
 
@@ -102,6 +102,6 @@ truth_of text =
     else if is_one_of (codes "false" ∷ codes "False" ∷ codes "0" ∷ []) text then Some false
     else None
 
--- the resource of a text: one that tasks can stall on
+-- the resource of a text, if tasks can stall on it
 unfoldable pub resource_of : List ℕ → Option Res
 resource_of text = named resource_word (res.Io ∷ res.Memory ∷ []) text

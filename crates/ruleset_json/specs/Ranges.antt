@@ -21,7 +21,7 @@ IsTime n = n ≤ 1000000
 abbrev pub IsRatio : ℕ → Type 0
 IsRatio n = n ≤ 1000999
 
--- a resource is one that tasks can stall on
+-- tasks can stall on a resource
 abbrev pub IsStallable : Res → Type 0
 IsStallable res.Io = Unit {0}
 IsStallable res.Memory = Unit {0}

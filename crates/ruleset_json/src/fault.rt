@@ -1,4 +1,4 @@
-//! Why a rules file is rejected, and where.
+//! Why a rules file is rejected, and at which place.
 ghost use Rattle.std.specs.Prelude.{◌≡◌};
 ghost use Rattle.psi_base.specs.declared.event.Fault.TheVariants as outcome;
 

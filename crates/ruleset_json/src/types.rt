@@ -123,7 +123,7 @@ impl SpecList {
     ghost use Rattle.std.specs.Prelude.{◌≡◌};
     ghost use Rattle.ruleset_json.specs.Ranges.{FitsDetectors};
 
-    /// A list of these detectors.
+    /// A list with these detectors.
     pub fn new(specs: Vec<DetectorSpec>) -> Self
         requires { FitsDetectors specs.items }
         ensures { result ≡ specs.items }
@@ -180,7 +180,7 @@ impl GroupList {
     ghost use Rattle.std.specs.Prelude.{◌≡◌};
     ghost use Rattle.ruleset_json.specs.GroupRanges.{FitsGroups};
 
-    /// A list of these groups.
+    /// A list with these groups.
     pub fn new(groups: Vec<DetectorGroup>) -> Self
         requires { FitsGroups groups.items }
         ensures { result ≡ groups.items }
@@ -227,7 +227,7 @@ impl ActionList {
     ghost use Rattle.std.specs.Prelude.{◌≡◌};
     ghost use Rattle.ruleset_json.specs.Ranges.{FitsActions};
 
-    /// A list of these actions.
+    /// A list with these actions.
     pub fn new(actions: Vec<Action>) -> Self
         requires { FitsActions actions.items }
         ensures { result ≡ actions.items }
@@ -324,7 +324,7 @@ impl RuleList {
     ghost use Rattle.ruleset_json.specs.Replaced.{replaced_at};
     ghost use Rattle.ruleset_json.specs.RuleRanges.{FitsRules};
 
-    /// A list of these rulesets.
+    /// A list with these rulesets.
     pub fn new(rules: Vec<Rule>) -> Self
         requires { FitsRules rules.items }
         ensures { result ≡ rules.items }

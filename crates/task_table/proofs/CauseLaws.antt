@@ -85,7 +85,7 @@ first_of_act limits w event running forward early room =
     let few : nat_le 4000000 w.lines ≡ false = grind (arith, nat_tests) in
     first_of_verb limits w event (rw (running, on_time, in_time, few) refl)
 
--- ---- what a cause that doesn't come says
+-- ---- the absence of a cause
 
 -- a cause that doesn't come: its test fails, and no later one comes
 past : (b : Bool) (why : Cause) (rest : Option Cause) → (if b then Some why else rest) ≡ None → (b ≡ false) × (rest ≡ None)

@@ -174,7 +174,7 @@ index_at running tasks index pid new cpu place is = record {
       (eqb_tells c cpu);
 }
 
--- ---- the changes of a switch and of a task that stays where it is
+-- ---- the changes of a switch and of a task that keeps its processor
 
 -- a false second test
 pub and_false : (a b : Bool) → b ≡ false → (a && b) ≡ false

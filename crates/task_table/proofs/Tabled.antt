@@ -14,7 +14,7 @@ use Rattle.psi_spec.specs.declared.machine.Task.{Task}
 use Rattle.psi_spec.proofs.TaskLaws.{itself, same_tasks, task_placed}
 use Rattle.task_table.specs.Listed.{listed_from, listed_tasks}
 
--- ---- what is found
+-- ---- look-ups
 
 -- the two searches by number are one
 find_entry : (es : List (ℕ × Task)) (q : ℕ) → map.find nat_cmp q es ≡ lookup (nat_eq q) es

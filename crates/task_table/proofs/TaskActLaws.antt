@@ -49,7 +49,7 @@ leaves_rest at groups irqs (task_act.Stall pid) = record { groups_same = refl; i
 leaves_rest at groups irqs (task_act.Unstall pid) = record { groups_same = refl; irqs_same = refl; triggers = refl; pressures = refl; goes_on = refl; plain = refl }
 leaves_rest at groups irqs (task_act.Migrate pid cpu) = record { groups_same = refl; irqs_same = refl; triggers = refl; pressures = refl; goes_on = refl; plain = refl }
 
--- ---- what it makes of a table
+-- ---- its effect on a table
 
 same_count : (n : ℕ) (more : Bool) → more ≡ false → n + (if more then 1 else 0) ≡ n
 same_count n more none = rw none (omega arith)

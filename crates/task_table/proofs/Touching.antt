@@ -63,7 +63,7 @@ told_played old new event changed running touch played is index plain none told 
     let tasks : new.world.tasks ≡ tasks_after old.world.groups old.world.tasks event.act = ap (λ (w : World). w.tasks) played.world in
     told_legal old.limits old.world event touch played.legal played.legal_before.within plain none (touch_told old.world event new.world.tasks changed running touch is plain tasks index told) beside
 
--- an act that switches no account leaves them all
+-- an act that switches no accounting leaves them all
 pub unswitched : (groups : List GroupLife) (o : Option (List ℕ × Bool)) → account_named groups o ≡ None → o ≡ None
 unswitched groups None none = refl
 unswitched groups (Some switched) none = absurd (cc none)

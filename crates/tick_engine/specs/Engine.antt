@@ -83,7 +83,7 @@ EngineTakes old tick new = (cpus : ℕ) (lives : List GroupLife) (triggers : Lis
 
 -- ---- the invariant of an engine
 
--- each trigger is one that a trace may set on n groups
+-- each trigger is legal for a trace with n groups
 abbrev pub AreWatchesWithin : ℕ → List TriggerWatch → Type 0
 AreWatchesWithin slots watches = All (λ watch. IsTriggerWithin last_moment slots watch.spec) watches
 

@@ -124,6 +124,6 @@ no_watch = record {
 abbrev pub watch_in : List TriggerWatch → ℕ → TriggerWatch
 watch_in watches i = slice_index_or watches i no_watch
 
--- the numbers of those of the first n triggers that fire at a tick, ascending
+-- the numbers below `count` of the triggers that fire at a tick, ascending
 abbrev pub fired_among : List Group → ℕ → List TriggerWatch → ℕ → List ℕ
 fired_among groups now watches count = filter (λ i. watch_signals groups now (watch_in watches i)) (range_with_len 0 count)

@@ -5,7 +5,7 @@ use psi_base::Ns;
 use std::marker::Model;
 
 /// The last tick: its time (ns), and the times of all groups on all processors up to it. Before the
-/// first tick all of these are 0.
+/// first tick everything is 0.
 #[derive(Drop)]
 pub(crate) struct LastTick {
     pub(crate) at: Ns,

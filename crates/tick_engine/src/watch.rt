@@ -111,7 +111,8 @@ fn add_where(fired: &mut Vec<u32>, number: u32, has_signalled: bool)
     }
 }
 
-/// Steps each active trigger whose group is live, and collects the numbers of those that fire.
+/// Steps each active trigger whose group is live, and collects the numbers of the triggers that
+/// fire.
 pub(crate) fn step_all(
     watches: &mut [TriggerWatch],
     groups: &[Group],

@@ -151,7 +151,7 @@ walked_growth lives sizes ratio few p groups ascend best rest =
 
 -- ---- one group more
 
--- the growths that are kept lead as those of their groups
+-- the stored growths lead like those of their groups
 pub leads_as : (sizes : GroupReading → List ℕ) (next best : Grown) (group before : GroupReading) →
     IsGrown sizes next group → IsGrown sizes best before →
     leads_grown next best ≡ leads_over sizes group before

@@ -1,4 +1,4 @@
--- Places of sizes, as they are kept.
+-- Places of sizes, as they are stored.
 use Rattle.std.proofs.Common.{◌≡◌, ℕ, zero, suc, ◌+◌, ◌<◌, ◌≤◌, List, [], ◌∷◌, length, get_or, set}
 use Rattle.std.proofs.Common.{take, drop, refl, sym, ap, ◌∙◌, arith, add-one}
 use Rattle.std.specs.Prelude.{Option, None, map, option_map, replicate}
@@ -81,7 +81,7 @@ scans_end lives reading is count after long whole slot =
     ∙ scans_taken lives reading is (replicate count None) (length-replicate count None ∙ long)
     (λ place. get_or-replicate_default count place None) slot
 
--- ---- what is kept stands for the readings
+-- ---- the stored past represents the readings
 
 pub none_yet : (slots : ℕ) (kept : Kept) → kept.sizes ≡ replicate slots [] →
     kept.scans ≡ replicate slots None → IsPastOf kept []

@@ -19,7 +19,7 @@ abbrev pub reaches : (GroupReading → Bool) → List GroupReading → ℕ → �
 reaches test groups key place =
     nat_le key (size_key groups place) && test (group_at groups place)
 
--- the number of these places with such a group
+-- the number of places with such a group
 abbrev pub count_reaching : (GroupReading → Bool) → List GroupReading → List ℕ → ℕ → ℕ
 count_reaching test groups places key = length (filter (reaches test groups key) places)
 

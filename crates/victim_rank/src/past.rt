@@ -39,7 +39,7 @@ fn no_scans(alloc: Global, slots: u32) -> Result<Vec<Option<u64>>, NoMemory>
     Ok(vec![in alloc; None; slots as usize]?)
 }
 
-// Puts `newest` in front of the sizes, and drops the fifth.
+// Prepends `newest` to the sizes, and drops the fifth.
 fn behind(newest: u64, sizes: Sizes) -> Sizes
     requires newest { newest ≤ 2 ^ 60 }
     requires within { AreSizes sizes }
@@ -53,7 +53,7 @@ fn behind(newest: u64, sizes: Sizes) -> Sizes
     }
 }
 
-// Puts the size of each group of the reading in front of its others.
+// Prepends the size of each group of the reading to its others.
 fn take_sizes(sizes: &mut [Sizes], reading: &Reading)
     requires slots { length sizes.old ≡ length reading.now.lives }
     requires within { All AreSizes sizes.old }
