@@ -1,4 +1,4 @@
--- The value of a table, its limits and a world, and the invariant of its indexes.
+-- The value of a table (its limits and a world), and the invariant of its indexes.
 use Rattle.std.specs.Prelude.{◌≡◌, ℕ, ◌<◌, ◌≤◌, ◌==◌, true, List, length, slice_index_or, Option, None, Some, Bool, if◌then◌else◌, refl, Result, Ok, Err}
 use Rattle.std.specs.FinMap as tasks_by
 use Rattle.std.specs.Coded.{Coded, code_by, coded×, coded_ℕ, coded_bool, coded_list}
