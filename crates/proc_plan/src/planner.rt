@@ -148,8 +148,8 @@ impl Planner {
         }
     }
 
-    /// What [`Planner::take`] does with any other event: apart from it, so that the fast path is
-    /// small enough to be inlined.
+    /// The rest of [`Planner::take`], for any other event. It isn't inlined, so that the fast path
+    /// is small enough to be inlined.
     #[inline(never)]
     pub(crate) fn take_other(&mut self, event: &Event) -> Result<(), Fault<Cause>>
         requires { Fits event.now }

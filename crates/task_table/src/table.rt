@@ -290,7 +290,7 @@ impl Table {
         }
     }
 
-    /// What [`Table::play`] does with an act that isn't of tasks alone: apart from it, so that the
+    /// The rest of [`Table::play`], for an act that isn't a task act. It isn't inlined, so that the
     /// fast path is small enough to be inlined.
     #[inline(never)]
     fn play_other(&mut self, event: &Event) -> Result<(), Fault<Cause>>
