@@ -1,9 +1,9 @@
 -- The order in which files of rules are read.
-use Rattle.std.proofs.Common.{◌≡◌, ℕ, List, [], ◌∷◌, ◌++◌, refl, sym, ap, ◌∙◌, subst, inl, Option, None, Some, Ok, Err}
+use Rattle.std.proofs.Common.{◌≡◌, ℕ, List, [], ◌++◌, refl, sym, ap, ◌∙◌, subst, inl, Option, None, Some, Ok, Err}
 use Rattle.std.specs.Prelude.{MatchResult, Result}
 use Rattle.outside.specs.Outside.{Files, ShelfCounts}
-use Rattle.outside.specs.Reads.{ReadCall, ReadFailure, ReadsFile, ReadsEach, failure_in}
-use Rattle.outside.proofs.ReadOrder.{file_stops, none_read}
+use Rattle.outside.specs.Reads.{ReadCall, ReadsFile, ReadsEach, failure_in}
+use Rattle.outside.proofs.ReadOrder.{file_stops}
 use Rattle.ruleset_json.specs.declared.types.Rules.{Rules}
 use Rattle.run_spec.specs.declared.command.Command.{Command}
 use Rattle.run_spec.specs.declared.status.Status.{Status}
