@@ -7,6 +7,7 @@ import sys
 from typing import NamedTuple, Optional
 
 from psireplay.command import INTERRUPTED, Fault, Words
+from psireplay.sampled import refuse_sampled
 from psireplay.times import SECOND, seconds
 
 from .check import must_add_up
@@ -123,6 +124,7 @@ def asked_groups(given: Given, walk: Walk) -> list[Group]:
 def work(given: Given) -> str:
     """What is printed. Before that the parts of all groups were held against psi_oomd's sums."""
     with as_file(given.trace) as file:
+        refuse_sampled(file, given.trace, "who ran while a group waited")
         told = stalls(file, given.trace)
         lines = Lines(file)
         asked = asked_time(given, lines)

@@ -31,6 +31,7 @@ from psiread.recording import read_recording
 from psiread.source import Source, Unreadable
 from psiread.words import SECOND, Parser, guarded, length, nanoseconds, number_from, share
 from psireplay.program import named_program
+from psireplay.sampled import refusal, sampled
 
 from .agreement import Growth, asked_of, growths_of, sampling_of
 from .clocks import Clocks
@@ -105,7 +106,10 @@ def span_line(first: int, last: int, length: int) -> str:
 
 
 def end_of(trace: str) -> int:
-    """How long a trace lasts, in ns, by its last line."""
+    """How long a trace lasts, in ns, by its last line. One that was made of samples isn't compared with the events of a recording."""
+    found = sampled(trace)
+    if found:
+        raise Unreadable(refusal(trace, found, "when its tasks changed their states, and tools/samples compared it with its samples"))
     try:
         with open(trace, "rb") as file:
             file.seek(0, os.SEEK_END)

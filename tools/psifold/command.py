@@ -21,13 +21,14 @@ from __future__ import annotations
 
 import re
 import sys
-from collections.abc import Iterator
-from itertools import islice
+from collections.abc import Iterable, Iterator
+from itertools import chain, islice
 from typing import IO, NamedTuple
 
 from psiread.kinds import HEAD, kind_of, kind_of_file
 from psiread.source import Faulty, Unreadable
 from psiread.words import Parser, guarded
+from psireplay.sampled import refusal, sampled_in
 from psiworld.limits import MOST_EVENTS, MOST_PROCESSORS
 
 from .check import Different
@@ -38,8 +39,9 @@ from .world import NotATrace, shortened
 FAULTY, UNREADABLE, TOO_MANY, DIFFERENT = 1, 2, 3, 4
 HEADER = re.compile("psitrace ([12]) cpus=([1-9][0-9]?)")
 MAKE_FEWER = ", and so does a longer window"
-# So many lines are read at once.
+# So many lines are read at once; and these first ones say whether the trace was made of samples.
 LINES = 10_000
+MARK_LINES = 3
 
 
 def tell(line: str) -> None:
@@ -83,7 +85,7 @@ def processors_of(header: str) -> int:
     return int(found[2])
 
 
-def lines_of(file: IO[str]) -> Iterator[str]:
+def lines_of(file: Iterable[str]) -> Iterator[str]:
     """The lines after the header."""
     for number, line in enumerate(file, 2):
         if not line.isascii():
@@ -111,14 +113,23 @@ class Output:
         sys.stdout.write("".join(f"{line}\n" for line in lines))
 
 
+def refuse_victims(options: Options, beginning: list[str]) -> None:
+    """In a trace that was made of samples nobody knows what a victim's end changes for others."""
+    found = sampled_in("".join(beginning).encode("ascii", "replace"))
+    if found and options.folding.victims:
+        raise Faulty(refusal(options.trace, found, "what others would have had without a victim, so victims can't be kept"))
+
+
 def run(options: Options) -> int:
     """Folds; answers the status."""
     with opened(options.trace) as file:
-        header = file.readline().rstrip("\n")
+        beginning = list(islice(file, MARK_LINES))
+        refuse_victims(options, beginning)
+        header = beginning[0].rstrip("\n") if beginning else ""
         output = Output()
         fold = Fold(processors_of(header), options.folding.length, output.put, options.folding.victims)
         output.write([header])
-        source, progress = lines_of(file), Progress("fold")
+        source, progress = lines_of(chain(beginning[1:], file)), Progress("fold")
         while lines := list(islice(source, LINES)):
             fold.take(lines)
             progress.show(fold.written)

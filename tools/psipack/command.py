@@ -16,7 +16,7 @@ from psireplay.program import TOP, built_program
 from .archives import gzipped, tar_of
 from .commands import PROGRAMS, TOOLS
 from .completions import BASH, ZSH, Words as Offered, script_of
-from .debian import ARCHITECTURE, NAME, UNIT, Facts, own_documents, package_of
+from .debian import ARCHITECTURE, NAME, UNITS, Facts, own_documents, package_of
 from .elf import least_libc
 from .pages import page_of
 from .tree import LIBRARY, PAGES, Member, bytes_of, documents_of, pages_of_programs, programs_of, tools_of
@@ -35,7 +35,7 @@ version {version}
 the proof can be run again in a checkout of this commit: by ./psi_oomd --build, and by .ci/run with all tests
 """
 # Where nobody says otherwise Debian's systemd enables each service on the first boot of a machine.
-PRESET = f"disable {UNIT}\n"
+PRESET = "".join(f"disable {it}\n" for it in UNITS)
 UNPROVED = "unproved: these programs were handed to tools/package, and the gate didn't build them"
 PATIENCE_SECONDS = 10
 TAG = re.compile(r"v([0-9][0-9A-Za-z.+-]*)")
@@ -164,7 +164,7 @@ def files_of(programs: dict[str, bytes], facts: Facts, kit: str) -> list[Member]
     """All files that are installed."""
     origin = ORIGIN.format(commit=facts.commit, version=facts.version, kit=kit)
     members = [*programs_of(TOP, programs, origin), *tools_of(TOP), *documents_of(TOP), *own_documents(facts)]
-    members.append(Member(f"lib/systemd/system/{UNIT}", bytes_of(TOP, "tools", "psipack", UNIT)))
+    members += [Member(f"lib/systemd/system/{it}", bytes_of(TOP, "tools", "psipack", it)) for it in UNITS]
     members.append(Member(f"lib/systemd/system-preset/50-{NAME}.preset", PRESET.encode()))
     with tempfile.TemporaryDirectory() as folder:
         write(members, folder)

@@ -29,6 +29,8 @@ TOOLS = (
     Tool("report", "psi-report", "write an incident on one page"),
     Tool("systemd-oomd", "psi-systemd-oomd", "say whom systemd-oomd would have killed"),
     Tool("oomd", "psi-meta-oomd", "say whom oomd would have killed by its own configuration"),
+    Tool("sample", "psi-sample", "sample the pressure and the memory of all groups"),
+    Tool("samples", "psi-samples", "make a trace of sampled totals of pressure"),
 )
 # The programs, each with a manual page in `docs`.
 PROGRAMS = ("psi_oomd", "psi_observe")

@@ -12,6 +12,7 @@ from .tree import DOCUMENTS, LIBRARY, Member
 NAME = "psi-oomd"
 ARCHITECTURE = "amd64"
 UNIT = "psi-record.service"
+UNITS = (UNIT, "psi-sample.service")
 CONTROL = """\
 Package: {name}
 Version: {version}
@@ -80,7 +81,7 @@ BEFORE_REMOVAL = f"""\
 #!/bin/sh
 set -e
 if [ "$1" = remove ] && [ -z "$DPKG_ROOT" ] && [ -d /run/systemd/system ]; then
-    deb-systemd-invoke stop {UNIT} >/dev/null || true
+    deb-systemd-invoke stop {" ".join(UNITS)} >/dev/null || true
 fi
 """
 # Where somebody enabled it, systemd keeps a link, which no package owns. Recordings stay: they are whose machine it is.
@@ -88,7 +89,9 @@ BEHIND_REMOVAL = f"""\
 #!/bin/sh
 set -e
 if [ "$1" = remove ] || [ "$1" = purge ]; then
-    rm -f "$DPKG_ROOT/etc/systemd/system/multi-user.target.wants/{UNIT}"
+    for unit in {" ".join(UNITS)}; do
+        rm -f "$DPKG_ROOT/etc/systemd/system/multi-user.target.wants/$unit"
+    done
 fi
 {RELOADS}"""
 OVERRIDES = f"""\

@@ -15,6 +15,7 @@ from psireplay.command import groups_told
 from psireplay.kinds import folder_told
 from psireplay.lines import RESOURCES, Kill
 from psireplay.rules import Rules, unmatched
+from psireplay.sampled import Sampled, sampled
 from psireplay.samples import Samples
 from psireplay.times import SECOND, WallTime, seconds
 
@@ -88,9 +89,18 @@ class Supposed(NamedTuple):
     blame: list[dict[str, Any]]
 
 
+class Blamed(NamedTuple):
+    """What blame says of the whole trace, and of the subject in the worst stretch."""
+
+    run: Done
+    all: dict[str, Any]
+    worst_run: Done
+    worst: dict[str, Any]
+
+
 class Facts(NamedTuple):
-    """All that the page has. The replay has series of the drawn groups; `worst` is blame of the subject in the worst stretch, and
-    `greatest` what stalled more than the subject, which the rules watch. `unmatched` are patterns that match no group."""
+    """All that the page has. The replay has series of the drawn groups; `greatest` is what stalled more than the subject, which the
+    rules watch. `unmatched` are patterns that match no group."""
 
     given: Given
     replay_run: Done
@@ -103,13 +113,12 @@ class Facts(NamedTuple):
     drawn: list[tuple[str, str]]
     samples: Optional[Samples]
     wall: Optional[WallTime]
-    blame_run: Done
-    blame: dict[str, Any]
-    worst_run: Done
-    worst: dict[str, Any]
+    # None of a trace that was made of samples, which doesn't say who ran when.
+    blamed: Optional[Blamed]
     judged: Optional[Judged]
     supposed: Optional[Supposed]
     recorded: Optional[Recorded]
+    sampled: Optional[Sampled]
 
 
 def sum_of(path: str) -> str:
@@ -224,6 +233,15 @@ def blamed(runs: Runs, given: Given, *words: str) -> tuple[Done, dict[str, Any]]
     return done, json.loads(done.text())
 
 
+def blamed_of(runs: Runs, given: Given, subject: Subject, stretch: Stretch) -> Blamed:
+    """What blame says."""
+    whole = blamed(runs, given)
+    words = [f"--group={subject.path}"]
+    if stretch.end > stretch.start:
+        words += [f"--from={seconds(stretch.start)}", f"--to={seconds(stretch.end)}"]
+    return Blamed(*whole, *blamed(runs, given, *words))
+
+
 def samples_of(given: Given, groups: list[str], end: int) -> Optional[Samples]:
     """The samples of memory of drawn groups, where the trace has some."""
     samples = Samples(given.trace, groups, end)
@@ -255,21 +273,17 @@ def collect(runs: Runs, given: Given) -> Facts:
     drawn = drawn_of(peaks, subject, greatest, given)
     groups = list(dict.fromkeys(path for path, _ in drawn))
     replay = read_replay(run.lines(), groups)
-    supposed = suppose(runs, given, replay, subject)
+    mark = sampled(given.trace)
+    supposed = suppose(runs, given, replay, subject) if mark is None else None
     stretch = stretch_in(replay, subject)
     more = (greatest, stretch_in(replay, greatest)) if greatest else None
     missing = unmatched(judged.rules.rulesets, replay.rounds.paths | {"/"}) if judged else []
     thin(replay)
     if supposed:
         thin(supposed.replay)
-    blame_run, blame = blamed(runs, given)
-    words = [f"--group={subject.path}"]
-    if stretch.end > stretch.start:
-        words += [f"--from={seconds(stretch.start)}", f"--to={seconds(stretch.end)}"]
-    worst_run, worst = blamed(runs, given, *words)
+    found = blamed_of(runs, given, subject, stretch) if mark is None else None
     wall = given.wall or (began(known.summary.said) if known else None)
     samples = samples_of(given, groups, replay.end.moment)
     return Facts(
-        given, run, replay, peaks, subject, stretch, more, missing, drawn, samples, wall, blame_run, blame, worst_run, worst, judged,
-        supposed, known,
+        given, run, replay, peaks, subject, stretch, more, missing, drawn, samples, wall, found, judged, supposed, known, mark
     )

@@ -75,7 +75,8 @@ def body(page: Element, facts: Facts, runs: Runs) -> None:
     say(main, "p", *sections.lead(facts), class_="lead")
     sections.notes(main, facts)
     pictures = sections.time_lines(main, facts)
-    sections.blame(main, facts)
+    if facts.blamed:
+        sections.blame(main, facts, facts.blamed)
     judgement.rules(main, facts)
     by_oomd.section(main, facts, runs)
     trust.recording(main, facts)

@@ -6,9 +6,10 @@ from typing import Any, NamedTuple, Optional
 from psichart.axes import time_axis
 from psichart.svg import add
 from psireplay.lines import Kill
+from psireplay.sampled import Sampled
 from psireplay.times import seconds
 
-from .facts import Facts, Judged
+from .facts import Blamed, Facts, Judged
 from .html import Element, Words, folded, say, table, word
 from .nearness import share
 from .pictures import Album, Picture
@@ -56,10 +57,15 @@ def killer(facts: Facts, kill: Kill) -> str:
 # ---------------------------------------------------------------- 1. on top
 
 
+def sampling(mark: Sampled) -> str:
+    """How the first sentence begins if the trace was made of samples: what such a trace can't say."""
+    return f"By {mark.interval()}, so that short stalls may be missed and nobody knows who ran when: "
+
+
 def lead(facts: Facts) -> list[Words]:
     """What the machine went through, and what the rules would have done."""
     end = facts.replay.end.moment
-    found: list[Words] = []
+    found: list[Words] = [sampling(facts.sampled)] if facts.sampled else []
     if facts.greatest:
         found += [machine_sentence(*facts.greatest, end, caveat(end)) + " ", source(facts.replay_run), " "]
         found += [machine_sentence(facts.subject, facts.stretch, end, "", ", which the rules watch,") + " ", source(facts.replay_run)]
@@ -227,8 +233,8 @@ def without_same(rows: list[dict[str, Any]], keys: tuple[str, ...]) -> list[dict
     return found
 
 
-def groups_table(section: Element, facts: Facts) -> None:
-    rows = sorted(without_same(facts.blame["groups"], MEASURED), key=lambda it: -max(it["waited_ns"], it["io_ns"], it["memory_ns"]))
+def groups_table(section: Element, blamed: Blamed) -> None:
+    rows = sorted(without_same(blamed.all["groups"], MEASURED), key=lambda it: -max(it["waited_ns"], it["io_ns"], it["memory_ns"]))
     heads = ["group", "ran", "waited for a processor", "for IO", "in memory stalls", "memory grown, MiB", "pages scanned"]
     cells = [
         [
@@ -238,7 +244,7 @@ def groups_table(section: Element, facts: Facts) -> None:
         ]
         for it in rows if it["ran_ns"] or it["waited_ns"] or it["io_ns"] or it["memory_ns"]
     ]  # fmt: skip
-    table(section, f"All of the trace, in s, summed over {facts.blame['processors']} processors", heads, cells[:SHOWN])
+    table(section, f"All of the trace, in s, summed over {blamed.all['processors']} processors", heads, cells[:SHOWN])
     rest(section, len(cells), "groups")
 
 
@@ -260,9 +266,9 @@ def parts_table(section: Element, it: dict[str, Any], parts: list[dict[str, Any]
         table(section, caption.format(group=it["group"], time=in_seconds(whole)), ["group", "s", "of it"], rows)
 
 
-def matrix(section: Element, facts: Facts) -> None:
+def matrix(section: Element, blamed: Blamed) -> None:
     """Who waited for whom."""
-    waiting = sorted((it for it in without_same(facts.blame["groups"], ("while_ran",)) if it["waited_ns"]), key=lambda it: -it["waited_ns"])
+    waiting = sorted((it for it in without_same(blamed.all["groups"], ("while_ran",)) if it["waited_ns"]), key=lambda it: -it["waited_ns"])
     totals: dict[Optional[str], int] = {}
     for it in waiting:
         for part in it["while_ran"]:
@@ -282,20 +288,20 @@ def matrix(section: Element, facts: Facts) -> None:
     rest(section, len(waiting), "groups waited")
 
 
-def blame(page: Element, facts: Facts) -> None:
+def blame(page: Element, facts: Facts, blamed: Blamed) -> None:
     section = add(page, "section", id="blame")
     say(section, "h2", "Who waited for whom")
-    say(section, "p", "What ran on a processor is what a group waited for there ", source(facts.blame_run), ".", class_="soft")
+    say(section, "p", "What ran on a processor is what a group waited for there ", source(blamed.run), ".", class_="soft")
     row = add(section, "div", class_="row")
-    groups_table(add(row, "div"), facts)
-    matrix(add(row, "div"), facts)
-    start, to = facts.worst["from_ns"], facts.worst["to_ns"]
-    say(section, "h3", f"{facts.subject.path} in the worst stretch, {seconds(start)} to {seconds(to)} s ", source(facts.worst_run))
+    groups_table(add(row, "div"), blamed)
+    matrix(add(row, "div"), blamed)
+    start, to = blamed.worst["from_ns"], blamed.worst["to_ns"]
+    say(section, "h3", f"{facts.subject.path} in the worst stretch, {seconds(start)} to {seconds(to)} s ", source(blamed.worst_run))
     row = add(section, "div", class_="row")
-    for it in facts.worst["groups"]:
+    for it in blamed.worst["groups"]:
         for key, whole, caption in MEANWHILE:
             parts_table(row, it, it[key], it[whole], caption)
-    if any(part["group"] is None for it in facts.blame["groups"] for part in it["while_ran"]):
+    if any(part["group"] is None for it in blamed.all["groups"] for part in it["while_ran"]):
         say(section, "p", NO_TASK, class_="soft")
     text = "“At the same time” is no cause: a trace doesn’t say who kept the disk busy or used up the memory."
     say(section, "p", text, class_="soft")

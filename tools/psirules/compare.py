@@ -7,8 +7,9 @@ from dataclasses import dataclass
 from psirules import telling
 from psirules.expectations import victims
 from psirules.program import Kill, Program
-from psirules.replays import Traces, accepted, no_input, note_unmatched
+from psirules.replays import Traces, accepted, no_input, note_samples, note_unmatched
 from psirules.rules_file import RulesFile
+from psirules.sampling import note
 from psirules.telling import Outcome
 from psirules.wording import Fault, seconds
 
@@ -71,7 +72,7 @@ class Compared:
     def outcome(self) -> Outcome:
         if isinstance(self.found, Fault):
             return Outcome(self.trace, None, str(self.found))
-        return Outcome(self.trace, self.found.word == "same", self.found.told)
+        return Outcome(self.trace, self.found.word == "same", self.found.told + note(self.trace))
 
     def record(self, old: RulesFile, new: RulesFile) -> dict[str, object]:
         if isinstance(self.found, Fault):
@@ -87,11 +88,13 @@ def run(given: argparse.Namespace) -> int:
     with contextlib.ExitStack() as files:
         old, old_file = accepted(program, given.old, files, ORDER)
         new, new_file = accepted(program, given.new, files, ORDER)
-        replays = Traces(given.traces, given.pace, given.jobs).replays(program, [old_file, new_file])
-    whole = [trace for trace, *found in zip(given.traces, *replays) if not any(isinstance(it, Fault) for it in found)]
-    note_unmatched(whole, [old, new])
+        traces = Traces.of(given.traces, given.pace, given.jobs)
+        replays = traces.replays(program, [old_file, new_file])
+    whole = [trace for trace, *found in zip(traces.names, *replays) if not any(isinstance(it, Fault) for it in found)]
+    note_unmatched(traces, whole, [old, new])
+    note_samples(whole, [old, new])
     compared = []
-    for trace, one, other in zip(given.traces, *replays):
+    for trace, one, other in zip(traces.names, *replays):
         fault = next((it for it in (one, other) if isinstance(it, Fault)), None)
         compared.append(Compared(trace, fault or difference(one, other, old, new)))
     outcomes = [it.outcome() for it in compared]

@@ -6,8 +6,9 @@ from collections.abc import Iterable
 from psirules import by_oomd, by_systemd, expectations, telling
 from psirules.expectations import Expectation
 from psirules.program import Kill, Program
-from psirules.replays import STANDARD_INPUT, Traces, accepted, all_groups, note_unmatched, read_again
+from psirules.replays import STANDARD_INPUT, Traces, accepted, note_samples, note_unmatched, read_again
 from psirules.rules_file import RulesFile, bytes_of
+from psirules.sampling import note
 from psirules.telling import Outcome
 from psirules.wording import Fault
 
@@ -30,9 +31,9 @@ STATUS = "The status is 0 where all holds, 1 where something doesn't, and 2 wher
 class Judged:
     """A trace with its kills, or the fault for which there are none, and what became of each expectation."""
 
-    def __init__(self, trace: str, found: list[Kill] | Fault, wanted: list[Expectation], rules: RulesFile) -> None:
+    def __init__(self, traces: Traces, trace: str, found: list[Kill] | Fault, wanted: list[Expectation], rules: RulesFile) -> None:
         self.trace, self.found, self.wanted, self.rules = trace, found, wanted, rules
-        self.groups = None if isinstance(found, Fault) else all_groups(trace)
+        self.groups = None if isinstance(found, Fault) else traces.groups(trace)
         self.outcomes = [self.outcome(it) for it in wanted]
 
     def outcome(self, wanted: Expectation) -> Outcome:
@@ -42,7 +43,7 @@ class Judged:
         if missing:
             return Outcome(wanted.text, None, missing)
         verdict = wanted.verdict(self.found, self.rules)
-        return Outcome(wanted.text, verdict.holds, verdict.told)
+        return Outcome(wanted.text, verdict.holds, verdict.told + note(self.trace))
 
     def record(self) -> dict[str, object]:
         is_fault = isinstance(self.found, Fault)
@@ -101,7 +102,7 @@ def judge(given: argparse.Namespace, program: Program) -> list[Judged]:
     program.prepare()
     if STANDARD_INPUT in given.traces:
         read_again()
-    traces = Traces(given.traces, given.pace, given.jobs)
+    traces = Traces.of(given.traces, given.pace, given.jobs)
     with contextlib.ExitStack() as files:
         if given.by == by_systemd.NAME:
             rules: RulesFile = by_systemd.BySystemd(given.settings)
@@ -116,8 +117,10 @@ def judge(given: argparse.Namespace, program: Program) -> list[Judged]:
             check(wanted, given.want, rules)
             (replays,) = traces.replays(program, [file])
     if given.by not in (by_oomd.NAME, by_systemd.NAME):
-        note_unmatched([trace for trace, found in zip(given.traces, replays) if not isinstance(found, Fault)], [rules])
-    return [Judged(trace, found, wanted, rules) for trace, found in zip(given.traces, replays)]
+        judged = [trace for trace, found in zip(traces.names, replays) if not isinstance(found, Fault)]
+        note_unmatched(traces, judged, [rules])
+        note_samples(judged, [rules])
+    return [Judged(traces, trace, found, wanted, rules) for trace, found in zip(traces.names, replays)]
 
 
 def run(given: argparse.Namespace) -> int:

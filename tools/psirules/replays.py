@@ -1,6 +1,7 @@
 """Traces by rules: each replayed, side by side."""
 import contextlib
 import functools
+import json
 from collections.abc import Callable
 import mmap
 import os
@@ -9,36 +10,76 @@ import shutil
 import stat
 import sys
 import tempfile
-from dataclasses import dataclass
+from dataclasses import dataclass, field, replace
 
 from psireplay.kinds import TRACE, kind_of
+from psireplay.sampled import MOST_BYTES, Sampled, mark_in, time_in_whole, wholes
 from psirules.patterns import matches
 from psirules.program import Kill, Pace, Program, Refusal, RulesAt, processors, side_by_side
+from psirules.sampling import must_judge, promise
 from psirules.rules_file import RulesFile, bytes_of, kept
 from psirules.telling import complain
 from psirules.wording import Fault, quoted
 
 STANDARD_INPUT = "-"
+GROUP = re.compile(rb"^[0-9]+ group (\S+)$", re.MULTILINE)
 
 
 @dataclass(frozen=True)
 class Traces:
-    """Traces by name, how they are replayed, and how many at a time (as many as there are processors, where it isn't said)."""
+    """Traces by name, how they are replayed, and how many at a time (as many as there are processors, where it isn't said). Traces
+    that were made together of samples are one, by the name of the first; `parts` has all of them."""
 
     names: list[str]
     pace: Pace
     jobs: int | None
+    parts: dict[str, list[tuple[str, Sampled | None]]] = field(default_factory=dict)
+
+    @staticmethod
+    def of(names: list[str], pace: Pace, jobs: int | None) -> "Traces":
+        """The traces of these names."""
+        found = wholes(names)
+        return Traces([it.name for it in found], pace, jobs, {it.name: it.parts for it in found if len(it.parts) > 1})
+
+    def joined(self, trace: str, replay: Callable[[str], list[Kill]]) -> list[Kill]:
+        """The kills of a trace, or of all its parts: one in the time that two parts share counts once."""
+        if trace not in self.parts:
+            return replay(trace)
+        kills = []
+        for name, mark in self.parts[trace]:
+            times = [(kill, time_in_whole(kill.moment, mark)) for kill in replay(name)]
+            kills += [replace(kill, moment=time) for kill, time in times if time is not None]
+        return kills
+
+    def groups(self, trace: str) -> set[str] | None:
+        """The groups that a trace, or any of its parts, ever has; None if some part can't be read twice."""
+        found: set[str] = set()
+        for name, _ in self.parts.get(trace, [(trace, None)]):
+            groups = all_groups(name)
+            if groups is None:
+                return None
+            found |= groups
+        return found
+
+    def replay(self, program: Program, trace: str, file: RulesAt, threads: int) -> list[Kill]:
+        """The kills of one trace by a rules file."""
+        must_judge(trace, json.loads(bytes_of(file.path)), file.name)
+        return self.joined(trace, lambda name: program.replay(name, file, self.pace, threads))
 
     def replays(self, program: Program, rules: list[RulesAt]) -> list[list[list[Kill] | Fault]]:
         """For each of these rules files the kills of each trace, or why it couldn't be replayed."""
         pairs = [(file, trace) for file in rules for trace in self.names]
-        calls = [functools.partial(program.replay, trace, file, self.pace) for file, trace in pairs]
+        calls = [functools.partial(self.replay, program, trace, file) for file, trace in pairs]
         found = side_by_side(calls, self.jobs or processors())
         return [found[number * len(self.names) :][: len(self.names)] for number in range(len(rules))]
 
     def each(self, replay: Callable[[str, int], list[Kill]]) -> list[list[Kill] | Fault]:
         """The kills of each trace by another way to replay it, which is told how many threads are left for it."""
-        return side_by_side([functools.partial(replay, trace) for trace in self.names], self.jobs or processors())
+
+        def call(trace: str, threads: int) -> list[Kill]:
+            return self.joined(trace, lambda name: replay(name, threads))
+
+        return side_by_side([functools.partial(call, trace) for trace in self.names], self.jobs or processors())
 
 
 def read_again() -> None:
@@ -50,7 +91,7 @@ def read_again() -> None:
 
 
 def all_groups(trace: str) -> set[str] | None:
-    """The groups that a trace ever has, the root among them; None if it can't be read twice, as a pipe can't."""
+    """The groups that a trace ever has, with the root and without that of a mark; None if it can't be read twice, as a pipe can't."""
     with contextlib.ExitStack() as files:
         number = 0 if trace == STANDARD_INPUT else None
         if number is None and os.path.isfile(trace):
@@ -58,25 +99,27 @@ def all_groups(trace: str) -> set[str] | None:
         if number is None or not stat.S_ISREG(os.fstat(number).st_mode) or not os.fstat(number).st_size:
             return None
         with mmap.mmap(number, 0, access=mmap.ACCESS_READ) as data:
-            found = re.findall(rb"^[0-9]+ group (\S+)$", data, re.MULTILINE)
+            found = GROUP.findall(data, len(mark_in(data[:MOST_BYTES])))
     return {"/", *(path.decode("latin-1") for path in found)}
 
 
-def groups_of(trace: str) -> set[str] | None:
-    """The groups of a trace; None of one that has the root alone, which rules on groups are no answer to."""
-    found = all_groups(trace)
-    return found if found and len(found) > 1 else None
-
-
-def note_unmatched(traces: list[str], rules: list[RulesFile]) -> None:
-    """Says which patterns of rules match no group of a trace: there such a rule does nothing, whatever happens."""
-    for trace in traces:
-        groups = groups_of(trace)
-        for file in rules if groups is not None else ():
+def note_unmatched(traces: Traces, names: list[str], rules: list[RulesFile]) -> None:
+    """Says which patterns of rules match no group of a trace: such a rule never does anything there. A trace that has the root alone
+    needs no such note."""
+    for trace in names:
+        groups = traces.groups(trace) or set()
+        for file in rules if len(groups) > 1 else ():
             for number, pattern in file.patterns():
-                if not any(matches(pattern, path) for path in groups or ()):
+                if not any(matches(pattern, path) for path in groups):
                     what = f"'{pattern}' of ruleset {number} {quoted(file.ruleset_name(number))} in {file.name}"
                     complain(f"note: no group of {trace} matches {what}")
+
+
+def note_samples(traces: list[str], rules: list[RulesFile]) -> None:
+    """Says what rules can see in traces that were made of samples."""
+    for said in dict.fromkeys(promise(trace, file.data) for trace in traces for file in rules):
+        if said:
+            complain(f"note: {said}")
 
 
 def no_input(names: list[str]) -> None:

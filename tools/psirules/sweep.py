@@ -10,8 +10,9 @@ from decimal import Decimal
 from psirules import places, telling
 from psirules.places import Place
 from psirules.program import RULES_REFUSED, Kill, Pace, Program, Refusal, processors, side_by_side
-from psirules.replays import accepted, no_input
+from psirules.replays import accepted, no_input, note_samples
 from psirules.rules_file import RulesFile, kept
+from psirules.sampling import must_judge
 from psirules.telling import Outcome
 from psirules.wording import Fault, quoted, seconds
 
@@ -137,6 +138,8 @@ def run(given: argparse.Namespace) -> int:
     with contextlib.ExitStack() as files:
         rules, _ = accepted(program, given.file, files, "FILE TRACE, with a rules file for FILE")
     axes = [axis(rules, text) for text in given.vary]
+    must_judge(given.trace, rules.data, rules.name)
+    note_samples([given.trace], [rules])
     rows = rows_of(axes, rules, given)
 
     def record(status: int) -> object:

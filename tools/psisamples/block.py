@@ -1,0 +1,86 @@
+"""A block: a stretch of one processor in which tasks of one group produce six wanted times.
+
+The times (ns) are in the order of LEVELS. A block needs at most four tasks, by their kinds: `w` waits for IO, `s` sleeps in a
+memory stall, `o` is ready, and `r` runs. A block has three parts. In the first no task is ready. In the second `o` is ready and no
+task runs. In the third `r` runs, to the end of the block, so that the block has a whole number of ms of weight.
+
+A task's state is one letter: `w` waits for IO, `s` sleeps in a stall, `r` and `R` are ready, `x` and `X` run; those in capitals are
+in a stall. `z` sleeps.
+"""
+from __future__ import annotations
+
+from typing import NamedTuple
+
+from psireplay.lines import LEVELS as SOME_AND_FULL
+
+MS = 1_000_000
+TICK = 2000 * MS
+RESOURCES = ("io", "memory", "cpu")
+LEVELS = tuple((resource, level) for resource in RESOURCES for level in SOME_AND_FULL)
+Times = tuple[int, ...]
+NONE: Times = (0,) * len(LEVELS)
+
+
+class Span(NamedTuple):
+    """A task of this kind is in a state from `begin` to `end`, ns since the start of its block."""
+
+    begin: int
+    end: int
+    kind: str
+    state: str
+
+
+def possible(times: Times) -> Times:
+    """The nearest times that a group on one processor can have within a tick."""
+    io_some, io_full, mem_some, mem_full, cpu_some, cpu_full = (min(TICK, max(0, it)) for it in times)
+    io_full, mem_full = min(io_full, io_some), min(mem_full, mem_some)
+    cpu_some = min(cpu_some, TICK - io_full)
+    mem_some = min(mem_some, TICK - io_full + mem_full)
+    return io_some, io_full, mem_some, mem_full, cpu_some, min(cpu_full, cpu_some)
+
+
+def fitted(times: Times, room: int) -> Times:
+    """The times as far as they fit into a block of `room` ns."""
+    io_some, io_full, mem_some, mem_full, cpu_some, cpu_full = (min(room, max(0, it)) for it in times)
+    io_full, mem_full = min(io_full, io_some), min(mem_full, mem_some)
+    cpu_some = min(cpu_some, room - io_full)
+    mem_some = min(mem_some, room - io_full + mem_full)
+    return io_some, io_full, mem_some, mem_full, cpu_some, min(cpu_full, cpu_some)
+
+
+def least_length(times: Times) -> int:
+    """The least length (ns) of a block with these times."""
+    io_some, io_full, mem_some, mem_full, cpu_some, _ = times
+    busy = max(cpu_some, io_some - io_full, mem_some - mem_full)
+    return busy + max(io_full, mem_full - busy)
+
+
+def easy_length(times: Times) -> int:
+    """The length (ns) in which all of memory full is asleep, if a tick has that much room: fewer turns are needed then."""
+    io_some, io_full, mem_some, mem_full, cpu_some, _ = times
+    busy = max(cpu_some, io_some - io_full, mem_some - mem_full)
+    easy = busy + max(io_full, mem_full)
+    return easy if easy < TICK - MS else least_length(times)
+
+
+def spans_of(times: Times, length: int) -> list[Span]:
+    """The states of the tasks of a block of `length` ns."""
+    io_some, io_full, mem_some, mem_full, cpu_some, cpu_full = times
+    busy = max(cpu_some, io_some - io_full, mem_some - mem_full)
+    idle = max(io_full, min(mem_full, length - busy))
+    asleep = min(mem_full, idle)
+    # From `idle` on the task on the processor is itself in the stall until `stalled`; then `s` is, until `lacking`.
+    stalled = idle + mem_full - asleep
+    lacking = stalled + mem_some - mem_full
+    found = [Span(idle - io_full, idle - io_full + io_some, "w", "w"), Span(idle - asleep, idle, "s", "s")]
+    found.append(Span(stalled, lacking, "s", "s"))
+    marks = sorted({idle, idle + cpu_full, idle + cpu_some, stalled, length})
+    for begin, end in zip(marks, marks[1:]):
+        is_in_stall = begin < stalled
+        if begin < idle + cpu_full:
+            found.append(Span(begin, end, "o", "R" if is_in_stall else "r"))
+            continue
+        found.append(Span(begin, end, "r", "X" if is_in_stall else "x"))
+        if begin < idle + cpu_some:
+            found.append(Span(begin, end, "o", "r"))
+    return [it for it in found if it.begin < it.end]

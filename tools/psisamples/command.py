@@ -1,0 +1,215 @@
+"""The command tools/samples: its words, and what it says of the traces that it made."""
+from __future__ import annotations
+
+import argparse
+import re
+import sys
+import time
+
+from psiread.words import length
+from psireplay.command import Fault, Words
+from psireplay.times import SECOND, WallTime, seconds, told, wall_time
+
+from .block import LEVELS, TICK
+from .convert import Options, Trigger
+from .data import Data, counted
+from .inputs import LONG, Inputs, Naming
+from .parts import Made, Maker
+from .trace_file import MOST_EVENTS
+
+ABOUT = (
+    "Makes a trace of sampled totals of pressure: rules, triggers, charts and reports then work on a time of which there is no recording. "
+    "FILE is CSV as tools/sample writes it, JSON lines, the answer of Prometheus to a query with a range, the output of promtool tsdb "
+    "dump, OpenMetrics text, the output of a loop over the pressure files, or a recording's folder; docs/SAMPLES.md has all forms, and "
+    "what such a trace can't answer."
+)
+STATUS = (
+    "Each trace is replayed and compared with the samples before it gets its name. Statuses: 1 wrong words, or a file that isn't "
+    "samples, 4 totals differ by more than was reported, 6 the output can't be written."
+)
+HELP = {
+    "output": "the trace to write; a longer time becomes several, with numbers before the ending",
+    "from": "begin at this time: seconds after the first sample, or 2026-11-28T13:58:12Z",
+    "to": "end at this time",
+    "groups": "leave out groups of more than N components",
+    "rename": "give a group, with all below it, another path",
+    "labels": "name groups by these labels of metrics, with commas between, in place of the label id",
+    "lead-in": "begin with a pretended past of this length, as 12min, by which averages begin as the machine's; samples need averages",
+    "averages": "whether a total grows between two samples as avg10 at both says; yes for intervals of at least 14 s if left out",
+    "trigger": "add a trigger, as '/web io some 500000 2000000': a group, a resource, a level, and the threshold and the window in us",
+    "lines": "write at most N lines to a trace (4000000)",
+}
+WRONG, DIFFERS, WRITE = 1, 4, 6
+# How long a pretended past is, ns.
+LEAST_PAST, MOST_PAST = 120 * SECOND, 3600 * SECOND
+SHOWN = 8
+TRIGGER = re.compile(r"(/\S*) (io|memory|cpu) (some|full) ([1-9][0-9]*) ([1-9][0-9]*)")
+
+
+def words() -> Words:
+    parser = Words("samples", ABOUT, STATUS)
+    option = parser.add_argument
+    option("files", metavar="FILE", nargs="+", help="samples; several files may have several groups or times")
+    option("-o", "--output", metavar="TRACE", required=True, help=HELP["output"])
+    option("--from", dest="start", metavar="TIME", type=when, help=HELP["from"])
+    option("--to", metavar="TIME", type=when, help=HELP["to"])
+    option("--groups", metavar="DEPTH", type=depth, help=HELP["groups"])
+    option("--rename", metavar="OLD=PATH", action="append", default=[], type=renaming, help=HELP["rename"])
+    option("--labels", metavar="NAMES", default="", help=HELP["labels"])
+    option("--lead-in", dest="lead", metavar="LENGTH", type=past, help=HELP["lead-in"])
+    option("--averages", choices=("yes", "no"), help=HELP["averages"])
+    option("--trigger", metavar="TEXT", action="append", default=[], type=trigger, help=HELP["trigger"])
+    option("--lines", metavar="N", type=line_count, default=MOST_EVENTS, help=HELP["lines"])
+    return parser
+
+
+def when(word: str) -> WallTime | int:
+    """A time of the world, or ns after the first sample."""
+    if re.fullmatch(r"[0-9]{1,9}(\.[0-9]{1,9})?", word):
+        whole, _, part = word.partition(".")
+        return int(whole) * SECOND + int(part.ljust(9, "0") or 0)
+    return wall_time(word)
+
+
+def depth(word: str) -> int:
+    if not re.fullmatch("[1-9][0-9]?", word) or int(word) > 32:
+        raise argparse.ArgumentTypeError(f"{word} is no number from 1 to 32")
+    return int(word)
+
+
+def past(word: str) -> int:
+    found = length(word)
+    if found % TICK or not LEAST_PAST <= found <= MOST_PAST:
+        raise argparse.ArgumentTypeError(f"{word} isn't 120 s to 1 h in whole ticks of 2 s")
+    return found
+
+
+def line_count(word: str) -> int:
+    if not re.fullmatch("[1-9][0-9]{3,6}", word) or int(word) > MOST_EVENTS:
+        raise argparse.ArgumentTypeError(f"{word} is no number from 1000 to {MOST_EVENTS}")
+    return int(word)
+
+
+def renaming(word: str) -> tuple[str, str]:
+    old, _, new = word.rpartition("=")
+    if not old or not new.startswith("/"):
+        raise argparse.ArgumentTypeError(f"{word} isn't OLD=/PATH")
+    return old, new
+
+
+def trigger(word: str) -> Trigger:
+    found = TRIGGER.fullmatch(word)
+    if not found or not 500_000 <= int(found[5]) <= 10_000_000 or int(found[4]) > int(found[5]):
+        raise argparse.ArgumentTypeError(f"{word!r} isn't '/GROUP io some THRESHOLD WINDOW', in us, of a window of 0.5 to 10 s")
+    return Trigger(found[1], word.partition(" ")[2])
+
+
+# ---------------------------------------------------------------- the work
+
+
+def read(given: argparse.Namespace) -> Data:
+    """All samples."""
+    labels: tuple[str, ...] = tuple(filter(None, given.labels.split(",")))
+    averages = True if given.lead is not None else {"yes": True, "no": False, None: None}[given.averages]
+    inputs = Inputs(Naming(dict(given.rename), given.groups, labels), averages)
+    for name in given.files:
+        inputs.read(name)
+    return counted(inputs)
+
+
+def span_of(given: argparse.Namespace, data: Data) -> tuple[int, int]:
+    """From when to when the trace is, ns since 1970."""
+    ends = []
+    for value, default in ((given.start, data.start), (given.to, data.end)):
+        at = default if value is None else value.epoch if isinstance(value, WallTime) else data.start + value
+        if not data.start <= at <= data.end:
+            raise Fault(f"{seconds(max(0, at - data.start))} s is outside the samples, which last {seconds(data.end - data.start)} s")
+        ends.append(at)
+    if ends[0] + TICK > ends[1]:
+        raise Fault(f"--from and --to leave less than a tick of {seconds(TICK)} s")
+    return ends[0], ends[1]
+
+
+def must_see(triggers: list[Trigger], data: Data) -> None:
+    """A trigger whose window samples can't judge, or whose group has none, is a fault."""
+    for it in triggers:
+        window = int(it.fields.split()[-1]) * 1000
+        if window < 2 * data.every:
+            least = seconds(2 * data.every)
+            raise Fault(f"--trigger '{it.path} {it.fields}': samples each {seconds(data.every)} s don't show windows below {least} s")
+        if it.path not in data.groups:
+            raise Fault(f"--trigger '{it.path} {it.fields}': no group {it.path} has samples")
+
+
+class Progress:
+    """How far the work is, on a terminal."""
+
+    def __init__(self, whole: int) -> None:
+        self.whole, self.shown, self.is_shown = whole, time.monotonic(), sys.stderr.isatty()
+
+    def show(self, done: int) -> None:
+        """So many ns are done."""
+        if self.is_shown and time.monotonic() > self.shown + 0.5:
+            self.shown = time.monotonic()
+            print(f"\rsamples: {min(100, 100 * done // max(1, self.whole))} %", end="", file=sys.stderr, flush=True)
+
+
+def report(data: Data, made: Made, span: int) -> list[str]:
+    """What is said of the traces."""
+    longest = f", the longest {seconds(data.gap)} s" if data.gap > data.every else ""
+    several = f", in {len(made.names)} traces that overlap by 15 min" if len(made.names) > 1 else ""
+    lines = [
+        f"{told(span)} of {len(data.groups)} groups, sampled each {seconds(data.every)} s{longest}{several}",
+        f"{sum(made.lines)} lines on {made.processors} processors; {made.compared} totals were compared with a replay",
+        "tasks, processors and who ran when are made up: docs/SAMPLES.md says what this trace can't answer",
+    ]
+    least = seconds(2 * data.every)
+    lines.append(f"stalls shorter than {least} s may show at a part of their height, and triggers with shorter windows may not signal")
+    if not data.has_scans:
+        lines.append("no count of scanned pages is in it: memory_reclaim and kill_by_pg_scan see none")
+    if not data.has_host:
+        lines.append("no memory of the machine is in it: swap_free and percentages of memory see none")
+    if made.again:
+        lines.append(f"groups that were made again: {made.again}")
+    worst = sorted(made.off.items(), key=lambda it: -it[1].most)
+    for (path, level), off in worst[:SHOWN]:
+        lines.append(f"{path} {' '.join(LEVELS[level])}: {off.times} totals are off, by {off.most} us at most")
+    if worst[SHOWN:]:
+        lines.append(f"so are totals of {len(worst) - SHOWN} more levels, by {worst[SHOWN][1].most} us at most")
+    return lines
+
+
+def work(given: argparse.Namespace) -> int:
+    """Makes the traces; the status."""
+    data = read(given)
+    must_see(given.trigger, data)
+    start, end = span_of(given, data)
+    if given.lead is not None and not data.has_averages:
+        raise Fault("--lead-in needs avg10, avg60 and avg300 at the first samples: these have totals alone")
+    if given.averages == "yes" and not data.has_averages:
+        raise Fault("--averages needs avg10 in the samples: these have totals alone")
+    is_shaped = given.averages == "yes" or given.averages is None and data.has_averages and data.every >= LONG
+    options = Options(tuple(given.trigger), (given.lead or 0) // TICK, is_shaped)
+    made = Maker(data, start, end, options, given.lines, Progress(end - start).show).make(given.output)
+    for line in report(data, made, end - start):
+        print(f"samples: {line}", file=sys.stderr)
+    for at, path, level, total, found in made.wrong[:SHOWN]:
+        said = "none" if found is None else f"{found} us"
+        print(f"samples: at {seconds(at)} s {path} {' '.join(LEVELS[level])} is {said}, by the samples {total} us", file=sys.stderr)
+    if made.wrong:
+        print(f"samples: {len(made.wrong)} of {made.compared} totals differ: nothing is written", file=sys.stderr)
+    return DIFFERS if made.wrong else 0
+
+
+def main() -> int:
+    """Runs the command; the status."""
+    try:
+        return work(words().parse_args())
+    except Fault as fault:
+        print(f"samples: {fault}", file=sys.stderr)
+        return WRONG
+    except OSError as fault:
+        print(f"samples: {fault.filename or 'the output'}: {fault.strerror}", file=sys.stderr)
+        return WRITE
+
+

@@ -1,0 +1,389 @@
+"""Rows of samples as a trace: tick after tick, each group gets what its totals grew by."""
+from __future__ import annotations
+
+from itertools import count, islice
+from typing import NamedTuple, Optional
+
+from .block import LEVELS, NONE, TICK
+from .lives import Life, Lives, Memory, between_samples
+from .past import Past, end_past
+from .plan import Plan, Tree
+from .rows import ROOT
+from .trace_file import FIRST, Tasks, TraceFile
+from .writer import Event, Key, Processor, Task
+
+US = 1000
+SIX = range(len(LEVELS))
+# Made-up tasks have numbers from here on, beyond those of kernels.
+FIRST_NUMBER = 4_000_000_000
+# Below this growth (ns) a group without others at work below it waits for its next sample: averages know whole percents only.
+LEAST = TICK // 100
+# What is owed and is less than this (ns) is left, so that ticks between two samples are alike.
+SMALL = 500
+# How near (us) totals are to the samples unless it is reported.
+NEAR = 2
+# Sizes that changed by less than a twentieth wait for the next sample.
+PARTS = 20
+NEVER = 2**62
+# Where the tasks of a group come, among lines of changes.
+TASKS = "tasks"
+
+
+class Off(NamedTuple):
+    """How often a total of a group differed from the samples by more than NEAR, and by how much at most (us)."""
+
+    times: int
+    most: int
+
+
+class Trigger(NamedTuple):
+    """A trigger of --trigger: a group, and the rest of its line."""
+
+    path: str
+    fields: str
+
+
+class Options(NamedTuple):
+    """What is asked for: triggers, for how many ticks a past is pretended before the first sample, and whether totals grow between two
+    samples as avg10 says."""
+
+    triggers: tuple[Trigger, ...] = ()
+    lead: int = 0
+    is_shaped: bool = False
+
+    def later(self) -> Options:
+        """For a part that isn't the first one."""
+        return self._replace(lead=0)
+
+
+class Conversion:
+    """A trace that grows by a tick at a time. `checks` gets each tick's lines of totals that must come, by the samples."""
+
+    def __init__(self, lives: Lives, options: Options) -> None:
+        self.lives, self.triggers, self.lead = lives, options.triggers, options.lead
+        self.checks: list[str] = []
+        self.past = Past(self.lead)
+        self.file = TraceFile()
+        self.live: dict[str, Life] = {}
+        self.order: list[Life] = []
+        self.tree = Tree({}, {})
+        self.numbers, self.groups = count(FIRST_NUMBER), count()
+        self.tasks: dict[int, Tasks] = {}
+        self.free: dict[Key, list[Task]] = {}
+        self.processors: list[Processor] = []
+        self.tick = 0
+        self.before: dict[int, list[int]] = {}
+        self.shares: dict[int, list[int]] = {}
+        self.wanted: Optional[list[tuple[int, tuple[int, ...]]]] = None
+        self.lines: Optional[list[Event]] = None
+        self.repeats = 0
+        self.plan: Optional[Plan] = None
+        self.off: dict[tuple[str, int], Off] = {}
+        self.written: dict[str, Memory] = {}
+        self.made_again = self.made_groups = self.first_groups = 0
+        self.new: set[int] = set()
+        self.ended: set[int] = set()
+        self.seen: set[str] = set()
+
+    # ---------------------------------------------------------------- groups
+
+    def change_groups(self) -> list[str]:
+        """Removes and makes groups after the tick before; the lines of that, without times."""
+        self.lives.read_until((self.tick + 1) * TICK)
+        ends = [it for it in self.order if it.gone is not None and it.gone <= self.tick]
+        begins = [it for it in self.lives.born if it.tick <= self.tick]
+        self.new = set()
+        if not ends and not begins:
+            return []
+        self.lives.born = [it for it in self.lives.born if it.tick > self.tick]
+        lines: list[str] = []
+        if ends:
+            begins += self.remove(ends, lines)
+        for life in sorted(begins, key=lambda it: it.path.count("/") if it.path != ROOT else -1):
+            self.make(life, lines)
+        self.arrange()
+        return lines
+
+    def remove(self, ends: list[Life], lines: list[str]) -> list[Life]:
+        """Removes groups and all below them; returns new lives for those below that go on."""
+        gone = {it.path for it in ends}
+        again: list[Life] = []
+        for life in sorted(self.order, key=lambda it: -it.path.count("/")):
+            if life.path == ROOT or not (life.path in gone or any(it in gone for it in prefixes(life.path))):
+                continue
+            self.leave(life, lines)
+            if life.path not in gone:
+                again.append(goes_on(life, self.tick))
+                self.lives.tails[life.path] = again[-1]
+        while empty := [it for it in self.live.values() if not it.is_sampled and not self.has_below(it.path)]:
+            for life in empty:
+                self.leave(life, lines)
+        return again
+
+    def has_below(self, path: str) -> bool:
+        """Whether a live group is below this one, or it is the root."""
+        return path == ROOT or any(it.startswith(path + "/") for it in self.live)
+
+    def leave(self, life: Life, lines: list[str]) -> None:
+        """The tasks of a group, which sleep, end, and it is removed."""
+        del self.live[life.path]
+        numbers = self.tasks.pop(life.number).numbers
+        self.ended.add(life.number)
+        lines += [f"wake {it} {FIRST}" for it in numbers]
+        lines += [f"switch {FIRST} {it} {'exit' if place else 'idle'}" for place, it in enumerate(numbers)]
+        lines += [f"switch {FIRST} 0 exit"] if numbers else []
+        lines.append(f"rmgroup {life.path}")
+        self.written.pop(life.path, None)
+
+    def make(self, life: Life, lines: list[str]) -> None:
+        """Makes a group, and those above it that aren't there."""
+        for path in prefixes(life.path):
+            if path not in self.live:
+                self.make(Life(path, self.tick, False), lines)
+        known = self.live.get(life.path)
+        self.live[life.path] = life
+        if known is not None:
+            # A group without samples gets some.
+            life.number = known.number
+        else:
+            life.number = next(self.groups)
+            self.new.add(life.number)
+            self.made_groups += 1
+            self.made_again += life.path in self.seen
+            self.seen.add(life.path)
+            self.tasks[life.number] = Tasks(life.path)
+            # Rules choose among groups with a live task, so each has one.
+            self.put_back((life.number, "r"), self.task_of((life.number, "r")))
+            lines += [f"group {life.path}"] if life.path != ROOT else []
+            lines += [f"trigger {it.path} {it.fields}" for it in self.triggers if it.path == life.path]
+            lines.append(f"{TASKS} {life.number}")
+        life.start()
+
+    def arrange(self) -> None:
+        """The groups from the deepest up, and their chains."""
+        self.order = sorted(self.live.values(), key=lambda it: (it.path == ROOT, -it.path.count("/"), it.path))
+        chains = {}
+        for life in self.order:
+            above = [self.live[it].number for it in reversed(prefixes(life.path))]
+            chains[life.number] = (life.number, *above)
+        self.tree = Tree(chains, {number: frozenset(chain) for number, chain in chains.items()})
+        self.wanted = None
+
+    # ---------------------------------------------------------------- a tick
+
+    def step(self) -> None:
+        """Takes the trace to the next tick. Groups come and go 1 ns after the tick before, when what they had until then counts."""
+        changes = self.change_groups()
+        start = self.tick * TICK
+        events = self.events_of(start)
+        after = start + 1 if changes and self.tick else start
+        first = [f"{start} {text}\n" for at, text in events if not at] if after > start else []
+        self.file.write(first)
+        self.put_changes(changes, after)
+        out: list[str] = []
+        self.put_memory(after, out)
+        out += [f"{start + at} {text}\n" for at, text in events if at or after == start]
+        self.file.write(out)
+        for processor in self.processors if self.ended else ():
+            processor.forget(self.ended)
+        self.ended.clear()
+        self.first_groups = self.first_groups or self.made_groups
+        self.tick += 1
+        self.compare()
+
+    def end(self) -> None:
+        """Writes the samples of memory at the last tick."""
+        out: list[str] = []
+        self.put_memory(self.tick * TICK, out)
+        self.file.write(out)
+
+    def put_changes(self, lines: list[str], time: int) -> None:
+        """Writes the lines of groups that come and go, and where the tasks of a group come."""
+        for line in lines:
+            verb, _, number = line.partition(" ")
+            if verb == TASKS:
+                self.file.put_tasks(self.tasks[int(number)], time)
+            else:
+                self.file.write([f"{time} {line}\n"])
+
+    def events_of(self, start: int) -> list[Event]:
+        """The events of the tick: those of the tick before, if all groups want the same again."""
+        wanted = self.wants(start)
+        if wanted == self.wanted and self.plan is not None:
+            self.repeats += 1
+        else:
+            self.plan, self.wanted, self.repeats = self.planned(wanted), wanted, 0
+        if self.repeats < 2 or self.lines is None:
+            self.lines = self.played(self.plan)
+        for life in self.order:
+            shares = self.shares.get(life.number)
+            if shares is not None:
+                for level in SIX:
+                    life.achieved[level] += shares[level]
+        return self.lines
+
+    def planned(self, wanted: list[tuple[int, tuple[int, ...]]]) -> Plan:
+        """The blocks by which groups have these shares."""
+        plan = Plan(self.tree, self.before, self.new if self.tick else set())
+        for number, times in wanted:
+            plan.give(number, times)
+        self.shares = {number: plan.shares(number) for number in plan.has}
+        self.before = plan.where
+        return plan
+
+    def played(self, plan: Plan) -> list[Event]:
+        """The events of the blocks, by time."""
+        while len(self.processors) < len(plan.used):
+            self.processors.append(Processor(FIRST + 1 + len(self.processors), self.task_of, self.put_back))
+            self.file.processors = max(self.file.processors, len(self.processors))
+        events: list[Event] = []
+        for number, processor in enumerate(self.processors):
+            processor.play(plan.blocks[number] if number < len(plan.blocks) else (), events)
+        events.sort(key=lambda it: it[0])
+        return events
+
+    def task_of(self, key: Key) -> Task:
+        """A task that sleeps: one that was put back, or a new one."""
+        free = self.free.get(key)
+        if free:
+            return free.pop()
+        task = Task(next(self.numbers))
+        self.tasks[key[0]].numbers.append(task.number)
+        self.file.task_lines += 3
+        return task
+
+    def put_back(self, key: Key, task: Task) -> None:
+        """A task that isn't used any more."""
+        self.free.setdefault(key, []).append(task)
+
+    # ---------------------------------------------------------------- what groups want
+
+    def wants(self, start: int) -> list[tuple[int, tuple[int, ...]]]:
+        """What each group is to have in the tick from `start` on, from the deepest group up. Groups that want nothing are left out
+        unless some below them have something."""
+        end, active, found = start + TICK, set[int](), []
+        chains = self.tree.chains
+        for life in self.order:
+            is_active = life.number in active
+            if life.quiet_until > end and not is_active:
+                continue
+            wanted = self.wanted_of(life, start, end, is_active)
+            if is_active or any(wanted):
+                found.append((life.number, wanted))
+                active.update(chains[life.number])
+        return found
+
+    def wanted_of(self, life: Life, start: int, end: int, is_active: bool) -> tuple[int, ...]:
+        """The shares (ns) that one group is to have."""
+        if not life.is_sampled:
+            return NONE
+        if self.tick < self.lead:
+            return self.past.wanted(life, self.tick)
+        if self.tick == self.lead and self.lead:
+            end_past(life)
+        found, is_sample, quiet = [0] * 6, False, NEVER
+        for number, knots in enumerate(life.knots):
+            while len(knots) > 1 and knots[1][0] <= start:
+                knots.popleft()
+            if not knots:
+                continue
+            level, one = 2 * number, knots[0]
+            other = knots[1] if len(knots) > 1 else one
+            some_owed = life.target[level] - life.achieved[level]
+            full_owed = life.target[level + 1] - life.achieved[level + 1]
+            is_within = one[0] <= start and end <= other[0]
+            is_sample = is_sample or start < one[0] <= end or other[3] == 1 and start < other[0] <= end
+            if is_within and one[1] == other[1] and one[2] == other[2]:
+                some = full = 0
+                is_flat = -SMALL < some_owed < SMALL and -SMALL < full_owed < SMALL
+            else:
+                some, full = life.totals_at(number, end)
+                some, full = some - life.base[level], full - life.base[level + 1]
+                before = life.target[level : level + 2]
+                life.target[level : level + 2] = some, full
+                some, full = some - before[0], full - before[1]
+                if is_within:
+                    whole = other[0] - one[0]
+                    some, full = (other[1] - one[1]) * TICK // whole, (other[2] - one[2]) * TICK // whole
+                is_flat = False
+            quiet = min(quiet, other[0] if is_flat else end)
+            some = min(TICK, bounded(some, some_owed))
+            found[level], found[level + 1] = some, min(some, bounded(full, full_owed))
+        life.quiet_until = quiet
+        if not is_active and not is_sample and max(found) < LEAST:
+            return NONE
+        return tuple(found)
+
+    # ---------------------------------------------------------------- memory
+
+    def put_memory(self, time: int, out: list[str]) -> None:
+        """The samples of memory at a tick: at each reading, and between two of them if a size changed much."""
+        host = self.lives.host
+        at = self.tick * TICK
+        is_first = self.tick == 0
+        while host and (host[0][0] <= at or is_first):
+            last = host.popleft()
+            is_first = False
+            if not host or host[0][0] > at:
+                out.append(f"{time} host {' '.join(map(str, last[1]))}\n")
+        for life in self.order:
+            if life.memory:
+                self.put_sample(life, at, time, out)
+
+    def put_sample(self, life: Life, at: int, time: int, out: list[str]) -> None:
+        """The sample of one group, if it is due."""
+        found, is_reading = between_samples(life.memory, at)
+        last = self.written.get(life.path)
+        if last is not None and (found.current, found.swap, found.scans) == (last.current, last.swap, last.scans):
+            return
+        is_due = last is None or is_reading or found.scans != last.scans
+        if last is None or is_due or abs(found.current - last.current) * PARTS > last.current:
+            out.append(f"{time} mem {life.path} {found.current} {found.swap} {max(0, found.scans)}\n")
+            self.written[life.path] = found
+
+    # ---------------------------------------------------------------- comparing
+
+    def compare(self) -> None:
+        """Notes the totals that must come at this tick, at which samples are compared, and those that don't."""
+        at = self.tick * TICK
+        start = at - TICK
+        if self.lead and self.tick <= self.lead:
+            return
+        for life in self.order:
+            for number, knots in enumerate(life.knots):
+                if not any(knot[3] and start < knot[0] <= at for knot in islice(knots, 2)):
+                    continue
+                for level in (2 * number, 2 * number + 1):
+                    if level == 5 and life.path == ROOT:
+                        continue
+                    target = life.target[level] // US
+                    self.checks.append(f"{at} {life.path} {level} {target}\n")
+                    off = abs(life.achieved[level] // US - target)
+                    if off > NEAR:
+                        known = self.off.get((life.path, level), Off(0, 0))
+                        self.off[life.path, level] = Off(known.times + 1, max(known.most, off))
+
+
+def bounded(growth: int, owed: int) -> int:
+    """What is wanted of a level: its growth, and what is owed or was too much (ns). What was too much is taken back by at most half of
+    the growth, since a group above would have to weigh more and more for it."""
+    if -SMALL < owed < SMALL:
+        return growth
+    if owed < 0:
+        return max(growth // 2, growth + owed)
+    return min(TICK, growth + owed)
+
+
+def prefixes(path: str) -> list[str]:
+    """The groups above a path, from the root down."""
+    if path == ROOT:
+        return []
+    return [ROOT, *(path[:place] for place, letter in enumerate(path) if letter == "/" and place)]
+
+
+def goes_on(life: Life, tick: int) -> Life:
+    """A life that goes on as a new one, since a group above it was made again."""
+    again = Life(life.path, tick, life.is_sampled)
+    again.knots, again.memory, again.last, again.shift, again.gone = life.knots, life.memory, life.last, life.shift, life.gone
+    return again
+

@@ -1,0 +1,157 @@
+"""What is read: files of any format, into a store of rows."""
+from __future__ import annotations
+
+import gzip
+import os
+import re
+import zlib
+from collections.abc import Iterator
+from typing import NamedTuple, TextIO
+
+from psireplay.command import Fault
+from psireplay.times import SECOND
+
+from .metrics import SECOND_ROOT, Metrics, read_dump, read_json
+from .recording import read_folder
+from .rows import AVERAGES, ROOT, Place, must_be_path
+from .store import Store
+from .texts import read_csv, read_json_lines, read_loop
+
+BEGINNING = 4096
+# From this interval on (ns) avg10 says more of a total's growth than a line does; below, it is too old.
+LONG = 14 * SECOND
+PRESSURE = "pressure"
+
+
+def open_text(name: str) -> TextIO:
+    """A file to read, which may be compressed."""
+    with open(name, "rb") as file:
+        is_packed = file.read(2) == b"\x1f\x8b"
+    if is_packed:
+        return gzip.open(name, "rt", encoding="utf-8", errors="surrogateescape", newline="\n")
+    return open(name, encoding="utf-8", errors="surrogateescape", newline="\n")
+
+
+class Naming(NamedTuple):
+    """How groups are named: paths that take the place of others, with all below them; of how many components a path may be; and the
+    labels whose values are a path if series have no label `id`."""
+
+    renamed: dict[str, str]
+    depth: int | None
+    labels: tuple[str, ...]
+
+    def path_of(self, name: str) -> str | None:
+        """A group's path; none if it is too deep."""
+        for old in sorted(self.renamed, key=len, reverse=True) if self.renamed else ():
+            if name == old or name.startswith(old.rstrip("/") + "/"):
+                name = self.renamed[old].rstrip("/") + name[len(old.rstrip("/")) :]
+                break
+        name = name or ROOT
+        if self.depth is not None and name != ROOT and name.count("/") > self.depth:
+            return None
+        return name
+
+
+class Inputs:
+    """Takes the samples of files. Faults name a file and a line."""
+
+    def __init__(self, naming: Naming, averages: bool | None) -> None:
+        # Whether averages are kept; if that isn't said, they are once intervals are seen to be long.
+        self.naming, self.averages = naming, averages
+        self.store = Store()
+        self.files: list[str] = []
+        self.paths: dict[str, str | None] = {}
+        self.newest: dict[tuple[str, int], int] = {}
+        self.metrics = Metrics(naming.labels)
+        self.count = self.line = 0
+
+    def place(self, where: tuple[int, int]) -> Place:
+        """The file and line of a row."""
+        return Place(self.files[where[0]], where[1])
+
+    def here(self) -> Place:
+        """The line that is read."""
+        return Place(self.files[-1], self.line)
+
+    def put(self, time: int, group: str, field: int, values: tuple[int, ...], line: int) -> None:
+        """Takes values of a group at a time (ns)."""
+        self.line = line
+        if field >= AVERAGES and self.averages is False:
+            return
+        if group not in self.paths:
+            path = self.naming.path_of(group) if group != SECOND_ROOT else group
+            if path is not None and path != SECOND_ROOT:
+                must_be_path(path, self.here())
+            self.paths[group] = path
+        path = self.paths[group]
+        if path is not None:
+            self.count += 1
+            self.store.put((time, path, field, values, (len(self.files) - 1, line)))
+
+    def put_in_order(self, time: int, group: str, field: int, values: tuple[int, ...], line: int) -> None:
+        """The same for a format whose lines are in the order of time."""
+        if time < self.newest.get((group, field), time):
+            self.line = line
+            raise Fault(f"{self.here()}: the time goes back: {group} was read later before")
+        if self.averages is None and time > self.newest.get((group, field), time):
+            self.averages = time - self.newest[group, field] >= LONG
+        self.newest[group, field] = time
+        self.put(time, group, field, values, line)
+
+    def read(self, name: str) -> None:
+        """Reads a file or a recording's folder."""
+        before, self.line = self.count, 0
+        self.newest.clear()
+        self.files.append(name)
+        folder = os.path.dirname(name) or "."
+        if os.path.isdir(name):
+            read_folder(name, self.put)
+        elif os.path.basename(name) == PRESSURE and os.path.exists(os.path.join(folder, "meta")):
+            read_folder(folder, self.put)
+        else:
+            self.read_file(name)
+        if self.count == before:
+            raise Fault(f"{name}: there are no samples of pressure in it{self.metrics.others()}")
+
+    def read_file(self, name: str) -> None:
+        """Reads a file in the format that its beginning shows."""
+        try:
+            with open_text(name) as file:
+                beginning = file.read(BEGINNING)
+                file.seek(0)
+                self.read_text(file, beginning)
+        except (EOFError, zlib.error) as fault:
+            raise Fault(f"{self.here()}: the file ends too early: {fault}") from None
+        except (ValueError, KeyError, IndexError) as fault:
+            raise Fault(f"{self.here()}: this is no sample: {str(fault)[:100]}") from None
+        except FileNotFoundError:
+            raise Fault(f"no file: {name}") from None
+        except OSError as fault:
+            raise Fault(f"{name}: {fault.strerror}") from None
+
+    def read_text(self, file: TextIO, beginning: str) -> None:
+        """Reads a text whose beginning is known."""
+        first = beginning.lstrip()
+        if "\0" in beginning:
+            raise Fault(f"{self.here()}: this is no text: is it compressed?")
+        if re.match(r'\{\s*__name__|\{[a-zA-Z_]+="', first):
+            read_dump(self.numbered(file), self.metrics, self.put)
+        elif first.startswith("{") and re.search(r'"(status|data|metric|error|resultType)"', beginning):
+            read_json(file, self.metrics, self.put, self)
+        elif first.startswith("{"):
+            read_json_lines(self.numbered(file), self.put_in_order)
+        elif re.match(r"[0-9.]+\s*\n", first):
+            read_loop(self.numbered(file), self.put_in_order)
+        elif re.match(r"time,|[0-9.]+,", first):
+            read_csv(self.numbered(file), self.put_in_order, lambda: self.averages is not False)
+        elif re.match(r"#|[a-zA-Z_:][a-zA-Z0-9_:]*[ {]", first):
+            read_dump(self.numbered(file), self.metrics, self.put)
+        else:
+            self.line = 1
+            raise Fault(f"{self.here()}: this is none of the formats of docs/SAMPLES.md")
+
+    def numbered(self, file: TextIO) -> Iterator[tuple[int, str]]:
+        """The lines with their numbers."""
+        for number, line in enumerate(file, 1):
+            self.line = number
+            yield number, line.rstrip("\n")

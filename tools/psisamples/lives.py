@@ -1,0 +1,299 @@
+"""The lives of groups by their readings: from when to when each group was there, and its totals at any time between.
+
+A total between two readings lies on the line between them. A group that has no reading in three rounds of the others is gone; one
+whose totals fall was removed and made again.
+"""
+from __future__ import annotations
+
+import bisect
+from collections import deque
+from collections.abc import Callable, Iterator
+from typing import NamedTuple, Optional
+
+from psireplay.command import Fault
+
+from .block import LEVELS, RESOURCES, TICK
+from .rows import AVERAGES, HOST, MEMORY, ROOT, SCANS, Place
+from .shape import knots_between
+from .store import Plain
+
+US = 1000
+# So many rounds of other groups without a reading of it say that a group is gone.
+MOST_MISSED = 2
+# How much faster than time a total may seem to grow, and how much (ns) is always possible: readings aren't taken at once.
+FASTEST, SLACK = 1.5, 2 * 10**9
+# Times of rounds that are kept before old ones are dropped.
+MOST_ROUNDS = 4096
+
+
+# A time (ns since the trace's start), the totals (ns) of some and full of a resource then, and 1 if it is a sample.
+Knot = tuple[int, int, int, int]
+
+
+def between(one: Knot, other: Knot, time: int) -> tuple[int, int]:
+    """The totals at a time between two knots."""
+    if time >= other[0]:
+        return other[1], other[2]
+    if time <= one[0]:
+        return one[1], one[2]
+    part, whole = time - one[0], other[0] - one[0]
+    return one[1] + (other[1] - one[1]) * part // whole, one[2] + (other[2] - one[2]) * part // whole
+
+
+class Memory(NamedTuple):
+    """A sample of memory: its time, and bytes, bytes, and a count that is missing if it is -1."""
+
+    time: int
+    current: int
+    swap: int
+    scans: int
+
+
+class Reading:
+    """All values of a group at a time, by field."""
+
+    def __init__(self, time: int, path: str, place: tuple[int, int], is_shaped: bool) -> None:
+        self.time, self.path, self.place, self.is_shaped = time, path, place, is_shaped
+        self.values: dict[int, int] = {}
+
+    def totals(self) -> dict[int, tuple[int, int]]:
+        """The totals (ns) of some and full by resource. Without some there are none; without full it is 0."""
+        get = self.values.get
+        return {it // 2: (self.values[it] * US, get(it + 1, 0) * US) for it in (0, 2, 4) if it in self.values}
+
+
+    def shares(self, number: int) -> Optional[tuple[float, float]]:
+        """avg10 of some and full of a resource, percent, if they are to shape its total."""
+        place = AVERAGES + 6 * number
+        if not self.is_shaped or place not in self.values:
+            return None
+        return self.values[place] / 100, self.values.get(place + 3, 0) / 100
+
+
+class Life:
+    """A group from when it was made until it was removed. `tick` is the tick after which it is made, and `gone` the one after which it
+    is removed. `base` has the totals (ns) that it began with: its trace begins at 0."""
+
+    def __init__(self, path: str, tick: int, is_sampled: bool) -> None:
+        self.path, self.tick, self.is_sampled = path, tick, is_sampled
+        self.number = -1
+        self.gone: Optional[int] = None
+        self.last = -1
+        self.knots: list[deque[Knot]] = [deque() for _ in RESOURCES]
+        # The totals that it begins with; what it is to have at the last tick; and what it has (ns, by level).
+        self.base, self.target, self.achieved = [0] * 6, [0] * 6, [0] * 6
+        self.memory: deque[Memory] = deque()
+        # What a root that began anew had before; whether the group was made between two rounds; until when no total grows.
+        self.shift = [0] * 6
+        self.is_new = False
+        self.quiet_until = -1
+        # The averages that its first reading had, hundredths of a percent: three for each level.
+        self.averages: list[int] = []
+        # avg10 of some and full (percent) at the last reading, by resource, if a total is to grow as they say.
+        self.shares: dict[int, tuple[float, float]] = {}
+
+    def add(self, reading: Reading) -> None:
+        """Takes a reading of this life. Totals that it is the first to have begin with it, or at 0 in a new group."""
+        totals = reading.totals()
+        for number, (some, full) in totals.items():
+            knots = self.knots[number]
+            some, full = some + self.shift[2 * number], full + self.shift[2 * number + 1]
+            if not knots and self.is_new and some <= reading.time - self.tick * TICK:
+                knots.append((self.tick * TICK, 0, 0, 0))
+            elif not knots:
+                self.base[2 * number : 2 * number + 2] = some, full
+            knot = reading.time, some, full, 1
+            shares = reading.shares(number)
+            before = self.shares.get(number)
+            if before is not None and shares is not None and knots:
+                knots.extend(knots_between(knots[-1], knot, before, shares))
+            if shares is not None:
+                self.shares[number] = shares
+            knots.append(knot)
+        if AVERAGES in reading.values and not self.averages:
+            self.averages = [reading.values.get(AVERAGES + it, 0) for it in range(18)]
+        if MEMORY in reading.values:
+            values = reading.values
+            self.memory.append(Memory(reading.time, values[MEMORY], values.get(MEMORY + 1, 0), values.get(SCANS, -1)))
+        if totals or self.last < 0:
+            self.last = reading.time
+
+    def start(self) -> None:
+        """Sets the totals with which it begins."""
+        for number, knots in enumerate(self.knots):
+            if knots:
+                self.base[2 * number : 2 * number + 2] = self.totals_at(number, self.tick * TICK)
+
+    def totals_at(self, number: int, time: int) -> tuple[int, int]:
+        """The absolute totals (ns) of a resource at a time."""
+        knots = self.knots[number]
+        last = knots[0]
+        for knot in knots:
+            if knot[0] >= time:
+                return between(last, knot, time)
+            last = knot
+        return last[1], last[2]
+
+    def is_known_until(self, time: int) -> bool:
+        """Whether there is a reading at this time or later."""
+        return self.last >= time
+
+
+def limit_text(elapsed: int) -> str:
+    """How long a total had to grow, and what may be wrong if it grew by more."""
+    return f"{elapsed // US} us: totals are us, or seconds in metrics"
+
+
+class Lives:
+    """All lives, from rows in the order of time."""
+
+    def __init__(
+        self, rows: Iterator[Plain], origin: int, every: int, places: Callable[[tuple[int, int]], Place], is_shaped: bool = False
+    ) -> None:
+        self.rows, self.origin, self.every, self.places, self.is_shaped = rows, origin, every, places, is_shaped
+        self.row = next(rows, None)
+        self.tails: dict[str, Life] = {}
+        self.born: list[Life] = []
+        self.rounds: list[int] = []
+        self.host: deque[tuple[int, tuple[int, ...]]] = deque()
+        self.time = -1
+
+    # ---------------------------------------------------------------- reading
+
+    def reading(self) -> Optional[Reading]:
+        """The next reading: all rows of one group and time."""
+        if self.row is None:
+            return None
+        time, path, _, _, place = self.row
+        found = Reading(time - self.origin, path, place, self.is_shaped)
+        while self.row is not None and self.row[0] == time and self.row[1] == path:
+            for number, value in enumerate(self.row[3]):
+                self.put(found, self.row[2] + number, value, self.row[4])
+            self.row = next(self.rows, None)
+        return found
+
+    def put(self, reading: Reading, field: int, value: int, place: tuple[int, int]) -> None:
+        """Sets a value of a reading. It may come twice if it is the same."""
+        if reading.values.setdefault(field, value) != value:
+            raise Fault(f"{self.places(place)}: {reading.path} has another value at the same time at {self.places(reading.place)}")
+
+    def read_until(self, time: int) -> None:
+        """Reads all readings up to a time (ns), and those after it by which it is known who is gone."""
+        while self.row is not None and (self.time < time + self.every or self.is_open(time)):
+            self.read_round()
+        if self.row is None:
+            self.time = max(self.time, time + (MOST_MISSED + 2) * self.every)
+        for life in self.tails.values():
+            if life.gone is None and life.last < time and life.path != ROOT and self.is_absent(life, self.time):
+                self.end(life)
+
+    def read_round(self) -> None:
+        """Reads on until half of a round is over."""
+        end = self.row[0] - self.origin + self.every // 2 if self.row else 0
+        while self.row is not None and self.row[0] - self.origin <= end:
+            reading = self.reading()
+            if reading is not None:
+                self.time = reading.time
+                self.take(reading)
+        if len(self.rounds) > MOST_ROUNDS:
+            oldest = min((it.last for it in self.tails.values() if it.gone is None and it.path != ROOT), default=self.time)
+            del self.rounds[1 : bisect.bisect_left(self.rounds, oldest) - 1]
+
+    def is_open(self, time: int) -> bool:
+        """Whether some group has no reading at this time or later, and it isn't known whether it is gone."""
+        return any(
+            not life.is_known_until(time) and life.gone is None and (life.path == ROOT or not self.is_absent(life, self.time))
+            for life in self.tails.values() if life.is_sampled
+        )  # fmt: skip
+
+    def is_absent(self, life: Life, time: int) -> bool:
+        """Whether more rounds than may be missed came between the life's last reading and this time."""
+        first = bisect.bisect_right(self.rounds, life.last + self.every // 2)
+        return bisect.bisect_left(self.rounds, time - self.every // 2) - first > MOST_MISSED
+
+    def take(self, reading: Reading) -> None:
+        """Takes a reading: it goes on with a life, or begins one."""
+        if HOST in reading.values:
+            self.host.append((reading.time, tuple(reading.values.get(HOST + it, 0) for it in range(3))))
+        life = self.tails.get(reading.path)
+        if reading.path != ROOT and reading.totals() and (not self.rounds or reading.time > self.rounds[-1] + self.every // 2):
+            self.rounds.append(reading.time)
+        if life is not None and life.gone is None and life.path != ROOT and self.is_absent(life, reading.time):
+            self.end(life)
+        if life is not None and life.gone is None and self.has_fallen(life, reading):
+            if life.path == ROOT:
+                life.shift = [total for knots in life.knots for total in (knots[-1][1:3] if knots else (0, 0))]
+            else:
+                self.end(life)
+        if not reading.totals() and (life is None or life.gone is not None):
+            return
+        if life is None or life.gone is not None:
+            life = self.begin(reading, life)
+        life.add(reading)
+
+    def has_fallen(self, life: Life, reading: Reading) -> bool:
+        """Whether the group was made again since the life's last reading. Totals of which one falls, though another can't have begun
+        at 0 since then, are a fault, and so are those that grow faster than time."""
+        has_fallen = False
+        slower: tuple[int, int] | None = None
+        for number, new in reading.totals().items():
+            if not life.knots[number]:
+                continue
+            old = life.knots[number][-1]
+            limit = FASTEST * (reading.time - old[0]) + SLACK
+            for level in (2 * number, 2 * number + 1):
+                total = new[level % 2]
+                grown = total + life.shift[level] - old[1 + level % 2]
+                if grown < 0:
+                    has_fallen = True
+                elif grown > limit:
+                    raise Fault(f"{self.named(reading, level)} grows by {grown // US} us in {limit_text(reading.time - old[0])}")
+                if total > limit and slower is None:
+                    slower = level, total
+        if has_fallen and slower:
+            which, total = slower
+            raise Fault(f"{self.named(reading, which)} goes on at {total // US} us while another falls: a reset begins all at 0")
+        return has_fallen
+
+    def named(self, reading: Reading, level: int) -> str:
+        """A total of a reading, with its place."""
+        return f"{self.places(reading.place)}: {reading.path} {' '.join(LEVELS[level])}"
+
+    def begin(self, reading: Reading, before: Optional[Life]) -> Life:
+        """A new life, of which this is the first reading."""
+        tick = max(0, -(-(reading.time - self.every) // TICK))
+        if before is not None and before.gone is not None:
+            tick = max(tick, before.gone)
+        tick = min(tick, max(0, (reading.time - 1) // TICK))
+        is_first = reading.path == ROOT or reading.time <= 0 or not (before or self.has_begun())
+        life = Life(reading.path, 0 if is_first else tick, True)
+        totals = reading.totals()
+        life.is_new = not is_first and all(some <= reading.time - life.tick * TICK for some, _ in totals.values())
+        self.tails[reading.path] = life
+        self.born.append(life)
+        return life
+
+    def has_begun(self) -> bool:
+        """Whether a whole round of groups was over before this reading."""
+        return bool(self.rounds) and self.rounds[-1] - self.rounds[0] > self.every // 2
+
+    def end(self, life: Life) -> None:
+        """The life ends after the first tick that isn't before its last reading. One that ended before the trace begins was none."""
+        life.gone = max(life.tick + 1, -(-life.last // TICK))
+        if life.last <= 0 and life in self.born:
+            self.born.remove(life)
+
+
+def between_samples(samples: deque[Memory], time: int) -> tuple[Memory, bool]:
+    """The memory at a time, on the line between two samples; and whether a sample came since it was asked for the last time."""
+    is_new = False
+    while len(samples) > 1 and samples[1].time <= time:
+        samples.popleft()
+        is_new = True
+    one = samples[0]
+    if len(samples) < 2 or time <= one.time:
+        return one, is_new
+    other = samples[1]
+    part, whole = time - one.time, other.time - one.time
+    values = (a + (b - a) * part // whole for a, b in zip(one[1:], other[1:]))
+    return Memory(time, *values), is_new

@@ -1,0 +1,86 @@
+"""What a block's time looks like to the groups above it, and how a group above changes that by tasks of its own.
+
+Such a task lies over the block: it takes no time of its own, so it adds no weight to the group, and no group below sees it.
+"""
+from __future__ import annotations
+
+from functools import lru_cache
+from typing import NamedTuple
+
+from .block import Span
+
+# What is the case in a segment of a block: a task waits for IO, one is in a memory stall, all are, one is ready, one runs.
+WAITS, STALLS, ALL_STALL, READY, RUNS = 1, 2, 4, 8, 16
+BUSY = READY | RUNS
+STATUSES = 32
+IN_STALL = frozenset("sRX")
+
+
+def levels_of(status: int) -> tuple[int, ...]:
+    """Which of the six levels a status has, as 0 or 1 in the order of LEVELS."""
+    io, stalls, all_stall = status & WAITS, status & STALLS, status & ALL_STALL
+    found = (io, io and not status & BUSY, stalls, all_stall, status & READY, status & READY and not status & RUNS)
+    return tuple(int(bool(it)) for it in found)
+
+
+@lru_cache(maxsize=4096)
+def status_of(states: str) -> int:
+    """The status of a time in which tasks are in these states."""
+    is_stalled = any(it in IN_STALL for it in states)
+    is_all = is_stalled and ("X" in states or not any(it in "rx" for it in states))
+    status = WAITS * ("w" in states) + STALLS * is_stalled + ALL_STALL * is_all
+    return status + READY * any(it in "rR" for it in states) + RUNS * any(it in "xX" for it in states)
+
+
+class Overlay(NamedTuple):
+    """A task of this kind, in this state. By each status: the status with it, or none if the task changes something else there."""
+
+    kind: str
+    state: str
+    after: tuple[int | None, ...]
+    # The levels that change by status: pairs of a level and 1 or -1.
+    changes: tuple[tuple[tuple[int, int], ...], ...]
+    # A bit for each status over which it can lie.
+    takes: int
+
+
+def overlay(kind: str, state: str, has: int, lacks: int, adds: int, takes: int = 0) -> Overlay:
+    """An overlay for each status that has all bits of `has` and none of `lacks`."""
+    after = [(it | adds) & ~takes if it & has == has and not it & lacks else None for it in range(STATUSES)]
+    changes = []
+    for before, now in enumerate(after):
+        pairs = zip(levels_of(before), levels_of(before if now is None else now))
+        changes.append(tuple((level, new - old) for level, (old, new) in enumerate(pairs) if old != new))
+    takes = sum(1 << status for status, it in enumerate(after) if it is not None)
+    return Overlay(kind, state, tuple(after), tuple(changes), takes)
+
+
+LESS_OF_BOTH = overlay("r", "x", WAITS | ALL_STALL, BUSY, RUNS, ALL_STALL)
+LESS_IO_FULL = (
+    overlay("r", "x", WAITS, BUSY | STALLS, RUNS),
+    overlay("r", "X", WAITS | ALL_STALL, BUSY, RUNS),
+)
+LESS_MEMORY_FULL = (overlay("r", "x", ALL_STALL, BUSY | WAITS, RUNS, ALL_STALL),)
+LESS_CPU_FULL = (
+    overlay("r", "x", READY, RUNS | ALL_STALL, RUNS),
+    overlay("r", "X", READY | ALL_STALL, RUNS, RUNS),
+)
+# By the level of `full`.
+LESS_FULL = {1: LESS_IO_FULL, 3: LESS_MEMORY_FULL, 5: LESS_CPU_FULL}
+# By the level of `some`: more of some and full, and more of some alone.
+MORE_OF_BOTH = {0: overlay("w", "w", 0, WAITS | BUSY, WAITS), 2: overlay("s", "s", 0, STALLS | BUSY, STALLS | ALL_STALL)}
+MORE_SOME = {
+    0: (overlay("w", "w", READY, WAITS, WAITS), overlay("w", "w", RUNS, WAITS, WAITS)),
+    2: (overlay("s", "s", READY, STALLS, STALLS), overlay("s", "s", RUNS, STALLS, STALLS)),
+    4: (overlay("o", "r", RUNS, READY, READY),),
+}
+
+
+def segments_of(spans: list[Span], length: int) -> list[list[int]]:
+    """The segments of a block, each as [begin, end, status]."""
+    marks = sorted({0, length, *(it.begin for it in spans), *(it.end for it in spans)})
+    found = []
+    for begin, end in zip(marks, marks[1:]):
+        states = "".join(it.state for it in spans if it.begin <= begin < it.end)
+        found.append([begin, end, status_of(states)])
+    return found

@@ -1,0 +1,335 @@
+"""Where the blocks of a tick are, such that each group and those above it have their shares.
+
+A group's share is sum(weight * time) // sum(weight) over processors. A group without blocks below it needs one block: the share is
+then the block's time. A group above others adds what is missing, and dilutes what is too much: overlays, which weigh nothing; a
+block of its own; and ballast, a block in which only its own task runs. Groups are done from the deepest up, so each sees all of the
+blocks below it.
+"""
+from __future__ import annotations
+
+from collections.abc import Iterator
+from itertools import islice
+from math import isqrt
+from typing import AbstractSet, NamedTuple, Optional, Sequence
+
+from .block import MS, NONE, TICK, Span, Times, easy_length, fitted, least_length, possible, spans_of
+from .overlays import LESS_FULL, LESS_OF_BOTH, MORE_OF_BOTH, MORE_SOME, Overlay, segments_of
+
+# The ms of a tick; how many processors tasks run on, one of 64 being for tasks that are made and end; over how many processors
+# groups without others below are spread; how many blocks of its own a group may have; and which levels there are.
+ROOM = TICK // MS
+MOST_PROCESSORS = 63
+SPREAD = 24
+MOST_OWN = 24
+SIX = range(6)
+# CPU full of the root isn't shown.
+ROOT_LEVELS = range(5)
+ROUNDS = 12
+
+
+class Block:
+    """A block of a group on a processor: where it starts there, its length and its tasks' states, in ns; and its segments."""
+
+    __slots__ = ("group", "start", "length", "spans", "others", "segments", "has")
+
+    def __init__(self, group: int, start: int, length: int, times: Times) -> None:
+        self.group, self.start, self.length = group, start, length
+        self.spans = spans_of(times, length) if times is not NONE else [Span(0, length, "r", "x")]
+        self.others: list[tuple[int, Span]] = []
+        self.segments = segments_of(self.spans, length)
+        # A bit for each status that a segment has or had.
+        self.has = 0
+        for segment in self.segments:
+            self.has |= 1 << segment[2]
+
+
+class Offer(NamedTuple):
+    """`blocks` blocks of `length` ms each with these times, on this processor or on empty ones. With it the group weighs `heavy` ms in
+    all, and `off` ns of its shares are missing or too much."""
+
+    off: int
+    heavy: int
+    length: int
+    times: Times
+    blocks: int
+    processor: Optional[int]
+
+
+class Tree(NamedTuple):
+    """The groups by number: each one's chain from itself up to the root, and the groups that are above it or itself, as a set."""
+
+    chains: dict[int, tuple[int, ...]]
+    above: dict[int, frozenset[int]]
+
+
+class Plan:
+    """The blocks of one tick. `before` has the processors on which each group had blocks in the tick before. Groups in `late` are made
+    just after the tick begins, so their blocks begin 1 ms after it."""
+
+    def __init__(self, tree: Tree, before: dict[int, list[int]], late: AbstractSet[int] = frozenset()) -> None:
+        self.tree, self.before, self.late = tree, before, late
+        self.blocks: list[list[Block]] = []
+        self.used: list[int] = []
+        # By group and processor: the weight, and the six times.
+        self.has: dict[int, dict[int, list[int]]] = {}
+        self.where: dict[int, list[int]] = {}
+
+    # ---------------------------------------------------------------- blocks
+
+    def room(self, processor: int, group: int) -> int:
+        """The ms that are left on a processor for a block of the group."""
+        used = self.used[processor] if processor < len(self.used) else 0
+        return ROOM - (used or int(group in self.late))
+
+    def place(self, group: int, processor: int, length: int, times: Times) -> None:
+        """Puts a block of `length` ms after the last one of the processor."""
+        while processor >= len(self.used):
+            self.used.append(0)
+            self.blocks.append([])
+        if not self.used[processor] and group in self.late:
+            self.used[processor] = 1
+        self.blocks[processor].append(Block(group, self.used[processor] * MS, length * MS, times))
+        self.used[processor] += length
+        self.where.setdefault(group, []).append(processor)
+        for one in self.tree.chains[group]:
+            sums = self.has.setdefault(one, {}).setdefault(processor, [0] * 7)
+            sums[0] += length
+            if times is not NONE:
+                for level in SIX:
+                    sums[level + 1] += times[level]
+
+    def empty_places(self, group: int) -> Iterator[int]:
+        """The processors without blocks of the group or below it: those of the tick before first."""
+        known, last = self.has.get(group, {}), self.before.get(group, ())
+        yield from (it for it in last if it not in known)
+        yield from (it for it in range(MOST_PROCESSORS) if it not in known and it not in last)
+
+    def free_rooms(self, group: int) -> list[int]:
+        """The ms that are left on these processors, the most first."""
+        known = self.has.get(group, {})
+        late = int(group in self.late)
+        found = [ROOM - (it or late) for processor, it in enumerate(self.used) if processor not in known]
+        return [ROOM - late] * (MOST_PROCESSORS - len(self.used)) + sorted(found, reverse=True)
+
+    def place_alone(self, group: int, times: Times) -> None:
+        """The block of a group that has none below it: where the group above has least, since that sees two blocks of a processor
+        as one that is longer and heavier by the other."""
+        if group in self.late:
+            times = fitted(times, (ROOM - 1) * MS)
+        length = max(1, -(-easy_length(times) // MS))
+        chain = self.tree.chains[group]
+        beside = self.has.get(chain[1], {}) if len(chain) > 1 else {}
+        last = self.before.get(group, [0])[0] if group in self.before else -1
+        if last >= 0 and last not in beside and self.room(last, group) >= length:
+            return self.place(group, last, length, times)
+        places = range(min(MOST_PROCESSORS, max(len(self.used), SPREAD)))
+        order = sorted((beside[it][0] if it in beside else 0, it) for it in places)
+        found = next((it for _, it in order if self.room(it, group) >= length), None)
+        if found is None:
+            found = next((it for it in range(len(places), MOST_PROCESSORS) if self.room(it, group) >= length), None)
+        if found is not None:
+            self.place(group, found, length, times)
+
+    def put_ballast(self, group: int, weight: int) -> None:
+        """`weight` ms in which a task of the group runs, on processors where it has nothing yet."""
+        for processor in list(self.empty_places(group)) if weight > 0 else ():
+            if weight <= 0:
+                return
+            part = min(weight, self.room(processor, group))
+            if part > 0:
+                self.place(group, processor, part, NONE)
+                weight -= part
+
+    # ---------------------------------------------------------------- overlays
+
+    def lay(self, group: int, over: Overlay, amount: int) -> int:
+        """Lays tasks of the group over blocks below it, for `amount` ns times ms of weight; returns for how much there was room."""
+        done, known = 0, self.has[group]
+        for processor in sorted(known, key=lambda it: -known[it][0]):
+            weight = known[processor][0]
+            for block in self.blocks[processor]:
+                if amount - done < weight:
+                    break
+                if block.has & over.takes and group in self.tree.above[block.group]:
+                    done += weight * self.lay_over(group, processor, block, over, (amount - done) // weight)
+        return done
+
+    def lay_over(self, group: int, processor: int, block: Block, over: Overlay, most: int) -> int:
+        """Does it for one block, for at most so many ns; returns for how many."""
+        done, place = 0, 0
+        while place < len(block.segments) and done < most:
+            segment = block.segments[place]
+            place += 1
+            after = over.after[segment[2]]
+            length = min(segment[1] - segment[0], most - done)
+            if after is None or length <= 0:
+                continue
+            if length < segment[1] - segment[0]:
+                block.segments.insert(place, [segment[0] + length, segment[1], segment[2]])
+                segment[1] = segment[0] + length
+            for one in self.tree.chains[group]:
+                sums = self.has[one][processor]
+                for level, sign in over.changes[segment[2]]:
+                    sums[level + 1] += sign * length
+            segment[2] = after
+            block.has |= 1 << after
+            block.others.append((group, Span(segment[0], segment[1], over.kind, over.state)))
+            done += length
+        return done
+
+    # ---------------------------------------------------------------- a group above others
+
+    def sums(self, group: int) -> tuple[int, list[int]]:
+        """The group's weight, and by level its sum of weight * time."""
+        weight, found = 0, [0] * 6
+        for it in self.has.get(group, {}).values():
+            heavy = it[0]
+            weight += heavy
+            for level in SIX:
+                found[level] += heavy * it[level + 1]
+        return weight, found
+
+    def shares(self, group: int) -> list[int]:
+        """The group's shares (ns), as the program will compute them."""
+        weight, found = self.sums(group)
+        return [it // max(1, weight) for it in found]
+
+    def give(self, group: int, wanted: Sequence[int]) -> None:
+        """Gives the group these shares (ns), as near as that can be."""
+        times = possible(tuple(wanted))
+        if group not in self.has:
+            if any(times):
+                self.place_alone(group, times)
+            return
+        weight, sums = self.sums(group)
+        levels = ROOT_LEVELS if len(self.tree.chains[group]) == 1 else SIX
+        if all(abs(times[it] * weight - sums[it]) <= weight for it in levels):
+            return
+        heavy = self.least_weight(group, times, weight, sums, (0, 2, 4))
+        self.lower(group, times, heavy, levels)
+        weight, sums = self.sums(group)
+        heavy = max(heavy, self.least_weight(group, times, weight, sums, levels))
+        self.lift(group, times, heavy, levels)
+        weight, sums = self.sums(group)
+        lacks = [times[it] * heavy - sums[it] for it in levels]
+        if any(it > heavy for it in lacks):
+            offer = self.best_offer(group, times, heavy, levels)
+            if offer is not None:
+                self.take(group, offer)
+                heavy = max(heavy, offer.heavy)
+        self.put_ballast(group, heavy - self.sums(group)[0])
+
+    def least_weight(self, group: int, times: Times, weight: int, sums: list[int], levels: Sequence[int]) -> int:
+        """The least weight (ms) by which none of these levels is too much, of what there is room for."""
+        found = weight
+        for level in levels:
+            if times[level] and sums[level] > times[level] * found:
+                found = -(-sums[level] // times[level])
+        if found > weight:
+            found = min(found, weight + sum(self.free_rooms(group)))
+        return found
+
+    def lower(self, group: int, times: Times, heavy: int, levels: Sequence[int]) -> None:
+        """Overlays by which there is less of full."""
+        sums = self.sums(group)[1]
+        io, memory = sums[1] - times[1] * heavy, sums[3] - times[3] * heavy
+        if io > heavy and memory > heavy and self.lay(group, LESS_OF_BOTH, min(io, memory)):
+            sums = self.sums(group)[1]
+        for level, overlays in LESS_FULL.items():
+            for over in overlays if level in levels else ():
+                excess = sums[level] - times[level] * heavy
+                if excess > heavy and self.lay(group, over, excess):
+                    sums = self.sums(group)[1]
+
+    def lift(self, group: int, times: Times, heavy: int, levels: Sequence[int]) -> None:
+        """Overlays by which there is more of some, and of full with it."""
+        sums = self.sums(group)[1]
+        for level, overlays in MORE_SOME.items():
+            some = times[level] * heavy - sums[level]
+            full = max(0, times[level + 1] * heavy - sums[level + 1]) if level + 1 in levels else 0
+            if some <= heavy:
+                continue
+            if level in MORE_OF_BOTH and full > heavy:
+                done = self.lay(group, MORE_OF_BOTH[level], min(some, full))
+                some, full = some - done, full - done
+            for over in overlays:
+                if some - full > heavy:
+                    some -= self.lay(group, over, some - full)
+            sums = self.sums(group)[1]
+
+    # ---------------------------------------------------------------- a block of its own
+
+    def best_offer(self, group: int, times: Times, heavy: int, levels: Sequence[int]) -> Optional[Offer]:
+        """The lightest blocks of its own by which the group has its shares; else those by which it comes nearest."""
+        known = self.has[group]
+        weight, sums = self.sums(group)
+        now = sum(abs(times[it] * weight - sums[it]) for it in levels) // max(1, weight)
+        free = self.free_rooms(group)
+        need = Need(times, levels, weight, sums, heavy, weight + sum(free), [0] * 7, 0, None)
+        offers = []
+        for processor in sorted(known, key=lambda it: -known[it][0])[:2]:
+            room = self.room(processor, group)
+            if room:
+                offers.append(need._replace(base=known[processor], room=room, processor=processor).offer(1))
+        for count in range(1, 1 + min(MOST_OWN, len(free))):
+            room = free[count - 1]
+            if room < (ROOM - 1 if count > 1 else 1) or any(not it.off for it in offers):
+                break
+            offers.append(need._replace(room=room).offer(count))
+        found = min(offers, key=lambda it: (it.off, it.heavy), default=None)
+        return found if found is not None and found.off < now else None
+
+    def take(self, group: int, it: Offer) -> None:
+        """Puts the blocks of an offer."""
+        places = [it.processor] if it.processor is not None else self.empty_places(group)
+        found = islice((place for place in places if self.room(place, group) >= it.length), it.blocks)
+        for processor in list(found):
+            self.place(group, processor, it.length, it.times)
+
+
+class Need(NamedTuple):
+    """What a group wants, and what a processor has already: its weight (ms) and six times (ns)."""
+
+    wanted: Times
+    levels: Sequence[int]
+    weight: int
+    sums: list[int]
+    least: int
+    limit: int
+    base: list[int]
+    room: int
+    processor: Optional[int]
+
+    def at(self, length: int, count: int) -> tuple[int, int, list[int], Times]:
+        """For `count` blocks of a length (ms): the group's weight with ballast, by how much a ns of their times counts, what they
+        have to add, and their times. A block adds (base weight + length) * times + length * base times to what the group has."""
+        wanted, added = self.wanted, count * length
+        heavy = least = max(self.least, self.weight + added)
+        more = [self.sums[it] + added * self.base[it + 1] for it in self.levels]
+        for level, it in zip(self.levels, more):
+            if wanted[level] and it > wanted[level] * heavy:
+                heavy = -(-it // wanted[level])
+        heavy = max(least, min(heavy, self.limit))
+        share = count * (self.base[0] + length)
+        rest = [wanted[level] * heavy - it for level, it in zip(self.levels, more)]
+        raw = [max(0, (it + share // 2) // share) for it in rest] + [0] * (6 - len(rest))
+        return heavy, share, rest, (raw[0], min(raw[1], raw[0]), raw[2], min(raw[3], raw[2]), raw[4], min(raw[5], raw[4]))
+
+    def offer(self, count: int) -> Offer:
+        """The shortest blocks by which the group has its shares, or the longest that there is room for."""
+        length, base = 1 if count == 1 else self.room, self.base[0]
+        for turn in range(ROUNDS):
+            heavy, share, rest, times = self.at(length, count)
+            lack = -(-least_length(times) // MS) - length
+            if lack <= 0 or length >= self.room:
+                break
+            # The length at which a block is as long as its times need, if what they have to add stays what it is now; and more and
+            # more than that, since it grows with the length.
+            better = (isqrt(base * base + 4 * (length + lack) * (base + length)) - base) // 2
+            length = min(self.room, max(better + 1, length + 1 + turn * lack) if turn else better + 1)
+        else:
+            length = self.room
+            heavy, share, rest, times = self.at(length, count)
+        times = fitted(times, length * MS)
+        off = sum(abs(it - time * share) for it, time in zip(rest, times)) // heavy
+        return Offer(off if off > 6 else 0, heavy, length, times, count, self.processor)

@@ -1,0 +1,99 @@
+"""Samples as all input formats give them."""
+from __future__ import annotations
+
+import re
+from collections.abc import Callable
+from decimal import Decimal, InvalidOperation
+from typing import NamedTuple
+
+from psirec.layout import escaped_path
+from psireplay.command import Fault
+from psireplay.times import SECOND
+
+# Fields of a sample: the six totals (us) in the order of LEVELS, a group's memory and swap (bytes) and scanned pages, the machine's
+# memory, swap and free swap (bytes), and three averages (hundredths of a percent) for each of the six levels.
+TOTALS, MEMORY, SWAP, SCANS, HOST, AVERAGES = 0, 6, 7, 8, 9, 12
+MOST_COMPONENTS, MOST_BYTES, MOST_VALUE = 32, 255, 2**60
+ROOT = "/"
+
+
+class Place(NamedTuple):
+    """Where a sample was read: a file and its line, from 1."""
+
+    file: str
+    line: int
+
+    def __str__(self) -> str:
+        return f"{self.file} line {self.line}"
+
+
+class Row(NamedTuple):
+    """Values of a group at a time (ns since 1970), of consecutive fields from `field` on. `place` is that of a Place in the reader's
+    numbering: the file's number and the line."""
+
+    time: int
+    group: str
+    field: int
+    values: tuple[int, ...]
+    place: tuple[int, int]
+
+
+Put = Callable[[int, str, int, tuple[int, ...], int], None]
+
+
+def ns_of(text: str) -> int:
+    """The ns of a decimal number of seconds, as any format writes one; a ValueError if it isn't one."""
+    if re.fullmatch(r"[0-9]{1,12}", text):
+        return int(text) * SECOND
+    found = re.fullmatch(r"([0-9]{1,12})\.([0-9]{1,9})", text)
+    if found:
+        return int(found[1]) * SECOND + int(found[2].ljust(9, "0"))
+    try:
+        value = Decimal(text) * SECOND
+    except InvalidOperation:
+        raise ValueError(text) from None
+    if not value.is_finite() or not 0 <= value < 10**12 * SECOND:
+        raise ValueError(text)
+    return int(value)
+
+
+def us_of(text: str) -> int:
+    """The us of a number of seconds, rounded: exporters write floating point."""
+    value = float(text)
+    if not 0 <= value < 1e12:
+        raise ValueError(text)
+    return round(value * 1e6)
+
+
+def whole(text: str) -> int:
+    """A whole number from 0 on, which may be written as floating point; a ValueError if it isn't one."""
+    if re.fullmatch(r"[0-9]{1,19}", text):
+        found = int(text)
+    else:
+        value = float(text)
+        found = int(value) if value == value and abs(value) < 2.0**62 else -1
+        if found != value:
+            raise ValueError(text)
+    if not 0 <= found <= MOST_VALUE:
+        raise ValueError(text)
+    return found
+
+
+def hundredths(text: str) -> int:
+    """A percentage with two decimals at most, in hundredths."""
+    found = re.fullmatch(r"([0-9]{1,3})(?:\.([0-9]{1,2}))?", text)
+    if not found:
+        raise ValueError(text)
+    return int(found[1]) * 100 + int((found[2] or "").ljust(2, "0"))
+
+
+def must_be_path(path: str, place: Place) -> None:
+    """A group that a trace can't name is a fault."""
+    components = path[1:].split("/") if path != ROOT else []
+    if not path.startswith("/"):
+        raise Fault(f"{place}: the group {path!r} doesn't begin with a /: --rename gives it a path")
+    if escaped_path(path.encode("utf-8", "surrogateescape")) != path:
+        spelled = escaped_path(path.encode("utf-8", "surrogateescape"))
+        raise Fault(f"{place}: a trace can't name the group {path!r}: rename it, as by --rename '{path}={spelled}'")
+    if len(components) > MOST_COMPONENTS or len(path) > MOST_BYTES:
+        raise Fault(f"{place}: the path of a group has {len(path)} bytes and {len(components)} parts: at most 255 and 32; see --groups")

@@ -1,0 +1,88 @@
+"""A trace that is written: events go to a temporary file, and what must come before them is known at its end."""
+from __future__ import annotations
+
+import shutil
+import tempfile
+from collections.abc import Iterable
+from typing import IO
+
+from .plan import MOST_PROCESSORS
+
+MOST_EVENTS = 4_000_000
+# The processor on which tasks are made and end; blocks are on those after it.
+FIRST = 0
+PIECE = 1 << 20
+
+
+class Tasks:
+    """The tasks of a group's life, which are made with the group: `at` is where in the file of events, and `time` when (ns)."""
+
+    def __init__(self, path: str) -> None:
+        self.path, self.at, self.time = path, 0, 0
+        self.numbers: list[int] = []
+
+    def lines(self) -> Iterable[str]:
+        """They come on a processor of their own and fall asleep, one after the other."""
+        yield from (f"{self.time} fork {it} {self.path} {FIRST}\n" for it in self.numbers)
+        how = "idle"
+        for number in self.numbers:
+            yield f"{self.time} switch {FIRST} {number} {how}\n"
+            how = "sleep"
+        if self.numbers:
+            yield f"{self.time} switch {FIRST} 0 sleep\n"
+
+    def count(self) -> int:
+        """How many lines that is."""
+        return 2 * len(self.numbers) + 1 if self.numbers else 0
+
+
+class TraceFile:
+    """The events of one trace, and the tasks of its groups."""
+
+    def __init__(self) -> None:
+        self.events: IO[bytes] = tempfile.TemporaryFile(prefix="samples-")
+        self.position = self.lines = self.task_lines = 0
+        self.processors = 0
+        self.lives: list[Tasks] = []
+
+    def write(self, lines: list[str]) -> None:
+        """Writes lines, each with its newline."""
+        data = "".join(lines).encode("ascii")
+        self.events.write(data)
+        self.position += len(data)
+        self.lines += len(lines)
+
+    def put_tasks(self, tasks: Tasks, time: int) -> None:
+        """Here and at this time they come."""
+        tasks.at, tasks.time = self.position, time
+        self.lives.append(tasks)
+
+    def count(self) -> int:
+        """How many lines the trace will have, with those of tasks."""
+        return self.lines + self.task_lines
+
+    def finish(self, head: list[str], end: int, file: IO[bytes]) -> None:
+        """Writes the whole trace. `head` are lines after the first one."""
+        cpus = self.processors + 1
+        file.write(f"psitrace 1 cpus={cpus}\n".encode())
+        file.writelines(it.encode("ascii") for it in head)
+        self.events.seek(0)
+        at = 0
+        for life in self.lives:
+            copy(self.events, file, life.at - at)
+            at = life.at
+            file.writelines(it.encode("ascii") for it in life.lines())
+        shutil.copyfileobj(self.events, file, PIECE)
+        file.write(f"{end} end\n".encode())
+        self.events.close()
+
+
+def copy(source: IO[bytes], target: IO[bytes], count: int) -> None:
+    """Copies so many bytes."""
+    while count > 0:
+        data = source.read(min(count, PIECE))
+        target.write(data)
+        count -= len(data)
+
+
+assert MOST_PROCESSORS < 64

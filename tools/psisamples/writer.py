@@ -1,0 +1,105 @@
+"""The event lines of blocks: tasks change their states by turns of no length on their processor."""
+from __future__ import annotations
+
+from collections.abc import Callable, Iterable
+
+from .block import TICK
+from .overlays import IN_STALL
+from .plan import Block
+
+# How a task leaves its processor for a state.
+HOW = {"w": "iowait", "s": "sleep", "z": "sleep", "r": "preempt", "R": "preempt"}
+ASLEEP, READY, RUNNING = "wsz", "rR", "xX"
+
+# A task of a block: its group, and its kind.
+Key = tuple[int, str]
+# The ns since the start of a tick, and an event without its time.
+Event = tuple[int, str]
+
+
+class Task:
+    """A task: its number, and the letter of its state."""
+
+    __slots__ = ("number", "state")
+
+    def __init__(self, number: int) -> None:
+        self.number, self.state = number, "z"
+
+
+class Processor:
+    """A processor and the tasks on it."""
+
+    def __init__(self, number: int, task_of: Callable[[Key], Task], put_back: Callable[[Key, Task], None]) -> None:
+        self.number, self.task_of, self.put_back = number, task_of, put_back
+        self.tasks: dict[Key, Task] = {}
+        self.runs: Task | None = None
+
+    def changes_of(self, blocks: Iterable[Block]) -> dict[int, dict[Key, str]]:
+        """The states that begin, by the ns since the start of the tick; tasks of the tick before sleep unless they go on."""
+        found: dict[int, dict[Key, str]] = {}
+        begins: dict[int, dict[Key, str]] = {}
+        for key, task in self.tasks.items():
+            if task.state != "z":
+                found.setdefault(0, {})[key] = "z"
+        for block in blocks:
+            spans = [(block.group, it) for it in block.spans] + block.others
+            for group, span in spans:
+                key = group, span.kind
+                begins.setdefault(block.start + span.begin, {})[key] = span.state
+                if block.start + span.end < TICK:
+                    found.setdefault(block.start + span.end, {})[key] = "z"
+        for time, states in begins.items():
+            found.setdefault(time, {}).update(states)
+        return found
+
+    def play(self, blocks: Iterable[Block], out: list[Event]) -> None:
+        """The events of a tick. Tasks that it doesn't use go back to where other processors take them."""
+        changes = self.changes_of(blocks)
+        used = {key for states in changes.values() for key in states}
+        for time in sorted(changes):
+            self.change(time, changes[time], out)
+        for key in [it for it in self.tasks if it not in used]:
+            self.put_back(key, self.tasks.pop(key))
+
+    def forget(self, groups: set[int]) -> None:
+        """The tasks of these groups, which sleep, are no more."""
+        for key in [it for it in self.tasks if it[0] in groups]:
+            del self.tasks[key]
+
+    def change(self, time: int, wanted: dict[Key, str], out: list[Event]) -> None:
+        """Brings tasks into these states. A task that falls asleep, or enters or leaves a stall, runs for no time."""
+        cpu, turns, last, wakes = self.number, list[Task](), None, list[Task]()
+        states: dict[Task, str] = {}
+        for key, state in wanted.items():
+            task = self.tasks.get(key)
+            if task is None:
+                task = self.tasks[key] = self.task_of(key)
+            if task.state == state:
+                continue
+            states[task] = state
+            if task.state in ASLEEP:
+                wakes.append(task)
+            if state in RUNNING:
+                last = task
+            elif state in ASLEEP or (task.state in IN_STALL) != (state in IN_STALL):
+                turns.append(task)
+        runs = self.runs
+        if runs is not None and states.get(runs, "x") not in RUNNING:
+            turns = [runs, *(it for it in turns if it is not runs)]
+        elif last is None:
+            last = runs
+        out += [(time, f"wake {it.number} {cpu}") for it in wakes]
+        how = "idle" if runs is None else "preempt"
+        for task in turns if last is None else [*turns, last]:
+            if self.runs is not task:
+                out.append((time, f"switch {cpu} {task.number} {how}"))
+                self.runs = task
+            state = states.get(task, task.state)
+            if (task.state in IN_STALL) != (state in IN_STALL):
+                out.append((time, f"{'stall' if state in IN_STALL else 'unstall'} {task.number}"))
+            how = HOW.get(state, "preempt")
+        if last is None and self.runs is not None:
+            out.append((time, f"switch {cpu} 0 {how}"))
+            self.runs = None
+        for task, state in states.items():
+            task.state = state
