@@ -49,11 +49,12 @@ class Room:
     def has(self, name: str) -> bool:
         return os.path.exists(os.path.join(self.path, name))
 
-    def run(self, *words: str, program: str = "", status: int | None = None) -> Done:
-        """Runs a tool, or the program if the first word is psi_oomd. If a status is named, it must come."""
+    def run(self, *words: str, program: str = "", status: int | None = None, text: str = "") -> Done:
+        """Runs a tool, or the program if the first word is psi_oomd, with a text as standard input. If a status is named, it must
+        come."""
         first = self.program if words[0] == "psi_oomd" else os.path.join(TOP, "tools", words[0])
         environment = {**os.environ, "PSI_OOMD": program or self.program, "PYTHONDONTWRITEBYTECODE": "1"}
-        done = subprocess.run([first, *words[1:]], cwd=self.path, capture_output=True, env=environment)
+        done = subprocess.run([first, *words[1:]], cwd=self.path, input=text.encode(), capture_output=True, env=environment)
         found = Done(done.returncode, done.stdout.decode(), done.stderr.decode())
         if status is not None:
             must_be(f"the status of {' '.join(words)}, which said {found.said}", found.status, status)

@@ -13,6 +13,8 @@ from . import START, Room, Row, csv, room_of, steady
 
 LENGTH = 5400
 TIMES = range(0, LENGTH + 1, 5)
+# When /late begins, s: only the last parts have it.
+LATE = 4800
 # When /a stalls for memory, s.
 STALLS = [(600 * it, 600 * it + 60) for it in range(1, 9)]
 
@@ -26,7 +28,8 @@ def rows() -> list[Row]:
     found = [Row(at, path, "memory", round(stalled(at) * share), round(stalled(at) * share * 0.9)) for at in TIMES
              for path, share in (("/", 300_000), ("/a", 900_000))]  # fmt: skip
     busy = [it for path, share in (("/", 0.2), ("/a", 0.1), ("/b", 0.3)) for it in steady(path, "io", TIMES, share, share / 2)]
-    return found + busy + steady("/b", "cpu", TIMES, 0.2, 0.1) + steady("/", "cpu", TIMES, 0.1, 0)
+    late = steady("/late", "io", range(LATE, LENGTH + 1, 5), 0.05, 0.02, LATE)
+    return found + busy + late + steady("/b", "cpu", TIMES, 0.2, 0.1) + steady("/", "cpu", TIMES, 0.1, 0)
 
 
 def rules() -> str:
@@ -52,7 +55,8 @@ def check_parts_are_one(program: str) -> None:
         room.run("samples", "samples", "-o", "whole.trace", status=0)
         lines = sum(room.text(name).count("\n") for name in names)
         must(lines > room.text("whole.trace").count("\n"), "the parts have more lines than the whole, since they overlap")
-        room.file("want", "at most 8 kills\nkill /a by it\n")
+        room.file("want", "at most 8 kills\nkill /a by it\nno kill of /late\n")
+        must("/late" not in room.text(names[0]) and "/late" in room.text(names[-1]), "a part has a group that an earlier one doesn't have")
         found = []
         for traces in ([*reversed(names)], ["whole.trace"]):
             done = room.run("rules", "expect", "want", *traces, "--rules", "rules.json", "--json", status=0)

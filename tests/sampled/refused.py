@@ -128,6 +128,25 @@ def check_rules_on_samples(program: str) -> None:
             must(told in done.output + done.said, f"expect: {done.output}{done.said}")
             done = room.run("rules", "sweep", "rules.json", "it.trace", "--vary", "it/pressure_above.threshold=10,20", status=status)
             must(status or "sure to see full stalls of 21 s and more" in done.said, f"sweep: {done.said}")
+            done = room.run("oomd", "it.trace", "--config", "rules.json")
+            must(("kill_by_pg_scan of rules.json needs them" in done.said) == bool(status), f"oomd: {done.status}, {done.said}")
+            must(bool(done.output) != bool(status), f"oomd prints kills if it has what it needs: {done.output}")
+
+
+def check_the_mark_is_no_group(program: str) -> None:
+    """Neither expectations nor patterns of rules match the group of the mark. The standard input has a mark too, if it is a file."""
+    above = {"name": "pressure_above", "args": {"cgroup": "psi-*", "resource": "io", "threshold": "10", "duration": "10"}}
+    size = {"name": "kill_by_pressure", "args": {"cgroup": "a", "resource": "io"}}
+    rules = {"rulesets": [{"name": "it", "detectors": [["it", above]], "actions": [size]}]}
+    with room_of(program) as room:
+        made(room)
+        room.file("rules.json", json.dumps(rules))
+        room.file("want", "no kill of /psi-*\nat most 0 kills\n")
+        for trace, text in (("it.trace", ""), ("-", room.text("it.trace"))):
+            done = room.run("rules", "expect", "want", trace, "--rules", "rules.json", status=2, text=text)
+            must("no group of it matches /psi-*: it has /, /a;" in done.said, f"expect on {trace}: {done.said}")
+            must(f"no group of {trace} matches 'psi-*'" in done.said, f"the note on {trace}: {done.said}")
+            must("at most 0 kills: " in done.output and "(samples each 5 s)" in done.output, f"expect on {trace}: {done.output}")
 
 
 def check_a_report_leaves_out_who_waited_for_whom(program: str) -> None:

@@ -1,7 +1,7 @@
 """A configuration of oomd, read as oomd reads it: JsonCpp with comments, then its own walk."""
 from __future__ import annotations
 
-from collections.abc import Iterable
+from collections.abc import Iterable, Iterator
 from dataclasses import dataclass, field
 from typing import Any
 
@@ -52,6 +52,13 @@ class Configuration:
     rulesets: list[RulesetUse]
     hooks: list[str]
     data: Any
+
+    def plugins(self) -> Iterator[str]:
+        """The names of all detectors and actions."""
+        for ruleset in self.rulesets:
+            for group in ruleset.groups:
+                yield from (it.name for it in group.detectors)
+            yield from (it.name for it in ruleset.actions)
 
 
 def text_of(value: Any, place: str) -> str:

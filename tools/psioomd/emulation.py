@@ -14,6 +14,7 @@ from psireplay.command import Fault as ReplayFault
 from psireplay.lines import Report, read
 from psirules.program import Program, Refusal
 from psirules.rules_file import bytes_of
+from psirules.sampling import must_have_scans
 from psirules.wording import Fault
 from psisystemd.world import Host, World, lines_of
 
@@ -132,8 +133,11 @@ def decide(it: Engine, run: Run, ticks: Iterator[Tick]) -> None:
 
 
 def prepare_engine(run: Run) -> Engine:
-    """The engine before its first look. A fault if oomd refuses the configuration."""
+    """The engine before its first look. A fault if oomd refuses the configuration, or if the trace
+    lacks what a plugin needs."""
     base, parts = run.configurations()
+    for it in (base, *parts):
+        must_have_scans(run.trace, it.plugins(), it.name)
     return engine(base, parts, Machine(run.extras, first_host(run.trace)), run.uptime)
 
 

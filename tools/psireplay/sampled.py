@@ -5,6 +5,7 @@ here, and refuses such a trace.
 """
 from __future__ import annotations
 
+import os
 import re
 from typing import NamedTuple, Optional
 
@@ -64,8 +65,11 @@ def sampled_in(data: bytes) -> Optional[Sampled]:
 
 
 def sampled(name: str) -> Optional[Sampled]:
-    """What the mark of a trace says; none if it has no mark, or can't be read: whatever reads it next says why."""
+    """What the mark of a trace says; none if it has no mark, or can't be read: whatever reads it next says why. - is the standard
+    input, if that is a file."""
     try:
+        if name == "-":
+            return sampled_in(os.pread(0, MOST_BYTES, 0))
         with open(name, "rb") as file:
             return sampled_in(file.read(MOST_BYTES))
     except OSError:

@@ -2,7 +2,7 @@
 from __future__ import annotations
 
 import math
-from collections.abc import Iterator
+from collections.abc import Iterable, Iterator
 from typing import Any
 
 from psireplay.sampled import Sampled, sampled
@@ -16,16 +16,20 @@ PERIOD = 10.0
 ABOVE = ("pressure_above", "pressure_rising_beyond")
 
 
+def must_have_scans(trace: str, plugins: Iterable[str], name: str) -> None:
+    """A plugin that needs counts of scanned pages is a fault if a trace was made from samples without them. `plugins` are those of
+    the rules file `name`."""
+    found = next((it for it in plugins if it in OF_SCANS), None)
+    mark = sampled(trace) if found else None
+    if mark and not mark.has_scans:
+        raise Fault(f"{trace} was made of samples without counts of scanned pages, and {found} of {name} needs them")
+
+
 def must_judge(trace: str, rules: Any, name: str) -> None:
     """Rules about scanned pages are a fault on a trace of samples that have none. `rules` is what the JSON of a rules file says."""
-    mark = sampled(trace)
-    if mark is None or mark.has_scans:
-        return
     for ruleset in rules["rulesets"]:
         plugins = [it for group in ruleset["detectors"] for it in group[1:]] + ruleset["actions"]
-        found = next((it["name"] for it in plugins if it["name"] in OF_SCANS), None)
-        if found:
-            raise Fault(f"{trace} was made of samples without counts of scanned pages, and {found} of {name} needs them")
+        must_have_scans(trace, (it["name"] for it in plugins), name)
 
 
 def note(trace: str) -> str:
