@@ -62,7 +62,8 @@ def check_a_trace_without_ticks(program: str) -> None:
 
 
 def check_a_recording(program: str) -> None:
-    """What compare and psitrace say of a recording is on its page; and where the trace is another one, that too."""
+    """What compare and psitrace say of a recording is on its page, and that another trace of it is another one. A trace that can't be
+    of it is refused."""
     with recording("exec-2") as folder, tempfile.TemporaryDirectory() as room:
         name = os.path.join(room, "exec-2.trace")
         trace = tool("psitrace", folder, program=program)
@@ -80,5 +81,8 @@ def check_a_recording(program: str) -> None:
             if line.startswith("psitrace: mended: "):
                 must(line.removeprefix("psitrace: mended: ") in page, f"{line} is there")
         with open(name, "wb") as file:
-            file.write(trace.output.replace(b" end\n", b"0 end\n"))
+            file.write(tool("psitrace", folder, "--to", "9", program=program).output)
         must("the one of this page is another" in read(page_of(program, *words)).text(), "that it is another trace is said")
+        with open(name, "wb") as file:
+            file.write(trace.output.replace(b" end\n", b"0 end\n"))
+        must("this trace isn't of this recording: it lasts" in fault(program, 2, *words), "a trace longer than the recording is refused")
