@@ -8,7 +8,7 @@ use Rattle.run_spec.specs.Stops.{read_of_rules}
 use Rattle.run_spec.specs.declared.command.Command.TheVariants.{Whatif}
 use Rattle.trace_file.specs.Reads.{StopsAtRefusal, trace_with}
 use Rattle.run_outcomes.specs.Rules.{RulesGiven}
-use Rattle.run_outcomes.proofs.RunLaws.{runs_supposed, takes_any}
+use Rattle.run_outcomes.proofs.RunLaws.{runs_refused, runs_supposed, takes_any}
 use Rattle.run_outcomes.proofs.RunStops.{supposed_stops, trace_stops}
 use Rattle.replay_core.proofs.WhatifLaws.{kept_accepted, kept_written}
 use Rattle.replay_core.proofs.whatif.run_whatif.Goals as goal
@@ -38,6 +38,16 @@ returns-in-Ok-play_trace-clause-runs g c =
 
 pub returns-in-Err-clause-runs : goal.returns-in-Err-clause-runs
 returns-in-Err-clause-runs g c = c.in-Err.ensures.answer (Whatif c.args.name.now c.args.options.now) _ _ (c.in-Some.is ∙ ap (λ n. Some n) (sym c.name_of.ensures)) refl
+
+pub returns-in-Err-play_trace-clause-runs : goal.returns-in-Err-play_trace-clause-runs
+returns-in-Err-play_trace-clause-runs g c =
+    let options = c.args.options.now in
+    let files = g.S.Shelf.holds c.args.shelf.now in
+    let given = c.in-Ok.ensures.answer in
+    runs_refused (Whatif c.args.name.now options) c.args.name.now files _ _ _ c.in-Ok.rules.rules c.in-Err-play_trace.fault c.fault_status.result (λ bytes. refl) refl
+    (subst (λ named. RulesGiven named options.drop_in files c.in-Ok.rules.rules) (sym c.in-Some.is) (subst (λ n. RulesGiven (Some n) options.drop_in files c.in-Ok.rules.rules) c.name_of.ensures given.0))
+    (rw (c.from-tick.ensures, c.in-Ok.ensures.kept) at c.in-Err-play_trace.ensures.content) (rw c.in-Ok.ensures.kept at c.in-Err-play_trace.ensures.missing) (rw c.in-Ok.ensures.kept at c.in-Err-play_trace.ensures.missed)
+    (rw (given.1.faults, given.1.absent) at c.in-Err-play_trace.ensures.cause) refl c.fault_status.ensures.status
 
 pub returns-in-Ok-play_trace-clause-stops : goal.returns-in-Ok-play_trace-clause-stops
 returns-in-Ok-play_trace-clause-stops g c =
