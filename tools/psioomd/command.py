@@ -21,7 +21,7 @@ from psirules.wording import Fault, counted, seconds
 from psisystemd.command import Words, interval
 from psisystemd.replayed import kept_trace
 
-OK, NOT_RUN = 0, 2
+OK = 0
 DEFAULT_INTERVAL = 5
 VERSION = "0.5.0"
 FILES = ("memory.low", "memory.min", "memory.oom.group", "nr_dying_descendants")

@@ -18,7 +18,7 @@ from psisystemd.settings import Settings
 from psisystemd.told import SWAP, Decision
 from psisystemd.values import percent
 
-TOLD, NOT_RUN = 0, 2
+TOLD = 0
 ABOUT = """Says whom systemd-oomd would have killed in TRACE, when and why, by the settings of a machine.
 
   tools/systemd-oomd incident.trace --settings incident/systemd
