@@ -39,12 +39,12 @@ class Made:
     def commands(self) -> list[str]:
         return sorted(os.listdir(self.path("bin")))
 
-    def run(self, name: str, *words: str, given: str = "") -> subprocess.CompletedProcess[str]:
+    def run(self, name: str, *words: str, given: str = "", path_first: str = "") -> subprocess.CompletedProcess[str]:
         """Runs an installed command from another folder, on a path of its own, with no variable that names a program."""
         path = self.path("bin", name)
         # The tools want Debian's own Python; the programs are started by sh.
         words = (path, *words) if os.access(PYTHON, os.X_OK) or "_" in name else (sys.executable, "-B", path, *words)
-        environment = {"PATH": "/usr/bin:/bin", "LC_ALL": "C.UTF-8", "HOME": os.path.dirname(self.tree)}
+        environment = {"PATH": f"{path_first}/usr/bin:/bin", "LC_ALL": "C.UTF-8", "HOME": os.path.dirname(self.tree)}
         return subprocess.run(words, cwd="/", env=environment, input=given, capture_output=True, encoding="utf-8")
 
 

@@ -10,7 +10,7 @@ import sys
 import tempfile
 import time
 
-from psireplay.command import Fault, Words
+from psireplay.command import INTERRUPTED, Fault, Words
 from psireplay.program import TOP, built_program
 
 from .archives import gzipped, tar_of
@@ -224,6 +224,11 @@ def main() -> int:
         print(f"package: {fault}", file=sys.stderr)
         return 1
     except OSError as fault:
-        print(f"package: {fault.filename or 'the output'}: {fault.strerror}", file=sys.stderr)
+        # The rest of the buffer can't be written either.
+        os.dup2(os.open(os.devnull, os.O_WRONLY), 1)
+        if not isinstance(fault, BrokenPipeError):
+            print(f"package: {fault.filename or 'the output'}: {fault.strerror}", file=sys.stderr)
         return 1
+    except KeyboardInterrupt:
+        return INTERRUPTED
     return 0

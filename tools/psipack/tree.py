@@ -16,12 +16,16 @@ PAGES = "share/man/man1"
 PYTHON = b"#!/usr/bin/env python3\n"
 # Debian's own Python, which leaves no compiled files in folders that no package owns.
 INSTALLED_PYTHON = b"#!/usr/bin/python3 -B\n"
+# Some tools begin with lines of shell, which report a folder as standard input and then start Python.
+BY_SHELL = b'#!/bin/sh\n'
+STARTED = re.compile(rb'^exec python3 -B (?="\$0")', re.MULTILINE)
+ECHOED = re.compile(rb'(?<=echo ")[a-z-]+(?=: )')
 COMMANDS = {tool.file: tool.command for tool in TOOLS}
 NAMED_TOOL = re.compile(rf"(?<![\w./-])tools/({'|'.join(map(re.escape, COMMANDS))})(?![\w/-]|\.\w)")
 # How a message begins, and how a tool names itself for its usage. What psitrace prints of a recording is read by others by its name.
 TOOL_NAME = "|".join(map(re.escape, COMMANDS))
 MESSAGE = re.compile(rf'(\bf")({TOOL_NAME.replace("psitrace|", "")})(?=: )')
-PROGRAM_NAME = re.compile(rf'(\b(?:Words|Parser|run_tool)\("|\bprog=")({TOOL_NAME})(?=")')
+PROGRAM_NAME = re.compile(rf'(\b(?:Words|Parser|run_tool|ended)\("|\bprog=")({TOOL_NAME})(?=")')
 # Parts of documents that are for those who have the sources.
 OF_SOURCES = re.compile(r"<!-- in a checkout -->\n.*?<!-- end -->\n+", re.DOTALL)
 LINK = re.compile(r"(!?)\[([^\]]*)\]\(([^):#]+)(#[^)]*)?\)")
@@ -87,6 +91,16 @@ def programs_of(top: str, programs: dict[str, bytes], origin: str) -> list[Membe
     return members
 
 
+def by_installed_python(data: bytes) -> bytes:
+    """The text of a file of tools, which is run by Debian's Python if it is a command."""
+    if data.startswith(PYTHON):
+        return INSTALLED_PYTHON + data[len(PYTHON) :]
+    if data.startswith(BY_SHELL):
+        data = STARTED.sub(INSTALLED_PYTHON[2:-1] + b" ", data, 1)
+        return ECHOED.sub(lambda found: COMMANDS[found[0].decode()].encode(), data, 1)
+    return data
+
+
 def tools_of(top: str) -> list[Member]:
     """The tools with their modules, and their commands."""
     members = []
@@ -94,7 +108,7 @@ def tools_of(top: str) -> list[Member]:
         if path.split("/")[1] not in OF_CHECKOUTS:
             text = bytes_of(top, path).decode()
             data = with_whole_paths(renamed_code(renamed(text))).encode()
-            members.append(Member(f"{LIBRARY}/{path}", INSTALLED_PYTHON + data[len(PYTHON) :] if data.startswith(PYTHON) else data, mode))
+            members.append(Member(f"{LIBRARY}/{path}", by_installed_python(data), mode))
     known = {member.path for member in members}
     for tool in TOOLS:
         if f"{LIBRARY}/tools/{tool.file}" not in known:
