@@ -252,6 +252,8 @@ def read_recording(folder: str, is_forced: bool, read: Callable[[str, Meta, Sour
 
 def meta_of(folder: str) -> Meta:
     """The folder's `meta`. Without it this may be the folder above a recording."""
+    if not os.path.lexists(folder):
+        raise Unreadable(f"{folder}: No such file or directory")
     if os.path.isdir(folder) and not os.path.lexists(os.path.join(folder, META)):
         below = recording_below(folder)
         advice = f": did you mean {below}?" if below else ""

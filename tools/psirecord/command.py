@@ -106,9 +106,12 @@ def tell(line: str) -> None:
 
 def positive(word: str) -> float:
     """A number above 0."""
-    number = float(word)
+    try:
+        number = float(word)
+    except ValueError:
+        raise argparse.ArgumentTypeError(f"{word} is no number") from None
     if not 0 < number < FOREVER:
-        raise argparse.ArgumentTypeError(f"{word} isn't above 0")
+        raise argparse.ArgumentTypeError(f"{word} isn't above 0, or too large")
     return number
 
 
