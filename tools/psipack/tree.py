@@ -18,13 +18,13 @@ PYTHON = b"#!/usr/bin/env python3\n"
 INSTALLED_PYTHON = b"#!/usr/bin/python3 -B\n"
 # Some tools begin with lines of shell, which report a folder as standard input and then start Python.
 BY_SHELL = b'#!/bin/sh\n'
-STARTED = re.compile(rb'^exec python3 -B (?="\$0")', re.MULTILINE)
-ECHOED = re.compile(rb'(?<=echo ")[a-z-]+(?=: )')
+STARTED = re.compile(rb'^exec python3 -B ', re.MULTILINE)
 COMMANDS = {tool.file: tool.command for tool in TOOLS}
 NAMED_TOOL = re.compile(rf"(?<![\w./-])tools/({'|'.join(map(re.escape, COMMANDS))})(?![\w/-]|\.\w)")
 # How a message begins, and how a tool names itself for its usage. What psitrace prints of a recording is read by others by its name.
 TOOL_NAME = "|".join(map(re.escape, COMMANDS))
 MESSAGE = re.compile(rf'(\bf")({TOOL_NAME.replace("psitrace|", "")})(?=: )')
+ECHOED = re.compile(rf'(?<=echo ")({TOOL_NAME})(?=: )')
 PROGRAM_NAME = re.compile(rf'(\b(?:Words|Parser|run_tool|ended)\("|\bprog=")({TOOL_NAME})(?=")')
 # Parts of documents that are for those who have the sources.
 OF_SOURCES = re.compile(r"<!-- in a checkout -->\n.*?<!-- end -->\n+", re.DOTALL)
@@ -69,6 +69,7 @@ def renamed(text: str) -> str:
 def renamed_code(text: str) -> str:
     """The text of a tool, whose messages and usage begin with its installed name."""
     text = MESSAGE.sub(lambda found: f'{found[1]}{COMMANDS[found[2]]}', text)
+    text = ECHOED.sub(lambda found: COMMANDS[found[1]], text)
     return PROGRAM_NAME.sub(lambda found: f'{found[1]}{COMMANDS[found[2]]}', text)
 
 
@@ -96,8 +97,7 @@ def by_installed_python(data: bytes) -> bytes:
     if data.startswith(PYTHON):
         return INSTALLED_PYTHON + data[len(PYTHON) :]
     if data.startswith(BY_SHELL):
-        data = STARTED.sub(INSTALLED_PYTHON[2:-1] + b" ", data, 1)
-        return ECHOED.sub(lambda found: COMMANDS[found[0].decode()].encode(), data, 1)
+        return STARTED.sub(b"exec " + INSTALLED_PYTHON[2:-1] + b" ", data, 1)
     return data
 
 
