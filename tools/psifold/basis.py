@@ -1,16 +1,20 @@
-"""Few joint states with the same sums (Caratheodory's theorem for cones): of any number of joint states with their times at most as
-many, with other times, give all sums of them, as there are sums that don't depend on one another.
+"""Reduces joint states to few that have the same sums (Caratheodory's theorem for cones): any
+combination of joint states with their times can be replaced by at most as many of them as there are
+independent sums, with other times.
 
-The joint states that are kept are the *basis*: no one's column, which has a 1 for each sum that the joint state takes part in, is made
-of the others'. A further one is either independent too, and comes into the basis; or its column is made of those of the basis. Then
-its time is given to these, up to where the time of one of them is 0: that one leaves, and the new one stays with what is left of its
-time (a step of the simplex method, and one *pivot*). Mostly there is room for all of it, and even for many joint states at once: so
-their sums are tried together, and only where that fails fewer of them, down to one.
+The joint states that are kept are the *basis*. The column of a joint state has a 1 for each sum
+that it takes part in, and the columns of the basis are linearly independent. A further joint state
+is either independent too and is added to the basis, or its column is a combination of those in the
+basis. In that case its time is distributed among them until the time of one is 0: this one is
+removed, and the new one stays with the rest of its time (a step of the simplex method, called a
+*pivot*). Usually the basis has room for all of the time, and even for many joint states at once: so
+their sums are tried together first, and if that fails, fewer of them, down to one.
 
-All of it is exact, in whole numbers: the inverse of the basis is kept times its determinant, the *divisor* (Edmonds' pivots), and so
-are the times. The numbers of a column of that inverse lie side by side in one large whole number, each in a *field* of its own, so
-that one operation adds two columns, or holds all times against 0. A field's number is always below a half of its room: a bound on
-the inverse says when the numbers must be looked at, and fields are widened where that is needed.
+All arithmetic is exact, in integers: the inverse of the basis is stored times its determinant, the
+*divisor* (Edmonds' pivots), and so are the times. The numbers of a column of the inverse are packed
+into one large integer, each in a *field* of its own, so that one operation adds two columns, or
+compares all times with 0. A number is always below half of what its field can hold: an upper bound
+on the inverse says when the numbers must be checked, and fields are widened if necessary.
 """
 from __future__ import annotations
 
@@ -21,20 +25,21 @@ from typing import NamedTuple
 from .world import bits_of
 
 FIELD_BITS = 64
-# So many joint states are tried together.
+# The number of joint states that are tried together.
 TOGETHER = 64
 
 
 class Share(NamedTuple):
-    """A joint state that is kept, by its number, and its time (ns) times the divisor."""
+    """The number of a joint state of the basis, and its time (ns) times the divisor."""
 
     number: int
     time: int
 
 
 class Fields:
-    """Columns of so many numbers, each packed into one whole number. `signs` has the bits that are set where a field's number is
-    negative; the same number added makes each of them positive."""
+    """Columns of `rows` numbers, each column packed into one integer. `signs` has the sign bit of
+    each field set; adding it to a column makes each number positive.
+    """
 
     def __init__(self, rows: int, bits: int) -> None:
         self.rows, self.bits, self.half, self.mask = rows, bits, 1 << bits - 1, (1 << bits) - 1
@@ -49,7 +54,7 @@ class Fields:
         return [int.from_bytes(data[at : at + size], "little") - half for at in range(0, len(data), size)]
 
     def packed(self, numbers: Sequence[int]) -> int:
-        """The column that has these numbers."""
+        """The column with these numbers."""
         size, half = self.bits // 8, self.half
         return int.from_bytes(b"".join((number + half).to_bytes(size, "little") for number in numbers), "little") - self.signs
 
@@ -59,20 +64,23 @@ class Fields:
 
 
 class Units:
-    """Columns with a bit for each sum as packed ones, byte by byte. `used` has the bits that there are; the rows are theirs, in their
-    order."""
+    """Packs columns that have a bit for each sum, byte by byte. `used` has the bits that occur; the
+    rows are in their order.
+    """
 
     def __init__(self, used: int, fields: Fields) -> None:
         self.fields, self.size = fields, (used.bit_length() + 7) // 8
         self.bytes = [ByteFields(value, fields.bits // 8) for value in used.to_bytes(self.size, "little")]
 
     def packed(self, column: int) -> int:
-        """A column with a 1 in each row whose bit it has."""
+        """The packed column, with a 1 in each row whose bit is set."""
         return int.from_bytes(b"".join(map(getitem, self.bytes, column.to_bytes(self.size, "little"))), "little")
 
 
 class ByteFields(dict[int, bytes]):
-    """By the value of a byte the fields, of so many bytes each, of those of its bits that are used: 1 where the bit is set."""
+    """The fields of a byte's used bits, by the byte's value: `size` bytes per field, 1 if the bit
+    is set.
+    """
 
     def __init__(self, used: int, size: int) -> None:
         self.places, self.size = list(bits_of(used)), size
@@ -83,21 +91,24 @@ class ByteFields(dict[int, bytes]):
 
 
 class Basis:
-    """The joint states that are kept so far, of columns with so many rows; their times are together at most `longest` (ns)."""
+    """The joint states that are kept so far, with columns of `rows` numbers; the sum of their times
+    is at most `longest` (ns).
+    """
 
     def __init__(self, rows: int, longest: int) -> None:
         self.longest, self.fields = longest, Fields(rows, FIELD_BITS)
-        # The joint state of each row of the inverse; None where none is yet.
+        # The joint state of each row of the inverse, or None.
         self.numbers: list[int | None] = [None] * rows
         self.columns = [1 << row * FIELD_BITS for row in range(rows)]
         self.divisor, self.times = 1, 0
         self.free = (1 << rows * FIELD_BITS) - 1
-        # No number of the inverse is greater.
+        # An upper bound on the numbers of the inverse.
         self.most = 1
 
     def take_all(self, columns: Sequence[int], times: Sequence[int]) -> int:
-        """Takes joint states, whose numbers are their places: columns, packed into fields of FIELD_BITS, and times (ns). Answers the
-        sums of all, packed."""
+        """Takes joint states, which are numbered by their index: columns, packed into fields of
+        FIELD_BITS, and times (ns). Returns the packed sums of all of them.
+        """
         total = 0
         for start in range(0, len(columns), TOGETHER):
             sums = [0]
@@ -108,8 +119,10 @@ class Basis:
         return total
 
     def take_some(self, start: int, columns: Sequence[int], times: Sequence[int], sums: Sequence[int]) -> None:
-        """Takes the joint states from `start` on, whose sums are these: all, or where there is no room for all of them half as many.
-        Where there was none for all, there is none for the rest either when some were given; only a pivot changes that."""
+        """Takes the joint states from `start`, whose cumulative sums are `sums`: all at once, or
+        half as many as long as there is no room. If there was no room for all, there is none for
+        the rest either after some were taken; only a pivot changes that.
+        """
         end = wanted = len(sums) - 1
         taken, is_full = 0, False
         while taken < end:
@@ -124,14 +137,15 @@ class Basis:
                 taken, wanted = taken + 1, min(taken + 3, end)
 
     def made_of(self, packed: int) -> int:
-        """By how much of each joint state of the basis a column of sums is made, times the divisor; packed."""
+        """The packed coefficients by which the basis gives a column of sums, times the divisor."""
         size = FIELD_BITS // 8
         data = packed.to_bytes(size * self.fields.rows, "little")
         numbers = memoryview(data).cast("Q").tolist()
         return sum(number * column for number, column in zip(numbers, self.columns) if number)
 
     def give(self, sums: int) -> bool:
-        """Gives these sums to the joint states of the basis, if they have room for them."""
+        """Adds these sums to the times of the basis, and returns true, if there is room for them.
+        """
         parts = self.made_of(sums)
         times = self.times + parts
         signs = self.fields.signs
@@ -141,7 +155,9 @@ class Basis:
         return True
 
     def take(self, number: int, column: int, time: int) -> bool:
-        """Takes a joint state, by its number, its column and its time (ns); whether by a pivot."""
+        """Takes a joint state: its number, its column and its time (ns). Returns whether that
+        needed a pivot.
+        """
         parts = self.made_of(column)
         times, signs = self.times + time * parts, self.fields.signs
         if (parts + signs ^ signs) & self.free:
@@ -156,8 +172,9 @@ class Basis:
         return True
 
     def pivot(self, row: int, number: int, parts: int, time: int) -> None:
-        """A joint state, whose column is made of such parts and which has so much time (ns), takes the row in place of the one that
-        has it."""
+        """Puts a joint state, whose column is the combination `parts` and whose time is `time`
+        (ns), in the place of the one in this row.
+        """
         fields, divisor = self.fields, self.divisor
         found, times = fields.numbers(parts), fields.numbers(self.times)
         factor = found[row]
@@ -169,7 +186,7 @@ class Basis:
         else:
             pairs = zip(self.columns, owns)
             self.columns = [sign * (factor * column - own * change) // divisor for column, own in pairs]
-        # Times are reckoned one by one, since on the way they are far greater than fields are.
+        # Times are computed one by one, since intermediate results are far larger than fields.
         given = times[row] + time * factor
         times = [
             sign * (factor * (at + time * part) - given * part) // divisor if place != row else sign * given
@@ -182,14 +199,18 @@ class Basis:
             self.make_room()
 
     def fits(self) -> bool:
-        """Whether all that is reckoned in fields next stays below a half of one. With M the greatest number of the inverse, the parts
-        of a column are at most all rows times M, say P; of sums, the longest times that; and a pivot takes at most P times M, and
-        the divisor times M."""
+        """Whether all numbers that are computed in fields next stay below half of a field. If M is
+        the greatest number of the inverse, the parts of a column are at most P = rows * M; the
+        parts of sums at most that times the longest time; and a pivot needs at most P * M, and the
+        divisor times M.
+        """
         parts = max(self.fields.rows * self.most, self.divisor)
         return 3 * parts * max(self.longest, self.most) < self.fields.half
 
     def make_room(self) -> None:
-        """Looks at the numbers of the inverse, and widens the fields where these are too large."""
+        """Computes the greatest number of the inverse, and widens the fields if it is too large for
+        them.
+        """
         self.most = max(abs(number) for column in self.columns for number in self.fields.numbers(column))
         while not self.fits():
             before, self.fields = self.fields, Fields(self.fields.rows, 2 * self.fields.bits)
@@ -199,16 +220,19 @@ class Basis:
             self.free = sum(self.fields.mask << row * self.fields.bits for row in rows)
 
     def shares(self) -> list[Share]:
-        """The joint states that are kept, and their times."""
+        """The joint states of the basis, and their times."""
         times = zip(self.numbers, self.fields.numbers(self.times))
         return [Share(number, time) for number, time in times if number is not None and time]
 
 
 def first_at_zero(times: list[int], parts: list[int]) -> int:
-    """The row whose time is 0 first, where a time is given to those of which its column is made, by these parts."""
+    """The row whose time is the first to be 0 when time is distributed among the rows according to
+    `parts`.
+    """
     row, time, least = -1, 1, 0
     for place, part in enumerate(parts):
-        # Compares times[place] / -part with time / -least; the first is nearer than none.
+        # Compares times[place] / -part with time / -least; the first is accepted if there is none
+        # yet.
         if part < 0 and (row < 0 or times[place] * -least < time * -part):
             row, time, least = place, times[place], part
     return row

@@ -1,8 +1,8 @@
-"""Checks the lines of a folded window before they are written: plays them by the kernel's way of accounting, which counts tasks, and
-holds what comes against what the window had.
+"""Checks the lines of a folded window before they are written: replays them by the kernel's way of
+accounting, which counts tasks, and compares the resulting sums with those of the original window.
 
-Nothing here is of the code that makes the lines: the tasks and counts are kept anew, and the states are those of docs/TRACES.md
-as counts tell them.
+This shares no code with the code that writes the lines: it keeps its own tasks and counts, and
+derives the states of docs/TRACES.md from the counts.
 """
 from __future__ import annotations
 
@@ -17,20 +17,22 @@ from typing import NamedTuple
 # A group's counts on a processor: tasks that wait for IO, that are stalled, that are ready or run, and that do so in a stall.
 WAITING, STALLED, ACTIVE, ACTIVE_STALLED = range(4)
 STATES = 7
-# So many ns may a sum be off at any moment, by the rounding of all windows up to then.
+# The number of ns that a sum may be off at any time, by the rounding of all windows up to then.
 MOST_OFF = 9
-# So long (ns) may the interrupts of one line be.
+# The longest time (ns) that one line of interrupts may have.
 MOST_INTERRUPTS = 10**9
 READY, RUNNING, ASLEEP, WAITS = "ready", "running", "asleep", "waiting"
 AFTER = {"preempt": READY, "sleep": ASLEEP, "iowait": WAITS}
 
 
 class Different(Exception):
-    """A folded window isn't what the window was: the text says where and how."""
+    """A folded window differs from the original one: the text says where and how."""
 
 
 class Key(NamedTuple):
-    """A sum of time: of which group on which processor, in which state (0 to 6), and as it is without which groups."""
+    """A sum of time: its group, its processor, its state (0 to 6), and the groups without which it
+    is computed.
+    """
 
     processor: int
     path: str
@@ -40,9 +42,11 @@ class Key(NamedTuple):
 
 @dataclass
 class Window:
-    """What a window had, from one moment to another (ns): its sums (ns), of the groups that are accounted; what interrupts took (ns)
-    by processor and the group of the task that ran; which groups had tasks at its end, where that matters; and the lines that stay
-    as they are, with their moments."""
+    """An original window, from `start` to `end` (ns): its sums (ns) for the groups that are
+    accounted; the time of interrupts (ns) by processor and group of the running task; which groups
+    had tasks at its end, if that matters; and the lines that are copied unchanged, with their times
+    (ns).
+    """
 
     start: int
     end: int
@@ -55,7 +59,7 @@ class Window:
 
 @dataclass
 class Task:
-    """A task, by its group's path, its processor, what it does, and whether it is in a stall."""
+    """A task: its group's path, its processor, what it does, and whether it is in a stall."""
 
     path: str
     processor: int
@@ -65,13 +69,15 @@ class Task:
 
 @functools.lru_cache(maxsize=4096)
 def chain_of(path: str) -> tuple[str, ...]:
-    """A group and all above it."""
+    """A group and all its ancestors."""
     parts = path.split("/")[1:] if path != "/" else []
     return ("/", *("/" + "/".join(parts[: count + 1]) for count in range(len(parts))))
 
 
 class Clock:
-    """The counts of a group on a processor, and how long (ns) it was in each state in this window."""
+    """The counts of a group on a processor, and the time (ns) that it was in each state in this
+    window.
+    """
 
     def __init__(self, start: int) -> None:
         self.counts = [0, 0, 0, 0]
@@ -80,7 +86,7 @@ class Clock:
         self.times = [0] * STATES
 
     def go_to(self, moment: int) -> None:
-        """Adds the time up to this moment to those of the states that held."""
+        """Adds the time up to `moment` (ns) to each state that held."""
         length = moment - self.since
         if length:
             for state, is_held in enumerate(self.held()):
@@ -89,7 +95,9 @@ class Clock:
             self.since = moment
 
     def held(self) -> tuple[bool, ...]:
-        """Which states hold, by the counts, and by whether the task that runs is of the group and in a stall."""
+        """Which states hold, according to the counts and to whether the running task is of the
+        group and in a stall.
+        """
         waiting, stalled, active, active_stalled = self.counts
         return (
             waiting > 0,
@@ -102,7 +110,7 @@ class Clock:
         )
 
     def add(self, task: Task, sign: int) -> None:
-        """The task is one of the group's, or isn't any more."""
+        """Adds the task to the counts (sign 1), or removes it (sign -1)."""
         is_active = task.does in (READY, RUNNING)
         self.counts[WAITING] += sign * (task.does == WAITS)
         self.counts[STALLED] += sign * task.is_stalled
@@ -113,7 +121,9 @@ class Clock:
 
 
 class Clocks:
-    """The clocks of all groups on all processors, as they are without some groups and all below those."""
+    """The clocks of all groups on all processors, without the tasks of some groups and their
+    descendants.
+    """
 
     def __init__(self, without: tuple[str, ...]) -> None:
         self.without = without
@@ -121,7 +131,7 @@ class Clocks:
         self.clocks: dict[tuple[int, str], Clock] = {}
 
     def change(self, moment: int, task: Task, sign: int) -> None:
-        """The task comes as it is, or goes."""
+        """Adds the task in its present state (sign 1), or removes it (sign -1)."""
         chain = chain_of(task.path)
         if any(path in self.without for path in chain):
             return
@@ -133,7 +143,7 @@ class Clocks:
             clock.add(task, sign)
 
     def sums(self, end: int, accounted: set[str]) -> dict[Key, int]:
-        """The sums of the window that ends at this moment; the next one begins there."""
+        """The sums of the window that ends at `end` (ns); the next window begins there."""
         found: dict[Key, int] = {}
         for (processor, path), clock in self.clocks.items():
             clock.go_to(end)
@@ -144,13 +154,13 @@ class Clocks:
         return found
 
     def forget(self, path: str) -> None:
-        """The group is removed."""
+        """Removes the group."""
         for key in [it for it in self.clocks if it[1] == path]:
             del self.clocks[key]
 
 
 class Check:
-    """Plays folded lines, and refuses a window that isn't what it was."""
+    """Replays folded lines, and rejects a window that differs from the original."""
 
     def __init__(self, processors: int) -> None:
         self.processors = processors
@@ -161,9 +171,10 @@ class Check:
         self.interrupts: Counter[tuple[int, str]] = Counter()
         self.interrupted: dict[int, int] = {}
         self.kept: list[str] = []
-        # By how many ns each sum is behind, of all windows so far.
+        # The number of ns that each sum lacks, over all windows so far.
         self.behind: Counter[Key] = Counter()
-        # The last edge, with the groups that must have tasks once all lines of its time (ns) were played.
+        # The time (ns) of the last edge, and the groups that must have tasks after all lines of
+        # that time.
         self.edge: tuple[int, set[str]] | None = None
         self.most_tasks = 0
         self.verbs: dict[str, Callable[..., None]] = {
@@ -173,7 +184,7 @@ class Check:
     # ------------------------------------------------------------ lines
 
     def play(self, line: str) -> None:
-        """Plays a line of a window."""
+        """Replays a line of a window."""
         moment, verb, *fields = line.split(" ")
         self.must(int(moment) >= self.now, line)
         self.pass_edge(int(moment))
@@ -185,12 +196,12 @@ class Check:
             act(line, *fields)
 
     def must(self, is_right: object, line: str) -> None:
-        """Refuses a line that can't stand there."""
+        """Rejects a line that isn't allowed at this place."""
         if not is_right:
             raise Different(f"the line '{line}' can't stand there")
 
     def change(self, task: Task, **values: object) -> None:
-        """A task has other values from now on."""
+        """Changes these values of a task."""
         for clocks in self.clocks:
             clocks.change(self.now, task, -1)
         for name, value in values.items():
@@ -199,7 +210,7 @@ class Check:
             clocks.change(self.now, task, 1)
 
     def fork(self, line: str, number: str, path: str, processor: str) -> None:
-        """A task is made, ready on a processor."""
+        """A task is created, ready on a processor."""
         self.must(number not in self.tasks and int(processor) < self.processors, line)
         task = self.tasks[number] = Task(path, int(processor))
         self.most_tasks = max(self.most_tasks, len(self.tasks))
@@ -207,14 +218,14 @@ class Check:
             clocks.change(self.now, task, 1)
 
     def wake(self, line: str, number: str, processor: str) -> None:
-        """A blocked task is ready."""
+        """A blocked task becomes ready."""
         task = self.tasks.get(number)
         self.must(task and task.does in (ASLEEP, WAITS) and int(processor) < self.processors, line)
         assert task
         self.change(task, does=READY, processor=int(processor))
 
     def switch(self, line: str, place: str, following: str, how: str) -> None:
-        """The running task leaves, and another runs, or none."""
+        """The running task leaves the processor; another one runs, or none."""
         processor, leaving = int(place), self.runs.pop(int(place), "0")
         coming = self.tasks.get(following)
         self.must((how == "idle") == (leaving == "0"), line)
@@ -247,7 +258,7 @@ class Check:
     # ------------------------------------------------------------ windows
 
     def between(self, line: str) -> None:
-        """A line that stands between two windows."""
+        """Replays a line between two windows."""
         moment, verb, *fields = line.split(" ")
         self.pass_edge(int(moment) + (verb == "end"))
         if verb == "rmgroup":
@@ -260,12 +271,12 @@ class Check:
                 del self.behind[key]
 
     def keep_without(self, removals: list[tuple[str, ...]]) -> None:
-        """From the next window on sums are held against those without each of these sets of groups, too."""
+        """From the next window, sums are also compared without each of these sets of groups."""
         known = {clocks.without: clocks for clocks in self.clocks}
         self.clocks = [known.get(it) or self.new_clocks(it) for it in [(), *removals]]
 
     def new_clocks(self, without: tuple[str, ...]) -> Clocks:
-        """Clocks without some groups, with the tasks as they are now."""
+        """Clocks without some groups, with all other tasks in their present states."""
         clocks = Clocks(without)
         clocks.start = self.now
         for task in self.tasks.values():
@@ -273,7 +284,7 @@ class Check:
         return clocks
 
     def window(self, window: Window, lines: list[str]) -> None:
-        """Plays the lines of a window, and holds what comes of them against what it had."""
+        """Replays the lines of a window, and compares the results with the original window."""
         for line in lines:
             self.play(line)
         where = f"of the window from {window.start} to {window.end}"
@@ -288,22 +299,24 @@ class Check:
         self.kept, self.interrupts = [], Counter()
 
     def pass_edge(self, moment: int) -> None:
-        """Before the first line after an edge: a tick there sees what all lines of its time have made."""
+        """Checks the groups at an edge before the first line after it: a tick there sees the effect
+        of all lines of its time.
+        """
         if self.edge and moment > self.edge[0]:
             self.compare_tasks(f"at a tick at {self.edge[0]}", self.edge[1])
             self.edge = None
 
     def compare_tasks(self, where: str, wanted: set[str]) -> None:
-        """Refuses other groups with tasks than these."""
+        """Rejects the window if the groups that have tasks differ from `wanted`."""
         self.compare("which groups have tasks", where, {task.path for task in self.tasks.values()}, wanted)
 
     def compare(self, what: str, where: str, found: object, wanted: object) -> None:
-        """Refuses what isn't the same."""
+        """Rejects the window if the two differ."""
         if found != wanted:
             raise Different(f"{what} {where} differs: {found}, not {wanted}")
 
     def compare_sums(self, window: Window, where: str) -> None:
-        """Refuses sums that are off by more than rounding."""
+        """Rejects sums that are off by more than rounding."""
         found: dict[Key, int] = {}
         for clocks in self.clocks:
             found.update(clocks.sums(window.end, window.accounted))

@@ -1,21 +1,21 @@
-"""Folds a trace: makes one with the same pressure, which has far fewer lines where the machine was busy.
+"""Folds a trace: makes a trace with the same pressure, which has far fewer lines where the machine was busy.
 
   tools/fold TRACE --window 1 > FOLDED
 
-Within each window of S seconds other events stand in place of those that were, so that each group was in each state for as long on
-each processor. A replay at a tick of S seconds, or of a multiple, prints what it prints of TRACE: totals, averages, signals and kills;
-but times are rounded to whole ns. So totals may differ by 1 us, and a signal or an average whose time is exactly at an edge may differ.
-What --live and a --tick-ms below S would show isn't kept, nor who did what when within a window.
+Within each window of S seconds other events replace the original ones, so that each group was in each state for the same time on
+each processor. A replay at a tick of S seconds, or of a multiple, prints the same for both traces: totals, averages, signals and
+kills; but times are rounded to whole ns. So totals may differ by 1 us, and a signal or an average whose time is exactly at an edge may
+differ. The details that --live or a --tick-ms below S would show are lost, and so is which task did what when within a window.
 
-TRACE is a file that psi_oomd takes, or - for the standard input. `whatif` is exact up to the first kill, and after it where the
-victim is among those whom --victims or --rules name, and no task came to it, left it or moved within it later; a line on standard
-error says until when some did.
+TRACE is a file for psi_oomd, or - for the standard input. `whatif` is exact up to the first kill. After it, it is exact if the victim
+is among the groups that --victims or --rules select, and no task came to that group, left it or moved within it later; a line on
+standard error says until when some did.
 
-Each window is checked before it is written: its lines are played by other code, and its sums held against those of TRACE.
+Each window is checked before it is written: other code replays its lines, and compares the sums with those of TRACE.
 
-The status is 0; 1 for faulty words; 2 where something can't be read or written, or TRACE isn't a trace; 3 where what comes has more
-events or tasks than a trace may have, so that what was written has no end, or where it is longer than TRACE; and 4 where the check
-found a difference, which is a fault of this tool: then what was written ends before that window, and has no end.
+The status is 0; 1 for a usage error; 2 if something can't be read or written, or TRACE isn't a trace; 3 if the folded trace has more
+events or tasks than a trace may have, so that the output has no end line, or if it is longer than TRACE; and 4 if the check found a
+difference, which is a bug of this tool: then the output ends before that window, and has no end line.
 """
 from __future__ import annotations
 
@@ -39,25 +39,26 @@ from .world import NotATrace, shortened
 FAULTY, UNREADABLE, TOO_MANY, DIFFERENT = 1, 2, 3, 4
 HEADER = re.compile("psitrace ([12]) cpus=([1-9][0-9]?)")
 MAKE_FEWER = ", and so does a longer window"
-# So many lines are read at once; and these first ones say whether the trace was made of samples.
+# The number of lines that are read at once, and of the first lines, which show whether the trace
+# was made from samples.
 LINES = 10_000
 MARK_LINES = 3
 
 
 def tell(line: str) -> None:
-    """Says something on standard error."""
+    """Prints a line on standard error."""
     print(f"fold: {line}", file=sys.stderr)
 
 
 class Options(NamedTuple):
-    """What the command line says."""
+    """The parsed command line."""
 
     trace: str
     folding: Folding
 
 
 def options_of(given: list[str]) -> Options:
-    """What these words say."""
+    """Parses the command line."""
     words = Parser("fold", __doc__, FAULTY)
     words.add_argument("trace", metavar="TRACE", help="the trace, or - for the standard input")
     add_window(words, "--window", True, "the length of a window in seconds: that of the tick, or a whole part of it")
@@ -68,7 +69,7 @@ def options_of(given: list[str]) -> Options:
 
 
 def opened(name: str) -> IO[str]:
-    """The trace."""
+    """The trace, opened for reading."""
     try:
         return open(0 if name == "-" else name, encoding="ascii", errors="surrogateescape", newline="\n", closefd=name != "-")
     except OSError as fault:
@@ -77,7 +78,7 @@ def opened(name: str) -> IO[str]:
 
 
 def processors_of(header: str) -> int:
-    """The processors of a trace with this header."""
+    """The number of processors in the header of a trace."""
     found = HEADER.fullmatch(header)
     if not found or int(found[2]) > MOST_PROCESSORS:
         kind = kind_of(f"{header}\n".encode("ascii", "surrogateescape")[:HEAD] if header else b"")

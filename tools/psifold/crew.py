@@ -1,5 +1,7 @@
-"""Folds the windows of all processors: here, or as soon as there is much to do in processes of their own, each for its share of the
-processors. A window is handed in, and what came of it is taken out later, in the same order."""
+"""Folds the windows of all processors: in this process, or, as soon as there is much to do, in
+several processes with a share of the processors each. Windows are submitted, and their results
+returned later in the same order.
+"""
 from __future__ import annotations
 
 import contextlib
@@ -20,11 +22,14 @@ from .processor import FoldedProcessor, Piece, Turn
 from .sums import Plan, Sums
 from .world import Catalog
 
-# From so many joint states of a window on there are several processes, and so many at most.
+# The number of joint states of a window from which several processes are used, and the most
+# processes.
 MUCH, MOST_WORKERS = 4_000, 8
 
 class Work(NamedTuple):
-    """A window: what came to the catalog, which sums are kept where that has changed, and the turns by processor."""
+    """A window: additions to the catalog, the sums to keep if they have changed, and the turns by
+    processor.
+    """
 
     news: tuple[list[str], list[int | None], list[int]]
     plan: Plan | None
@@ -40,19 +45,21 @@ class Share:
         self.sums = Sums(self.catalog, [])
 
     def of(self, work: Work) -> Work:
-        """What of a window is of these processors."""
+        """The part of a window that concerns these processors."""
         return work._replace(turns={processor: work.turns[processor] for processor in self.folded})
 
     def fold(self, work: Work) -> dict[int, Piece]:
-        """What comes of a window, by processor."""
+        """The pieces of a window, by processor."""
         self.catalog.add(*work.news)
         if work.plan is not None:
             self.sums = Sums(self.catalog, work.plan)
         return {processor: self.folded[processor].fold(turn, self.sums, self.catalog) for processor, turn in work.turns.items()}
 
     def serve(self, own: Connection, others: Sequence[Connection]) -> None:
-        """Folds what comes along a line, in a process of its own, as long as the line is held at the other end. It is taken off the
-        line at once, so that who sends it never waits for who wants to be heard."""
+        """Folds what arrives on a connection, in a process of its own, until the other end closes
+        it. A thread receives everything at once, so that the sender never waits for a reader of
+        results.
+        """
         signal.signal(signal.SIGINT, signal.SIG_IGN)
         for line in others:
             line.close()
@@ -64,7 +71,7 @@ class Share:
 
 
 def take_all(line: Connection, due: Queue[Work | None]) -> None:
-    """Takes what comes along a line; none is the end."""
+    """Queues what arrives on a connection; None marks the end."""
     with contextlib.suppress(EOFError, OSError):
         while True:
             due.put(line.recv())
@@ -81,7 +88,7 @@ def answering() -> Iterator[None]:
 
 
 class Crew:
-    """All processors, in shares. At first they are here."""
+    """All processors, in shares. At first they are folded in this process."""
 
     def __init__(self, processors: int, workers: int | None = None) -> None:
         most = max(len(os.sched_getaffinity(0)) - 1, 1) if workers is None else max(workers, 1)
@@ -92,7 +99,7 @@ class Crew:
         self.waiting: deque[dict[int, Piece] | None] = deque()
 
     def hand_in(self, work: Work) -> None:
-        """A further window."""
+        """Submits the next window."""
         if not self.lines and len(self.shares) > 1 and sum(len(turn.spent) for turn in work.turns.values()) >= MUCH:
             self.start()
         if self.lines:
@@ -104,7 +111,7 @@ class Crew:
             self.waiting.append({number: piece for share in self.shares for number, piece in share.fold(share.of(work)).items()})
 
     def take_out(self) -> dict[int, Piece]:
-        """What came of the first window that wasn't taken out yet, by processor."""
+        """The pieces, by processor, of the first window whose result wasn't returned yet."""
         pieces = self.waiting.popleft()
         if pieces is not None:
             return pieces
@@ -112,7 +119,7 @@ class Crew:
             return {number: piece for line in self.lines for number, piece in line.recv().items()}
 
     def start(self) -> None:
-        """From now on each share has a process of its own."""
+        """Starts a process for each share."""
         context = multiprocessing.get_context("fork")
         pairs = [context.Pipe() for _ in self.shares]
         every = [end for pair in pairs for end in pair]
@@ -126,7 +133,7 @@ class Crew:
             there.close()
 
     def close(self) -> None:
-        """Ends the processes, once all was taken out."""
+        """Ends the processes, after all results were returned."""
         for line in self.lines:
             line.close()
         for process in self.processes:

@@ -1,10 +1,11 @@
-"""Folds a trace: what happened within a window of time is told by few lines that give the same times.
+"""Folds a trace: replaces the events of a window by few lines that give the same times.
 
-A replay knows of the interval of a tick only for how long each group was in each state on each processor. So within a window, which
-is a tick's length or a whole part of it, other events may stand in place of those that were, if they give the same times; and there
-are always such that are about as many as there are groups on the processors. What isn't about tasks stays as it was: samples of
-memory, preferences and triggers stand at their moments, and so do groups that come and go and accounts that are switched, each of
-which ends a window. At the end of a window those groups have tasks that had some.
+A replay needs only one thing from the interval of a tick: the time that each group was in each
+state on each processor. So within a window, whose length divides a tick's, other events may replace
+the original ones if they give the same times; about as many events as there are groups on the
+processors are always enough. All other lines are unchanged: memory samples, preferences and
+triggers keep their times, and so do the lines that create and remove groups or switch accounting,
+each of which ends a window. The same groups have tasks at the end of a window as in the original.
 """
 from __future__ import annotations
 
@@ -24,20 +25,21 @@ from .sums import Plan, plan_of
 from .victims import Victim, Victims
 from .world import Catalog, Changes, FoldWorld, NotATrace, kept_path, shortened
 
-# What is about neither tasks nor accounts, nor about which groups there are.
+# The words of lines that don't concern tasks, accounting or the set of groups.
 KEPT = ("mem", "host", "prefer", "trigger")
-# So many windows may be under way at once.
+# The most windows that may be submitted at once.
 MOST_WAITING = 3
 
 
 class TooMany(Exception):
-    """The folded trace would have more of something than a trace may have; the text says of what."""
+    """The folded trace would exceed a limit of traces; the text says which."""
 
 
 @dataclass
 class Counts:
-    """How many lines a trace had (those of events, and the end's), and how many come of them; the joint states of all windows and
-    processors, before and after; and how many windows there were."""
+    """The number of lines of a trace (its events and the end) before and after folding; the number
+    of joint states of all windows and processors, before and after; and the number of windows.
+    """
 
     lines: int = 0
     written: int = 0
@@ -48,9 +50,10 @@ class Counts:
 
 @dataclass
 class Outcome:
-    """What came of a trace: how much; up to which moment (ns) it is written; and of those who might be killed up to how many kills
-    it is exact, where not up to any; and how many tasks came to their groups or moved from one of these later, and when the last
-    did (ns)."""
+    """The result of folding: the counts; the time (ns) up to which the trace is written; the number
+    of kills up to which it is exact, None if for any; how many tasks came to the victims' groups or
+    moved from one of them later, and when the last did (ns).
+    """
 
     counts: Counts
     written: int
@@ -59,8 +62,9 @@ class Outcome:
 
 
 class Fold:
-    """Folds the lines of a trace of so many processors into windows of a length (ns); `put` takes what comes of them. Without those of
-    `victims` it gives the same times, too."""
+    """Folds the lines of a trace of `processors` processors into windows of `length` (ns); `put`
+    takes the resulting lines. The result has the same times without the groups of `victims`, too.
+    """
 
     def __init__(self, processors: int, length: int, put: Callable[[list[str]], None], victims: Sequence[Victim] = ()) -> None:
         self.length, self.put = length, put
@@ -69,9 +73,11 @@ class Fold:
         self.victims = Victims(victims)
         self.plan: Plan | None = plan_of(self.world, ())
         self.size = Catalog().size()
-        # The moment (ns) up to which windows are handed in, the next edge, and the first moment that a line may have after it.
+        # The time (ns) up to which windows are submitted, the next edge, and the earliest time that
+        # the next line may have.
         self.start, self.edge, self.first = 0, length, 0
-        # The joint state of each processor at `start`; and if that is an edge, which groups have tasks then.
+        # The joint state of each processor at `start`; and if that is an edge, the groups that have
+        # tasks then.
         self.states = list(self.world.states)
         self.present: set[str] | None = None
         self.interrupted = [0] * processors
@@ -80,14 +86,14 @@ class Fold:
         self.counts = Counts()
         self.is_ended = False
         self.check = Check(processors)
-        # What is to be written, in this order: windows, of which the crew has the lines; and lines that stand between them, each with
-        # the sets of groups without which sums are kept from there on.
+        # What is to be written, in order: windows whose lines the crew computes, and lines between
+        # windows, each with the sets of groups without which sums are kept from there.
         self.due: deque[Window | tuple[str, list[tuple[str, ...]]]] = deque()
-        # The moment (ns) up to which all is written.
+        # The time (ns) up to which everything is written.
         self.written = 0
 
     def outcome(self) -> Outcome:
-        """What came of the lines so far."""
+        """The outcome of the lines so far."""
         return Outcome(self.counts, self.written, self.victims.whole, self.world.changes)
 
     # ------------------------------------------------------------ lines
@@ -114,7 +120,7 @@ class Fold:
         self.counts.lines = number
 
     def take_other(self, moment: int, words: list[str], line: str) -> None:
-        """A line that is no act of a task."""
+        """Takes a line that isn't an event of a task."""
         verb, world = words[1], self.world
         if self.is_ended:
             raise NotATrace("it stands after the end")
@@ -137,7 +143,9 @@ class Fold:
             raise NotATrace("there is no such verb")
 
     def between(self, moment: int, line: str, act: Callable[[], None], removed: Iterable[str] = ()) -> None:
-        """A line that ends a window: groups or accounts are others from it on."""
+        """Takes a line that ends a window, since it changes the groups or whether they are
+        accounted.
+        """
         self.flush(moment, False, removed)
         act()
         removals, paths = self.victims.removals(self.world), self.world.paths
@@ -147,7 +155,9 @@ class Fold:
     # ------------------------------------------------------------ windows
 
     def go_to(self, moment: int) -> None:
-        """Ends the windows that end before this moment (ns). Those in which nothing happens are one."""
+        """Ends the windows that end before `moment` (ns). Consecutive windows without events are
+        merged.
+        """
         if moment > MOST_TIME:
             raise NotATrace(f"its time is beyond {MOST_TIME} ns")
         self.flush(self.edge, True)
@@ -157,8 +167,10 @@ class Fold:
         self.edge = last + self.length
 
     def flush(self, end: int, is_edge: bool, removed: Iterable[str] = ()) -> None:
-        """Hands a window in that ends at this moment (ns): at an edge, where a tick may be, or since groups or accounts change. Of
-        groups that are removed no task is left, and at an edge of none that has no task any more."""
+        """Submits the window that ends at `end` (ns): at an edge, which may be a tick, or since
+        groups or accounting change. No task is left in removed groups, and at an edge none in
+        groups that have no tasks any more.
+        """
         world, paths = self.world, self.world.paths
         populated = {paths[slot]: slot for slot, count in world.members.items() if count}
         window = Window(self.start, end, accounted={paths[slot] for slot in world.live.values() if slot not in world.off})
@@ -184,14 +196,18 @@ class Fold:
         self.write(MOST_WAITING)
 
     def kept_of(self, slot: int, processor: int) -> int:
-        """How many tasks must stand for a group that has some, on this processor: one on some processor; and of a group that might be
-        killed all that may ever be needed, since one that is made later is there in spite of a kill."""
+        """The number of representatives that a group with tasks needs on this processor: one on one
+        of the processors; and for a group that might be killed all that may ever be needed, since a
+        task that is created later is there in spite of a kill.
+        """
         return MOST_AT_ONCE if slot in self.world.watched else int(slot % self.world.processors == processor)
 
     # ------------------------------------------------------------ what is written
 
     def write(self, waiting: int) -> None:
-        """Writes what is due, but so many windows that may still be under way, and what comes after them."""
+        """Writes what is due, except the last `waiting` windows, which may still be computed, and
+        what follows them.
+        """
         while self.due and (len(self.crew.waiting) > waiting or not isinstance(self.due[0], Window)):
             due = self.due.popleft()
             if isinstance(due, Window):
@@ -209,7 +225,7 @@ class Fold:
                 self.written = due.end
 
     def lines_of(self, window: Window, pieces: dict[int, Piece]) -> list[str]:
-        """The lines of a window, of which the sums are noted for the check."""
+        """The lines of a window. Its sums are stored for the check."""
         paths, each = self.world.paths, [window.lines]
         for processor, piece in sorted(pieces.items()):
             each.append(piece.lines)

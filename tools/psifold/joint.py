@@ -1,7 +1,8 @@
-"""Joint states: what the tasks of a processor do all together, as far as pressure depends on it.
+"""Joint states: the combined state of the tasks of a processor, as far as pressure depends on it.
 
-How many tasks of a group are ready doesn't matter, only whether there is one; so what matters of a group is which kinds of tasks it
-has there, and the joint state of a processor is the set of these, with the kind and the group of each.
+It doesn't matter how many tasks of a group are ready, only whether there is one. So only the set of
+the kinds of tasks matters for each group, and the joint state of a processor is the set of these,
+each with its kind and its group.
 """
 from __future__ import annotations
 
@@ -12,7 +13,9 @@ from psiworld.world import How
 
 
 class Kind(IntEnum):
-    """What a task does, and whether it is in a memory stall (the bit STALLED). One that is ASLEEP counts nowhere."""
+    """What a task does, and whether it is in a memory stall (the bit STALLED). ASLEEP tasks aren't
+    counted.
+    """
 
     ASLEEP = 0
     READY = 1
@@ -24,22 +27,22 @@ class Kind(IntEnum):
     RUNNING_STALLED = 7
 
 
-# The parts of a kind.
+# The bits of a kind: whether it is stalled, and what the task does.
 STALLED, WAY = 4, 3
 KINDS = len(Kind)
-# What a task does that left its processor by this word.
+# What a task does after it left its processor, by the word of its switch line.
 LEFT_BY = {How.PREEMPT.word: int(Kind.READY), How.SLEEP.word: int(Kind.ASLEEP), How.WAIT.word: int(Kind.WAITING)}
-# By which word a task leaves that is to do this.
+# The word of the switch line, by what the task does next.
 LEAVES_TO = {kind: word for word, kind in LEFT_BY.items()}
 
 
 class Element(NamedTuple):
-    """A group's path, and the kind of a task of its own that is on the processor."""
+    """A group's path, and the kind of one of the group's own tasks that are on the processor."""
 
     path: str
     kind: Kind
 
 
-# No kind in it is ASLEEP, and one element at most runs.
+# It has no element of kind ASLEEP, and at most one that runs.
 JointState = frozenset[Element]
 IDLE: JointState = frozenset()

@@ -1,8 +1,9 @@
-"""Writes lines of a trace by which a processor is in given joint states for given times.
+"""Writes trace lines that keep a processor in given joint states for given times.
 
-For each task that a joint state has, one stands for it that was made for that, a *representative*: it is of the same group, stays on
-its processor, and sleeps while it isn't needed. From one joint state to the next lead as few lines as may be: a task that is to do
-something else runs for no time and leaves as it is to, and whoever ran before runs again.
+Each task of a joint state is played by a *representative*, a task created for this purpose: it
+belongs to the same group, stays on its processor, and sleeps while it isn't needed. The change from
+one joint state to the next takes as few lines as possible: a task whose state changes runs for no
+time, leaves the processor in its new state, and the previous task runs again.
 """
 from __future__ import annotations
 
@@ -13,15 +14,18 @@ from psiworld.world import How
 
 from .joint import IDLE, LEAVES_TO, STALLED, WAY, Element, JointState, Kind
 
-# A line of a trace: its moment in ns, and what stands after that.
+# A line of a trace: its time (ns) and the rest of the line.
 Line = tuple[int, str]
 BLOCKED = (Kind.ASLEEP, Kind.WAITING)
-# So many representatives of a group may be needed at once: one of each kind, but of those that run one in all.
+# The number of representatives of a group that may be needed at once: one of each kind, but at most
+# one that runs.
 MOST_AT_ONCE = 6
 
 
 class Interrupt(NamedTuple):
-    """So many ns interrupts took, told at a moment (ns), from a task of this group."""
+    """An interrupt line: its time (ns), its length (ns), and the group of the task that was
+    interrupted.
+    """
 
     moment: int
     path: str
@@ -29,7 +33,9 @@ class Interrupt(NamedTuple):
 
 
 class Move(NamedTuple):
-    """What a representative did, and is to do: None before it is made, and None when it is to be gone."""
+    """What a representative did, and what it does next: None before it is created, and None after
+    its exit.
+    """
 
     path: str
     task: int
@@ -37,29 +43,30 @@ class Move(NamedTuple):
     after: Kind | None
 
     def wakes(self) -> bool:
-        """Whether it slept or waited, and has to be woken first."""
+        """Whether it slept or waited, and must be woken first."""
         return self.before is not None and self.before & WAY in BLOCKED
 
     def turns(self) -> bool:
-        """Whether it has to run for no time, since it is to sleep, to wait, to be gone or to begin or end a stall."""
+        """Whether it must run for no time, in order to sleep, wait, exit, or begin or end a stall.
+        """
         is_runner = runs(self.before) or runs(self.after)
         return not is_runner and (self.after is None or self.after & WAY in BLOCKED or self.changes_stall())
 
     def changes_stall(self) -> bool:
-        """Whether it goes into a stall, or out of one."""
+        """Whether it enters or leaves a stall."""
         return ((self.before or 0) ^ (self.after or 0)) & STALLED != 0
 
     def stall(self) -> str:
-        """The words by which it does so."""
+        """The words of its stall line."""
         return f"{'stall' if (self.after or 0) & STALLED else 'unstall'} {self.task}"
 
     def how(self) -> str:
-        """The word by which it leaves the processor."""
+        """The word of the switch by which it leaves the processor."""
         return How.EXIT.word if self.after is None else LEAVES_TO[Kind(self.after & WAY)]
 
 
 def is_within(state: JointState, present: set[str] | None) -> bool:
-    """Whether all tasks of a joint state are of these groups. `None` allows every group."""
+    """Whether all tasks of a joint state are in these groups. `None` allows every group."""
     return present is None or all(element.path in present for element in state)
 
 
@@ -69,7 +76,7 @@ def runs(kind: Kind | None) -> bool:
 
 
 def cost(before: Kind, after: Kind) -> int:
-    """How many lines it takes, about, until a task does this."""
+    """Roughly how many lines a task needs to change from one kind to the other."""
     move = Move("", 0, before, after)
     return move.wakes() + move.turns() + move.changes_stall()
 
@@ -78,26 +85,30 @@ COSTS = {(before, after): cost(before, after) for before in Kind for after in Ki
 
 
 class Writer:
-    """Writes the lines of one of so many processors. Its tasks have numbers that no other processor's have."""
+    """Writes the lines of one processor. The numbers of its tasks differ from those of all other
+    processors.
+    """
 
     def __init__(self, processor: int, processors: int) -> None:
         self.processor, self.processors = processor, processors
         self.made = 0
         self.state: JointState = IDLE
-        # The representatives of each group, by what they do; those that sleep are more than one perhaps.
+        # The representatives of each group, by what they do; more than one may sleep.
         self.busy: dict[str, dict[Kind, int]] = {}
         self.asleep: dict[str, list[int]] = {}
-        # Who runs, 0 for none.
+        # The running task, 0 for none.
         self.runner = 0
 
     def write(
         self, start: int, durations: dict[JointState, int], interrupts: Sequence[Interrupt] = (), present: set[str] | None = None
     ) -> list[Line]:
-        """The lines by which the processor is in these joint states, each for its duration in ns, beginning at `start`; and the lines
-        of interrupts among them, in the order of time. If `present` is given, the first joint state has tasks of these groups only."""
+        """The lines that keep the processor in each of these joint states for its duration (ns),
+        beginning at `start`, and the lines of interrupts among them, in order of time. If `present`
+        is given, the first joint state only has tasks of these groups.
+        """
         lines: list[Line] = []
         moment, due = start, list(interrupts)
-        # In an order that is the same each time, whatever the order of sets.
+        # The order is the same in each run: it doesn't depend on the order of sets.
         left = {state: durations[state] for state in sorted(durations, key=sorted)}
         while left:
             fitting = left if moment > start else [state for state in left if is_within(state, present)]
@@ -109,11 +120,11 @@ class Writer:
         return lines + [line for it in due for line in self.interrupt(it)]
 
     def distance(self, state: JointState) -> int:
-        """How far a joint state is from the present one: so many elements differ."""
+        """The number of elements by which a joint state differs from the present one."""
         return len(self.state ^ state)
 
     def interrupt(self, told: Interrupt) -> list[Line]:
-        """The lines of an interrupt. Where no task of its group runs, one does so for no time."""
+        """The lines of an interrupt. If no task of its group runs, one runs for no time."""
         runs_there = any(it.path == told.path and runs(it.kind) for it in self.state)
         line = f"irq {self.processor} {told.length}"
         if runs_there:
@@ -129,13 +140,13 @@ class Writer:
         return [(told.moment, words) for words in lines]
 
     def groups(self) -> set[str]:
-        """The groups of which there are representatives."""
+        """The groups that have representatives."""
         return {*self.busy, *self.asleep}
 
     # ------------------------------------------------------------ from one joint state to the next
 
     def change(self, moment: int, state: JointState) -> list[Line]:
-        """The lines by which the joint state becomes this one."""
+        """The lines that change the present joint state to this one."""
         coming: dict[str, list[Kind]] = {}
         for path, kind in sorted(state - self.state):
             coming.setdefault(path, []).append(kind)
@@ -148,8 +159,9 @@ class Writer:
         return [(moment, words) for words in self.perform(moves)]
 
     def moves(self, path: str, leaving: list[Kind], coming: list[Kind]) -> Iterator[Move]:
-        """Who of a group is to do what, in as few lines as may be: representatives of which nothing is wanted any more, those that
-        sleep, and new ones."""
+        """The moves of a group's representatives, in as few lines as possible: uses those that
+        aren't needed any more, those that sleep, and new ones.
+        """
         busy = self.busy.get(path, {})
         pairs = sorted((COSTS[before, after], before, after) for before in leaving for after in coming)
         for _, before, after in pairs:
@@ -164,12 +176,12 @@ class Writer:
             yield Move(path, asleep.pop(), Kind.ASLEEP, after) if asleep else Move(path, self.new_task(), None, after)
 
     def new_task(self) -> int:
-        """The number of a task that wasn't there yet."""
+        """The number of a new task."""
         self.made += 1
         return (self.made - 1) * self.processors + self.processor + 1
 
     def empty(self, moment: int, paths: Iterable[str]) -> list[Line]:
-        """The lines by which the representatives of these groups are gone."""
+        """The lines that end all representatives of these groups."""
         moves = []
         for path in sorted(set(paths) & self.groups()):
             moves += [Move(path, task, kind, None) for kind, task in self.busy.get(path, {}).items()]
@@ -177,7 +189,9 @@ class Writer:
         return [(moment, words) for words in self.perform(moves)]
 
     def keep(self, moment: int, counts: dict[str, int]) -> list[Line]:
-        """The lines by which each of these groups has so many representatives at least: new ones sleep."""
+        """The lines that give each of these groups at least this number of representatives: new
+        ones sleep.
+        """
         moves = []
         for path, count in sorted(counts.items()):
             made = len(self.busy.get(path, ())) + len(self.asleep.get(path, ()))
@@ -185,8 +199,10 @@ class Writer:
         return [(moment, words) for words in self.perform(moves)]
 
     def perform(self, moves: list[Move]) -> list[str]:
-        """The words by which these moves are made. All turns of no length are one chain, in which each hands the processor on; one
-        that ran and is to leave begins it, and one that is to run ends it."""
+        """The lines of these moves, without their times. All turns of no length are one chain, in
+        which each task hands the processor to the next: a running task that leaves begins it, and
+        the task that runs next ends it.
+        """
         words = [f"fork {it.task} {it.path} {self.processor}" for it in moves if it.before is None]
         words += [f"wake {it.task} {self.processor}" for it in moves if it.wakes()]
         before = self.runner
@@ -205,7 +221,9 @@ class Writer:
         return words
 
     def chain(self, turns: list[Move], following: int, how: str) -> Iterator[str]:
-        """The switches of a chain: the first is one by which who ran leaves by the word `how`, and the last one to `following`."""
+        """The switches of a chain: in the first one the running task leaves by the word `how`, and
+        the last one switches to `following`.
+        """
         for turn in turns:
             yield f"switch {self.processor} {turn.task} {how}"
             if turn.changes_stall():
@@ -214,7 +232,7 @@ class Writer:
         yield f"switch {self.processor} {following} {how}"
 
     def take(self, moves: list[Move], runner: int) -> None:
-        """Notes what the representatives do once the moves are made."""
+        """Stores what the representatives do after the moves."""
         for path, task, before, _ in moves:
             if before is Kind.ASLEEP:
                 self.asleep[path].remove(task)

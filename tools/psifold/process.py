@@ -1,5 +1,6 @@
-"""Folds in a process of its own, so that a recording's events are played meanwhile in this one. Lines go there in parts, and what came
-of them is told at the end."""
+"""Folds in another process while this one replays a recording's events. Lines are sent in parts,
+and the outcome is returned at the end.
+"""
 from __future__ import annotations
 
 import contextlib
@@ -25,13 +26,13 @@ class Here:
         self.fold.take(lines)
 
     def end(self) -> None:
-        """All was taken."""
+        """Ends the folding after all lines were taken."""
 
     def stop(self) -> None:
-        """Nothing more comes."""
+        """Stops: no more lines follow."""
 
     def outcome(self) -> Outcome:
-        """What came of the lines so far."""
+        """The outcome of the lines so far."""
         return self.fold.outcome()
 
 
@@ -49,7 +50,9 @@ class Elsewhere:
         said.close()
 
     def take(self, lines: list[str]) -> None:
-        """Hands these lines on, if there are some. One that can't be folded ends it there, which is told at the end."""
+        """Sends these lines, if there are any. If one can't be folded, the other process ends
+        there, which is reported at the end.
+        """
         try:
             if not lines:
                 return
@@ -58,7 +61,7 @@ class Elsewhere:
             self.end()
 
     def end(self) -> None:
-        """All was taken, or what went wrong there goes on here."""
+        """Waits for the end, and raises here what went wrong there."""
         with contextlib.suppress(BrokenPipeError):
             self.lines.send_bytes(END)
         self.lines.close()
@@ -71,18 +74,18 @@ class Elsewhere:
             raise fault
 
     def stop(self) -> None:
-        """Nothing more comes, and nobody waits for what came of the lines: the other process ends."""
+        """Ends the other process without waiting for an outcome."""
         self.lines.close()
         self.told.close()
 
     def outcome(self) -> Outcome:
-        """What came of all lines."""
+        """The outcome of all lines."""
         assert self.found
         return self.found
 
 
 def serve(fold: Fold, lines: Connection, told: Connection, others: tuple[Connection, Connection]) -> None:
-    """Folds the lines that come, and tells what came of them."""
+    """Folds the lines that arrive, and sends the outcome."""
     signal.signal(signal.SIGINT, signal.SIG_IGN)
     for line in others:
         line.close()

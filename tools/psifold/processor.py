@@ -1,4 +1,6 @@
-"""Folds the windows of one processor: of many joint states few, with the same sums, and the lines that give them."""
+"""Folds the windows of one processor: reduces its joint states to few with the same sums, and
+writes lines for them.
+"""
 from __future__ import annotations
 
 from collections import Counter
@@ -12,13 +14,14 @@ from .rounding import Left, whole_times
 from .sums import Sum, Sums
 from .world import Catalog, Interrupts, bits_of
 
-# So long (ns) may the interrupts of one line be.
+# The longest time (ns) that one line of interrupts may have.
 MOST_INTERRUPTS = 10**9
 
 
 class Few(NamedTuple):
-    """Joint states with their times (ns) that stand for those of a window; the window's sums (ns); and how many joint states it
-    had."""
+    """The joint states, with their times (ns), that replace those of a window; the window's sums
+    (ns); and how many joint states it had.
+    """
 
     times: dict[int, int]
     sums: dict[Sum, int]
@@ -26,7 +29,9 @@ class Few(NamedTuple):
 
 
 def few_of(spent: dict[int, int], sums: Sums, left: Left) -> Few:
-    """Few joint states with the sums of many. The longest come first, so that most of the others find room in theirs."""
+    """Few joint states with the same sums as these. The longest are taken first, since most of the
+    others then fit into their times.
+    """
     columns: dict[int, int] = {}
     states: dict[int, int] = {}
     for state, time in spent.items():
@@ -51,8 +56,10 @@ def few_of(spent: dict[int, int], sums: Sums, left: Left) -> Few:
 
 
 def moments_of(interrupts: Interrupts, paths: Sequence[str], last: int, first: int) -> list[Interrupt]:
-    """When the interrupts of a window are told: each line as early as it may be, which is when all of its time has gone since the
-    line before, the first of which was at `last`, and not before `first` (ns). So none comes later than the last one did."""
+    """The interrupts of a window with their times (ns). Each line is as early as possible: its
+    whole length fits between the line before it (the first one: `last`) and its own time, which is
+    at least `first`. So the last line isn't later than in the original.
+    """
     told: list[Interrupt] = []
     moment = last
     parts = [interrupts.first] if interrupts.first else []
@@ -66,10 +73,12 @@ def moments_of(interrupts: Interrupts, paths: Sequence[str], last: int, first: i
 
 
 class Turn(NamedTuple):
-    """What is asked of a processor for a window: from when to when it goes (ns), in which joint states the processor was for how long
-    (ns), and what interrupts took. At its end no task may be in `removed`, or where `populated` is given in any group but these; and
-    there must be so many in each of `kept`. `first` is the joint state at its start. If it starts at an edge, where a tick may be,
-    `present` has the groups that have tasks then: no other group may get one before 1 ns has passed."""
+    """The task of folding a processor's window: its start and end (ns), the time (ns) of each joint
+    state, and the time of interrupts. At its end no task may be in `removed`, or, if `populated` is
+    given, in any group but these; and each of `kept` has this number of tasks. `first` is the joint
+    state at its start. If it starts at an edge, which may be a tick, `present` has the groups with
+    tasks at that time: no other group may get one before 1 ns has passed.
+    """
 
     start: int
     end: int
@@ -83,8 +92,9 @@ class Turn(NamedTuple):
 
 
 class Piece(NamedTuple):
-    """What comes of a processor's window: its lines with their moments, the sums that it had (ns), and how many joint states it had
-    and has."""
+    """The result for a processor's window: its lines with their times, its original sums (ns), and
+    the number of joint states before and after.
+    """
 
     lines: list[Line]
     sums: dict[Sum, int]
@@ -98,7 +108,7 @@ def states_of(few: Few, catalog: Catalog) -> dict[JointState, int]:
 
 
 def with_first(turn: Turn, sums: Sums, left: Left) -> Few:
-    """Few joint states for a window, and among them the one at its start, which keeps its first ns."""
+    """Few joint states for a window, including the one at its start, which keeps the first ns."""
     spent = dict(turn.spent)
     spent[turn.first] -= 1
     few = few_of({state: time for state, time in spent.items() if time}, sums, left)
@@ -112,7 +122,7 @@ def with_first(turn: Turn, sums: Sums, left: Left) -> Few:
 
 
 class FoldedProcessor:
-    """A processor, and its lines so far."""
+    """A processor, and the state of its writer."""
 
     def __init__(self, processor: int, processors: int) -> None:
         self.writer = Writer(processor, processors)

@@ -1,5 +1,6 @@
-"""Whole ns for times that are fractions. What rounding leaves of each sum is carried into the next window, where rounding goes the
-other way: so no sum drifts, however many windows follow one another."""
+"""Rounds fractional times to whole ns. The rounding error of each sum is carried into the next
+window, which rounds in the other direction: so no sum drifts over any number of windows.
+"""
 from __future__ import annotations
 
 from collections import Counter
@@ -9,31 +10,36 @@ from .basis import Share
 from .sums import Sum
 from .world import bits_of
 
-# By how many ns a sum is behind what it should be.
+# The number of ns that each sum lacks.
 Left = Counter[Sum]
-# Where a sum is behind by more ns than this, a ns of one joint state goes to another though their times are whole; at most so often.
+# If a sum lacks more ns than this, 1 ns moves from one joint state to another, even if their times
+# are whole; this is also the limit of such moves.
 MOST_LEFT = 2
 MOST_STEPS = 20
 
 
 class Rounding:
-    """The times of joint states with these columns, by number. A time is so many parts of a ns as `divisor` says there are of one."""
+    """The times of joint states with these columns, by number. A time is a multiple of 1/`divisor`
+    ns.
+    """
 
     def __init__(self, shares: list[Share], divisor: int, columns: list[int], behind: dict[int, int]) -> None:
         self.divisor, self.columns = divisor, columns
         self.times = {number: time // divisor for number, time in shares}
         self.rests = {number: time % divisor for number, time in shares if time % divisor}
-        # By bit of a column: by how many parts of a ns the sum is behind.
+        # What each sum lacks, by its bit in a column, in units of 1/`divisor` ns.
         self.behind = Counter({bit: left * divisor for bit, left in behind.items()})
         for number, rest in self.rests.items():
             for bit in bits_of(columns[number]):
                 self.behind[bit] += rest
-        # By number: by how many parts of a ns the sums of the joint state are behind, all together.
+        # What the sums of each joint state lack in total, by its number, in units of 1/`divisor`
+        # ns.
         self.lags = {number: sum(self.behind[bit] for bit in bits_of(columns[number])) for number in self.times}
 
     def round(self) -> None:
-        """Gives what is left over, which is so many whole ns, to joint states whose times aren't whole: so that the squares of what
-        sums are behind are least."""
+        """Distributes the remainder, a number of whole ns, to joint states whose times aren't
+        whole, so that the sum of the squared errors is least.
+        """
         short = set(self.rests)
         for _ in range(sum(self.rests.values()) // self.divisor):
             number = min(sorted(short), key=self.growth)
@@ -45,15 +51,17 @@ class Rounding:
             self.improve({number for number, time in self.times.items() if time}, set(self.times))
 
     def is_far(self) -> bool:
-        """Whether some sum is behind, or before, by more than may be left to the next window."""
+        """Whether the error of some sum is larger than may be left to the next window."""
         return any(abs(left) > MOST_LEFT * self.divisor for left in self.behind.values())
 
     def growth(self, number: int) -> int:
-        """By how much the squares grow, in divisors, where this joint state gets a ns more."""
+        """How much the sum of squared errors grows, in divisors, if this joint state gets another
+        ns.
+        """
         return self.divisor * self.columns[number].bit_count() - 2 * self.lags[number]
 
     def give(self, number: int, length: int) -> None:
-        """Gives a joint state so many ns."""
+        """Adds `length` ns to a joint state."""
         self.times[number] += length
         given, sums = length * self.divisor, self.columns[number]
         for bit in bits_of(sums):
@@ -62,8 +70,10 @@ class Rounding:
             self.lags[other] -= given * (sums & self.columns[other]).bit_count()
 
     def improve(self, givers: Iterable[int], takers: Iterable[int]) -> None:
-        """Lets joint states give a ns to others, as long as the squares fall by it. They grow by each sum that one of the two has
-        alone, and by what the giver's sums are further behind than the taker's."""
+        """Moves single ns from givers to takers as long as the sum of squared errors falls. It
+        grows by each sum that only one of the two takes part in, and by the difference between what
+        the giver's and the taker's sums lack.
+        """
         lags, sums, takers = self.lags, self.columns, sorted(takers)
         pairs = [
             (self.divisor * (sums[giver] ^ sums[taker]).bit_count(), giver, taker)
@@ -79,7 +89,8 @@ class Rounding:
 
 
 def whole_times(shares: list[Share], divisor: int, columns: list[int], sum_of: Callable[[int], Sum], left: Left) -> dict[int, int]:
-    """The times in ns, by number of the joint state. `left` is carried from window to window."""
+    """The times in whole ns, by number of the joint state. `left` is carried from window to window.
+    """
     if divisor == 1 and not any(left.values()):
         return {number: time for number, time in shares}
     used = 0

@@ -1,8 +1,9 @@
-"""Which sums of time a joint state takes part in: for each group and each of its seven states how long it was in it, and the same as
-it would be without groups that might be killed.
+"""The sums of time that a joint state takes part in: for each group and each of its seven states
+the time in it, also as it would be without groups that might be killed.
 
-The states are those of docs/TRACES.md. A set of groups is a whole number with a bit for each, and so are the sums of a joint state:
-what is asked of thousands of joint states takes a few operations for each.
+The states are those of docs/TRACES.md. A set of groups is an integer with a bit for each, and so
+are the sums of a joint state: a query about thousands of joint states takes few operations for
+each.
 """
 from __future__ import annotations
 
@@ -13,15 +14,15 @@ from .joint import KINDS, STALLED, WAY, Kind
 from .world import Catalog, FoldWorld, bits_of
 
 STATES = 7
-# The sets of groups that are found of a joint state: those with a task that waits for IO, that is stalled, that is ready, that is
-# ready or runs and isn't stalled, that runs, and that runs and is stalled.
+# The sets of groups that a joint state has: groups with a task that waits for IO, is stalled, is
+# ready, is ready or runs and isn't stalled, runs, and runs while stalled.
 WAITS, STALLS, IS_READY, UNSTALLED, RUNS, RUNS_STALLED = range(6)
 BY_WAY = {int(Kind.WAITING): (WAITS,), int(Kind.READY): (IS_READY,), int(Kind.RUNNING): (RUNS,), int(Kind.ASLEEP): ()}
 BYTE = 256
 
 
 def sets_of(kind: int) -> tuple[int, ...]:
-    """The sets of groups to which a task of this kind adds its own and all above."""
+    """The sets to which a task of this kind adds its own group and all ancestors."""
     way = kind & WAY
     if kind & STALLED:
         return (*BY_WAY[way], STALLS, *((RUNS_STALLED,) if way == Kind.RUNNING else ()))
@@ -29,7 +30,9 @@ def sets_of(kind: int) -> tuple[int, ...]:
 
 
 class Sum(NamedTuple):
-    """A sum of time: of which group, by its number, in which state (0 to 6), and as it is without which groups."""
+    """A sum of time: its group's number, its state (0 to 6), and the groups without which it is
+    computed.
+    """
 
     slot: int
     state: int
@@ -37,8 +40,9 @@ class Sum(NamedTuple):
 
 
 class View:
-    """The sums of some groups, as they are without others and all below those. Bit STATE * len(groups) + PLACE of a joint state's
-    sums is that of the state and the group at this place."""
+    """The sums of some groups, without other groups and their descendants. Bit STATE * len(groups)
+    + PLACE of a joint state's sums is for this state and the group at this place.
+    """
 
     def __init__(self, catalog: Catalog, groups: Sequence[int], without: tuple[int, ...]) -> None:
         self.catalog, self.groups, self.without = catalog, groups, without
@@ -48,12 +52,14 @@ class View:
         self.bytes: list[dict[int, int]] = []
 
     def sum_of(self, bit: int) -> Sum:
-        """The sum that has this bit."""
+        """The sum of this bit."""
         state, place = divmod(bit, len(self.groups))
         return Sum(self.groups[place], state, self.without)
 
     def chain(self, slot: int) -> int:
-        """The group and those above it, as far as sums of them are kept; none of one that is taken out."""
+        """The group and its ancestors, as far as their sums are kept; empty for a group that is
+        excluded.
+        """
         chain, at = 0, slot
         while at is not None:
             if at in self.without:
@@ -64,7 +70,7 @@ class View:
         return chain
 
     def sets_of_byte(self, place: int, value: int) -> int:
-        """The sets of groups that the elements of a byte make, side by side."""
+        """The sets of groups of a byte's elements, packed side by side."""
         sets, keys = 0, self.catalog.keys
         for bit in range(8):
             if value >> bit & 1:
@@ -97,13 +103,14 @@ class View:
         return found
 
 
-# The groups of a view, and without which.
+# The groups of a view, and the groups that it excludes.
 Plan = list[tuple[list[int], tuple[int, ...]]]
 
 
 def plan_of(world: FoldWorld, removals: Sequence[tuple[int, ...]]) -> Plan:
-    """Which sums are to be kept: those of all groups that are accounted; and for each removal, which are groups to be taken out
-    together, those of the groups above all of them."""
+    """The sums to be kept: those of all accounted groups; and for each removal, a set of groups to
+    exclude together, those of the common ancestors.
+    """
     accounted = [slot for slot in sorted(world.live.values()) if slot not in world.off]
     plan: Plan = [(accounted, ())]
     for removal in removals:
@@ -113,7 +120,9 @@ def plan_of(world: FoldWorld, removals: Sequence[tuple[int, ...]]) -> Plan:
 
 
 class Sums:
-    """All sums that are kept: each has a bit. `total` is one more, which each joint state takes part in."""
+    """All sums that are kept: each has a bit. `total` is an extra sum that each joint state takes
+    part in.
+    """
 
     def __init__(self, catalog: Catalog, plan: Plan) -> None:
         self.views = [View(catalog, groups, without) for groups, without in plan]
@@ -129,7 +138,7 @@ class Sums:
         return found
 
     def sum_of(self, bit: int) -> Sum:
-        """The sum that has this bit."""
+        """The sum of this bit."""
         for view in self.views:
             if bit < view.size:
                 return view.sum_of(bit)
@@ -137,7 +146,7 @@ class Sums:
         raise IndexError(bit)
 
     def least(self, state: int, column: int) -> int:
-        """The joint state without the elements on which none of its sums depends."""
+        """The joint state without the elements that affect none of its sums."""
         for bit in bits_of(state):
             fewer = state ^ 1 << bit
             if self.of(fewer) == column:

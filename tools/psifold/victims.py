@@ -1,4 +1,6 @@
-"""Which groups might be killed, so that a folded trace is to be exact without them too: those that patterns name, as those of rules."""
+"""The groups that might be killed, without which a folded trace is exact too: they are selected by
+patterns, like those of rules.
+"""
 from __future__ import annotations
 
 import json
@@ -11,13 +13,14 @@ from psirules.patterns import is_pattern, matches
 
 from .world import FoldWorld
 
-# So many sets of groups may be taken out at a time; each costs about as much as all sums.
+# The most sets of groups that are excluded at a time; each costs about as much as all sums.
 MOST_REMOVALS = 64
 TRUE = ("true", "True", "1", "TRUE")
 
 
 class Victim(NamedTuple):
-    """A pattern of paths of groups that might be killed, and whether those below may be too."""
+    """A pattern of paths of groups that might be killed, and whether their descendants may be too.
+    """
 
     pattern: str
     is_recursive: bool = False
@@ -31,7 +34,7 @@ class Victim(NamedTuple):
 
 
 def victims_of(text: str) -> list[Victim]:
-    """The patterns of a text, with commas between them."""
+    """The patterns of a comma-separated text."""
     patterns = text.split(",")
     wrong = next((it for it in patterns if not is_pattern(it)), None)
     if wrong is not None:
@@ -40,7 +43,7 @@ def victims_of(text: str) -> list[Victim]:
 
 
 def victims_of_rules(name: str) -> list[Victim]:
-    """Those whom the actions of a rules file may kill."""
+    """The groups that the actions of a rules file may kill."""
     try:
         with open(name, "rb") as file:
             return list(victims_in(json.loads(file.read())))
@@ -59,8 +62,9 @@ def victims_in(rules: dict[str, Any]) -> Iterator[Victim]:
 
 
 class Victims:
-    """The groups that might be killed as groups come and go. `whole` says up to how many kills all that may be left of a trace is
-    kept; none where nobody was named."""
+    """The groups that might be killed as groups are created and removed. `whole` is the number of
+    kills up to which all remaining times of a trace are kept; None if no victims were named.
+    """
 
     def __init__(self, wanted: Sequence[Victim]) -> None:
         self.wanted, self.known = wanted, dict[str, bool]()
@@ -73,11 +77,13 @@ class Victims:
         return self.known[path]
 
     def removals(self, world: FoldWorld) -> list[tuple[int, ...]]:
-        """The sets of groups without which sums are to be kept: each group alone, and then of two, of three and so on, as far as there
-        is room for all of one size. Of a group and one below it the upper one does."""
+        """The sets of groups to exclude: each group alone, then sets of two, of three and so on, as
+        long as all sets of one size fit. A set doesn't contain a group and its ancestor: the
+        ancestor suffices.
+        """
         slots = sorted(slot for path, slot in world.live.items() if self.matches(path)) if self.wanted else []
         world.watch(slots)
-        # Above the root there is nothing of which something would be left.
+        # If the root is killed, nothing remains.
         slots = [slot for slot in slots if slot]
         found: list[tuple[int, ...]] = []
         above = {slot: world.catalog.above(slot) for slot in slots}

@@ -1,4 +1,6 @@
-"""What the command lines of tools that fold share: the length of a window, and what is told of what was folded."""
+"""What the command lines of tools that fold share: the length of a window, and the report about the
+folded trace.
+"""
 from __future__ import annotations
 
 import argparse
@@ -17,12 +19,12 @@ ROUNDING = (
     "but times are rounded to whole ns: totals may differ by 1 us, and so may a signal exactly at its threshold, and an average of a"
     " tick whose share is exactly a whole percent"
 )
-# A tick lasts a whole number of ms, 60 s at most.
+# A tick is a whole number of ms, at most 60 s.
 MILLISECOND, LONGEST_TICK = 10**6, 60 * SECOND
 
 
 def window_of(text: str) -> int:
-    """The length of a window in ns: whole ms, up to the longest tick."""
+    """The length of a window in ns: whole ms, at most the longest tick."""
     length = nanoseconds(text)
     if not 0 < length <= LONGEST_TICK or length % MILLISECOND:
         raise argparse.ArgumentTypeError(f"{text} is no window: it has 0.001 to 60 s, of whole ms, as ticks have")
@@ -30,7 +32,8 @@ def window_of(text: str) -> int:
 
 
 def add_window(words: argparse.ArgumentParser, name: str, is_required: bool, text: str) -> None:
-    """The words that say how is folded: by the option of this name the window, and who might be killed."""
+    """Adds the options of folding: the window, named `name`, and the groups that might be killed.
+    """
     words.add_argument(name, dest="fold", metavar="S", type=window_of, required=is_required, help=text)
     words.add_argument("--victims", metavar="PATTERNS", action="append", default=[],
                        help="groups that might be killed, as patterns of rules with commas between: `whatif` is exact without"
@@ -40,14 +43,14 @@ def add_window(words: argparse.ArgumentParser, name: str, is_required: bool, tex
 
 
 class Folding(NamedTuple):
-    """How is folded: the length of a window (ns), and who might be killed."""
+    """The options of folding: the length of a window (ns), and the groups that might be killed."""
 
     length: int
     victims: list[Victim]
 
 
 def folding_of(found: dict[str, Any]) -> Folding | None:
-    """Takes these words out of those that were found; none where nothing is to be folded."""
+    """Takes the options of folding out of the parsed ones; None if nothing is to be folded."""
     length, patterns, rules = found.pop("fold"), found.pop("victims"), found.pop("rules")
     if length is None and (patterns or rules):
         raise Faulty("--victims and --rules say how to fold: --fold")
@@ -56,7 +59,7 @@ def folding_of(found: dict[str, Any]) -> Folding | None:
 
 
 def folding_lines(folding: Folding, outcome: Outcome) -> list[str]:
-    """What came of how much, and how far it holds."""
+    """The report: sizes before and after, and how far the folded trace is exact."""
     counts, length = outcome.counts, folding.length
     tick = f"{length // MILLISECOND} ms" if length % SECOND else f"{length // SECOND} s"
     return [
@@ -74,14 +77,14 @@ def is_longer(counts: Counts) -> bool:
 
 
 def longer_lines(counts: Counts) -> list[str]:
-    """What to do about a folded trace that is longer than the trace."""
+    """Advice about a folded trace that is longer than the original."""
     if not is_longer(counts):
         return []
     return [f"the folded trace is longer, {counts.written} lines from {counts.lines}: take the trace itself, or a longer window"]
 
 
 def whatif_line(folding: Folding, outcome: Outcome) -> str:
-    """How far `whatif` holds."""
+    """How far `whatif` is exact."""
     if not folding.victims:
         return "after the first kill `whatif` is near, and not exact: --victims or --rules say who might be killed"
     said = "`whatif` is exact after kills of those who were named"
@@ -95,19 +98,21 @@ def whatif_line(folding: Folding, outcome: Outcome) -> str:
 
 
 class Progress:
-    """How far it is, on standard error where that is a terminal: seconds done, and of how many where that is known (ns)."""
+    """Shows progress on standard error if that is a terminal: the seconds done, and the total if it
+    is known (ns).
+    """
 
     def __init__(self, name: str, total: int | None = None) -> None:
         self.name, self.total, self.is_shown, self.due = name, total, sys.stderr.isatty(), 0.0
 
     def show(self, moment: int) -> None:
-        """So far it is (ns). It is said twice a second."""
+        """Shows that all up to `moment` (ns) is done, at most twice a second."""
         if self.is_shown and time.monotonic() >= self.due:
             self.due = time.monotonic() + 0.5
             of = f" of {self.total // SECOND}" if self.total is not None else ""
             print(f"\r{self.name}: {moment // SECOND}{of} s", end="", file=sys.stderr, flush=True)
 
     def end(self) -> None:
-        """Nothing of it is left."""
+        """Erases the line."""
         if self.is_shown and self.due:
             print("\r\033[K", end="", file=sys.stderr, flush=True)

@@ -1,7 +1,7 @@
-"""Plays a trace's lines, and adds up for how long each processor was in each joint state.
+"""Replays a trace's lines, and adds up the time that each processor was in each joint state.
 
-A joint state is a whole number here, in which each element that some window has has a bit of its own: so a task's change is an
-exclusive or, and the time of a joint state is found by the number.
+Here a joint state is an integer with a bit for each element that occurs in some window: so a task's
+change is an exclusive or, and the time of a joint state is looked up by the integer.
 """
 from __future__ import annotations
 
@@ -14,17 +14,17 @@ from psiworld.limits import LEAST_WINDOW, MOST_LABEL, MOST_MEMORY, MOST_WINDOW
 
 from .joint import KINDS, LEFT_BY, STALLED, WAY, Element, JointState, Kind
 
-# So long (ns) may the interrupts of one line be.
+# The longest time (ns) that one line of interrupts may have.
 MOST_INTERRUPTS = 10**9
-# As plain numbers, since they are used at each line.
+# As plain integers, since they are used at each line.
 READY, RUNNING = int(Kind.READY), int(Kind.RUNNING)
 
 
-# So many letters of a line are shown.
+# The number of characters of a line that are shown.
 SHOWN = 100
 NUMBER = r"(?:0|[1-9][0-9]{0,18})"
 PATH = r"(?:/|(?:/(?!\.{1,2}(?:/|$))[A-Za-z0-9_.@:\\-]+){1,32}(?= |$))"
-# Lines that stay as they are, without their times. Numbers are checked below.
+# Lines that are copied unchanged, without their times. Numbers are checked below.
 GROUP = re.compile(PATH)
 SAMPLE = re.compile(rf"mem ({PATH}) {NUMBER} {NUMBER} {NUMBER}|host {NUMBER} {NUMBER} {NUMBER}")
 PREFERENCE = re.compile(rf"prefer ({PATH}) (?:prefer|avoid|none)")
@@ -32,16 +32,17 @@ TRIGGER = re.compile(rf"trigger ({PATH}) (?:io|memory|cpu) (?:some|full) ([1-9][
 
 
 class NotATrace(Exception):
-    """A line isn't one that a trace may have here."""
+    """A malformed line, or one that isn't allowed at this place of a trace."""
 
 
 def shortened(line: str) -> str:
-    """The line, or its first letters if it is long."""
+    """The line, or its first characters if it is long."""
     return line if len(line) <= SHOWN else f"{line[:SHOWN]} .."
 
 
 def kept_path(line: str) -> str:
-    """The group of a line that stays as it is, of which only the time is left out: `/` if it has none."""
+    """The group of a line that is copied unchanged (given without its time): `/` if it names none.
+    """
     found = SAMPLE.fullmatch(line) or PREFERENCE.fullmatch(line)
     if found and all(int(word) <= MOST_MEMORY for word in line.split(" ") if word.isdigit()):
         return found[1] or "/"
@@ -61,15 +62,17 @@ class Task:
 
 
 class Interrupts:
-    """What interrupts took of the groups whose tasks ran, in ns: by the first line of a window on its own, with the number of its
-    group, since it may tell of time before the window; and by the number of the group all the others."""
+    """The time (ns) that interrupts took from the groups whose tasks ran: the first line of a
+    window is separate, with its group's number, since it may include time before the window; all
+    others are added up by group.
+    """
 
     def __init__(self) -> None:
         self.first: tuple[int, int] | None = None
         self.others: Counter[int] = Counter()
 
     def add(self, slot: int, length: int) -> None:
-        """A line tells of so many ns."""
+        """Adds the length (ns) of a line."""
         if self.first is None:
             self.first = (slot, length)
         else:
@@ -77,21 +80,26 @@ class Interrupts:
 
 
 class Changes:
-    """How many tasks came into groups that might be killed, and how many moved out of these or from one to another; and when the
-    last did either (ns)."""
+    """The number of tasks that came into groups that might be killed, and the number that moved out
+    of them or between them; and the time (ns) of the last such event.
+    """
 
     def __init__(self) -> None:
         self.came, self.moved, self.last = 0, 0, 0
 
     def note(self, moment: int, came: bool, moved: bool) -> None:
-        """Counts a task that came, moved or did both. At 0 the trace says what there is at its start."""
+        """Counts a task that came, moved or did both. Lines at 0 are skipped: they are the trace's
+        initial state.
+        """
         if moment and (came or moved):
             self.came, self.moved, self.last = self.came + came, self.moved + moved, moment
 
 
 class Catalog:
-    """What numbers stand for: those of groups, in the order in which they were made, and those of the bits of joint states. It only
-    grows: of each group its path and the group above, and of each bit the element's key, which is the group's place and the kind."""
+    """The groups and the bits of joint states, by number. It only grows: for each group its path
+    and its parent, and for each bit the element's key, which consists of the group's number and the
+    kind.
+    """
 
     def __init__(self) -> None:
         self.paths = ["/"]
@@ -99,7 +107,7 @@ class Catalog:
         self.keys: list[int] = []
 
     def above(self, slot: int) -> set[int]:
-        """The groups above one."""
+        """The ancestors of a group."""
         found, at = set[int](), self.parents[slot]
         while at is not None:
             found.add(at)
@@ -112,45 +120,49 @@ class Catalog:
         return frozenset(Element(self.paths[slot], Kind(kind)) for slot, kind in keys)
 
     def size(self) -> tuple[int, int]:
-        """How many groups there are, and how many bits."""
+        """The number of groups, and of bits."""
         return len(self.paths), len(self.keys)
 
     def since(self, size: tuple[int, int]) -> tuple[list[str], list[int | None], list[int]]:
-        """What came since it had this size."""
+        """The additions since it had this size."""
         return self.paths[size[0] :], self.parents[size[0] :], self.keys[size[1] :]
 
     def add(self, paths: list[str], parents: list[int | None], keys: list[int]) -> None:
-        """Adds what came to another one."""
+        """Appends these additions."""
         self.paths += paths
         self.parents += parents
         self.keys += keys
 
 
 class FoldWorld:
-    """The machine as a trace has it. Groups have numbers in the order in which they are made; the root is 0."""
+    """The machine at the present line of a trace. Groups are numbered in the order of their
+    creation; the root is 0.
+    """
 
     def __init__(self, processors: int) -> None:
         self.processors = processors
         self.tasks: dict[int, Task] = {}
-        # By the word of a trace: the number of each processor.
+        # The number of each processor, by its word in a trace.
         self.places = {str(place): place for place in range(processors)}
-        # Who runs on each processor, 0 for none.
+        # The running task of each processor, 0 for none.
         self.runs = [0] * processors
         self.catalog = Catalog()
         self.paths, self.parents = self.catalog.paths, self.catalog.parents
         self.live = {"/": 0}
         self.off: set[int] = set()
         self.members: Counter[int] = Counter()
-        # By processor: how many tasks each element has, by its key (the group's place and the kind); the joint state, and since when
-        # it is; the ns of each joint state; and what interrupts took.
+        # For each processor: the number of tasks of each element, by its key (the group's number
+        # and the kind); the joint state and its start; the ns of each joint state; and the time of
+        # interrupts.
         self.counts: list[dict[int, int]] = [defaultdict(int) for _ in range(processors)]
         self.states = [0] * processors
         self.since = [0] * processors
         self.spent: list[dict[int, int]] = [{} for _ in range(processors)]
         self.interrupts = [Interrupts() for _ in range(processors)]
-        # The bit of each element by its key.
+        # The bit of each element, by its key.
         self.bits: dict[int, int] = {}
-        # By group those watched groups that it is or is below; and what tasks of these did that no folded trace can keep.
+        # For each group the watched groups that it is in; and what their tasks did that a folded
+        # trace can't keep.
         self.watched: dict[int, set[int]] = {}
         self.changes = Changes()
         self.verbs: dict[str, Callable[[int, list[str]], None]] = {
@@ -161,7 +173,9 @@ class FoldWorld:
     # ------------------------------------------------------------ tasks
 
     def change(self, processor: int, moment: int, before: int, after: int) -> None:
-        """An element of the processor has one task fewer, and another one more, by their keys. One that is ASLEEP is none."""
+        """Moves a task of this processor from one element to another, by their keys. ASLEEP isn't
+        counted.
+        """
         counts, bits = self.counts[processor], 0
         if before & 7:
             counts[before] = left = counts[before] - 1
@@ -181,13 +195,13 @@ class FoldWorld:
             self.states[processor] = state ^ bits
 
     def new_bit(self, key: int) -> int:
-        """The bit of an element that had none."""
+        """Assigns a bit to an element."""
         bit = self.bits[key] = 1 << len(self.catalog.keys)
         self.catalog.keys.append(key)
         return bit
 
     def fork(self, moment: int, words: list[str]) -> None:
-        """A task is made, ready on a processor."""
+        """A task is created, ready on a processor."""
         _, _, text, path, processor = words
         number, place = int(text), self.live[path] * KINDS
         if number in self.tasks:
@@ -201,7 +215,7 @@ class FoldWorld:
         self.change(task.processor, moment, 0, place + READY)
 
     def ready(self, moment: int, words: list[str]) -> None:
-        """A task is ready, perhaps on another processor than before."""
+        """A task becomes ready, possibly on a different processor than before."""
         _, verb, number, processor = words
         task, target, kind = self.tasks[int(number)], self.places[processor], 0
         if (verb == "wake") == (task.kind & READY):
@@ -216,7 +230,7 @@ class FoldWorld:
             self.change(target, moment, 0, task.place + kind)
 
     def switch(self, moment: int, words: list[str]) -> None:
-        """The running task leaves, and another runs, or none."""
+        """The running task leaves the processor; another one runs, or none."""
         _, _, text, following, how = words
         processor, tasks = self.places[text], self.tasks
         number = self.runs[processor]
@@ -252,7 +266,7 @@ class FoldWorld:
         self.change(task.processor, moment, before, task.place + task.kind)
 
     def move(self, moment: int, words: list[str]) -> None:
-        """A task goes to another group."""
+        """A task moves to another group."""
         _, _, number, path = words
         task = self.tasks[int(number)]
         before = task.place + task.kind
@@ -264,7 +278,7 @@ class FoldWorld:
         self.change(task.processor, moment, before, task.place + task.kind)
 
     def interrupt(self, moment: int, words: list[str]) -> None:
-        """Interrupts took time from the task that runs, or from nobody."""
+        """Interrupts took time from the running task, or from none."""
         processor, length = self.places[words[2]], int(words[3])
         if not 0 <= length <= MOST_INTERRUPTS or len(words) != 4:
             raise NotATrace("a line of interrupts has at most a second")
@@ -275,7 +289,7 @@ class FoldWorld:
     # ------------------------------------------------------------ groups
 
     def group(self, path: str) -> int:
-        """A group is made; its number."""
+        """A group is created; returns its number."""
         parent = path.rpartition("/")[0] or "/"
         if path in self.live or parent not in self.live or not GROUP.fullmatch(path) or len(path) > MOST_BYTES:
             raise NotATrace(f"{shortened(path)} can't be made")
@@ -285,7 +299,7 @@ class FoldWorld:
         return slot
 
     def rmgroup(self, path: str) -> None:
-        """A group is removed, in which nothing is any more."""
+        """An empty group is removed."""
         slot = self.live[path]
         if self.members[slot] or any(self.parents[it] == slot for it in self.live.values()):
             raise NotATrace(f"{path} isn't empty")
@@ -294,13 +308,13 @@ class FoldWorld:
         self.members.pop(slot, None)
 
     def pressure(self, path: str, switched: str) -> None:
-        """The account of a group is switched."""
+        """The accounting of a group is switched."""
         if path == "/" or switched not in ("on", "off"):
             raise NotATrace("it is malformed")
         (self.off.discard if switched == "on" else self.off.add)(self.live[path])
 
     def watch(self, slots: Sequence[int]) -> None:
-        """Watches for tasks that come to these groups, or below them."""
+        """Watches for tasks that come to these groups, or to their descendants."""
         each = ((slot, {slot, *self.catalog.above(slot)}.intersection(slots)) for slot in self.live.values()) if slots else ()
         self.watched = {slot: found for slot, found in each if found}
 
@@ -312,7 +326,8 @@ class FoldWorld:
     # ------------------------------------------------------------ windows
 
     def close(self, moment: int) -> list[dict[int, int]]:
-        """Ends a window: by processor the ns of each joint state since the last one ended."""
+        """Ends a window: returns the ns of each joint state since the previous end, by processor.
+        """
         closed = self.spent
         for processor, spent in enumerate(closed):
             if moment != self.since[processor]:
@@ -323,7 +338,7 @@ class FoldWorld:
         return closed
 
     def close_interrupts(self) -> list[Interrupts]:
-        """By processor what interrupts took since the last window ended."""
+        """The time of interrupts since the last window ended, by processor."""
         closed, self.interrupts = self.interrupts, [Interrupts() for _ in range(self.processors)]
         return closed
 
