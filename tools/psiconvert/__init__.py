@@ -1,1 +1,1 @@
-"""Makes a trace of a recording, or of a text of ftrace: `tools/psitrace`."""
+"""Converts a recording, or a text of ftrace, to a trace: `tools/psitrace`."""

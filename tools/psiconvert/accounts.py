@@ -1,5 +1,6 @@
-"""Which groups the machine didn't account, and since when: by the snapshot, and by the markers of the recorder's samples, each of
-which tells what was found otherwise than by the sample before."""
+"""Which groups the machine didn't account, and since when: from the snapshot, and from the markers
+of the recorder's samples, each of which reports what has changed since the sample before.
+"""
 from __future__ import annotations
 
 from collections.abc import Sequence
@@ -11,21 +12,23 @@ from psirec.layout import MARK, SNAPSHOT_ENDS, escaped_path
 
 
 class Account(NamedTuple):
-    """A group's path as a trace spells it, and whether the group was found to be accounted."""
+    """A group's path as it is written in a trace, and whether the group was accounted."""
 
     path: str
     is_on: bool
 
 
 class Accounts(NamedTuple):
-    """The groups that weren't accounted when the recording began, and what was found at which place of its events."""
+    """The groups that weren't accounted when the recording began, and the changes by the place
+    among its events.
+    """
 
     off: set[str]
     found: dict[int, list[Account]]
 
 
 def told_by(event: Event) -> Account | None:
-    """What a marker tells of a group's accounting, if it does."""
+    """A group's accounting according to a marker; None if the marker reports something else."""
     text = event.text if isinstance(event, Marker) else b""
     words = text.decode("utf-8", "surrogateescape")[len(MARK) :].split() if text.startswith(MARK.encode()) else []
     if len(words) != 3 or words[0] != "accounting" or words[2] not in ("on", "off"):
@@ -34,15 +37,18 @@ def told_by(event: Event) -> Account | None:
 
 
 def is_end_of(snapshot: Snapshot, event: Event) -> bool:
-    """Whether all that the snapshot lists was read by then. Those that a flight recorder took later come later."""
+    """Whether the whole snapshot was read by then. Groups that a flight recorder adds are read
+    later.
+    """
     is_end = isinstance(event, Marker) and event.text.startswith((MARK + SNAPSHOT_ENDS).encode())
     return is_end and event.moment >= snapshot.moment
 
 
 def accounts_of(events: Sequence[Event], snapshot: Snapshot) -> Accounts:
-    """What a recording knows of accounting. The snapshot is later than the start, in a flight recorder up to a minute: where the
-    first that is told of a group is a marker, it was the other way at the start. One that came meanwhile, perhaps again, began as
-    one that is accounted."""
+    """The accounting in a recording. The snapshot is later than the start, in a flight recorder up
+    to a minute: if the first report about a group is a marker, the opposite was true at the start.
+    A group that was created during the recording, perhaps again, was accounted at first.
+    """
     unaccounted, off = set(snapshot.unaccounted), set(snapshot.unaccounted)
     found: dict[int, list[Account]] = {}
     named: set[str] = set()

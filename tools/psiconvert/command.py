@@ -1,15 +1,15 @@
-"""Makes a psitrace of a recording of a whole machine, or of ftrace's text, and says on standard error how far it holds.
+"""Converts a recording of a whole machine, or ftrace's text, to a psitrace, and reports on standard error how exact it is.
 
-  tools/psitrace FOLDER > X.trace             what tools/record wrote: groups, memory, and all that a trace can say
-  tools/psitrace TEXT --cpus N > X.trace      text of trace, trace_pipe, trace-cmd report or perf script: as much as it has
+  tools/psitrace FOLDER > X.trace             a folder that tools/record wrote: groups, memory, and all that a trace can express
+  tools/psitrace TEXT --cpus N > X.trace      text of trace, trace_pipe, trace-cmd report or perf script: as much as it contains
 
-A text is a file (also a gzipped one) or - for the standard input. S is a number of seconds with at most nine decimals, from
-the start of the recording. The trace begins at 0 wherever it is cut. It has version 2 with --interrupts, and where a group wasn't
-accounted all the time (its cgroup.pressure was 0); else version 1.
+A text is a file (possibly gzipped) or - for the standard input. S is a number of seconds with at most nine decimals, from the
+start of the recording. The trace always begins at 0, even if it is cut from the middle. It has version 2 with --interrupts, and if a
+group wasn't accounted all the time (its cgroup.pressure was 0); else version 1.
 
-The status is 0; 1 for faulty words; 2 where something can't be read or written; 3 where events were lost or a limit of traces
-was met, and where folding makes the trace longer: then nothing is written, unless --force is given, with which the longest stretch
-without loss is; and 4 where the check of a folded trace found a difference, which is a fault of this tool.
+The status is 0; 1 for a usage error; 2 if something can't be read or written; 3 if events were lost or a limit of traces was reached,
+and if folding makes the trace longer: then nothing is written, except with --force, which writes the longest stretch without losses;
+and 4 if the check of a folded trace found a difference, which is a bug of this tool.
 """
 from __future__ import annotations
 
@@ -45,16 +45,17 @@ from .wakeups import Counting, Wakeups
 
 FAULTY, UNREADABLE, LOST, DIFFERENT = 1, 2, 3, 4
 LEVELS = ("some", "full")
-# A recording of so many bytes is surveyed in several processes, and folded in one of its own.
+# A recording of at least this size (bytes) is surveyed in several processes, and folded in a
+# process of its own.
 LARGE = 16 << 20
 MOST_TRIGGERS = 256
-# A lead-in, ns.
+# The limits of a lead-in, ns.
 LEAST_PAST, MOST_PAST = 300 * SECOND, 3600 * SECOND
 DEFAULT_PREFERENCES = {"prefer": "prefer", "avoid": "avoid", "omit": "avoid"}
 
 
 class Options(NamedTuple):
-    """What the command line says. Times are ns from the start of the recording."""
+    """The parsed command line. Times are ns from the start of the recording."""
 
     source: str
     output: str | None
@@ -72,7 +73,7 @@ class Options(NamedTuple):
 
 
 def trigger_of(text: str) -> str:
-    """A trigger's words, as the trace has them."""
+    """A trigger's words as in a trace."""
     words = text.split()
     is_whole = len(words) == 5 and words[0].startswith("/") and words[1] in RESOURCES and words[2] in LEVELS
     if not is_whole or not all(re.fullmatch("[1-9][0-9]{0,7}", word) for word in words[3:]):
@@ -83,7 +84,7 @@ def trigger_of(text: str) -> str:
 
 
 def parser() -> Parser:
-    """The words that there are."""
+    """The parser of the command line."""
     words = Parser("psitrace", __doc__, FAULTY)
     words.add_argument("source", metavar="FOLDER|TEXT", help="a folder of tools/record, or a file of ftrace's text")
     words.add_argument("-o", dest="output", metavar="FILE", help="write the trace there, and not to the standard output")
@@ -118,7 +119,7 @@ def parser() -> Parser:
 
 
 def options_of(given: list[str]) -> Options:
-    """What these words say."""
+    """Parses the command line."""
     words = parser()
     found = words.words_of(given)
     if len(found["triggers"]) > MOST_TRIGGERS:
@@ -139,13 +140,14 @@ def options_of(given: list[str]) -> Options:
 
 
 def tell(line: str) -> None:
-    """Says something on standard error."""
+    """Prints a line on standard error."""
     print(f"psitrace: {line}", file=sys.stderr)
 
 
 class Reading(NamedTuple):
-    """What is to be converted: all of it, or what is rare in it where it is to be folded; then also its events in slices, and the
-    tasks that never leave a processor."""
+    """The input: all of it, or, if it is to be folded, only what is rare in it, with its events in
+    slices and the tasks that never leave a processor.
+    """
 
     source: Source
     slices: Slices
@@ -153,7 +155,7 @@ class Reading(NamedTuple):
 
 
 def reading_of(options: Options) -> Reading:
-    """Reads what is to be converted."""
+    """Reads the input."""
     if not os.path.isdir(options.source):
         source = read_text(options.source, options.processors)
         return Reading(source, lambda: [source.events], silent_tasks(source.events))
@@ -167,7 +169,7 @@ def reading_of(options: Options) -> Reading:
 
 
 def part_of(options: Options, whole: Window) -> Window:
-    """The part that the options name."""
+    """The part that the options select."""
     end = whole.end if options.end is None else min(whole.start + options.end, whole.end)
     if whole.start + options.start > end:
         raise Faulty("--from is after the end of the recording")
@@ -175,7 +177,7 @@ def part_of(options: Options, whole: Window) -> Window:
 
 
 def method_of(options: Options, source: Source) -> Method:
-    """What tells waits for IO: what was asked for, if the recording has it."""
+    """How waits for IO are recognised: the requested method, if the recording supports it."""
     best = best_method(source.events, source.has_switch_probe)
     kinds = {type(event) for event in source.events} if options.method else set()
     has_probe = source.has_switch_probe or SwitchProbe in kinds
@@ -186,7 +188,7 @@ def method_of(options: Options, source: Source) -> Method:
 
 
 def wakeups_of(options: Options, source: Source) -> Wakeups:
-    """What puts each wakeup where it was asked for, if the recording tells."""
+    """Moves each wakeup to the requested time, if the recording has that."""
     counting = options.counting or (Counting.PROBE if source.has_ready_probe else Counting.EVENT)
     if counting is not Counting.EVENT and not source.has_ready_probe:
         raise Faulty(f"--wakeups {counting.value}: the recording has no such probe (record --wakeups)")
@@ -194,13 +196,13 @@ def wakeups_of(options: Options, source: Source) -> Wakeups:
 
 
 def check_interrupts(options: Options, source: Source) -> None:
-    """Interrupts that are asked for must be in the recording."""
+    """Rejects interrupts if they are requested and the recording has none."""
     if options.has_interrupts and not any(isinstance(event, Interrupts) for event in source.events):
         raise Faulty("--interrupts: the recording has no such events: its kernel doesn't account interrupts, or is newer than 6.9")
 
 
 def upon_of(options: Options, source: Source) -> dict[str, list[str]]:
-    """What is to be written once a group is there: its preference, and its triggers."""
+    """The lines to write once a group exists: its preference, and its triggers."""
     upon: dict[str, list[str]] = {}
     for path, preference in sorted(source.snapshot.groups.items()):
         if preference != "none":
@@ -211,7 +213,9 @@ def upon_of(options: Options, source: Source) -> dict[str, list[str]]:
 
 
 def past_of(options: Options, source: Source, window: Window) -> Past | None:
-    """The pretended past that is asked for: what the machine's files said at the reading that is nearest to the window's start."""
+    """The requested warm-up: the machine's averages at the reading that is nearest to the window's
+    start.
+    """
     if options.lead_in is None:
         return None
     spans = spans_of(source) if os.path.isdir(options.source) else {}
@@ -223,13 +227,14 @@ def past_of(options: Options, source: Source, window: Window) -> Past | None:
 
 
 def put_in_unwritten(source: Source, window: Window) -> None:
-    """Puts in the switches that weren't written, and counts those of the window."""
+    """Inserts the unwritten switches, and counts those of the window."""
     source.events, moments = with_unwritten(source.events, source.gaps)
     source.mended[UNWRITTEN] += sum(window.start <= it <= window.end for it in moments)
 
 
 def losses_of(source: Source, window: Window, whole: Window) -> list[str]:
-    """What was lost in the window; of a whole recording also what was lost before its first event."""
+    """What was lost in the window; for a whole recording also what was lost before its first event.
+    """
     gaps = source.gaps if window == whole else overlapping(source.gaps, window)
     return [f"lost: {it}" for it in [*source.losses, *([loss_text(gaps, whole)] if gaps else [])]]
 
@@ -248,14 +253,16 @@ def write(options: Options, parts: Iterable[bytes]) -> None:
 
 
 def is_large(options: Options) -> bool:
-    """Whether what is to be converted is so large that several processes share in it: by the bytes of the file, or of the folder."""
+    """Whether the input is large enough for several processes, by the bytes of the file, or of the
+    folder.
+    """
     path = options.source
     names = [os.path.join(path, name) for name in os.listdir(path)] if os.path.isdir(path) else [path]
     return sum(os.path.getsize(name) for name in names if os.path.isfile(name)) >= LARGE
 
 
 class Made(NamedTuple):
-    """What was made, as it is written, and what more is to be told."""
+    """The resulting trace, in parts to be written, and further lines to report."""
 
     converted: Converted
     parts: Iterable[bytes]
@@ -264,7 +271,7 @@ class Made(NamedTuple):
 
 
 def converted_of(options: Options, reading: Reading, wanted: Wanted) -> Made:
-    """Converts, and folds where that is wanted."""
+    """Converts, and folds if requested."""
     source, wakeups = reading.source, wakeups_of(options, reading.source)
     if options.folding is None:
         source.events = wakeups.put(source.events)
@@ -282,7 +289,7 @@ def converted_of(options: Options, reading: Reading, wanted: Wanted) -> Made:
 
 
 def run(options: Options) -> int:
-    """Converts, tells and writes; answers the status."""
+    """Converts, reports and writes; returns the exit status."""
     reading = reading_of(options)
     source = reading.source
     if source.processors > MOST_PROCESSORS:
@@ -313,7 +320,7 @@ def run(options: Options) -> int:
 
 
 def main(given: list[str]) -> int:
-    """Runs the command; answers its status."""
+    """Runs the command; returns its exit status."""
     try:
         options = options_of(given)
         return guarded("psitrace", lambda: run(options), UNREADABLE)

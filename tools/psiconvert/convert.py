@@ -1,4 +1,4 @@
-"""Makes a trace of a recording: what there was at its start, and then what happened."""
+"""Converts a recording to a trace: the state at its start, and then the events."""
 from __future__ import annotations
 
 from bisect import bisect_left
@@ -34,9 +34,10 @@ class Known(NamedTuple):
 
 @dataclass
 class Prior:
-    """What is known before the trace begins: groups, those of them that aren't accounted, tasks and samples of memory. `is_sound`
-    says whether nothing was lost up to then. A task that no event names up to the moment `settled` (ns) did at the start what is
-    known of it here."""
+    """What is known before the trace begins: groups, which of them aren't accounted, tasks and
+    samples of memory. `is_sound` says whether nothing was lost up to then. A task that no event
+    names up to `settled` (ns) was in the state that is known here.
+    """
 
     groups: list[str]
     off: set[str]
@@ -48,7 +49,9 @@ class Prior:
 
 
 class Converted(NamedTuple):
-    """A trace's lines, and what is to be told of how they were made. Of a folded trace `folded` has the lines."""
+    """A trace's lines, and the figures to report about the conversion. For a folded trace the lines
+    are in `folded`.
+    """
 
     lines: list[str]
     world: World
@@ -63,7 +66,9 @@ class Converted(NamedTuple):
 
 
 class Told(NamedTuple):
-    """What all events tell together: the places of the switches by which a wait for IO begins, and who was accounted when."""
+    """What is derived from all events together: the places of the switches that begin a wait for
+    IO, and the accounting over time.
+    """
 
     waits: set[int]
     accounts: Accounts
@@ -73,7 +78,9 @@ class Told(NamedTuple):
 
 
 def snapshot_prior(snapshot: Snapshot, events: Sequence[Event], beginning: Beginning, off: set[str]) -> Prior:
-    """What a snapshot says of the recording's first moment, though it was taken later: what came since isn't in it."""
+    """What a snapshot says about the recording's start, though it was taken later: what was created
+    since is removed.
+    """
     first_events: dict[str, type] = {}
     for event in events:
         if isinstance(event, (GroupMade, GroupRemoved)) and not event.hierarchy:
@@ -99,7 +106,7 @@ def snapshot_prior(snapshot: Snapshot, events: Sequence[Event], beginning: Begin
 
 
 def world_prior(world: World, samples: Samples, is_sound: bool) -> Prior:
-    """What a world that was played up to here knows."""
+    """The state of a world that was played up to here."""
     tasks = {
         number: Known(task.group, task.process, First(task.state, task.processor), task.is_stalled)
         for number, task in world.tasks.items()
@@ -112,7 +119,7 @@ def world_prior(world: World, samples: Samples, is_sound: bool) -> Prior:
 
 
 def first_of(number: int, prior: Prior, beginning: Beginning) -> First:
-    """What the task did at the first moment. What an event says goes before what was known."""
+    """What the task did at the start. Events have priority over what was known before."""
     known, said = prior.tasks.get(number), beginning.tasks.get(number)
     if said is None:
         state, processor, _ = known.first if known else First(State.ASLEEP, 0)
@@ -128,15 +135,17 @@ def first_of(number: int, prior: Prior, beginning: Beginning) -> First:
 
 
 def late_state(known: Known | None) -> State:
-    """What a task did at the start that runs later without a wakeup: one that wasn't known to run or to be ready was woken, or
-    made, by a task of which the kernel writes no events. Taken for ready it would wait from the start on."""
+    """The state at the start of a task that runs later without a wakeup: if it wasn't known to run
+    or to be ready, it was woken or created by a task for which the kernel writes no events. If it
+    were taken for ready, it would wait from the start.
+    """
     if known is None:
         return State.ASLEEP
     return State.READY if known.first.state is State.RUNNING else known.first.state
 
 
 def begin_task(world: World, number: int, known: Known, first: First, is_stalled: bool) -> None:
-    """Writes a task that is there at the first moment: turns of no length make it sleep, wait or stall."""
+    """Writes a task that exists at the start: turns of no length make it sleep, wait or stall."""
     processor = first.processor if 0 <= first.processor < world.processors else 0
     task = world.fork(number, known.path, processor, known.process)
     if first.state is State.RUNNING and not world.running(processor):
@@ -151,7 +160,7 @@ def begin_task(world: World, number: int, known: Known, first: First, is_stalled
 
 
 def begin_groups(world: World, prior: Prior) -> None:
-    """Writes the groups that there are at the first moment."""
+    """Writes the groups that exist at the start."""
     for words in world.upon.pop(ROOT, ()):
         world.put(words)
     for path in prior.groups:
@@ -160,7 +169,7 @@ def begin_groups(world: World, prior: Prior) -> None:
 
 
 def begin(world: World, prior: Prior, beginning: Beginning) -> None:
-    """Writes what else there is then: samples, and tasks; those that run come last."""
+    """Writes the rest of the initial state: samples, and tasks; the running tasks come last."""
     if prior.samples.host:
         world.put(f"host {prior.samples.host}")
     for path, sample in sorted(prior.samples.groups.items()):
@@ -176,8 +185,9 @@ def begin(world: World, prior: Prior, beginning: Beginning) -> None:
 
 
 def chosen(firsts: dict[int, First], prior: Prior, beginning: Beginning) -> list[int]:
-    """The tasks of the first moment: all, or where they are too many those that an event names, and then one of each group,
-    so that it isn't empty."""
+    """The tasks of the start: all, or, if they are too many, those that an event names, and one
+    more of each other group, so that it isn't empty.
+    """
     if len(firsts) <= MOST_TASKS // 2:
         return list(firsts)
     named = [number for number in firsts if number in beginning.tasks]
@@ -189,17 +199,17 @@ def chosen(firsts: dict[int, First], prior: Prior, beginning: Beginning) -> list
 
 
 def place_of(events: Sequence[Event], moment: int) -> int:
-    """Where the events of this moment begin."""
+    """The place of the first event at or after `moment` (ns)."""
     return bisect_left([event.moment for event in events], moment)
 
 
 def player_of(world: World, source: Source, told: Told) -> Player:
-    """What plays the recording's events in this world."""
+    """A player of the recording's events in this world."""
     return Player(world, source.events, told.waits, told.accounts.found, source.snapshot.types)
 
 
 def prior_of(source: Source, until: int, told: Told, deepest: int | None, is_sound: bool) -> Prior:
-    """What is known when the event at the place `until` is next."""
+    """What is known before the event at the place `until`."""
     beginning = beginning_of(source.events, tells_of_births(source.events))
     prior = snapshot_prior(source.snapshot, source.events, beginning, told.accounts.off)
     if not until:
@@ -217,7 +227,7 @@ def prior_of(source: Source, until: int, told: Told, deepest: int | None, is_sou
 
 
 def limit_of(world: World) -> str | None:
-    """The limit of traces that the world is beyond, if any."""
+    """The limit of traces that the world exceeds, if any."""
     if len(world.lines) >= MOST_EVENTS:
         return f"{MOST_EVENTS} events"
     if len(world.tasks) > MOST_TASKS:
@@ -228,7 +238,7 @@ def limit_of(world: World) -> str | None:
 
 
 def play(player: Player, source: Source, places: range, window: Window) -> str | None:
-    """Plays these events up to the window's end, or to a limit of traces, which it answers."""
+    """Plays these events up to the window's end, or up to a limit of traces, which it returns."""
     world = player.world
     for place in places:
         event = source.events[place]
@@ -245,19 +255,22 @@ def play(player: Player, source: Source, places: range, window: Window) -> str |
 
 
 class Past(NamedTuple):
-    """What is pretended to have been before a recording: for how many ticks, and what the machine's averages were then."""
+    """The warm-up before a recording: its length in ticks, and the machine's averages at its end.
+    """
 
     ticks: int
     averages: dict[str, Averages]
 
     def length(self) -> int:
-        """In ns."""
+        """The length of the warm-up in ns."""
         return self.ticks * TICK
 
 
 class Wanted(NamedTuple):
-    """What is to be made of a recording: of which part, by what waits for IO are told, with how many levels of groups,
-    with which lines once a group is there, whether with interrupts, and with what pretended past."""
+    """What to convert, and how: the window, how waits for IO are recognised, the number of levels
+    of groups, the lines to write once a group exists, whether interrupts are included, and the
+    warm-up.
+    """
 
     window: Window
     method: Method
@@ -268,7 +281,7 @@ class Wanted(NamedTuple):
 
 
 def convert(source: Source, wanted: Wanted) -> Converted:
-    """Makes the trace."""
+    """Converts a recording."""
     window, deepest = wanted.window, wanted.deepest
     told = Told(waits_for_io(source.events, wanted.method), accounts_of(source.events, source.snapshot))
     is_sound = not any(gap.start < window.start for gap in source.gaps)

@@ -1,5 +1,7 @@
-"""What each task did when the trace begins. Nothing says it at that moment; the first event that names a task does: who is
-switched from ran, who is switched to was ready, and who is woken slept."""
+"""What each task did when the trace begins. Nothing reports it at that time; it follows from the
+first event that names a task: the task that a switch leaves ran, the task that it switches to was
+ready, and a task that is woken slept.
+"""
 from __future__ import annotations
 
 from collections.abc import Iterable, Sequence
@@ -13,7 +15,9 @@ LONGEST_READY = 10**9
 
 
 class First(NamedTuple):
-    """What a task did at the start, and on which processor; and the moment of the event that says so, 0 where none does."""
+    """What a task did at the start, and on which processor; and the time (ns) of the event that
+    shows it, 0 if none does.
+    """
 
     state: State
     processor: int
@@ -21,34 +25,40 @@ class First(NamedTuple):
 
 
 class Beginning:
-    """What the events from the start on say about it. Where no event tells of new tasks, one that runs first later than
-    `latest_ready` (ns) is taken for new, since hardly any is ready for that long."""
+    """What the events since the start show about the start. If no event reports new tasks, a task
+    that first runs after `latest_ready` (ns) is taken for new, since hardly any is ready for that
+    long.
+    """
 
     def __init__(self, latest_ready: int) -> None:
         self.latest_ready = latest_ready
         self.tasks: dict[int, First] = {}
-        # Who ran on each processor, 0 for nobody.
+        # The task that ran on each processor, 0 for none.
         self.runs: dict[int, int] = {}
-        # Tasks that were made after the start, so that they weren't there.
+        # Tasks that were created after the start.
         self.born: set[int] = set()
-        # Tasks that waited for IO, by the statistics.
+        # Tasks that waited for IO, according to the statistics.
         self.waited: set[int] = set()
-        # Whether each task was in a memory stall, where that is known.
+        # Whether each task was in a memory stall, if that is known.
         self.stalled: dict[int, bool] = {}
         self.depths: dict[int, int] = {}
         self.origins: dict[int, int] = {}
 
     def is_new(self, task: int) -> bool:
-        """Whether nothing was said about this task before."""
+        """Whether no earlier event names this task."""
         return task != 0 and task not in self.tasks and task not in self.born
 
     def name(self, task: int, state: State, processor: int, moment: int) -> None:
-        """An event says what the task did. Where it went to another processor before, it did so on the one it came from."""
+        """An event shows what the task did. If it moved to another processor before, its state
+        refers to the processor it came from.
+        """
         if self.is_new(task):
             self.tasks[task] = First(state, self.origins.get(task, processor), moment)
 
     def take(self, event: Event) -> None:
-        """Takes the next event. Whoever runs where it is written is named by that alone."""
+        """Takes the next event. It names the task that runs where it is written, whatever else it
+        says.
+        """
         self.runs.setdefault(event.processor, event.current)
         self.name(event.current, State.RUNNING, event.processor, event.moment)
         if isinstance(event, Switch):
@@ -72,8 +82,10 @@ class Beginning:
             self.take_stall(event)
 
     def take_stall(self, event: StallBegins | StallEnds) -> None:
-        """A task goes into a memory stall or out of it. One that comes out of a stall that it didn't go into was in it; so
-        was one that went into a further stall, which the end of that one tells by its flags."""
+        """A task enters or leaves a memory stall. If it leaves a stall that it didn't enter, it was
+        in it at the start; so was a task that entered a nested stall, which the flags at the end of
+        that show.
+        """
         task = event.current
         if task in self.stalled or task in self.born:
             return
@@ -87,13 +99,14 @@ class Beginning:
 
 
 def tells_of_births(events: Iterable[Event]) -> bool:
-    """Whether these events tell when tasks are made."""
+    """Whether these events report the creation of tasks."""
     return any(isinstance(event, (NewTask, FirstWakeup)) for event in events)
 
 
 def beginning_of(events: Sequence[Event], has_births: bool) -> Beginning:
-    """What these events say about the moment before the first of them. `has_births` says whether the recording tells when
-    tasks are made."""
+    """What these events show about the state before the first of them. `has_births` says whether
+    the recording reports the creation of tasks.
+    """
     is_open = has_births or not events
     beginning = Beginning(NEVER if is_open else events[0].moment + LONGEST_READY)
     for event in events:

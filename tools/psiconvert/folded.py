@@ -1,9 +1,11 @@
-"""Makes a folded trace of a recording of any length: slice by slice of its events, and window by window of its lines.
+"""Converts a recording of any length to a folded trace: slice by slice of its events, and window by
+window of its lines.
 
-It does what `convert` does of all events at once, with differences that a short recording doesn't show. What a task did at the start
-is known by the events of the first minute, which are read once more for that. A switch that wasn't written is put back to where the
-task that left was seen last, but not beyond the slice before; and a wait for IO that only its end shows is known if that is in the
-same slice or the next one. A slice has 2 s at least.
+The result is that of `convert`, which takes all events at once, apart from differences that don't
+occur in a short recording. The state of each task at the start follows from the events of the first
+minute, which are read once more for that. An unwritten switch is moved back to where its task was
+last seen, but not beyond the previous slice; and a wait for IO that only its end shows is found if
+the end is in the same slice or the next. A slice is at least 2 s long.
 """
 from __future__ import annotations
 
@@ -35,20 +37,20 @@ from .first import LONGEST_READY, Beginning, tells_of_births
 from .player import Player
 from .unwritten import UNWRITTEN, Chains
 
-# So many lines are folded at once.
+# The number of lines that are folded at once.
 LINES = 5_000
-# For how long (ns) events are looked at to know what each task did at the start.
+# The time (ns) of events that are read to know what each task did at the start.
 LOOK_AHEAD = 60 * 10**9
 MOMENT = itemgetter(0)
-# Gives the events in slices, from the first on, each time it is called.
+# Returns the events in slices, from the first, each time it is called.
 Slices = Callable[[], Iterable[list[Event]]]
 
 
 class Spool:
-    """The lines of a folded trace, in a file of its own until it is known whether all is well."""
+    """The lines of a folded trace, in a temporary file until the conversion has succeeded."""
 
     def __init__(self) -> None:
-        # Without a buffer, since another process writes it.
+        # Unbuffered, since another process writes it.
         self.file = tempfile.TemporaryFile(buffering=0)
         self.header, self.events = "", 0
 
@@ -56,14 +58,14 @@ class Spool:
         return 1 + self.events
 
     def put(self, lines: list[str]) -> None:
-        """Takes lines, as long as the end has room after them."""
+        """Takes lines, as long as there is room for the end line after them."""
         if self.events + len(lines) >= MOST_EVENTS and not lines[-1].endswith(" end"):
             raise TooMany(f"{MOST_EVENTS} events")
         self.events += len(lines)
         self.write("".join(f"{line}\n" for line in lines))
 
     def write(self, text: str) -> None:
-        """Writes at the end."""
+        """Appends the text."""
         rest = memoryview(text.encode("ascii"))
         try:
             while rest:
@@ -72,13 +74,13 @@ class Spool:
             raise Unreadable(f"a temporary file in {tempfile.gettempdir()}: {fault.strerror}") from None
 
     def close(self, events: int, moment: int) -> None:
-        """Ends the trace after so many lines at this moment (ns)."""
+        """Ends a trace of `events` lines at `moment` (ns)."""
         self.file.seek(0, os.SEEK_END)
         self.write(f"{moment} end\n")
         self.events = events + 1
 
     def parts(self) -> Iterator[bytes]:
-        """The header, and all that was taken."""
+        """The header, and all lines."""
         yield f"{self.header}\n".encode("ascii")
         self.file.seek(0)
         while part := self.file.read(1 << 20):
@@ -90,7 +92,7 @@ class Spool:
 
 @dataclass
 class Slice:
-    """Events that follow one another, with the switches among them that weren't written, and those of the next slice."""
+    """Consecutive events, including unwritten switches, and those of the next slice."""
 
     events: list[Event]
     following: list[Event]
@@ -99,16 +101,16 @@ class Slice:
         self.kinds = {*map(type, self.events), *map(type, self.following)}
 
     def both(self) -> list[Event]:
-        """As far as is looked ahead."""
+        """The events of this slice and the next."""
         return [*self.events, *self.following]
 
     def has(self, *kinds: type) -> bool:
-        """Whether some event, as far as is looked ahead, is of one of these kinds."""
+        """Whether this slice or the next has an event of one of these kinds."""
         return not self.kinds.isdisjoint(kinds)
 
 
 class Mender:
-    """Puts the switches among the events that weren't written. `moments` are theirs."""
+    """Inserts the unwritten switches among the events. `moments` has their times (ns)."""
 
     def __init__(self, source: Source, silent: set[int]) -> None:
         self.chains = Chains(source.events, source.gaps)
@@ -129,7 +131,9 @@ class Mender:
             yield Slice(before, [])
 
     def mended(self, events: list[Event], before: list[Event] | None) -> tuple[list[Event], list[Event]]:
-        """The events of a slice with what is missing among them, and what is missing before its first one."""
+        """The events of a slice with the unwritten switches, and the unwritten switches before its
+        first event.
+        """
         whole, moments = self.chains.mended(events)
         if not moments:
             return events, []
@@ -143,7 +147,9 @@ class Mender:
 
 
 class Ahead:
-    """What each task did when the recording began, and when the window did, by the events of LOOK_AHEAD ns from there on."""
+    """What each task did when the recording began, and when the window began, according to the next
+    LOOK_AHEAD ns of events.
+    """
 
     def __init__(self, source: Source, window: Window) -> None:
         self.source, self.start, self.end = source, window.start, min(window.end, window.start + LOOK_AHEAD)
@@ -157,7 +163,7 @@ class Ahead:
         return Beginning(NEVER if self.latest_ready is None else moment + self.latest_ready)
 
     def take(self, events: list[Event]) -> bool:
-        """Takes the next events; whether more are needed."""
+        """Takes the next events; returns whether more are needed."""
         for event in events:
             moment = event[0]
             if moment <= self.until:
@@ -169,7 +175,9 @@ class Ahead:
         return not events or events[-1][0] <= max(self.until, self.end)
 
     def take_late(self) -> None:
-        """Takes the first event of each processor that was silent: it shows who ran there since the start."""
+        """Takes the first event of each processor that had none so far: it shows which task ran
+        there since the start.
+        """
         begins_there = self.start <= self.source.start
         for event in self.source.events:
             if event[1] not in self.recording.runs:
@@ -179,7 +187,7 @@ class Ahead:
 
 
 def looked_ahead(source: Source, slices: Iterable[list[Event]], silent: set[int], window: Window) -> Ahead:
-    """Reads as far as is needed to know what each task did at the start."""
+    """Reads as far as necessary to know what each task did at the start."""
     ahead = Ahead(source, window)
     for part in Mender(source, silent).pairs(slices):
         if not ahead.take(part.events):
@@ -192,8 +200,9 @@ def looked_ahead(source: Source, slices: Iterable[list[Event]], silent: set[int]
 
 
 class Conversion:
-    """Plays the events of a recording, and hands the lines that come of it on. `accounts` has what was found of accounting by the
-    markers that tell it."""
+    """Plays the events of a recording, and passes the resulting lines on. `accounts` has the
+    accounting by the markers that report it.
+    """
 
     def __init__(self, source: Source, wanted: Wanted, ahead: Ahead, put: Callable[[list[str]], None]) -> None:
         self.source, self.wanted, self.ahead, self.put = source, wanted, ahead, put
@@ -204,12 +213,13 @@ class Conversion:
         self.is_begun = False
         self.counts: Counter[str] = Counter()
         self.waits = self.uninterruptible = 0
-        # Probes whose switches are in the next slice; and by task how many of its numbers' changes of the next slice came already.
+        # Probes whose switches are in the next slice; and for each task the number of renumberings
+        # in the next slice that were already handled.
         self.probes: dict[int, SwitchProbe] = {}
         self.early: Counter[int] = Counter()
 
     def waits_in(self, part: Slice) -> set[int]:
-        """The places of a slice's switches by which a wait for IO begins."""
+        """The places of a slice's switches that begin a wait for IO."""
         if self.wanted.method is Method.STATE:
             return by_state(part.events)
         if self.wanted.method is Method.PROBE:
@@ -218,7 +228,7 @@ class Conversion:
         return {place for place in by_statistics(part.both()) if place < len(part.events)}
 
     def tell(self, player: Player, part: Slice, waits: set[int]) -> None:
-        """Lets the player know what is to be known of a slice: waits, accounts, and numbers that change."""
+        """Passes what is known of a slice to the player: waits, accounting, and renumberings."""
         player.waits = waits
         player.accounts.clear()
         player.changes.clear()
@@ -231,14 +241,14 @@ class Conversion:
             del player.changes[task][:count]
 
     def note_early(self, player: Player, part: Slice) -> None:
-        """Counts the changes of numbers in the next slice that were noticed in this one already."""
+        """Counts the renumberings in the next slice that were already noticed in this one."""
         following = part.following if part.has(Exec) else ()
         told = Counter(event.task for event in following if type(event) is Exec and event.task != event.old)
         left = {task: sum(place >= len(part.events) for place, _ in player.changes.get(task, ())) for task in told}
         self.early = Counter({task: count - left[task] for task, count in told.items() if count > left[task]})
 
     def play(self, part: Slice) -> bool:
-        """Plays a slice; whether the window goes on after it."""
+        """Plays a slice; returns whether the window continues after it."""
         events, window = part.events, self.wanted.window
         start, end = (bisect_left(events, moment, key=MOMENT) for moment in (window.start, window.end + 1))
         waits = self.waits_in(part)
@@ -264,7 +274,7 @@ class Conversion:
         return end == len(events)
 
     def new_player(self, world: World, beginning: Beginning) -> Player:
-        """What plays events from a moment on, at which there is what is known before."""
+        """A player that starts in this state of the world."""
         assert self.prior
         begin_groups(world, self.prior)
         begin(world, self.prior, beginning)
@@ -285,7 +295,9 @@ class Conversion:
         self.player, self.is_begun = self.new_player(world, self.ahead.window), True
 
     def play_window(self, player: Player, events: list[Event], places: range) -> None:
-        """Plays these events, and hands on what comes of them. The commonest kinds are told by their types."""
+        """Plays these events, and passes the resulting lines on. The commonest kinds are
+        distinguished by type.
+        """
         world, start, put, play = player.world, self.wanted.window.start, self.put, player.play
         switch, wake, migrate, lines = player.switch, player.wake, player.migrate, world.lines
         for place, event in zip(places, events[places.start : places.stop]):
@@ -316,7 +328,7 @@ class Conversion:
         return self.player.world
 
     def end(self) -> World:
-        """Ends the trace where its window does; its world then."""
+        """Ends the trace at the end of its window; returns its world."""
         world = self.world()
         self.put(world.lines)
         world.lines.clear()
@@ -326,7 +338,7 @@ class Conversion:
         return world
 
     def count(self, events: list[Event], waits: set[int], places: range) -> None:
-        """Counts what was played, for the summary."""
+        """Counts the played events, for the summary."""
         counts = Counter(map(type, events))
         counts[Switch] += counts.pop(WaitingSwitch, 0)
         self.counts.update({NAMES[kind]: count for kind, count in counts.items()})
@@ -335,7 +347,9 @@ class Conversion:
 
 
 class Folded(NamedTuple):
-    """A folded trace: what a conversion tells of it, but its lines; these, as they are written; and what was folded."""
+    """A folded trace: the figures to report about the conversion; its lines, as they are written;
+    and the outcome of folding.
+    """
 
     converted: Converted
     spool: Spool
@@ -343,8 +357,8 @@ class Folded(NamedTuple):
 
 
 def convert_folded(source: Source, slices: Slices, ahead: Ahead, silent: set[int], wanted: Wanted, folding: Folding, is_large: bool) -> Folded:
-    """Makes the trace, and folds it; where it is large, in a process of its own."""
-    # Events make no cycles, and looking for some among them takes a tenth of the time.
+    """Converts and folds, in a process of its own if the recording is large."""
+    # Events form no cycles, and searching them for cycles takes a tenth of the time.
     gc.disable()
     spool = Spool()
     fold = Fold(source.processors, folding.length, spool.put, folding.victims)

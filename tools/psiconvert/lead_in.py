@@ -1,9 +1,11 @@
-"""A lead-in: a pretended past before a recording's first event, by which the averages of its groups begin as the machine's did.
+"""A lead-in: a warm-up before a recording's first event, which makes the averages of its groups
+begin as the machine's did.
 
-A trace's averages begin at 0. Each average of a pressure file is brought to what the machine's file said by three stretches of
-constant pressure, the last 20 s, the 100 s before and what is before these: so many numbers as there are averages. Each group has
-processors of its own for it, beyond those of the machine: a few made-up tasks wait, stall and run there for the times that give it
-its shares, and what groups above have of that already is taken into account. At the end all of these tasks are gone.
+A trace's averages begin at 0. Three stretches of constant pressure bring each average of a pressure
+file to the value in the machine's file: the last 20 s, the 100 s before, and the time before these,
+since there are three averages. Each group has processors of its own for this, in addition to the
+machine's: a few artificial tasks wait, stall and run there for the times that result in its shares,
+less the shares that it has from its descendants. At the end all of these tasks exit.
 """
 from __future__ import annotations
 
@@ -17,14 +19,14 @@ from psiworld.groups import ROOT, prefixes_of
 from psiworld.world import How, State, World
 
 TICK = 2 * SECOND
-# What is left of an average after a tick, by its period in s: those of kernel/sched/psi.c.
+# The factor of an average after a tick, by its period in s: from kernel/sched/psi.c.
 FACTORS = {10: 1677 / 2048, 60: 1981 / 2048, 300: 2034 / 2048}
 # The last two stretches, in ticks.
 LAST, MIDDLE = 10, 50
-# Made-up tasks have numbers from here on, beyond those of kernels.
+# The first number of artificial tasks, larger than those of kernels.
 FIRST_NUMBER = 4_000_000_000
-# A group has as few processors of its own as bring its shares this near to what is wanted, percent, but no more than so many; and one
-# with averages below so many percent has no lead-in.
+# A group has the fewest processors of its own that bring its shares within NEAR percent of the
+# wanted ones, but at most MOST_OWN; a group with averages below LEAST percent has no lead-in.
 NEAR, MOST_OWN, LEAST = 0.5, 48, 0.5
 STRETCHES = 3
 WHOLE = 100.0
@@ -49,7 +51,7 @@ class Shares(NamedTuple):
 
 
 def averages_in(text: str, number: int) -> dict[str, Averages]:
-    """What a reading of the pressure files said of each group, by its path."""
+    """The averages of each group in a reading of the pressure files, by path."""
     found: dict[str, Averages] = {}
     for sample in SAMPLE.finditer(text):
         if int(sample[1]) == number:
@@ -61,8 +63,9 @@ def averages_in(text: str, number: int) -> dict[str, Averages]:
 
 
 def stretches_of(averages: Sequence[float], ticks: int) -> list[float]:
-    """The pressure of the three stretches, the first one first, by which averages that began at 0 come to these; each from 0 to 100
-    percent, and as near as that lets them come."""
+    """The pressure (0 to 100 percent) of the three stretches, the earliest first, that brings
+    averages from 0 as near as possible to these.
+    """
     lengths = (ticks - MIDDLE - LAST, MIDDLE, LAST)
     rows = []
     for factor in FACTORS.values():
@@ -79,7 +82,9 @@ def stretches_of(averages: Sequence[float], ticks: int) -> list[float]:
 
 
 def possible(shares: Iterable[float]) -> Shares:
-    """The nearest shares that one processor can have: full is never more than some, and while all wait for IO nobody is ready."""
+    """The nearest shares that one processor can have: full is never more than some, and while all
+    tasks wait for IO none is ready.
+    """
     io_some, io_full, memory_some, memory_full, cpu_some, cpu_full = (min(WHOLE, max(0.0, it)) for it in shares)
     io_full, memory_full = min(io_full, io_some), min(memory_full, memory_some)
     cpu_some = min(cpu_some, WHOLE - io_full)
@@ -88,8 +93,10 @@ def possible(shares: Iterable[float]) -> Shares:
 
 
 class Status(NamedTuple):
-    """What is the case on a group's processor from some percent of a tick on: whether a task waits for IO, is stalled, and all are
-    stalled; whether one is ready, one more waits, and one from outside runs."""
+    """The state of a group's processor from a percentage of a tick: whether a task waits for IO, is
+    stalled, and all are stalled; whether one is ready, one more waits, and a task from outside
+    runs.
+    """
 
     waits: bool
     stalls: bool
@@ -100,8 +107,10 @@ class Status(NamedTuple):
 
 
 def timeline(shares: Shares) -> list[tuple[float, Status]]:
-    """The statuses of a tick in their order: first none is ready, so that all who wait for IO wait alone; then the group's own task
-    runs, then one more waits beside it, and then both wait for one from outside."""
+    """The statuses of a tick in order: first no task is ready, so that those that wait for IO are
+    the only ones; then the group's own task runs; then another one waits for the processor; and
+    then both wait for a task from outside.
+    """
     begins = shares.io_full
     some = max(begins, shares.memory_full)
     ends = some + shares.memory_some - shares.memory_full
@@ -115,8 +124,9 @@ def timeline(shares: Shares) -> list[tuple[float, Status]]:
 
 
 class Stage:
-    """A processor of a group, with the five tasks that are made up for it: one waits for IO, one is stalled asleep, one runs, one
-    waits beside it, and one of the root takes the processor from both."""
+    """A processor of a group, with its five artificial tasks: one waits for IO, one sleeps in a
+    stall, one runs, one waits for it, and one of the root takes the processor from both.
+    """
 
     def __init__(self, world: World, path: str, processor: int, number: int) -> None:
         self.world, self.processor = world, processor
@@ -126,7 +136,7 @@ class Stage:
             world.detour(task, How.SLEEP)
 
     def put(self, task: int, state: State, is_stalled: bool) -> None:
-        """The task does this from now on, by a turn of no length."""
+        """Puts the task in this state, by a turn of no length."""
         world, it = self.world, self.world.tasks[task]
         if it.state is state and it.is_stalled == is_stalled:
             return
@@ -140,7 +150,7 @@ class Stage:
             world.leave(self.processor, how)
 
     def show(self, status: Status) -> None:
-        """Brings about a status."""
+        """Puts the tasks in the states of this status."""
         ready, asleep = State.READY, State.ASLEEP
         stalls_ready = status.all_stall and status.is_ready
         self.put(self.waiter, State.WAITING if status.waits else asleep, False)
@@ -154,7 +164,7 @@ class Stage:
             self.put(self.outsider, State.RUNNING, False)
 
     def end(self) -> None:
-        """All of its tasks are gone."""
+        """All of its tasks exit."""
         for task in (self.waiter, self.staller, self.other, self.outsider, self.runner):
             self.put(task, State.ASLEEP, False)
         for task in (self.waiter, self.staller, self.other, self.outsider, self.runner):
@@ -163,13 +173,16 @@ class Stage:
 
 
 class Diffusion:
-    """Whole percents of ticks whose mean is a share: averages know no others."""
+    """Whole percentages of ticks whose mean is a share, since the averages are computed from whole
+    percentages.
+    """
 
     def __init__(self) -> None:
         self.rest: dict[tuple[str, tuple[str, str]], float] = {}
 
     def percent(self, path: str, pressure: tuple[str, str], share: float) -> float:
-        """What this tick's share is, half a percent above a whole one, which is rounded down."""
+        """This tick's share, half a percent above a whole percentage, to which it is rounded down.
+        """
         owed = self.rest.get((path, pressure), 0.0) + share
         whole = int(owed)
         self.rest[path, pressure] = owed - whole
@@ -177,13 +190,15 @@ class Diffusion:
 
 
 class LeadIn:
-    """The lead-in of a world in which the groups are made: its stages, and the pressure of each stretch."""
+    """The lead-in of a world in which the groups exist: its stages, and the pressure of each
+    stretch.
+    """
 
     def __init__(self, world: World, averages: dict[str, Averages], ticks: int, most: int) -> None:
         self.world, self.ticks = world, ticks
         live = {path: it for path, it in averages.items() if path in world.groups.live}
         wanted = {path: it for path, it in live.items() if max(max(each) for each in it.values()) >= LEAST}
-        # A group comes after those below it.
+        # A group comes after its descendants.
         self.paths = sorted(wanted, key=lambda path: (-path.count("/") if path != ROOT else 1, path))
         self.shares = {path: {key: stretches_of(it, ticks) for key, it in wanted[path].items()} for path in self.paths}
         self.stages: dict[str, list[Stage]] = {}
@@ -191,7 +206,9 @@ class LeadIn:
         self.make_stages(world.processors, most)
 
     def make_stages(self, first: int, most: int) -> None:
-        """Gives each group its processors, from `first` on and fewer than `most`: as few as come near enough to its shares."""
+        """Assigns processors to each group, numbered from `first` and below `most`: the fewest that
+        come near enough to its shares.
+        """
         own: list[dict[str, Shares]] = [{} for _ in range(STRETCHES)]
         for path in list(self.paths):
             if first >= most:
@@ -212,7 +229,9 @@ class LeadIn:
         return [self.shares[path][key][stretch] if key in self.shares[path] else 0.0 for key in PRESSURES]
 
     def off(self, path: str, count: int, own: list[dict[str, Shares]]) -> float:
-        """How far the shares of a group with so many processors of its own are off at most, percent, by what those below have."""
+        """The largest error of a group's shares, percent, if it has `count` processors of its own,
+        considering the shares of its descendants.
+        """
         worst = 0.0
         for stretch, shares in enumerate(own):
             rest = self.rest_of(path, count, self.wanted(path, stretch), shares)
@@ -221,7 +240,7 @@ class LeadIn:
         return worst
 
     def play(self) -> None:
-        """Writes it, tick by tick."""
+        """Writes the lead-in, tick by tick."""
         diffusion = Diffusion()
         for tick in range(self.ticks):
             stretch = 2 if tick >= self.ticks - LAST else 1 if tick >= self.ticks - LAST - MIDDLE else 0
@@ -240,8 +259,9 @@ class LeadIn:
                 stage.end()
 
     def rest_of(self, path: str, count: int, wanted: Sequence[float], own: dict[str, Shares]) -> list[float]:
-        """What so many processors of a group must have each, so that with those of the groups below its shares are as wanted. The
-        root's full of cpu is shown as 0, whatever it is."""
+        """The shares that each of a group's `count` processors needs so that, with those of its
+        descendants, the group has the wanted shares. The root's full of cpu is always shown as 0.
+        """
         below = [(len(self.stages[it]), seen_from(own[it], path)) for it in own if is_below(it, path)]
         whole = count + sum(it for it, _ in below)
         rest = [whole * share - sum(number * it[place] for number, it in below) for place, share in enumerate(wanted)]
@@ -249,12 +269,14 @@ class LeadIn:
 
 
 def is_below(path: str, above: str) -> bool:
-    """Whether a group is below another one."""
+    """Whether a group is a descendant of another."""
     return path != above and (above == ROOT or above in prefixes_of(path))
 
 
 def seen_from(shares: Shares, path: str) -> Shares:
-    """What a group above has by a processor of one below. At the root who runs from outside is its own, and isn't stalled."""
+    """The shares that an ancestor has from a descendant's processor. For the root, the task from
+    outside is its own, and isn't stalled.
+    """
     if path != ROOT:
         return shares
     hidden = max(0.0, shares.memory_full - (WHOLE - shares.cpu_full))

@@ -1,5 +1,7 @@
-"""Plays a recording's events in the world of a trace. What doesn't fit what is known is believed and counted: in a sound
-recording that is rare, and after lost events the counts are the measure of the damage."""
+"""Plays a recording's events in the world of a trace. If an event contradicts the known state, it
+is accepted and counted: in a sound recording that is rare, and after lost events the counts measure
+the damage.
+"""
 from __future__ import annotations
 
 from collections import Counter, defaultdict
@@ -22,7 +24,7 @@ STAYS = "R"
 
 
 class Samples:
-    """The last samples of memory: that of the machine, and those of groups by path, as a trace spells them."""
+    """The last samples of memory: the machine's, and those of groups by path, as in a trace."""
 
     def __init__(self) -> None:
         self.host = ""
@@ -30,8 +32,9 @@ class Samples:
 
 
 class Player:
-    """Plays events one by one. `waits` has the places of the switches by which a wait for IO begins, `accounts` what was found of
-    the accounting of groups at which places, and `types` the types of groups that are known."""
+    """Plays events one by one. `waits` has the places of the switches that begin a wait for IO,
+    `accounts` the changes of accounting by place, and `types` the known types of groups.
+    """
 
     def __init__(
         self, world: World, events: Sequence[Event], waits: set[int], accounts: dict[int, list[Account]], types: dict[str, str]
@@ -39,12 +42,13 @@ class Player:
         self.world, self.waits, self.accounts, self.types = world, waits, accounts, dict(types)
         self.samples = Samples()
         self.victims: list[tuple[int, int]] = []
-        # By the task that moves others: what the probe told of the move that is under way.
+        # The probe of each move in progress, by the task that moves others.
         self.moves: dict[int, AttachProbe] = {}
-        # The group that each process made last.
+        # The group that each process created last.
         self.groups_made: dict[int, str] = {}
         self.mended: Counter[str] = world.mended
-        # By exec a thread takes over a number, some time before that is told: the places where it is, and the old numbers.
+        # By exec a thread takes over a number, some time before the event of it: the places of
+        # these events, and the old numbers.
         self.changes: dict[int, list[tuple[int, int]]] = defaultdict(list)
         for place, event in enumerate(events):
             if isinstance(event, Exec) and event.task != event.old and event.task:
@@ -84,19 +88,22 @@ class Player:
     # ------------------------------------------------------------ who is who
 
     def is_task(self, number: int) -> bool:
-        """Whether this can be a task's number: no event of a sound recording wakes, makes or renames task 0, which is idle."""
+        """Whether this can be a task's number: no event of a sound recording wakes, creates or
+        renames task 0, the idle task.
+        """
         if not number:
             self.mended["event of the idle task that it can't have, left out"] += 1
         return number != 0
 
     def group_of(self, number: int) -> str:
-        """The group of a task that is there, else the root."""
+        """The group of a task that exists, else the root."""
         task = self.world.tasks.get(number)
         return task.group if task else ROOT
 
     def task_of(self, number: int, place: int, fits: Callable[[Task], bool]) -> Task | None:
-        """The task of this number, where the trace has it. A number that an exec is about to change is changed where an event fits the
-        thread alone that takes it over."""
+        """The task of this number in the trace. If an exec is about to change a number, it is
+        changed at the first event that only fits the thread that takes it over.
+        """
         changes, tasks = self.changes.get(number), self.world.tasks
         while changes and changes[0][0] < place:
             changes.pop(0)
@@ -107,21 +114,25 @@ class Player:
         return tasks.get(number)
 
     def change_number(self, number: int, old: int) -> None:
-        """The thread `old` has taken over the number of its process's first thread. That one, if it isn't gone yet, leaves
-        under the thread's number."""
+        """The thread `old` has taken over the number of its process's first thread, which, if it
+        still exists, leaves under the thread's number.
+        """
         self.world.swap_numbers(number, old)
         self.mended["number changed by exec"] += 1
 
     def is_swapped(self, number: int, processor: int) -> bool:
-        """Whether the one that runs there is the first thread of a process, and has by now the number of the thread that
-        takes over its own."""
+        """Whether the running task is the first thread of a process, and already has the number of
+        the thread that takes over its own.
+        """
         changes = self.changes.get(self.world.running(processor))
         return bool(changes and changes[0][1] == number)
 
     # ------------------------------------------------------------ switches
 
     def switch(self, place: int, event: Switch) -> None:
-        """One task leaves, and another runs. Mostly who leaves is known to run, and who runs to be ready."""
+        """One task leaves the processor, and another runs. Usually the first is known to run, and
+        the second to be ready.
+        """
         world, (_, processor, _, previous, state, number) = self.world, event
         runs, comes = world.runs.get(processor, 0), world.tasks.get(number)
         if runs != previous or number in self.changes or not (comes.is_on(processor, State.READY) if comes else number == 0):
@@ -132,7 +143,7 @@ class Player:
             world.leave(processor, self.how(place, state), number)
 
     def how(self, place: int, state: str) -> How:
-        """How the task leaves. One that stays ready doesn't wait, though its mark may say so."""
+        """How the task leaves. A task that stays ready doesn't wait, even if its mark says so."""
         if state == STAYS:
             return How.PREEMPT
         if state in GONE:
@@ -140,7 +151,9 @@ class Player:
         return How.WAIT if place in self.waits else How.SLEEP
 
     def leaver(self, place: int, event: Switch) -> None:
-        """Makes the task that leaves run, where it isn't known to. Who was known to run there must have gone to sleep."""
+        """Makes the leaving task run, if it isn't known to. The task that was known to run there
+        must have gone to sleep.
+        """
         world, number, processor = self.world, event.previous, event.processor
         running = world.running(processor)
         if running == number:
@@ -160,7 +173,7 @@ class Player:
         world.run(number, processor, How.SLEEP)
 
     def follower(self, place: int, event: Switch) -> None:
-        """Makes the task that is to run ready, where it isn't known to be."""
+        """Makes the next task ready, if it isn't known to be."""
         world, number, processor = self.world, event.next, event.processor
         if not number or world.running(processor) == number:
             return
@@ -175,7 +188,7 @@ class Player:
     # ------------------------------------------------------------ tasks come, wake and move about
 
     def wake(self, place: int, event: Wakeup) -> None:
-        """A task that slept is ready. One that is woken before it slept goes on."""
+        """A sleeping task is ready. A task that is woken before it slept continues."""
         _, _, _, number, target = event
         task = self.task_of(number, place, Task.is_blocked)
         if task is None and self.is_task(number):
@@ -185,8 +198,10 @@ class Player:
             self.world.wake(task, target)
 
     def migrate(self, event: Migration) -> None:
-        """A ready task goes to another processor. Of one that waits for IO the kernel ends the wait there, and not at the
-        wakeup that follows; what it does then has no word but sleep."""
+        """A ready task moves to another processor. If it waits for IO, the kernel ends the wait
+        there, and not at the wakeup that follows; for what it does then a trace only has the word
+        sleep.
+        """
         task = self.world.tasks.get(event.task)
         if task and task.state is State.READY:
             self.world.ready(event.task, event.target)
@@ -195,7 +210,9 @@ class Player:
             self.mended["wait for IO ended at a migration"] += 1
 
     def new_task(self, event: NewTask) -> None:
-        """A task is made, asleep until its first wakeup, in the group of its parent, which is the one that runs."""
+        """A task is created by its parent, the running task, in the parent's group, and sleeps
+        until its first wakeup.
+        """
         if not self.is_task(event.task):
             return
         process = self.process_of(event.current) if event.flags & CLONE_THREAD else event.task
@@ -211,8 +228,9 @@ class Player:
         return task.process if task else number
 
     def named_group(self, parent: int) -> str | None:
-        """The group in which a parent made a task that it named to clone(2), which no event tells. Most likely it is the one
-        that the parent's process made last, if nothing is in that."""
+        """The group that a parent named to clone(2) for a new task, which no event reports. Most
+        likely it is the group that the parent's process created last, if that is empty.
+        """
         path = self.groups_made.get(self.process_of(parent))
         is_likely = path in self.world.groups.live and not self.world.groups.tasks[path or ROOT]
         guess = "the group that its parent made last" if is_likely else "its parent's group"
@@ -220,21 +238,23 @@ class Player:
         return path if is_likely else None
 
     def first_wakeup(self, event: FirstWakeup) -> None:
-        """A task that was made is ready. Where only this was recorded it is made now, by the one that runs."""
+        """A new task is ready. If only this was recorded, the task is created now, by the running
+        task.
+        """
         if event.task in self.world.tasks:
             self.world.ready(event.task, event.target)
         elif self.is_task(event.task):
             self.world.fork(event.task, self.group_of(event.current), event.target, event.task)
 
     def exec(self, event: Exec) -> None:
-        """The number of a thread has changed; often that was noticed before."""
+        """The number of a thread has changed; often that was noticed earlier."""
         if event.task == event.old or event.old not in self.world.tasks or not self.is_task(event.task):
             return
         if event.task not in self.world.tasks or self.world.running(event.processor) == event.old:
             self.change_number(event.task, event.old)
 
     def stall(self, event: StallBegins | StallEnds) -> None:
-        """The running task goes into its first memory stall, or out of its last."""
+        """The running task enters its first memory stall, or leaves its last."""
         task = self.world.tasks.get(event.current)
         is_end = isinstance(event, StallEnds)
         if not task or task.is_stalled != is_end or (isinstance(event, StallEnds) and event.flags):
@@ -250,8 +270,10 @@ class Player:
     # ------------------------------------------------------------ groups and memory
 
     def attach(self, event: Attach) -> None:
-        """A process goes to another group, with all its threads, or a single thread does. Of a process's first thread the event
-        alone doesn't tell which, and then all are taken to go."""
+        """A process moves to another group with all its threads, or a single thread does. For a
+        process's first thread the event alone doesn't say which; without a probe all threads are
+        moved.
+        """
         probe = self.moves.pop(event.current, None)
         if event.hierarchy:
             return
@@ -274,7 +296,7 @@ class Player:
             self.world.move(task, path)
 
     def group(self, event: GroupMade | GroupRemoved) -> None:
-        """A group comes or goes."""
+        """A group is created or removed."""
         if event.hierarchy:
             return
         path = escaped_path(event.path)
@@ -290,7 +312,7 @@ class Player:
             self.world.make_group(path)
 
     def mark(self, event: Marker) -> None:
-        """A marker: of the recorder's own, samples of memory become lines."""
+        """A marker: those of the recorder with memory samples become lines."""
         if not event.text.startswith(MARK.encode()):
             return
         words = event.text.decode("utf-8", "surrogateescape")[len(MARK) :].split()
@@ -307,7 +329,7 @@ class Player:
 
 
 def sample_of(words: Sequence[str]) -> str | None:
-    """The three numbers of a sample as a trace spells them, if these are such."""
+    """The three numbers of a sample as in a trace, or None if the words aren't such numbers."""
     if len(words) != 3 or not all(word.isascii() and word.isdecimal() and int(word) <= MOST_MEMORY for word in words):
         return None
     return " ".join(str(int(word)) for word in words)

@@ -1,4 +1,6 @@
-"""What a conversion says on standard error: what was read, how waits for IO are told, what was mended, and what was lost."""
+"""The report of a conversion on standard error: what was read, how waits for IO are recognised, and
+what was repaired or lost.
+"""
 from __future__ import annotations
 
 from datetime import datetime, timezone
@@ -12,7 +14,7 @@ from psiworld.world import World
 
 from .convert import Converted
 
-# How long it takes until an average that began at 0 means something: three of its periods, in s.
+# The time (s) until an average that began at 0 is meaningful: three of its periods.
 SETTLED_10, SETTLED_60 = 30, 180
 
 
@@ -26,7 +28,7 @@ def moment_text(realtime: int) -> str:
 
 
 def waits_text(method: Method, converted: Converted) -> str:
-    """By what waits for IO are told, and what that is worth."""
+    """How waits for IO are recognised, and how reliable that is."""
     if method is Method.STATE:
         return (
             f"waits for IO by state D alone: all {converted.uninterruptible} such sleeps count, on a journaling file system up"
@@ -37,17 +39,17 @@ def waits_text(method: Method, converted: Converted) -> str:
 
 
 def exact_seconds(moment: int) -> str:
-    """A moment in seconds, with all of its nine decimals."""
+    """A time in seconds, with all nine decimals."""
     return f"{moment // SECOND}.{moment % SECOND:09}"
 
 
 def counted(found: dict[str, int]) -> str:
-    """Kinds with their numbers, the most first."""
+    """Kinds with their numbers, the largest first."""
     return ", ".join(f"{kind} {count}" for kind, count in sorted(found.items(), key=lambda it: (-it[1], it[0])) if count)
 
 
 def whole_lines(source: Source, converted: Converted, window: Window, whole: Window) -> list[str]:
-    """What there is of the trace."""
+    """The size of the trace."""
     groups, count = converted.world.groups.made, len(converted.lines if converted.folded is None else converted.folded)
     lines = [f"{seconds(converted.world.now)} s, processors {source.processors}, groups {groups}, lines {count}"]
     if window != whole:
@@ -60,7 +62,7 @@ def whole_lines(source: Source, converted: Converted, window: Window, whole: Win
 
 
 def accounting_lines(source: Source, world: World) -> list[str]:
-    """Who wasn't accounted, if somebody wasn't, and what the trace makes of it."""
+    """The groups that weren't accounted, if any, and their pressure in the trace."""
     lines = []
     if ROOT in source.snapshot.unaccounted:
         lines.append("the machine doesn't account the root, a trace does")
@@ -72,7 +74,7 @@ def accounting_lines(source: Source, world: World) -> list[str]:
 
 
 def told_lines(source: Source, converted: Converted) -> list[str]:
-    """What a trace has no word for, or another."""
+    """What a trace can't express, or expresses differently."""
     lines = list(source.notes)
     omitted = [path for path, preference in sorted(source.snapshot.groups.items()) if preference == "omit"]
     if omitted:
@@ -85,7 +87,7 @@ def told_lines(source: Source, converted: Converted) -> list[str]:
 
 
 def summary_of(source: Source, converted: Converted, method: Method, window: Window, whole: Window) -> list[str]:
-    """All lines but those of what was lost. Where nothing is said of mending, nothing was mended."""
+    """All lines but those about losses. No line about repairs means that there were none."""
     mended = {**source.mended, **converted.world.mended}
     return [
         *whole_lines(source, converted, window, whole),
@@ -98,7 +100,7 @@ def summary_of(source: Source, converted: Converted, method: Method, window: Win
 
 
 def other_way(converted: Converted) -> str:
-    """What else helps where a trace has too many events, which is the limit that is met most."""
+    """A further remedy if a trace has too many events, the limit that is met most often."""
     if not converted.limit or not converted.limit.endswith(" events"):
         return ""
     if converted.folded is not None:
@@ -107,7 +109,7 @@ def other_way(converted: Converted) -> str:
 
 
 def past_lines(converted: Converted) -> list[str]:
-    """With what averages begin."""
+    """The values with which averages begin."""
     if not converted.begins:
         settled = f"avg10 means something from {SETTLED_10} s on, avg60 from {SETTLED_60} s on"
         return [f"averages begin at 0, as the machine's didn't: {settled}"]

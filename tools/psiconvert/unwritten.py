@@ -1,9 +1,11 @@
-"""Switches that a kernel didn't write. There are kernels that write no event of some tasks: in a virtual machine of Linux 6.18
-none of the threads of process 1, and none of the idle tasks but the first processor's. That such a task leaves isn't told, and
-whoever follows it would seem to wait until it does something itself.
+"""Switches that a kernel didn't write. Some kernels write no event for certain tasks: in a virtual
+machine of Linux 6.18 for none of the threads of process 1, and for none of the idle tasks but the
+first processor's. No event shows that such a task leaves, and its successor would seem to wait
+until it does something itself.
 
-The next event of the processor tells who runs there. Where that one was ready, the switch to it is put where the one that left was
-seen last. It may have gone on for a while, but far less than its follower, who often runs for many ms before anything is written.
+The next event of the processor shows which task runs there. If that task was ready, the switch to
+it is put where the leaving task was last seen. That task may have run for a while longer, but far
+less than its successor, which often runs for many ms before anything is written.
 """
 from __future__ import annotations
 
@@ -13,39 +15,43 @@ from operator import itemgetter
 from psiread.events import Event, Exec, FirstWakeup, Gap, Migration, Switch, Wakeup
 from psiread.window import Window, overlapping
 
-# What such a switch is called where they are counted.
+# The name of such a switch among the repairs that are counted.
 UNWRITTEN = "switch that wasn't written, put where the task that left was seen last"
 # The letters of tasks that leave and stay ready, and of those that sleep.
 STAYS, SLEEPS = "R", "S"
 
 
 def renamed(events: Sequence[Event]) -> set[tuple[int, int]]:
-    """The numbers that an exec changes for one another: a processor where that happens goes from one to the other without a
-    switch."""
+    """The pairs of numbers that an exec exchanges: the processor goes from one to the other without
+    a switch.
+    """
     changes = [(event.old, event.task) for event in events if isinstance(event, Exec) and event.old != event.task]
     return {*changes, *((new, old) for old, new in changes)}
 
 
 def silent_tasks(events: Sequence[Event]) -> set[int]:
-    """Tasks that ran and never left, by what is written."""
+    """Tasks that ran and, according to the written events, never left."""
     switches = [event for event in events if isinstance(event, Switch)]
     return {event.next for event in switches} - {event.previous for event in switches}
 
 
 class Chains:
-    """Who runs on each processor, and who waits to: what switches tell, and the tasks in which events are written."""
+    """The running task of each processor, and the tasks that wait for it, according to switches and
+    to the tasks in which events are written.
+    """
 
     def __init__(self, events: Sequence[Event], gaps: Sequence[Gap]) -> None:
         self.gaps, self.renamed, self.silent = gaps, renamed(events), silent_tasks(events)
         self.running: dict[int, int] = {}
-        # When each processor's last event was, in ns.
+        # The time of each processor's last event, ns.
         self.moments: dict[int, int] = {}
-        # On which processor each task waits to run, and since when that is known (ns).
+        # The processor for which each task waits, and since when that is known (ns).
         self.ready: dict[int, tuple[int, int]] = {}
 
     def mended(self, events: Iterable[Event]) -> tuple[list[Event], list[int]]:
-        """The next events with the switches among them that weren't written, each before the event that shows it, and the moments of
-        these switches."""
+        """The next events with the unwritten switches, each before the event that shows it, and the
+        times (ns) of these switches.
+        """
         whole: list[Event] = []
         moments: list[int] = []
         running = self.running
@@ -61,15 +67,18 @@ class Chains:
         return whole, moments
 
     def missing(self, event: Event, known: int, runs: int) -> list[Switch]:
-        """The switches that must have been on the event's processor before it, and weren't written: from who was known to run there to
-        who does."""
+        """The switches that must have happened on the event's processor before it, and weren't
+        written: from the task that was known to run there to the one that does.
+        """
         if (known, runs) in self.renamed or self.is_gap(event):
             return []
         follows = [runs] if runs in self.ready or not runs else []
         return list(self.switches(event.processor, [known, *self.waiting(event.processor, {known, runs}), *follows]))
 
     def waiting(self, processor: int, others: set[int]) -> list[int]:
-        """Tasks that write no switch and were ready there, the first first: whoever follows them, they ran before it."""
+        """Tasks that write no switch and were ready there, the earliest first: they ran before
+        whatever task follows.
+        """
         waiting = [it for it in self.silent - others if it in self.ready and self.ready[it][0] == processor]
         return sorted(waiting, key=lambda it: self.ready[it][1])
 
@@ -79,7 +88,7 @@ class Chains:
         return any(gap.processor == event.processor for gap in overlapping(self.gaps, since))
 
     def switches(self, processor: int, route: Sequence[int]) -> Iterator[Switch]:
-        """Switches from one of these tasks to the next: each as soon as it can have been."""
+        """Switches from each of these tasks to the next, each at its earliest possible time."""
         moment = self.moments[processor]
         for previous, following in zip(route, route[1:]):
             self.ready.pop(previous, None)
@@ -87,7 +96,7 @@ class Chains:
             yield Switch(moment, processor, previous, previous, SLEEPS if previous else STAYS, following)
 
     def take(self, event: Event) -> None:
-        """Takes an event that was written."""
+        """Takes a written event."""
         moment, processor = event[:2]
         self.moments[processor] = moment
         if isinstance(event, Switch):
@@ -102,8 +111,9 @@ class Chains:
 
 
 def with_unwritten(events: Sequence[Event], gaps: Sequence[Gap]) -> tuple[list[Event], list[int]]:
-    """The events with the switches among them that weren't written, and the moments of these; not where events were lost, since
-    then nothing is known of who ran meanwhile."""
+    """The events with the unwritten switches, and the times (ns) of these; none after lost events,
+    since it isn't known which tasks ran during the gap.
+    """
     whole, moments = Chains(events, gaps).mended(events)
     whole.sort(key=itemgetter(0))
     return whole, moments

@@ -1,6 +1,7 @@
-"""When the kernel counts a task as ready: in `psi_task_change`, some time before it writes the event of the wakeup. Where a recording
-has the probe on it, a wakeup can be taken for either moment, or for the middle between them; in truth the task was ready from
-somewhere in between on, so both together bound its waits for a processor.
+"""When the kernel counts a task as ready: in `psi_task_change`, some time before it writes the
+event of the wakeup. If a recording has the probe on this function, a wakeup can be taken at either
+time, or in the middle; in fact the task became ready somewhere in between, so the two bound its
+waits for a processor.
 """
 from __future__ import annotations
 
@@ -13,13 +14,13 @@ from operator import itemgetter
 from psiread.events import Event, FirstWakeup, ReadyProbe, Switch, Wakeup
 from psiworld.world import LABEL_STEP
 
-# A probe that is further before a wakeup than this, ns, belongs to something else.
+# A probe that precedes a wakeup by more than this, ns, belongs to another change.
 LONGEST_LAG = 50_000_000
 MOMENT = itemgetter(0)
 
 
 class Counting(Enum):
-    """At which moment a wakeup stands in the trace."""
+    """The time at which a wakeup is written to the trace."""
 
     PROBE = "probe"  # when psi counted it
     MIDDLE = "middle"  # halfway from there to its event
@@ -27,8 +28,10 @@ class Counting(Enum):
 
 
 def counted_at(events: Sequence[Event], told: dict[int, int] | None = None) -> dict[int, int]:
-    """When psi counted each wakeup, ns, by its place among the events. Also who goes to another processor, or to another group, is
-    counted anew: what follows without a wakeup is none. Who takes events in parts gives what is known of tasks from part to part."""
+    """When psi counted each wakeup, ns, by its place among the events. A task that moves to another
+    processor or group is counted again: a probe without a wakeup after it is no wakeup. If events
+    are read in parts, the caller passes what is known of tasks from part to part.
+    """
     told = {} if told is None else told
     found: dict[int, int] = {}
     for place, event in enumerate(events):
@@ -44,7 +47,7 @@ def counted_at(events: Sequence[Event], told: dict[int, int] | None = None) -> d
 
 
 def put_at(events: Sequence[Event], counted: dict[int, int], counting: Counting) -> list[Event]:
-    """The events with each wakeup at the moment that is wanted, in the order of their moments."""
+    """The events with each wakeup at the requested time, in order of time."""
     if counting is Counting.EVENT or not counted:
         return list(events)
     moved: list[Event] = list(events)
@@ -56,8 +59,9 @@ def put_at(events: Sequence[Event], counted: dict[int, int], counting: Counting)
 
 
 class Wakeups:
-    """Puts the wakeups of a recording where they are wanted, and counts how far before their events psi counted them: how many by
-    each so many ns, and of how many that isn't told."""
+    """Moves the wakeups of a recording to the requested time, and counts how long before their
+    events psi counted them: the number of wakeups by ns, and of those without a probe.
+    """
 
     def __init__(self, counting: Counting) -> None:
         self.counting = counting
@@ -66,14 +70,16 @@ class Wakeups:
         self.untold = 0
 
     def put(self, events: Sequence[Event]) -> list[Event]:
-        """The next events, with their wakeups where they are wanted."""
+        """The next events, with their wakeups at the requested time."""
         counted = counted_at(events, self.told)
         self.lags.update(events[place].moment - moment for place, moment in counted.items())
         self.untold += sum(isinstance(event, (Wakeup, FirstWakeup)) for event in events) - len(counted)
         return put_at(events, counted, self.counting)
 
     def slices(self, slices: Iterable[list[Event]]) -> Iterator[list[Event]]:
-        """The same of events in slices. What comes to stand before its slice goes into the one before."""
+        """Does this for events in slices. A wakeup that is moved to before its slice goes into the
+        previous one.
+        """
         before: list[Event] | None = None
         for events in slices:
             moved = self.put(events)
@@ -86,7 +92,9 @@ class Wakeups:
             yield before
 
     def lag_at(self, place: int) -> float:
-        """How far apart the two moments are, us, at this place of all wakeups, the shortest first."""
+        """The distance between the two times, us, of the wakeup with this index, the shortest
+        distance first.
+        """
         for lag, count in sorted(self.lags.items()):
             if place < count:
                 return lag / 1000
@@ -94,7 +102,7 @@ class Wakeups:
         raise IndexError(place)
 
     def text(self) -> str:
-        """At which moment wakeups stand, and how far those are apart."""
+        """The time at which wakeups are written, and the distance between the two times."""
         count = sum(self.lags.values())
         if not count:
             return (
@@ -112,12 +120,15 @@ class Wakeups:
 
 # ---------------------------------------------------------------- the wakeups of a trace
 
-# When a wakeup may have been counted, ns of the trace, by the task's label and the moment of its line: first, and last.
+# The earliest and latest time at which a wakeup may have been counted, ns of the trace, by the
+# task's label and the time of its line.
 Bounds = Callable[[str, int], tuple[int, int]]
 
 
 def bounds_of(events: Sequence[Event], start: int) -> Bounds:
-    """By the probes of a recording whose trace begins at `start`: the line of a wakeup may stand anywhere from one to the other."""
+    """Bounds from the probes of a recording whose trace begins at `start` (ns): the line of a
+    wakeup may be anywhere between the two.
+    """
     pairs: dict[int, list[tuple[int, int]]] = defaultdict(list)
     for place, moment in counted_at(events).items():
         event = events[place]
@@ -133,13 +144,14 @@ def bounds_of(events: Sequence[Event], start: int) -> Bounds:
 
 
 def lag_bounds(lag: int) -> Bounds:
-    """Where nothing tells: up to so many ns before the line."""
+    """Bounds without probes: up to `lag` ns before the line."""
     return lambda _, moment: (moment - lag, moment)
 
 
 def with_wakeups(lines: Iterable[str], bounds: Bounds, is_first: bool) -> list[str]:
-    """A trace's lines with each wakeup as early as it may have been, or as late, but none before the task has done what stands
-    before it in the trace."""
+    """A trace's lines with each wakeup as early or as late as possible, but not before the task's
+    preceding line in the trace.
+    """
     runs: dict[str, str] = {}
     lasts: dict[str, int] = {}
     found: list[tuple[int, str]] = []
