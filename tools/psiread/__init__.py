@@ -1,1 +1,1 @@
-"""What is read of a recording: its events, whatever they were read from, what was lost, and its pressure files."""
+"""Reads a recording: its events from pages or text, what was lost, and its pressure files."""

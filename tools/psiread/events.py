@@ -1,8 +1,9 @@
-"""What a recording's events say, whatever they were read from: pages of ring buffers, or text.
+"""The events of a recording, whether they were read from pages of ring buffers or from text.
 
-`moment` is in ns by the recording's clock, `processor` is the one on which the event was written, and `current` the task
-that ran there then (0 is the idle task). Tasks are threads, by the numbers of the first PID namespace. The names of the
-kernel's events are those of `include/trace/events/{sched,task,cgroup,oom}.h`.
+`moment` is in ns by the recording's clock, `processor` is the one on which the event was written,
+and `current` the task that ran there (0 is the idle task). Tasks are threads, numbered as in the
+first PID namespace. The names of the kernel's events are those of
+`include/trace/events/{sched,task,cgroup,oom}.h`.
 """
 from __future__ import annotations
 
@@ -31,7 +32,9 @@ class Wakeup(NamedTuple):
 
 
 class FirstWakeup(NamedTuple):
-    """`sched_wakeup_new`: a task that was made is ready for the first time. It is written in its parent."""
+    """`sched_wakeup_new`: a new task is ready for the first time. It is written in the task's
+    parent.
+    """
 
     moment: int
     processor: int
@@ -41,7 +44,8 @@ class FirstWakeup(NamedTuple):
 
 
 class Migration(NamedTuple):
-    """`sched_migrate_task`: of a ready task, or right before a wakeup."""
+    """`sched_migrate_task`: a ready task, or a task that is about to be woken, moves to `target`.
+    """
 
     moment: int
     processor: int
@@ -62,7 +66,9 @@ class NewTask(NamedTuple):
 
 
 class Exec(NamedTuple):
-    """`sched_process_exec`: where `old` differs, that thread has taken over the number of its process's first thread."""
+    """`sched_process_exec`: if `old` differs, that thread has taken over the number of its
+    process's first thread.
+    """
 
     moment: int
     processor: int
@@ -72,7 +78,7 @@ class Exec(NamedTuple):
 
 
 class WaitEnds(NamedTuple):
-    """`sched_stat_iowait`: the sleep that ends was a wait for IO. It stands before the wakeup."""
+    """`sched_stat_iowait`: the sleep that ends was a wait for IO. It precedes the wakeup."""
 
     moment: int
     processor: int
@@ -92,8 +98,10 @@ class SwitchProbe(NamedTuple):
 
 
 class ShowProbe(NamedTuple):
-    """A probe on `psi_show`: `current` reads the file of a resource, by its place among RESOURCES, of the group whose accounts
-    stand at this address; so the kernel samples the group."""
+    """A probe on `psi_show`: `current` reads the pressure file of a resource (an index into
+    RESOURCES) of the group whose accounts are at this address; the kernel samples the group for
+    that.
+    """
 
     moment: int
     processor: int
@@ -103,7 +111,9 @@ class ShowProbe(NamedTuple):
 
 
 class AverageProbe(NamedTuple):
-    """A probe on `psi_avgs_work`: the kernel samples the group by itself in whose accounts this work stands."""
+    """A probe on `psi_avgs_work`: the kernel samples a group on its own; this work is part of the
+    group's accounts.
+    """
 
     moment: int
     processor: int
@@ -112,7 +122,9 @@ class AverageProbe(NamedTuple):
 
 
 class ReadyProbe(NamedTuple):
-    """A probe on `psi_task_change`: psi counts the task as ready, at a wakeup some time before the event of that."""
+    """A probe on `psi_task_change`: psi counts the task as ready. At a wakeup this precedes the
+    event of the wakeup.
+    """
 
     moment: int
     processor: int
@@ -121,7 +133,7 @@ class ReadyProbe(NamedTuple):
 
 
 class StallBegins(NamedTuple):
-    """A probe on `psi_memstall_enter`: `current` goes into a memory stall, or into one more."""
+    """A probe on `psi_memstall_enter`: `current` enters a memory stall, possibly a nested one."""
 
     moment: int
     processor: int
@@ -129,7 +141,7 @@ class StallBegins(NamedTuple):
 
 
 class StallEnds(NamedTuple):
-    """A probe on `psi_memstall_leave`; `flags` is 0 where `current` isn't in any more stalls."""
+    """A probe on `psi_memstall_leave`; `flags` is 0 if `current` isn't in any more stalls."""
 
     moment: int
     processor: int
@@ -138,8 +150,9 @@ class StallEnds(NamedTuple):
 
 
 class Attach(NamedTuple):
-    """`cgroup_attach_task`: a task goes to a group. It names the first thread of a process of which all threads go. In a
-    hierarchy other than that of cgroup 2 `hierarchy` isn't 0."""
+    """`cgroup_attach_task`: a task moves to a group. If a process moves with all its threads, it
+    names the first thread. `hierarchy` is 0 for cgroup 2 only.
+    """
 
     moment: int
     processor: int
@@ -150,8 +163,9 @@ class Attach(NamedTuple):
 
 
 class AttachProbe(NamedTuple):
-    """A probe on the function `cgroup_attach_task`, which `current` runs right before its event: `whole` is 0 where the task alone
-    goes, by `cgroup.threads`, and not its process with all threads."""
+    """A probe on the function `cgroup_attach_task`, which `current` runs right before its event:
+    `whole` is 0 if only the task moves, by `cgroup.threads`, and not its process with all threads.
+    """
 
     moment: int
     processor: int
@@ -190,7 +204,9 @@ class Victim(NamedTuple):
 
 
 class Interrupts(NamedTuple):
-    """A probe on `psi_account_irqtime`: `delta` ns went to interrupts. A trace of version 1 has no word for it."""
+    """A probe on `psi_account_irqtime`: `delta` ns went to interrupts. A trace of version 1 can't
+    express it.
+    """
 
     moment: int
     processor: int
@@ -212,7 +228,7 @@ Event = Union[
     GroupMade, GroupRemoved, Victim, Interrupts, ShowProbe, AverageProbe, ReadyProbe, Marker,
 ]  # fmt: skip
 
-# What each kind is called where kinds are counted: the kernel's name, or the probe's.
+# The name of each kind in counts and messages: the kernel's name, or the probe's.
 NAMES: dict[type, str] = {
     Switch: "sched_switch", Wakeup: "sched_wakeup", FirstWakeup: "sched_wakeup_new", Migration: "sched_migrate_task",
     NewTask: "task_newtask", Exec: "sched_process_exec", WaitEnds: "sched_stat_iowait", SwitchProbe: "psi_task_switch",
@@ -222,11 +238,12 @@ NAMES: dict[type, str] = {
     Marker: "trace_marker",
 }  # fmt: skip
 
-# clone(2): the new task is a thread of its parent's process; and it begins in a group that the caller named.
+# clone(2): the new task is a thread of its parent's process; or it begins in a group that the
+# caller named.
 CLONE_THREAD = 0x10000
 CLONE_INTO_CGROUP = 0x2_0000_0000
 
-# The letters of tasks that leave for good: dead, and zombie.
+# The letters of tasks that exit: dead, and zombie.
 GONE = ("X", "Z")
 
 
@@ -234,8 +251,9 @@ NEVER = 2**64
 
 
 class Gap(NamedTuple):
-    """Events of a processor that were lost: how many (0 where that isn't known), somewhere from `start` to `end` in ns, or up
-    to `end` where `start` is 0, or from `start` on where `end` is NEVER."""
+    """Lost events of a processor: how many (0 if that isn't known), somewhere from `start` to `end`
+    in ns; or up to `end` if `start` is 0, or from `start` if `end` is NEVER.
+    """
 
     processor: int
     start: int

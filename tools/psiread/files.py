@@ -1,5 +1,6 @@
-"""Opens the files of a recording's folder: regular files only, since a device or a FIFO would block or never end; and of compressed
-pages no more than `meta` counts."""
+"""Opens the files of a recording's folder: regular files only, since a device or a FIFO would block
+or never end. Of compressed pages at most the bytes that `meta` counts are read.
+"""
 from __future__ import annotations
 
 import gzip
@@ -12,8 +13,8 @@ from psirec.layout import PACKED, part_name, raw_name
 
 from .source import Unreadable
 
-# Without a count in `meta` (the recorder was killed): the pages of a part are at most this many bytes, eight times what the
-# recorder puts into one.
+# If `meta` has no count (the recorder was killed), the pages of a part are at most this many bytes:
+# eight times what the recorder writes into one.
 MOST_PART_BYTES = 64 << 20
 PIECE = 8 << 20
 
@@ -37,13 +38,14 @@ def bytes_of(folder: str, name: str) -> bytes:
 
 
 def text_of(folder: str, name: str) -> str:
-    """The same as text, in which no byte is lost."""
+    """The file as text, in which no byte is lost."""
     return bytes_of(folder, name).decode("utf-8", "surrogateescape")
 
 
 class Raw:
-    """The pages of a processor: one file, or parts as one. Reading more than `most` bytes of it is a fault; `count` is how many were
-    read."""
+    """The pages of a processor: one file, or parts read as one. Reading more than `most` bytes is
+    an error; `count` is the number of bytes read.
+    """
 
     def __init__(self, folder: str, processor: int, most: int | None) -> None:
         self.name = raw_name(processor)
@@ -56,7 +58,7 @@ class Raw:
             raise Unreadable(f"{self.name}: {fault.strerror}") from None
 
     def read(self, size: int) -> bytes:
-        """The next `size` bytes; fewer are the last."""
+        """The next `size` bytes; fewer at the end."""
         try:
             data = bytearray(self.file.read(size))
             while self.names[1:] and len(data) < size:
@@ -80,7 +82,7 @@ class Raw:
 
 
 def parts_of(folder: str, processor: int) -> list[str]:
-    """The paths of a processor's parts. A part that is there twice was about to be compressed."""
+    """The paths of a processor's parts. If a part exists twice, the recorder was compressing it."""
     names = set(os.listdir(folder))
     parts: list[str] = []
     while found := {part_name(processor, len(parts)), part_name(processor, len(parts)) + PACKED} & names:

@@ -1,4 +1,5 @@
-"""The formats of a recording's events: where each field stands in a record, by the kernel's own `format` files.
+"""The formats of a recording's events: the offset of each field in a record, from the kernel's own
+`format` files.
 
 A field's line is `field:TYPE NAME; offset:N; size:N; signed:N;`, offsets and sizes in bytes
 (`Documentation/trace/events.rst` of Linux, section 2.2). Numbers are little-endian.
@@ -16,12 +17,12 @@ INTEGERS = {(1, True): "b", (1, False): "B", (2, True): "h", (2, False): "H",
             (4, True): "i", (4, False): "I", (8, True): "q", (8, False): "Q"}  # fmt: skip
 # The largest pages of ring buffers have 1 MB.
 MOST_PAGE = 1 << 21
-# What reads fields that are whole numbers from a record at a place.
+# Reads integer fields of the record at an offset.
 IntegerReader = Callable[[bytes, int], tuple[int, ...]]
 
 
 class FormatFault(Exception):
-    """The formats aren't those of a kernel whose pages can be read."""
+    """The formats of a kernel whose pages can't be read."""
 
 
 class Field(NamedTuple):
@@ -34,7 +35,7 @@ class Field(NamedTuple):
 
 
 class Format(NamedTuple):
-    """An event's name, the number by which its records tell it, its fields, and its print format."""
+    """An event's name, the number that identifies its records, its fields, and its print format."""
 
     name: str
     number: int
@@ -43,7 +44,7 @@ class Format(NamedTuple):
 
 
 def field_of(line: str) -> tuple[str, Field] | None:
-    """The field that this line of a format tells, with its name."""
+    """The name and the field in this line of a format; None if it has none."""
     found = FIELD.match(line)
     if not found:
         return None
@@ -80,8 +81,9 @@ def formats_of(sections: dict[str, list[str]]) -> dict[str, Format]:
 
 
 class PageFormat(NamedTuple):
-    """A page of a ring buffer, by `events/header_page`: how long it is, how many bytes tell how much is used, and where
-    its records begin."""
+    """A page of a ring buffer, according to `events/header_page`: its size, the size of its field
+    for the used bytes, and the offset of its records.
+    """
 
     size: int
     commit_size: int
@@ -89,7 +91,7 @@ class PageFormat(NamedTuple):
 
 
 def page_format_of(sections: dict[str, list[str]]) -> PageFormat:
-    """The pages' form that the recording tells."""
+    """The format of the recording's pages."""
     fields = fields_of(sections.get("header_page", ()))
     try:
         data, commit = fields["data"], fields["commit"]
@@ -103,8 +105,10 @@ def page_format_of(sections: dict[str, list[str]]) -> PageFormat:
 
 
 def state_letters(print_format: str) -> tuple[dict[int, str], int]:
-    """The letter of each bit of `prev_state` by the print format of `sched_switch`, and the bit of `R+`: a task that made
-    way while it was about to sleep, and stays ready. It is the one above the letters' bits."""
+    """The letter of each bit of `prev_state` in the print format of `sched_switch`, and the bit of
+    `R+`, which is the one above those: a task that was preempted while it was about to sleep, and
+    stays ready.
+    """
     letters = {int(bit, 16): letter for bit, letter in re.findall(r"\{\s*(0x[0-9a-fA-F]{1,16}),\s*\"(\w)\"", print_format)}
     if not letters:
         raise FormatFault("the format of sched_switch has no letters of states")
@@ -112,7 +116,7 @@ def state_letters(print_format: str) -> tuple[dict[int, str], int]:
 
 
 def integers_of(form: Format, names: Sequence[str]) -> IntegerReader:
-    """What reads these fields, all of them whole numbers."""
+    """A reader of these fields, all of them integers."""
     try:
         fields = [form.fields[name] for name in names]
         order = sorted(range(len(fields)), key=lambda place: fields[place].offset)
@@ -127,7 +131,7 @@ def integers_of(form: Format, names: Sequence[str]) -> IntegerReader:
 
 
 def in_order(reader: struct.Struct, places: list[int]) -> IntegerReader:
-    """What reads by this structure and answers the numbers in the order of `places`."""
+    """A reader that uses this structure and returns the numbers in the order of `places`."""
     unpack = reader.unpack_from
     if places == list(range(len(places))):
         return unpack
@@ -136,7 +140,7 @@ def in_order(reader: struct.Struct, places: list[int]) -> IntegerReader:
 
 
 def text_at(data: bytes, at: int, end: int, field: Field) -> bytes:
-    """A text field of the record from `at` to `end`, without its closing zero."""
+    """A text field of the record from `at` to `end`, without its terminating zero."""
     if field.type.startswith("__data_loc"):
         where = int.from_bytes(data[at + field.offset : at + field.offset + 4], "little")
         start = at + (where & 0xFFFF)

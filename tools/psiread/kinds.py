@@ -1,14 +1,14 @@
-"""What a file is that isn't what a tool expects, by its first bytes, with advice."""
+"""Recognises a file of the wrong kind by its first bytes, and gives advice."""
 from __future__ import annotations
 
 import glob
 import os
 import re
 
-# How many bytes are looked at.
+# The number of bytes to look at.
 HEAD = 64
 TRACE_HEADER = re.compile(rb"psitrace [0-9]+ cpus=")
-# By the first bytes of a file: what it is, and what to do about it.
+# The first bytes of a file, what it is, and advice.
 KINDS = (
     (b"\x1f\x8b", "it is compressed by gzip: unpack it with gunzip -c"),
     (b"\xfd7zXZ\0", "it is compressed by xz: unpack it, an archive with tar xf"),
@@ -25,7 +25,7 @@ KINDS = (
 
 
 def kind_of(head: bytes) -> str | None:
-    """What a file with these first bytes is, and what to do about it. None if that is unknown."""
+    """What a file with these first bytes is, with advice. None if that is unknown."""
     if not head:
         return "it is empty"
     if TRACE_HEADER.match(head):
@@ -35,7 +35,9 @@ def kind_of(head: bytes) -> str | None:
 
 
 def kind_of_file(name: str) -> str | None:
-    """The same of a file or a folder; None if it can't be read, or `name` is the standard input."""
+    """What a file or a folder is, with advice; None if it can't be read, or `name` is the standard
+    input.
+    """
     if os.path.isdir(name):
         return "it is a recording: tools/psitrace makes a trace of it" if has_meta(name) else "it is a folder"
     try:

@@ -1,4 +1,6 @@
-"""What is missing of a recording: pages that `meta` counts, a part of the snapshot, files that aren't read, and sound times."""
+"""Finds what is missing from a recording: pages that `meta` counts, a part of the snapshot, files
+that aren't read, and sound times.
+"""
 from __future__ import annotations
 
 import os
@@ -22,8 +24,10 @@ GROUP_SAMPLE = f"{MARK}mem ".encode()
 
 
 class Expected(NamedTuple):
-    """What must be there: how many bytes of pages `meta` counts (None if it doesn't say so, or not all could be written), whether the
-    recorder's last marker is among the events, and whether its snapshots have an end mark."""
+    """What a complete recording contains: the bytes of pages that `meta` counts (None if it
+    doesn't, or not all could be written), whether the recorder's last marker must be among the
+    events, and whether its snapshots have an end mark.
+    """
 
     byte_count: int | None
     has_stop: bool
@@ -31,7 +35,7 @@ class Expected(NamedTuple):
 
 
 def tell_missing(source: Source, folder: str, expected: Expected) -> None:
-    """Notes what is missing as losses."""
+    """Adds what is missing to the losses."""
     if expected.byte_count is not None and source.bytes != expected.byte_count:
         tell_bytes(source, expected.byte_count, expected.has_stop)
     for processor in unread_processors(folder, source.processors):
@@ -48,8 +52,10 @@ def tell_missing(source: Source, folder: str, expected: Expected) -> None:
 
 
 def tell_bytes(source: Source, count: int, has_stop: bool) -> None:
-    """Notes that the pages are more than `meta` counts, or fewer. If all processors' events end at one time, before the recorder's last
-    marker, nothing up to then is missing: that is no loss."""
+    """Adds a loss if the pages have more bytes than `meta` counts, or fewer. If all processors'
+    events end at one time, before the recorder's last marker, nothing up to then is missing: that
+    is no loss.
+    """
     if source.bytes > count:
         source.losses.append(f"the pages have {source.bytes} bytes, and meta counts {count}: some aren't of this recording")
         return
@@ -62,7 +68,7 @@ def tell_bytes(source: Source, count: int, has_stop: bool) -> None:
 
 
 def missing_ends(source: Source) -> Iterator[tuple[Gap, str]]:
-    """Which processors' events begin late or end early, and when; each with its gap."""
+    """The processors whose events begin late or end early, each with its gap and a description."""
     length, (firsts, lasts) = source.stop - source.start, ends_of(source)
     for processor in range(source.processors):
         if processor not in firsts:
@@ -88,7 +94,7 @@ def ends_of(source: Source) -> tuple[dict[int, int], dict[int, int]]:
 
 
 def unread_processors(folder: str, processors: int) -> list[int]:
-    """Processors with files in the folder, but beyond the number that `meta` says."""
+    """Processors that have files in the folder but exceed the number in `meta`."""
     found = (RAW.fullmatch(name) for name in os.listdir(folder))
     return sorted({int(it[1]) for it in found if it and int(it[1]) >= processors})
 
@@ -97,8 +103,9 @@ def unread_processors(folder: str, processors: int) -> list[int]:
 
 
 def missing_in_snapshot(source: Source) -> str | None:
-    """What a snapshot without an end mark must list and doesn't: the recorder itself, and all groups of the first sample of memory
-    that no event has made. None if it lists all of these."""
+    """What a snapshot without an end mark must list and doesn't: the recorder itself, and all
+    groups of the first memory sample that no event created. None if it lists all of these.
+    """
     snapshot = source.snapshot
     if snapshot.is_cut:
         return "its last line has no newline"
@@ -115,7 +122,7 @@ def missing_in_snapshot(source: Source) -> str | None:
 
 
 def first_sampled(events: list[Event]) -> set[str]:
-    """The groups of the first sample of memory: the recorder writes a line for each."""
+    """The groups of the first memory sample: the recorder writes a line for each."""
     found: set[str] = set()
     for event in events:
         if isinstance(event, Marker) and event.text.startswith(GROUP_SAMPLE):
@@ -130,7 +137,7 @@ def first_sampled(events: list[Event]) -> set[str]:
 
 
 def bound_times(source: Source) -> None:
-    """Notes times that a trace can't have as losses, and leaves them out."""
+    """Removes events whose times a trace can't have, and adds them to the losses."""
     if source.stop < source.start:
         source.losses.append("the recording ends before it begins: times of its pages are damaged")
         source.stop = source.start

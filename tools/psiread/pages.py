@@ -1,9 +1,10 @@
-"""Reads the pages of a kernel's ring buffers, as `per_cpu/cpuN/trace_pipe_raw` gives them.
+"""Reads the pages of a kernel's ring buffers, as `per_cpu/cpuN/trace_pipe_raw` returns them.
 
-A page begins with the moment of its first record (ns) and the word `commit`: how many bytes of records follow, and in two
-of its bits whether events were lost before the page, and whether their number stands after the records. A record has a
-word of 5 bits of kind and 27 of time since the record before. See `include/linux/ring_buffer.h` and
-`kernel/trace/ring_buffer.c` of Linux (`RB_MISSED_EVENTS`, `rb_event_length`, `ring_buffer_read_page`).
+A page begins with the time of its first record (ns) and the word `commit`: the number of bytes of
+records that follow, and in two of its bits whether events were lost before the page, and whether
+their number is stored after the records. A record's first word has 5 bits of kind and 27 bits of
+time since the previous record. See `include/linux/ring_buffer.h` and `kernel/trace/ring_buffer.c`
+of Linux (`RB_MISSED_EVENTS`, `rb_event_length`, `ring_buffer_read_page`).
 """
 from __future__ import annotations
 
@@ -20,10 +21,10 @@ MISSED_IS_TOLD = 1 << 30
 # The rest of `commit`: a page's records have at most this many bytes (the largest pages have 1 MB).
 USED = (1 << 30) - 1
 
-# Kinds of records: 0 has its length in a word of its own, 1 to 28 are lengths in words of four bytes.
+# Kinds of records: 0 has its length in an extra word; 1 to 28 are lengths in words of four bytes.
 PADDING, TIME_EXTENDS, TIME_IS = 29, 30, 31
 TIME_BITS = 27
-# A moment in a record has so many bits; those above are those of the moment before.
+# The number of bits of a time in a record; the bits above are those of the previous time.
 MOMENT_BITS = 59
 
 WORD = struct.Struct("<I").unpack_from
@@ -31,12 +32,13 @@ LONG = struct.Struct("<Q").unpack_from
 
 
 class PageFault(Exception):
-    """A page isn't one."""
+    """A malformed page."""
 
 
 class Page(NamedTuple):
-    """The head of a page: the moment of its first record in ns, how many events were lost before it (0: none, -1: nobody
-    knows), and where its records begin and end."""
+    """The header of a page: the time of its first record in ns, the number of events lost before it
+    (0: none, -1: unknown), and the start and end of its records.
+    """
 
     moment: int
     lost: int
@@ -45,7 +47,7 @@ class Page(NamedTuple):
 
 
 def page_at(data: bytes, at: int, form: PageFormat) -> Page:
-    """The page that begins there."""
+    """The page that begins at this offset."""
     moment = LONG(data, at)[0]
     commit = LONG(data, at + 8)[0] if form.commit_size == 8 else WORD(data, at + 8)[0]
     start = at + form.data
@@ -60,7 +62,7 @@ def page_at(data: bytes, at: int, form: PageFormat) -> Page:
 
 
 def records_of(data: bytes, page: Page) -> Iterator[tuple[int, int, int]]:
-    """The moment of each event's record of the page in ns, and from where to where it stands."""
+    """The time (ns), start and end of each event's record of the page."""
     moment, at, end = page.moment, page.start, page.end
     while at + 4 <= end:
         word = WORD(data, at)[0]
@@ -90,8 +92,9 @@ def records_of(data: bytes, page: Page) -> Iterator[tuple[int, int, int]]:
 
 
 class Pages(NamedTuple):
-    """What the pages of one processor say: its events in their order, the gaps, and how many bytes at the end are no whole
-    page."""
+    """The pages of one processor: its events in order, the gaps, and the number of bytes after the
+    last whole page.
+    """
 
     events: list[Event]
     gaps: list[Gap]
@@ -99,8 +102,9 @@ class Pages(NamedTuple):
 
 
 def read_pages(data: bytes, processor: int, form: PageFormat, decoders: dict[int, Decoder], is_ring: bool) -> Pages:
-    """Reads all pages of a processor. In a flight recorder's ring what was lost before the first page is no gap: it was
-    overwritten on purpose."""
+    """Reads all pages of a processor. In a flight recorder's ring a loss before the first page is
+    no gap: it was overwritten on purpose.
+    """
     events: list[Event] = []
     gaps: list[Gap] = []
     before = 0

@@ -25,20 +25,23 @@ class File(NamedTuple):
 
 
 class Totals(NamedTuple):
-    """Of a pressure file at a moment (ns): the total times of some and full, in us."""
+    """The totals of a pressure file at a time (ns): stall time of some and full, in us."""
 
     moment: int
     some: int
     full: int
 
 
-# Of each file what a replay reported, in the order of time; and the readings of the machine's files, by number.
+# The totals that a replay reported for each file, in order of time; and the readings of the
+# machine's files, by number.
 Series = dict[File, list[Totals]]
 Readings = dict[int, dict[File, Totals]]
 
 
 def reading_markers(source: Source) -> Iterator[tuple[Marker, int, bool]]:
-    """The markers around the readings of the pressure files: with the reading's number, and whether it begins there."""
+    """The markers around the readings of the pressure files: each with the reading's number, and
+    whether it is the begin marker.
+    """
     for event in source.events:
         if isinstance(event, Marker) and event.text.startswith(MARK.encode()):
             found = READING.fullmatch(event.text[len(MARK) :])
@@ -47,12 +50,12 @@ def reading_markers(source: Source) -> Iterator[tuple[Marker, int, bool]]:
 
 
 def recorder_of(source: Source) -> int | None:
-    """The task that read the pressure files, where one did."""
+    """The task that read the pressure files; None if the recording has no reading."""
     return next((marker.current for marker, _, _ in reading_markers(source)), None)
 
 
 def spans_of(source: Source) -> dict[int, tuple[int, int]]:
-    """From when to when each reading of the pressure files went on, in ns of the recording's clock."""
+    """The start and end of each reading of the pressure files, in ns of the recording's clock."""
     begins: dict[int, int] = {}
     spans: dict[int, tuple[int, int]] = {}
     for marker, number, is_begin in reading_markers(source):
@@ -64,8 +67,9 @@ def spans_of(source: Source) -> dict[int, tuple[int, int]]:
 
 
 def machine_readings(folder: str, source: Source) -> Readings:
-    """What the machine's own files said. The files of a reading were read one after the other, so each has a moment of its
-    own between the first and the last of the reading."""
+    """The contents of the machine's own files. The files of a reading were read one after the
+    other, so each has a time of its own between the start and the end of the reading.
+    """
     spans = spans_of(source)
     found: dict[int, list[tuple[File, int, int]]] = {}
     for number, path, resource, some, full in SAMPLE.findall(text_of(folder, PRESSURE)):
@@ -82,7 +86,7 @@ def machine_readings(folder: str, source: Source) -> Readings:
 
 
 def replay_series(printed: str) -> Series:
-    """What a replay printed, in ns since the trace's start."""
+    """The totals that a replay printed; times are ns since the trace's start."""
     series: Series = {}
     for moment, path, resource, some, full in REPORT.findall(printed):
         series.setdefault(File(path, resource), []).append(Totals(int(moment), int(some), int(full)))
@@ -90,7 +94,7 @@ def replay_series(printed: str) -> Series:
 
 
 def totals_at(totals: list[Totals], moment: int) -> Totals:
-    """The totals at a moment: those between two reports grow evenly from one to the other, and begin at 0."""
+    """The totals at a time (ns), interpolated linearly between two reports; they begin at 0."""
     place = bisect_left([it.moment for it in totals], moment)
     if place == len(totals):
         return totals[-1]
@@ -101,7 +105,7 @@ def totals_at(totals: list[Totals], moment: int) -> Totals:
 
 
 class Pair(NamedTuple):
-    """What the machine and the replay say of a file: by how much its totals of some and full grew, in us."""
+    """The growth of a file's totals of some and full, in us, on the machine and in the replay."""
 
     file: File
     machine: tuple[int, int]
@@ -109,7 +113,7 @@ class Pair(NamedTuple):
 
 
 class Compared(NamedTuple):
-    """Which readings were compared, how far they are apart (ns), and what came of each file."""
+    """The readings that were compared, the time between them (ns), and the growth of each file."""
 
     first: int
     last: int
@@ -118,31 +122,39 @@ class Compared(NamedTuple):
 
 
 def growth(before: Totals, after: Totals) -> tuple[int, int]:
-    """By how much some and full grew, in us."""
+    """The growth of some and full, in us."""
     return after.some - before.some, after.full - before.full
 
 
 def made_in(source: Source) -> dict[str, int]:
-    """When the groups that were made in a recording were, in ns, by path: the last of them, where one came again."""
+    """The time (ns) at which each group was created during the recording, by path; the last time if
+    it was created repeatedly.
+    """
     made = (it for it in source.events if isinstance(it, GroupMade) and not it.hierarchy)
     return {escaped_path(it.path): it.moment for it in made}
 
 
 def first_totals(file: File, readings: list[dict[File, Totals]], made: dict[str, int]) -> Totals | None:
-    """The totals from which a file's growth is counted: those of the first reading, and where its group wasn't accounted then, so
-    that it had no files, of the first that has some. None where the group was made later: it began at 0."""
+    """The totals from which a file's growth is counted: those of the first reading; if its group
+    wasn't accounted then and had no files, those of the first reading that has some. None if the
+    group was created later: it began at 0.
+    """
     is_new = file not in readings[0] and made.get(file.path, 0) > max(it.moment for it in readings[0].values())
     return None if is_new else next(files[file] for files in readings if file in files)
 
 
 def readings_within(readings: Readings, start: int, end: int) -> list[int]:
-    """The numbers of the readings of which each file was read from `start` to `end`, ns of the recording's clock."""
+    """The numbers of the readings that took place entirely from `start` to `end`, ns of the
+    recording's clock.
+    """
     return [number for number, files in readings.items() if all(start <= it.moment <= end for it in files.values())]
 
 
 def compared(readings: Readings, series: Series, made: dict[str, int], start: int, end: int) -> Compared | None:
-    """All files that both have at the last reading of a trace that lasts from `start` to `end`, in ns of the recording's
-    clock; `made` says when groups were made in it. None where less than two readings lie in the trace."""
+    """All files that both have at the last reading of a trace from `start` to `end`, in ns of the
+    recording's clock; `made` has the times at which groups were created. None if the trace has
+    fewer than two readings.
+    """
     inside = readings_within(readings, start, end)
     if len(inside) < 2:
         return None

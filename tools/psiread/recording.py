@@ -23,14 +23,14 @@ from .records import Decoder, decoders_of
 from .source import ListedTask, Snapshot, Source, Unreadable
 from .words import ns_of
 
-# What a marker of a reading of the pressure files begins with, after MARK.
+# The first word after MARK of the markers of a reading of the pressure files.
 READING = "pressure"
 NUMBER = re.compile("[0-9]{1,18}")
 BIG_ENDIAN = ("s390x", "ppc64", "sparc64")
 
 
 class Meta:
-    """The lines of `meta`, and what they amount to."""
+    """The lines of `meta`, and values derived from them."""
 
     def __init__(self, text: str) -> None:
         lines = [line.partition(" ") for line in text.splitlines() if line]
@@ -45,14 +45,14 @@ class Meta:
         return values[0] if values else None
 
     def processors(self) -> int:
-        """How many processors the machine has."""
+        """The number of the machine's processors."""
         count = self.one(Key.PROCESSORS)
         if count is None or not re.fullmatch("[1-9][0-9]{0,4}", count):
             raise Unreadable(f"{META}: there is no number of processors")
         return int(count)
 
     def version_fault(self) -> str | None:
-        """Why the folder isn't in a layout that is known, if so."""
+        """Why the folder's layout is unknown; None if it is known."""
         version, words = self.one(Key.RECORDING), (self.one(Key.UNAME) or "").split()
         if version is not None and version not in VERSIONS:
             return f"{META}: this is a recording of version {version}, and {VERSION} is known"
@@ -61,31 +61,32 @@ class Meta:
         return None
 
     def end(self) -> str | None:
-        """Why the recording ended, or none where nothing says that it did."""
+        """Why the recording ended; None if nothing says that it did."""
         if self.one(Key.RECORDING) is None:
             return Reason.SECONDS if self.last_key == SKETCH_END else None
         return self.one(Key.END)
 
     def is_ring(self) -> bool:
-        """Whether this is what a flight recorder kept."""
+        """Whether a flight recorder wrote this."""
         return Key.RING in self.values
 
     def ring_start(self) -> int:
-        """The moment in ns from which on all processors have events, in a flight recorder's ring; else 0."""
+        """The time in ns from which all processors have events in a flight recorder's ring; else 0.
+        """
         start = self.one(Key.RING_START) or ""
         return ns_of(start) if re.fullmatch(r"[0-9]{1,10}(\.[0-9]{1,9})?", start) else 0
 
     def bytes(self) -> int | None:
-        """How many bytes all pages have together, as the recorder counted them; None if it was killed."""
+        """The bytes of all pages together, as counted by the recorder; None if it was killed."""
         count = self.one(Key.BYTES) or ""
         return int(count) if re.fullmatch("[0-9]{1,15}", count) else None
 
     def has_snapshot_end(self) -> bool:
-        """Whether the recorder put SNAPSHOT_END into its snapshots."""
+        """Whether the recorder wrote SNAPSHOT_END to its snapshots."""
         return self.one(Key.RECORDING) not in (None, WITHOUT_END)
 
     def realtime(self) -> int | None:
-        """How many ns CLOCK_REALTIME was ahead of CLOCK_MONOTONIC."""
+        """The number of ns that CLOCK_REALTIME was ahead of CLOCK_MONOTONIC."""
         found = re.fullmatch(r"realtime ([0-9]{1,12}\.[0-9]{1,9}) monotonic ([0-9]{1,12}\.[0-9]{1,9})", self.one(Key.MOMENT) or "")
         return ns_of(found[1]) - ns_of(found[2]) if found else None
 
@@ -94,7 +95,7 @@ class Meta:
         return any(event.rpartition("/")[2] == name for event in self.values.get(Key.EVENT, ()))
 
     def lost(self, line: str) -> dict[int, int]:
-        """How many events each processor lost by this line of its `stats`."""
+        """The number of events that each processor lost, by this line of its `stats`."""
         found = (re.fullmatch(rf"cpu([0-9]{{1,5}}) {line}: ([0-9]{{1,19}})", it) for it in self.values.get(Key.STATS, ()))
         return {int(it[1]): int(it[2]) for it in found if it and int(it[2])}
 
@@ -103,7 +104,9 @@ class Meta:
 
 
 def snapshot_of(text: str) -> Snapshot:
-    """What a snapshot's lines list. A line that isn't one is passed over: a task's name may hold anything."""
+    """The contents of a snapshot's lines. Malformed lines are ignored: a task's name may contain
+    anything.
+    """
     snapshot = Snapshot()
     for words in (line.split(" ", 6) for line in text.split("\n")):
         if words == [SNAPSHOT_END]:
@@ -124,7 +127,7 @@ def snapshot_of(text: str) -> Snapshot:
 
 
 def path_of(text: str) -> str:
-    """A path of the folder's files as a trace spells it."""
+    """A path in the folder's files as it is written in a trace."""
     return escaped_path(text.encode("utf-8", "surrogateescape"))
 
 
@@ -139,7 +142,7 @@ class Kernel(NamedTuple):
 
 
 def kernel_of(folder: str) -> Kernel:
-    """The formats that the recording brings along."""
+    """The formats in the recording's folder."""
     sections = sections_of(text_of(folder, FORMATS))
     try:
         return Kernel(page_format_of(sections), decoders_of(formats_of(sections)))
@@ -148,15 +151,17 @@ def kernel_of(folder: str) -> Kernel:
 
 
 def gaps_behind(processor: int, lost: int, gaps: list[Gap], last: Event | None) -> list[Gap]:
-    """What a processor lost after the last page that was read, where these gaps were met and this was the last event: it stands in
-    the statistics alone, which tell how many events were lost in all."""
+    """What a processor lost after the last page that was read: only the statistics show it, which
+    count all lost events. `gaps` are the known gaps, and `last` is the last event.
+    """
     behind = lost - sum(gap.lost for gap in gaps)
     return [Gap(processor, last.moment if last else 0, NEVER, behind)] if behind > 0 and all(gap.lost for gap in gaps) else []
 
 
 def read_processors(folder: str, meta: Meta, source: Source) -> None:
-    """Reads the pages of all processors, and brings their events into one order: by time, and within a processor as they
-    were written."""
+    """Reads the pages of all processors, and merges their events by time; a processor's events stay
+    in the order in which they were written.
+    """
     kernel = kernel_of(folder)
     overrun = {} if meta.is_ring() else meta.lost("overrun")
     for processor in range(source.processors):
@@ -179,12 +184,12 @@ def read_processors(folder: str, meta: Meta, source: Source) -> None:
 
 
 def is_marker(event: Event, word: str) -> bool:
-    """Whether this is the recorder's own marker that begins with the word."""
+    """Whether this is a marker of the recorder that begins with this word."""
     return isinstance(event, Marker) and event.text.startswith((MARK + word).encode())
 
 
 def first_moments(events: list[Event]) -> dict[int, int]:
-    """When each processor's first event was, in ns."""
+    """The time of each processor's first event, in ns."""
     firsts: dict[int, int] = {}
     for event in events:
         firsts.setdefault(event.processor, event.moment)
@@ -192,13 +197,15 @@ def first_moments(events: list[Event]) -> dict[int, int]:
 
 
 def first_moment(events: list[Event], word: str) -> int | None:
-    """When this marker came first, in ns."""
+    """The time of the first such marker, in ns."""
     return next((event.moment for event in events if is_marker(event, word)), None)
 
 
 def begin_ring(source: Source, start: int) -> None:
-    """Leaves what was overwritten in part: a flight recorder's trace begins where all processors have events, from `start`
-    on, at the next reading of the pressure files, so that what it is compared with is known."""
+    """Skips what was partly overwritten: a flight recorder's trace begins after `start`, when all
+    processors have events, at the next reading of the pressure files, so that the totals to compare
+    with are known.
+    """
     whole_from = max([start, *first_moments(source.events).values()])
     source.events = [event for event in source.events if event.moment >= whole_from]
     if not source.events:
@@ -209,7 +216,7 @@ def begin_ring(source: Source, start: int) -> None:
 
 
 def tell_losses(source: Source, meta: Meta) -> None:
-    """Notes what else was lost: events of which nobody knows when they were, and what came after the end of the files."""
+    """Adds the other losses: events with unknown times, and what followed the end of the files."""
     for line in LOST_STATS[1:]:
         for processor, count in sorted(meta.lost(line).items()):
             source.losses.append(f"cpu {processor}: {count} events by '{line}', nobody knows when")
@@ -222,7 +229,8 @@ def tell_losses(source: Source, meta: Meta) -> None:
 
 
 def read_recording(folder: str, is_forced: bool, read: Callable[[str, Meta, Source], None] = read_processors) -> Source:
-    """Reads a folder. One whose recorder was killed is read only where that is forced. `read` reads its events."""
+    """Reads a folder. If its recorder was killed, `is_forced` is required. `read` reads its events.
+    """
     meta = meta_of(folder)
     fault = meta.version_fault()
     if fault is None and meta.end() is None and not is_forced:
@@ -251,7 +259,7 @@ def read_recording(folder: str, is_forced: bool, read: Callable[[str, Meta, Sour
 
 
 def meta_of(folder: str) -> Meta:
-    """The folder's `meta`. Without it this may be the folder above a recording."""
+    """The folder's `meta`. If there is none, this may be the folder above a recording."""
     if not os.path.lexists(folder):
         raise Unreadable(f"{folder}: No such file or directory")
     if os.path.isdir(folder) and not os.path.lexists(os.path.join(folder, META)):
@@ -262,5 +270,7 @@ def meta_of(folder: str) -> Meta:
 
 
 def has_all_bytes(meta: Meta) -> bool:
-    """Whether all pages that `meta` counts must be there: on a full disk some couldn't be written."""
+    """Whether all pages that `meta` counts must be there: if the disk was full, some couldn't be
+    written.
+    """
     return meta.end() is not None and (meta.end() or "").split(" ")[0] not in (Reason.DISK_FULL, Reason.FAILED)

@@ -1,4 +1,4 @@
-"""Makes events of the records of ring buffers, by the formats that a recording brings along."""
+"""Decodes the records of ring buffers to events, by the formats in the recording."""
 from __future__ import annotations
 
 from collections.abc import Callable
@@ -12,15 +12,17 @@ from .events import (
 )  # fmt: skip
 from .formats import Format, FormatFault, integers_of, state_letters, text_at
 
-# What makes the event of a record: its moment in ns, the processor, the pages, and from where to where the record stands.
+# Decodes a record to an event: its time in ns, the processor, the pages, and the start and end of
+# the record.
 Decoder = Callable[[int, int, bytes, int, int], Event]
 
 CURRENT = "common_pid"
 
-# Makes an event of a kind, of all of its values: what the kind does itself, in a third of the time.
+# Creates an event of a kind from all of its values; this does the same as the kind's constructor in
+# a third of the time.
 made: Any = tuple.__new__
 
-# The events that are nothing but whole numbers: the fields after the task in which they were written.
+# The events that only have integers: the fields after the task in which they were written.
 NUMBERS: dict[str, tuple[type, tuple[str, ...]]] = {
     "sched_wakeup": (Wakeup, ("pid", "target_cpu")),
     "sched_wakeup_new": (FirstWakeup, ("pid", "target_cpu")),
@@ -41,7 +43,7 @@ NUMBERS: dict[str, tuple[type, tuple[str, ...]]] = {
 
 
 def number_decoder(kind: type, form: Format, names: tuple[str, ...]) -> Decoder:
-    """For an event whose fields are these whole numbers."""
+    """A decoder for an event whose fields are these integers."""
     read = integers_of(form, (CURRENT, *names))
 
     def decode(moment: int, processor: int, data: bytes, start: int, end: int) -> Event:
@@ -52,13 +54,13 @@ def number_decoder(kind: type, form: Format, names: tuple[str, ...]) -> Decoder:
 
 
 def switch_decoder(form: Format) -> Decoder:
-    """For `sched_switch`, whose state becomes a letter."""
+    """A decoder for `sched_switch`, whose state becomes a letter."""
     read = integers_of(form, (CURRENT, "prev_pid", "prev_state", "next_pid"))
     letters, stays = state_letters(form.print_format)
     known: dict[int, str] = {0: "R"}
 
     def letter_of(state: int) -> str:
-        # As the print format does: the lowest bit's letter stands first, and no letter's bit is R.
+        # Like the print format: the letter of the lowest bit comes first, and no letter's bit is R.
         lowest = state & -state
         known[state] = "R" if state & stays else letters.get(lowest, "R")
         return known[state]
@@ -72,7 +74,7 @@ def switch_decoder(form: Format) -> Decoder:
 
 
 def group_decoder(kind: Union[type[GroupMade], type[GroupRemoved]], form: Format) -> Decoder:
-    """For `cgroup_mkdir` and `cgroup_rmdir`."""
+    """A decoder for `cgroup_mkdir` and `cgroup_rmdir`."""
     read = integers_of(form, (CURRENT, "root"))
     path = form.fields["path"]
 
@@ -84,7 +86,7 @@ def group_decoder(kind: Union[type[GroupMade], type[GroupRemoved]], form: Format
 
 
 def attach_decoder(form: Format) -> Decoder:
-    """For `cgroup_attach_task`."""
+    """A decoder for `cgroup_attach_task`."""
     read = integers_of(form, (CURRENT, "dst_root", "pid"))
     path = form.fields["dst_path"]
 
@@ -96,7 +98,7 @@ def attach_decoder(form: Format) -> Decoder:
 
 
 def marker_decoder(form: Format) -> Decoder:
-    """For `print`, which is what a write into `trace_marker` becomes."""
+    """A decoder for `print`, the event of a write to `trace_marker`."""
     read = integers_of(form, (CURRENT,))
     text = form.fields["buf"]
 
@@ -107,7 +109,7 @@ def marker_decoder(form: Format) -> Decoder:
 
 
 def decoder_of(name: str, form: Format) -> Decoder | None:
-    """What reads this event's records, or none where nobody asks for them."""
+    """The decoder of this event's records; None if they aren't needed."""
     if name in NUMBERS:
         return number_decoder(NUMBERS[name][0], form, NUMBERS[name][1])
     if name == "sched_switch":
@@ -120,7 +122,7 @@ def decoder_of(name: str, form: Format) -> Decoder | None:
 
 
 def decoders_of(formats: dict[str, Format]) -> dict[int, Decoder]:
-    """What reads the records, by the number that tells their event."""
+    """The decoders by the number of their event."""
     decoders: dict[int, Decoder] = {}
     for name, form in formats.items():
         try:

@@ -1,7 +1,9 @@
-"""Reads a recording of any length within little memory: pages as they come, and the events of all processors in slices of time.
+"""Reads a recording of any length in little memory: its pages in parts, and the events of all
+processors in slices of time.
 
-What has to be known of all of it before the first slice is read by a *survey*: the events of which there are few, with the first and
-the last of each processor and the first of each kind; what was lost; and which tasks never leave a processor.
+What must be known of the whole recording before the first slice is read by a *survey*: the rare
+events, the first and the last event of each processor and the first of each kind; what was lost;
+and the tasks that never leave a processor.
 """
 from __future__ import annotations
 
@@ -25,56 +27,64 @@ from .pages import Page, PageFault, page_at, records_of
 from .recording import Meta, gaps_behind, kernel_of
 from .source import Source, Unreadable
 
-# Events of which a machine writes thousands a second; and so it does of markers that are samples of memory.
+# Events that a machine writes thousands of times a second; so are markers of memory samples.
 OFTEN = (
     "sched_switch", "sched_wakeup", "sched_migrate_task", "sched_stat_iowait", Probe.SWITCH, Probe.STALL_BEGINS, Probe.STALL_ENDS,
     Probe.INTERRUPT, Probe.READY, Probe.SHOW, Probe.AVERAGE,
 )  # fmt: skip
 SAMPLES = (MARK + "mem ").encode(), (MARK + "host ").encode()
-# By the first samples of memory of each processor the snapshot is checked; there are at most this many groups.
+# The first memory samples of each processor that are kept, to check the snapshot; there are at most
+# this many groups.
 FIRST_SAMPLES = 2048
-# How long (ns) a slice is at least. If some processors have few events, what is read at once may be far shorter.
+# The least length (ns) of a slice. If some processors have few events, what is read at once may be
+# far shorter.
 LEAST_SLICE = 2 * 10**9
-# So many bytes of all processors are read at once.
+# The number of bytes that are read at once, for all processors together.
 READ_BYTES = 8 << 20
 MOMENT = itemgetter(0)
 
 
 class WaitingSwitch(Switch):
-    """A switch by which a wait for IO begins, as the probe right before it told. The probe itself isn't kept."""
+    """A switch that begins a wait for IO, as the probe right before it reported. The probe itself
+    isn't kept.
+    """
 
     __slots__ = ()
 
 
 class Records:
-    """How a recording's kernel writes its pages, and which of its events are which."""
+    """The formats of a recording's pages and events."""
 
     def __init__(self, folder: str) -> None:
         self.kernel = kernel_of(folder)
         forms = formats_of(sections_of(text_of(folder, FORMATS)))
-        # Of a switch who leaves and who comes; of its probe the task, and whether it waits.
+        # For a switch the task that leaves and the next one; for its probe the task, and whether it
+        # waits.
         self.switch, self.ends_of = reader_of(forms, "sched_switch", ("prev_pid", "next_pid"))
         self.probe, self.told_by = reader_of(forms, Probe.SWITCH, (Probe.PID, Probe.IO))
-        # Those of which a survey needs nothing.
+        # The events that a survey skips.
         self.often = {forms[name].number for name in OFTEN if name in forms}
 
 
 def reader_of(forms: dict[str, Format], name: str, fields: tuple[str, ...]) -> tuple[int, IntegerReader]:
-    """An event's number, and what reads these fields of its records; -1 and nothing where the recording doesn't have it."""
+    """An event's number, and a reader of these fields of its records; -1 and a reader of nothing if
+    the recording doesn't have it.
+    """
     form = forms.get(name)
     return (form.number, integers_of(form, fields)) if form else (-1, integers_of(Format(name, -1, {}, ""), ()))
 
 
 class Reader:
-    """The pages of one processor's file, a part after another. `gaps` are those that were met so far, and `rest` is how many bytes
-    at the end are no whole page."""
+    """The pages of one processor's file, part by part. `gaps` are the gaps so far, and `rest` is
+    the number of bytes after the last whole page.
+    """
 
     def __init__(self, folder: str, processor: int, records: Records, is_ring: bool, size: int, most: int | None) -> None:
         self.name, self.processor, self.records, self.is_ring = raw_name(processor), processor, records, is_ring
         self.form = records.kernel.page
         self.size = max(size // self.form.size, 1) * self.form.size
         self.rest, self.before, self.gaps = 0, 0, list[Gap]()
-        # What the probe told last whose switch is still to come: the task, and whether it waits.
+        # The last probe whose switch hasn't come yet: the task, and whether it waits.
         self.told: tuple[int, ...] | None = None
         self.file = Raw(folder, processor, most)
 
@@ -86,7 +96,7 @@ class Reader:
         return data[: len(data) - rest]
 
     def pages(self, data: bytes) -> Iterator[Page]:
-        """The heads of pages. Whatever was lost is noted."""
+        """The headers of pages. Losses are added to the gaps."""
         for at in range(0, len(data), self.form.size):
             page = page_at(data, at, self.form)
             if page.lost and not self.is_ring:
@@ -95,7 +105,7 @@ class Reader:
             yield page
 
     def part(self) -> list[Event] | None:
-        """The events of the next pages, or none where there are no more."""
+        """The events of the next pages; None at the end."""
         data = self.data()
         try:
             return self.decoded(data) if data else None
@@ -103,7 +113,7 @@ class Reader:
             raise Unreadable(f"{self.name}: {fault}") from None
 
     def decoded(self, data: bytes) -> list[Event]:
-        """The events of these pages, but probes of switches."""
+        """The events of these pages except probes of switches."""
         events: list[Event] = []
         add, processor, records, told, moment = events.append, self.processor, self.records, self.told, self.before
         decoders, switch, probe, told_by = records.kernel.decoders, records.switch, records.probe, records.told_by
@@ -128,8 +138,9 @@ class Reader:
 
 
 class Surveyed:
-    """What a survey finds of a processor: its rare events, how many there are of the others, who was switched to and from, and its
-    last event."""
+    """The result of surveying a processor: its rare events, the number of the others, the tasks
+    that were switched to and from, and its last event.
+    """
 
     def __init__(self, reader: Reader) -> None:
         self.rare: list[Event] = []
@@ -147,7 +158,7 @@ class Surveyed:
         self.gaps, self.rest, self.bytes = reader.gaps, reader.rest, reader.file.count
 
     def take(self, reader: Reader, data: bytes) -> None:
-        """Takes the next pages. Of what is often the first is kept of each kind."""
+        """Takes the next pages. The first of each frequent kind is kept."""
         records, processor, seen, leave, come = reader.records, reader.processor, self.seen, self.leaving.add, self.coming.add
         decoders, switch, often, ends_of = records.kernel.decoders, records.switch, records.often, records.ends_of
         last, moment = None, reader.before
@@ -169,7 +180,7 @@ class Surveyed:
             self.last = decoders[number](last[0], processor, data, *last[1:])
 
     def take_rare(self, event: Event, number: int) -> None:
-        """Takes an event that may be rare: samples of memory aren't, but for the first of them."""
+        """Takes an event if it is rare: memory samples aren't, except the first ones."""
         is_sample = type(event) is Marker and event.text.startswith(SAMPLES)
         self.samples += is_sample
         if not is_sample or self.samples <= FIRST_SAMPLES:
@@ -178,8 +189,9 @@ class Surveyed:
 
 
 def survey_share(readers: list[Reader], own: Connection, others: list[Connection]) -> None:
-    """Surveys some of the processors, in a process of its own, as long as the line is held at the other end: what it finds goes along
-    that, or why something can't be read."""
+    """Surveys some of the processors, in a process of its own, until the other end of the
+    connection is closed. Sends the result, or why something can't be read.
+    """
     signal.signal(signal.SIGINT, signal.SIG_IGN)
     for line in others:
         line.close()
@@ -192,14 +204,16 @@ def survey_share(readers: list[Reader], own: Connection, others: list[Connection
 
 
 def end_with(line: Connection) -> None:
-    """Ends this process once nobody holds the other end of the line, along which nothing comes."""
+    """Ends this process when the other end of the connection, which never sends anything, is
+    closed.
+    """
     with contextlib.suppress(EOFError, OSError):
         line.recv()
     os._exit(1)
 
 
 def surveyed_at_once(readers: list[Reader]) -> list[Surveyed]:
-    """Surveys all processors, as many at once as this machine has."""
+    """Surveys all processors, in as many processes as this machine has processors."""
     context, count = multiprocessing.get_context("fork"), min(len(readers), len(os.sched_getaffinity(0)))
     pairs = [context.Pipe() for _ in range(count)]
     every = [end for pair in pairs for end in pair]
@@ -213,7 +227,7 @@ def surveyed_at_once(readers: list[Reader]) -> list[Surveyed]:
 
 
 def share_from(line: Connection) -> list[Surveyed]:
-    """What comes along a line."""
+    """The result that arrives on a connection."""
     try:
         found = line.recv()
     except EOFError:
@@ -225,8 +239,9 @@ def share_from(line: Connection) -> list[Surveyed]:
 
 
 class Survey:
-    """Reads the folder of a recording twice: first for what is rare, where that is large in several processes, and then in slices.
-    `silent` are the tasks that run and never leave."""
+    """Reads the folder of a recording twice: first for what is rare, in several processes if it is
+    large, and then in slices. `silent` are the tasks that run and never leave.
+    """
 
     def __init__(self, folder: str, is_large: bool) -> None:
         self.folder, self.is_large, self.silent = folder, is_large, set[int]()
@@ -234,12 +249,12 @@ class Survey:
         self.most: int | None = None
 
     def readers(self) -> list[Reader]:
-        """What reads each processor's pages from the first on."""
+        """A reader for each processor, at its first page."""
         size, most = READ_BYTES // self.processors, self.most
         return [Reader(self.folder, processor, self.records, self.is_ring, size, most) for processor in range(self.processors)]
 
     def read(self, _: str, meta: Meta, source: Source) -> None:
-        """Reads all of the recording: the source gets what is rare, and what was lost."""
+        """Reads the whole recording: the source gets the rare events, and what was lost."""
         self.processors, self.is_ring, self.most = source.processors, meta.is_ring(), meta.bytes()
         overrun = {} if self.is_ring else meta.lost("overrun")
         coming, leaving = set[int](), set[int]()
@@ -258,7 +273,7 @@ class Survey:
         self.silent = coming - leaving
 
     def slices(self, whole_from: int) -> Iterator[list[Event]]:
-        """The events in slices, but those before the moment from which on they are whole (ns)."""
+        """The events in slices, from the time (ns) at which they are complete."""
         for events in slices_of(self.readers()):
             yield events if not events or events[0].moment >= whole_from else [it for it in events if it.moment >= whole_from]
 
@@ -267,8 +282,9 @@ class Survey:
 
 
 def slices_of(readers: list[Reader]) -> Iterator[list[Event]]:
-    """The events of all processors in their order, in slices: each has all events up to some time that weren't in one before, and all
-    but the last cover LEAST_SLICE ns at least."""
+    """The events of all processors in order of time, in slices: each has all events up to some time
+    that weren't in an earlier one, and all but the last cover at least LEAST_SLICE ns.
+    """
     events: list[Event] = []
     for part in parts_of(readers):
         events += part
@@ -279,7 +295,9 @@ def slices_of(readers: list[Reader]) -> Iterator[list[Event]]:
 
 
 def parts_of(readers: list[Reader]) -> Iterator[list[Event]]:
-    """The same in parts, which may be short: each ends where the first of all processors has no more events in memory."""
+    """The events in parts, which may be short: each ends when the first processor has no more
+    events in memory.
+    """
     waiting: dict[int, list[Event]] = {place: [] for place in range(len(readers))}
     ended: set[int] = set()
     boundary = 0

@@ -1,4 +1,6 @@
-"""What is to be converted, whatever it was read from: events in one order, what was lost, and what is known beside them."""
+"""The input of a conversion, from whatever it was read: events in one order, what was lost, and
+what else is known.
+"""
 from __future__ import annotations
 
 from collections import Counter
@@ -9,15 +11,17 @@ from .events import Event, Gap
 
 
 class Faulty(Exception):
-    """The words of the command line don't fit, or not with this recording."""
+    """The command line is wrong, or doesn't fit this recording."""
 
 
 class Unreadable(Exception):
-    """Nothing can be made of what was given; the text says why."""
+    """The input can't be used; the text says why."""
 
 
 class ListedTask(NamedTuple):
-    """A thread of a snapshot: its process, its state's letter, its processor, and its group as a trace spells it."""
+    """A thread of a snapshot: its process, its state's letter, its processor, and its group as in a
+    trace.
+    """
 
     process: int
     state: str
@@ -27,8 +31,9 @@ class ListedTask(NamedTuple):
 
 @dataclass
 class Snapshot:
-    """What was there at a moment in the recording: groups with their preference, their types where the recorder told these, groups
-    whose pressure isn't accounted, and threads."""
+    """A snapshot taken during the recording: groups with their preferences, their types if the
+    recorder wrote these, groups whose pressure isn't accounted, and threads.
+    """
 
     moment: int = 0
     groups: dict[str, str] = field(default_factory=dict)
@@ -42,26 +47,26 @@ class Snapshot:
 
 @dataclass
 class Source:
-    """A recording. Moments are ns of its own clock; `realtime` is what is to be added to them for ns since 1970."""
+    """A recording. Times are ns of its own clock; adding `realtime` gives ns since 1970."""
 
     events: list[Event]
     processors: int
     start: int
     stop: int
     gaps: list[Gap] = field(default_factory=list)
-    # What is wrong with all of it, or has no known place: no stretch of it is sound.
+    # Losses that concern the whole recording, or have no known place: no stretch of it is sound.
     losses: list[str] = field(default_factory=list)
-    # What was mended, and how often; and what else is to be told.
+    # What was repaired, and how often; and other remarks.
     mended: Counter[str] = field(default_factory=Counter)
     notes: list[str] = field(default_factory=list)
     snapshot: Snapshot = field(default_factory=Snapshot)
     has_switch_probe: bool = False
-    # Whether each moment at which the kernel sampled a group is among the events.
+    # Whether the events include each time at which the kernel sampled a group.
     has_moments: bool = False
-    # Whether the moment at which psi counts a wakeup is.
+    # Whether the events include the time at which psi counts a wakeup.
     has_ready_probe: bool = False
     realtime: int | None = None
-    # How many bytes of pages were read.
+    # The number of bytes of pages that were read.
     bytes: int = 0
-    # Of a flight recorder's ring: what is before this moment isn't whole.
+    # In a flight recorder's ring the time (ns) from which the events are complete.
     whole_from: int = 0

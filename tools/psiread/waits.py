@@ -1,5 +1,6 @@
-"""Which sleeps were waits for IO. The kernel counts those in which the task's `in_iowait` is set, and not each in state D:
-on a journaling file system a third to a half of these aren't."""
+"""Which sleeps were waits for IO. The kernel counts those in which the task's `in_iowait` is set,
+rather than all in state D: on a journaling file system a third to a half of the latter don't count.
+"""
 from __future__ import annotations
 
 from collections.abc import Sequence
@@ -7,12 +8,12 @@ from enum import Enum
 
 from .events import Event, Switch, SwitchProbe, WaitEnds
 
-# The state of the tasks that leave for an uninterruptible sleep.
+# The state of tasks in an uninterruptible sleep.
 UNINTERRUPTIBLE = "D"
 
 
 class Method(Enum):
-    """By what a wait for IO is told, the best first."""
+    """How a wait for IO is recognised, the best method first."""
 
     PROBE = "probe"  # the bit that psi itself reads, by a probe on psi_task_switch
     STATISTICS = "stat"  # sched_stat_iowait, which needs kernel.sched_schedstats=1
@@ -20,7 +21,9 @@ class Method(Enum):
 
 
 def best_method(events: Sequence[Event], has_probe: bool) -> Method:
-    """The best that the recording has. A probe that was on and never written tells that nothing waited."""
+    """The best method that the recording supports. A probe that was on but never wrote means that
+    nothing waited.
+    """
     kinds = {type(event) for event in events}
     if has_probe or SwitchProbe in kinds:
         return Method.PROBE
@@ -28,8 +31,10 @@ def best_method(events: Sequence[Event], has_probe: bool) -> Method:
 
 
 def by_probe(events: Sequence[Event], told: dict[int, SwitchProbe] | None = None) -> set[int]:
-    """The places of the switches by which a wait for IO begins: the probe stands right before on the same processor. Who takes events
-    in parts gives the probes of which the switch is still to come, by processor, from part to part."""
+    """The places of the switches that begin a wait for IO: the probe comes right before them on the
+    same processor. If events are read in parts, `told` has the probes whose switch is still to
+    come, by processor, and is passed from part to part.
+    """
     waits: set[int] = set()
     told = {} if told is None else told
     for place, event in enumerate(events):
@@ -43,7 +48,9 @@ def by_probe(events: Sequence[Event], told: dict[int, SwitchProbe] | None = None
 
 
 def by_statistics(events: Sequence[Event]) -> set[int]:
-    """The same, where the end of such a sleep is told before its wakeup."""
+    """The places of the switches that begin a wait for IO, if the end of such a sleep is written
+    before its wakeup.
+    """
     waits: set[int] = set()
     asleep: dict[int, int] = {}
     for place, event in enumerate(events):
@@ -57,10 +64,12 @@ def by_statistics(events: Sequence[Event]) -> set[int]:
 
 
 def by_state(events: Sequence[Event]) -> set[int]:
-    """The same, where each sleep in state D is taken for one."""
+    """The places of the switches that begin a wait for IO, if each sleep in state D is taken for
+    one.
+    """
     return {place for place, event in enumerate(events) if isinstance(event, Switch) and event.state == UNINTERRUPTIBLE}
 
 
 def waits_for_io(events: Sequence[Event], method: Method) -> set[int]:
-    """The places of the switches by which a wait for IO begins."""
+    """The places of the switches that begin a wait for IO."""
     return {Method.PROBE: by_probe, Method.STATISTICS: by_statistics, Method.STATE: by_state}[method](events)

@@ -1,4 +1,6 @@
-"""Which part of a recording is converted: from one moment to another, and a stretch in which nothing was lost."""
+"""The part of a recording that is converted: a window of time, and a stretch in which nothing was
+lost.
+"""
 from __future__ import annotations
 
 from collections import Counter
@@ -10,23 +12,26 @@ from .words import SECOND
 
 
 class Window(NamedTuple):
-    """From one moment to another, both with it, in ns of the recording's clock."""
+    """A window of time, in ns of the recording's clock; both ends are included."""
 
     start: int
     end: int
 
     def length(self) -> int:
-        """In ns."""
+        """Its length in ns."""
         return self.end - self.start
 
 
 def overlapping(gaps: Iterable[Gap], window: Window) -> list[Gap]:
-    """The gaps that touch the window: one ends with the first event that wasn't lost, and begins with the last."""
+    """The gaps that touch the window. A gap begins with the last event before it, and ends with the
+    first event after it.
+    """
     return [gap for gap in gaps if gap.end > window.start and gap.start < window.end]
 
 
 def longest_stretch(gaps: Iterable[Gap], window: Window) -> Window:
-    """The longest part of the window without loss on any processor; the first of equals."""
+    """The longest part of the window without loss on any processor; the first if several are equal.
+    """
     best, start = Window(window.start, window.start), window.start
     for gap in sorted(gaps, key=lambda it: it.start):
         stretch = Window(start, min(max(gap.start, start), window.end))
@@ -43,7 +48,9 @@ def seconds(moment: int) -> str:
 
 
 def loss_text(gaps: Iterable[Gap], whole: Window) -> str:
-    """How many events each processor lost, and between which moments of the recording."""
+    """The number of events that each processor lost, and the times in the recording between which
+    that was.
+    """
     gaps = list(gaps)
     lost = Counter({gap.processor: 0 for gap in gaps})
     for gap in gaps:

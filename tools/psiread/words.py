@@ -1,4 +1,4 @@
-"""What the command lines of the tools share."""
+"""The common parts of the tools' command lines."""
 from __future__ import annotations
 
 import argparse
@@ -9,19 +9,21 @@ from collections.abc import Callable
 from typing import Any, NoReturn
 
 SECOND = 10**9
-# The status of a command that Ctrl-C ended.
+# The exit status of a command that Ctrl-C ended.
 INTERRUPTED = 130
 
 
 class Parser(argparse.ArgumentParser):
-    """Reads words, and refuses faulty ones with a status of the tool's own. The help is what the module says of itself."""
+    """A parser that exits with the tool's own status on a usage error. The help is the module's
+    docstring.
+    """
 
     def __init__(self, name: str, help_text: str | None, faulty: int) -> None:
         super().__init__(prog=name, description=help_text, formatter_class=argparse.RawDescriptionHelpFormatter)
         self.faulty = faulty
 
     def error(self, message: str) -> NoReturn:
-        """Says what is faulty, and ends the program."""
+        """Prints the error, and ends the program."""
         self.print_usage(sys.stderr)
         self.exit(self.faulty, f"{self.prog}: {message}\n")
 
@@ -31,8 +33,9 @@ class Parser(argparse.ArgumentParser):
 
 
 def guarded(name: str, work: Callable[[], int], unwritable: int) -> int:
-    """Runs a tool's work and writes what is left of its output; returns the status. If the reader of the output has closed it, as
-    `head` does, nothing is said."""
+    """Runs a tool's work and flushes its output; returns the status. If the reader of the output
+    has closed it, as `head` does, no error is printed.
+    """
     try:
         status = work()
         sys.stdout.flush()
@@ -45,7 +48,7 @@ def guarded(name: str, work: Callable[[], int], unwritable: int) -> int:
     except OSError as fault:
         print(f"{name}: {fault.filename or 'standard output'}: {fault.strerror}", file=sys.stderr)
         status = unwritable
-    # What is still in the buffer must not fail again at the end.
+    # Flushing the buffer at exit must not fail again.
     with open(os.devnull, "wb") as nothing:
         os.dup2(nothing.fileno(), 1)
     return status
@@ -65,7 +68,7 @@ def nanoseconds(text: str) -> int:
 
 
 def number_from(least: int, most: int) -> Callable[[str], int]:
-    """What reads a whole number in a range."""
+    """A parser of whole numbers in a range."""
 
     def read(text: str) -> int:
         if not re.fullmatch("0|[1-9][0-9]{0,5}", text) or not least <= int(text) <= most:
@@ -76,7 +79,7 @@ def number_from(least: int, most: int) -> Callable[[str], int]:
 
 
 def length(text: str) -> int:
-    """A length of time in whole seconds or minutes, as 720 or 12min, as ns."""
+    """A time in whole seconds or minutes, as 720 or 12min, converted to ns."""
     found = re.fullmatch(r"([1-9][0-9]{0,5})(s|min)?", text)
     if not found:
         raise argparse.ArgumentTypeError(f"{text} is no length of time as 720 or 12min")
@@ -84,7 +87,7 @@ def length(text: str) -> int:
 
 
 def share(text: str) -> float:
-    """A number that isn't below 0, with decimals or without."""
+    """A number that is at least 0, with or without decimals."""
     if not re.fullmatch(r"[0-9]{1,9}(\.[0-9]{1,9})?", text):
         raise argparse.ArgumentTypeError(f"{text} is no number from 0 on")
     return float(text)
