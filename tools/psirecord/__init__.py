@@ -1,1 +1,3 @@
-"""The recorder, `tools/record`. It alone runs as root on the machine that is recorded, and takes nothing of the tools but `psirec`."""
+"""The recorder, `tools/record`. It alone runs as root on the machine that is recorded, and imports
+no other package but `psirec`.
+"""

@@ -1,4 +1,4 @@
-"""The words of tools/record, and what it does from the first check to the last line."""
+"""The command line of tools/record, and its steps from the first check to the last line."""
 from __future__ import annotations
 
 import argparse
@@ -38,11 +38,11 @@ from .systemd_settings import store as store_settings
 from .undoing import Undoing
 from .waiting import Signals
 
-# More than a trace holds: 4,000,000 events have some 220 MB.
+# More than a trace can have: 4,000,000 events have some 220 MB.
 MOST_MB = 400.0
 BUFFER_KB = 8192
 PRIORITY = -10
-# Of <sys/mman.h>: MCL_CURRENT, MCL_FUTURE, MCL_ONFAULT.
+# From <sys/mman.h>: MCL_CURRENT, MCL_FUTURE, MCL_ONFAULT.
 LOCK_CURRENT, LOCK_FUTURE, LOCK_ON_FAULT = 1, 2, 4
 TRIGGER = re.compile(rf"({'|'.join(RESOURCES)}) (some|full) ([1-9]\d*) ([1-9]\d*)")
 EXAMPLE = '"memory full 100000 1000000"'
@@ -76,7 +76,7 @@ status  0 recorded
 
 
 class Status(enum.IntEnum):
-    """What the exit status means."""
+    """The exit status."""
 
     RECORDED = 0
     NOTHING = 1
@@ -86,16 +86,17 @@ class Status(enum.IntEnum):
 
 
 class Words(argparse.ArgumentParser):
-    """Words that aren't those of the command end with this tool's own status."""
+    """A parser that exits with this tool's own status on a usage error."""
 
     def error(self, message: str) -> NoReturn:
-        """Says what is wrong."""
+        """Prints the error."""
         self.exit(Status.NOTHING, f"record: {message}\nusage: {self.prog} OUT [OPTION ..]; {self.prog} --help has the options\n")
 
 
 def tell(line: str) -> None:
-    """Tells the operator; where nobody reads, the recording goes on. Nothing is held back, since Python ends with a status of its
-    own where it can't write what it held."""
+    """Prints a line on standard error; if nobody reads it, the recording continues. It is flushed
+    at once, since Python exits with a status of its own if it can't write its buffer.
+    """
     if sys.stderr is not None:
         with contextlib.suppress(OSError, ValueError):
             os.write(sys.stderr.fileno(), f"record: {line}\n".encode(errors="backslashreplace"))
@@ -138,7 +139,7 @@ def trigger(word: str) -> str:
 
 
 def parser() -> argparse.ArgumentParser:
-    """The words that there are."""
+    """The parser of the command line."""
     form = argparse.RawDescriptionHelpFormatter
     words = Words(prog="tools/record", description=DESCRIPTION, epilog=EPILOG, formatter_class=form, allow_abbrev=False)
     add = words.add_argument
@@ -161,7 +162,7 @@ def parser() -> argparse.ArgumentParser:
 
 
 def wanted_of(arguments: argparse.Namespace, words: argparse.ArgumentParser) -> Wanted:
-    """What is asked for, where the words fit together."""
+    """The parsed command line, after checking that the options fit together."""
     if arguments.until and not arguments.ring:
         words.error("--until is for a flight recorder: --ring")
     if arguments.wakeups and arguments.no_probes:
@@ -191,7 +192,8 @@ def wanted_of(arguments: argparse.Namespace, words: argparse.ArgumentParser) -> 
 
 
 def choose_sources(machine: Machine, wanted: Wanted, group: str, folder: Folder, undoing: Undoing) -> tuple[Sources, bool]:
-    """The best sources that can be had, and whether the kernel's statistics have to be switched on for them."""
+    """The best available sources, and whether the kernel's statistics must be switched on for them.
+    """
     if wanted.has_probes:
         sources = add_probes(machine, group, undoing, folder.say, wanted.has_wakeups)
     else:
@@ -214,7 +216,7 @@ def choose_sources(machine: Machine, wanted: Wanted, group: str, folder: Folder,
 
 
 def prepare(machine: Machine, wanted: Wanted, folder: Folder, undoing: Undoing) -> tuple[Instance, Sources]:
-    """Changes the machine as far as a recording takes it; nothing is traced yet."""
+    """Changes the machine as far as a recording requires; nothing is traced yet."""
     name = recorder_name()
     sources, needs_statistics = choose_sources(machine, wanted, name, folder, undoing)
     instance = Instance(machine, name + (STATISTICS_SUFFIX if needs_statistics else ""), undoing)
@@ -235,7 +237,7 @@ def prepare(machine: Machine, wanted: Wanted, folder: Folder, undoing: Undoing) 
 
 
 def say_machine(folder: Folder, machine: Machine, wanted: Wanted) -> None:
-    """What machine it is, and the time of day that belongs to the moments of events."""
+    """Writes which machine it is, and the offset from event times to the time of day."""
     before, realtime, behind = time.monotonic(), time.time(), time.monotonic()
     folder.say(Key.UNAME, " ".join(os.uname()))
     folder.say(Key.PROCESSORS, str(machine.processors()))
@@ -245,7 +247,7 @@ def say_machine(folder: Folder, machine: Machine, wanted: Wanted) -> None:
 
 
 def record(machine: Machine, wanted: Wanted, folder: Folder, signals: Signals, waiting_for: tuple[int, int] | None) -> Status:
-    """Records, and undoes all that it has changed, whatever happens."""
+    """Records, and undoes all changes, whatever happens."""
     ending = None
     with Undoing() as undoing:
         try:
@@ -267,7 +269,9 @@ def record(machine: Machine, wanted: Wanted, folder: Folder, signals: Signals, w
 
 
 def check_statistics(machine: Machine, sources: Sources, folder: Folder, ending: Ending) -> None:
-    """Whoever switches the kernel's statistics off meanwhile, another recorder perhaps, makes waits for IO seem shorter."""
+    """If the kernel's statistics were switched off during the recording, perhaps by another
+    recorder, waits for IO seem shorter.
+    """
     if sources.waits == BY_STATISTICS and statistics_of(machine) != Statistics.ON:
         what = "kernel.sched_schedstats was switched off meanwhile, so waits for IO are missing"
         tell(what)
@@ -277,7 +281,7 @@ def check_statistics(machine: Machine, sources: Sources, folder: Folder, ending:
 
 
 def closed(folder: Folder, ending: Ending | None, left: list[str]) -> Status:
-    """The last lines, the operator's summary, and the status."""
+    """Writes the last lines and the operator's summary; returns the status."""
     for what in left:
         tell(f"this couldn't be undone, and is left on the machine: {what}")
     if ending:
@@ -302,7 +306,9 @@ def closed(folder: Folder, ending: Ending | None, left: list[str]) -> Status:
 
 
 def finish_compressing(folder: Folder, ending: Ending) -> None:
-    """Waits until all pages are compressed, and says what it cost. What couldn't be is there as it came, so nothing is lost."""
+    """Waits until all pages are compressed, and writes the cost. Pages that couldn't be compressed
+    are kept as they are, so nothing is lost.
+    """
     finished = folder.finish_compressing()
     if finished:
         seconds, is_done = finished
@@ -313,7 +319,7 @@ def finish_compressing(folder: Folder, ending: Ending) -> None:
 
 
 def summarize(folder: Folder, ending: Ending) -> None:
-    """What the operator has now, and what is wrong with it."""
+    """Prints what was recorded, and what is wrong with it."""
     tell(f"{ending.seconds:.1f} s, {folder.bytes / 1e6:.1f} MB of events, ended by {ending.reason}")
     if ending.lost:
         each = ", ".join(f"cpu {processor}: {count}" for processor, count in ending.lost.items())
@@ -323,9 +329,11 @@ def summarize(folder: Folder, ending: Ending) -> None:
 
 
 def make_ready() -> None:
-    """Each processor takes two open files. A recorder that waits for a processor, or for its own pages to be swapped in, is
-    late just when it matters: so it comes first, and keeps what it has in memory (mlockall(2)). It goes on without where that
-    is refused."""
+    """Raises the limit of open files, since each processor needs two. A recorder that waits for a
+    processor, or for its own pages to be swapped in, is late just when it matters: so it gets a
+    high priority, and locks its memory (mlockall(2)). If that isn't permitted, it continues
+    without.
+    """
     _, most = resource.getrlimit(resource.RLIMIT_NOFILE)
     with contextlib.suppress(OSError, ValueError):
         resource.setrlimit(resource.RLIMIT_NOFILE, (most, most))
@@ -338,7 +346,7 @@ def make_ready() -> None:
 
 
 def main(arguments: list[str] | None = None) -> int:
-    """Runs the command; the status."""
+    """Runs the command; returns the status."""
     words = parser()
     given = words.parse_args(arguments)
     wanted = wanted_of(given, words)

@@ -1,7 +1,9 @@
-"""Compresses the pages of a long recording as they come, in a process of its own with the least priority.
+"""Compresses the pages of a long recording as they arrive, in a process of its own with the lowest
+priority.
 
-The recorder writes pages into parts, as it writes them else; each part that is whole becomes a gzip file. So a machine that leaves no
-time for that takes more room on the disk meanwhile, and nothing is late or lost; a recorder that is killed leaves parts that are read.
+The recorder writes pages to parts, as it does without compression; each complete part becomes a
+gzip file. So if the machine leaves no time for that, the recording needs more disk space in the
+meantime, and nothing is late or lost; a recorder that is killed leaves parts that can be read.
 """
 from __future__ import annotations
 
@@ -18,10 +20,10 @@ from psirec.layout import PACKED
 
 from .waiting import ENDING
 
-# So well, of 1 to 9: at 1 most is gained for the time that it takes.
+# The level of compression, from 1 to 9: level 1 gains most for its time.
 LEVEL = 1
 LEAST_PRIORITY = 19
-# How often it is looked for parts that are whole, s.
+# The time between two searches for complete parts, s.
 PERIOD = 1.0
 PART = re.compile(r"cpu(\d+)\.(\d+)\.raw")
 UNFINISHED = ".part"
@@ -42,15 +44,19 @@ class Compressor:
         os.close(reader)
 
     def finish(self) -> tuple[float, bool]:
-        """Waits until all parts are compressed: how much time of a processor (s) that took in all, and whether all went well."""
+        """Waits until all parts are compressed. Returns the processor time (s) that it took in all,
+        and whether all parts were compressed.
+        """
         os.close(self.writer)
         _, status, usage = os.wait4(self.number, 0)
         return usage.ru_utime + usage.ru_stime, status == 0
 
 
 def serve(folder: int, line: int) -> None:
-    """Compresses what is whole until the line ends, and then the rest. Signals that end a recording are the recorder's matter. No
-    file of the recorder's stays open here."""
+    """Compresses complete parts until the other end of the pipe is closed, and then the rest. It
+    ignores the signals that end a recording: the recorder handles them. No file of the recorder
+    stays open here.
+    """
     for number in ENDING:
         signal.signal(number, signal.SIG_IGN)
     first, second = sorted((folder, line))
@@ -68,7 +74,9 @@ def serve(folder: int, line: int) -> None:
 
 
 def whole_parts(folder: int, is_ended: bool) -> Iterator[str]:
-    """The parts of which no more is written: of each processor all but the last one, or all."""
+    """The parts to which nothing more is written: for each processor all but the last one, or all
+    after the end.
+    """
     parts = sorted((int(it[1]), int(it[2]), it[0]) for it in map(PART.fullmatch, os.listdir(folder)) if it)
     for place, (processor, _, name) in enumerate(parts):
         if is_ended or (place + 1 < len(parts) and parts[place + 1][0] == processor):
@@ -76,12 +84,14 @@ def whole_parts(folder: int, is_ended: bool) -> Iterator[str]:
 
 
 def opener_in(folder: int) -> Callable[[str, int], int]:
-    """Opens names in an open folder for `open`. It follows no link, and only its owner may read a new file."""
+    """An opener for `open` that opens names in an open folder. It follows no link, and only the
+    owner may read a new file.
+    """
     return lambda name, flags: os.open(name, flags | os.O_NOFOLLOW | os.O_CLOEXEC, 0o600, dir_fd=folder)
 
 
 def compress(folder: int, name: str) -> None:
-    """Replaces a file of an open folder by its compressed form, once that is complete."""
+    """Replaces a file of an open folder by its compressed form, after that is complete."""
     unfinished = name + PACKED + UNFINISHED
     opener = opener_in(folder)
     with open(name, "rb", opener=opener) as source, open(unfinished, "xb", opener=opener) as target:

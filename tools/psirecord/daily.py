@@ -1,4 +1,6 @@
-"""A limit of recordings a day. Each one takes disk space, and nobody removes them: a service that begins again must not fill the disk."""
+"""A limit of recordings per day. Each one takes disk space, and nobody removes them: a service that
+is restarted must not fill the disk.
+"""
 from __future__ import annotations
 
 import contextlib
@@ -11,12 +13,12 @@ from psirec.layout import META
 from .waiting import Signals, Waiting
 
 DAY_SECONDS = 86400.0
-# The clock may be set, and recordings may be removed: so it looks again after this time (s).
+# The time (s) between two checks, since the clock may be set, and recordings may be removed.
 LOOK_SECONDS = 60.0
 
 
 def recording_times(folder: str) -> list[float]:
-    """When the recordings in a folder ended, in seconds since the epoch."""
+    """The end times of the recordings in a folder, in seconds since the epoch."""
     times = []
     with contextlib.suppress(OSError), os.scandir(folder) as entries:
         for entry in entries:
@@ -26,14 +28,17 @@ def recording_times(folder: str) -> list[float]:
 
 
 def seconds_to_wait(folder: str, limit: int, now: float) -> float:
-    """How long until fewer than `limit` recordings are younger than a day. Those of the future, after a clock was set back, don't
-    count."""
+    """The time (s) until fewer than `limit` recordings are younger than a day. Recordings from the
+    future, after a clock was set back, don't count.
+    """
     latest = sorted((it for it in recording_times(folder) if it <= now), reverse=True)
     return max(0.0, latest[limit - 1] + DAY_SECONDS - now) if len(latest) >= limit else 0.0
 
 
 def wait_for_room(out: str, limit: int, signals: Signals, tell: Callable[[str], None]) -> bool:
-    """Waits until another recording beside `out` is within the limit. False if a signal came first."""
+    """Waits until another recording next to `out` is within the limit. False if a signal came
+    first.
+    """
     folder = os.path.dirname(os.path.abspath(out))
     waiting, is_announced = Waiting(signals), False
     while signals.came is None:

@@ -1,7 +1,9 @@
-"""The folder that a recording becomes, by the names of `psirec.layout`. All writes are unbuffered: a killed recorder loses nothing.
+"""The folder of a recording, with the file names of `psirec.layout`. All writes are unbuffered: a
+killed recorder loses nothing.
 
-A recording shows what runs on a machine, and addresses of its kernel: only its owner may read it. All files are reached through the
-descriptor of the folder. Whoever owns the folder above may rename ours and put something else in its place meanwhile.
+A recording shows what runs on a machine, and addresses of its kernel: only its owner may read it.
+All files are opened through the descriptor of the folder, since the owner of the parent folder may
+rename ours and put something else in its place during the recording.
 """
 from __future__ import annotations
 
@@ -14,12 +16,13 @@ from psirec import layout
 from .compressing import Compressor
 from .machine import Machine, read_file
 
-# Kept free while recording, so that the last lines find room on a disk that became full.
+# A file that reserves disk space during the recording, so that the last lines can be written even
+# if the disk is full.
 RESERVE = ".reserve"
 RESERVE_BYTES = 1 << 18
 FULL = (errno.ENOSPC, errno.EDQUOT, errno.EFBIG)
 PAGE_BYTES = 4096
-# So much of a processor is compressed together.
+# The bytes of a processor that are compressed together.
 PART_BYTES = 8 << 20
 FOLDER_MODE, FILE_MODE = 0o700, 0o600
 FOLDER_FLAGS = os.O_RDONLY | os.O_DIRECTORY | os.O_NOFOLLOW | os.O_CLOEXEC
@@ -27,11 +30,11 @@ NEW_FILE_FLAGS = os.O_WRONLY | os.O_CREAT | os.O_EXCL | os.O_NOFOLLOW | os.O_APP
 
 
 class DiskFull(Exception):
-    """There is no room for more."""
+    """The disk is full."""
 
 
 def append(file: int, data: bytes) -> None:
-    """Writes all of it, or raises DiskFull where there's no room."""
+    """Writes all of it, or raises DiskFull if there is no room."""
     rest = memoryview(data)
     while rest:
         try:
@@ -43,7 +46,7 @@ def append(file: int, data: bytes) -> None:
 
 
 def made_folder(name: str, above: int | None = None) -> int:
-    """The descriptor of a new folder, below the open folder `above` if there is one."""
+    """Creates a folder, in the open folder `above` if that is given, and returns its descriptor."""
     os.mkdir(name, FOLDER_MODE, dir_fd=above)
     folder = os.open(name, FOLDER_FLAGS, dir_fd=above)
     found = os.fstat(folder)
@@ -70,14 +73,16 @@ def remove_all(folder: int) -> None:
 
 
 class Folder:
-    """A new folder, and its files as they grow."""
+    """A new folder, and the files written to it."""
 
     def __init__(self, path: str, is_compressed: bool = False) -> None:
-        """Makes it; OSError where it is there already, DiskFull where there's not even room to begin. Where it is compressed, that
-        has a process of its own from now on, since later files are open that it may not have."""
+        """Creates the folder; OSError if it already exists, DiskFull if there isn't even room to
+        begin. The process that compresses starts now, since it must not inherit the files that are
+        opened later.
+        """
         self.path, self.bytes, self.page_bytes = path, 0, PAGE_BYTES
         self.raw: dict[int, int] = {}
-        # Of each processor how many parts were begun, and how much is in the last.
+        # For each processor the number of parts, and the bytes in the last one.
         self.parts: dict[int, int] = {}
         self.part_bytes: dict[int, int] = {}
         self.descriptor = made_folder(path)
@@ -93,11 +98,11 @@ class Folder:
             raise
 
     def made(self, name: str) -> int:
-        """A new file."""
+        """Creates a file and returns its descriptor."""
         return os.open(name, NEW_FILE_FLAGS, FILE_MODE, dir_fd=self.descriptor)
 
     def reserve(self) -> None:
-        """Takes room for the last lines. Where a file system can't reserve, that is as good as it gets."""
+        """Reserves room for the last lines, if the file system can."""
         file = self.made(RESERVE)
         try:
             os.posix_fallocate(file, 0, RESERVE_BYTES)
@@ -108,12 +113,12 @@ class Folder:
             os.close(file)
 
     def release(self) -> None:
-        """Gives that room to the last lines."""
+        """Frees the reserved room for the last lines."""
         with contextlib.suppress(FileNotFoundError):
             os.unlink(RESERVE, dir_fd=self.descriptor)
 
     def say(self, key: str, value: str) -> None:
-        """A line of `meta`; from the reserve, where the disk is full."""
+        """Writes a line of `meta`; if the disk is full, it uses the reserve."""
         line = f"{key} {' '.join(value.splitlines())}\n".encode(errors="surrogateescape")
         try:
             append(self.meta, line)
@@ -122,7 +127,7 @@ class Folder:
             append(self.meta, line)
 
     def write_formats(self, machine: Machine, events: list[str]) -> None:
-        """How the events stand in the pages, by the kernel's own files."""
+        """Writes the formats of pages and events, from the kernel's own files."""
         header = read_file(f"{machine.tracing}/events/header_page")
         parts = [b"== header_page\n" + header]
         for event in [*events, "ftrace/print"]:
@@ -131,7 +136,7 @@ class Folder:
         self.page_bytes = page_bytes(header)
 
     def write_whole(self, name: str, data: bytes) -> None:
-        """A file that is written once."""
+        """Writes a whole file at once."""
         file = self.made(name)
         try:
             append(file, data)
@@ -139,7 +144,7 @@ class Folder:
             os.close(file)
 
     def open_raw(self, processors: int) -> None:
-        """A file for the pages of each processor."""
+        """Opens a file for the pages of each processor."""
         for processor in range(processors):
             if self.compressor:
                 self.begin_part(processor)
@@ -147,7 +152,7 @@ class Folder:
                 self.raw[processor] = self.made(layout.raw_name(processor))
 
     def begin_part(self, processor: int) -> None:
-        """The next pages of a processor go into a part of their own."""
+        """Begins a new part for the next pages of a processor."""
         if processor in self.raw:
             os.close(self.raw.pop(processor))
         part = self.parts.get(processor, 0)
@@ -155,13 +160,14 @@ class Folder:
         self.parts[processor], self.part_bytes[processor] = part + 1, 0
 
     def finish_compressing(self) -> tuple[float, bool] | None:
-        """Waits until all is compressed: the time of a processor (s) that it took, and whether all went well; none where nothing
-        is."""
+        """Waits until all is compressed. Returns the processor time (s) that it took, and whether
+        all parts were compressed; None without compression.
+        """
         compressor, self.compressor = self.compressor, None
         return compressor.finish() if compressor else None
 
     def append_pages(self, processor: int, pages: bytes) -> None:
-        """Pages of a processor. On a full disk what is there ends with a whole page."""
+        """Writes pages of a processor. If the disk is full, the file is cut after a whole page."""
         if self.compressor and self.part_bytes[processor] >= PART_BYTES:
             self.begin_part(processor)
         file = self.raw[processor]
@@ -175,11 +181,11 @@ class Folder:
             self.part_bytes[processor] += len(pages)
 
     def append_pressure(self, text: bytes) -> None:
-        """A reading of pressure files."""
+        """Writes a reading of pressure files."""
         append(self.pressure, text)
 
     def write_below(self, name: str, data: bytes) -> None:
-        """A file that is written once, with the folders of its name."""
+        """Writes a whole file at once, and creates the folders in its name."""
         *folders, last = name.split("/")
         at = os.dup(self.descriptor)
         try:
@@ -198,7 +204,9 @@ class Folder:
             os.close(file)
 
     def discard(self) -> None:
-        """Removes it, if nothing was recorded. If another folder is at its path now, that stays."""
+        """Removes the folder if nothing was recorded. If another folder is at its path now, that
+        one stays.
+        """
         self.finish_compressing()
         remove_all(self.descriptor)
         mine = os.fstat(self.descriptor)
@@ -222,7 +230,7 @@ class Folder:
 
 
 def page_bytes(header: bytes) -> int:
-    """How large a page is, by `events/header_page`: its data's offset and size together."""
+    """The size of a page according to `events/header_page`: its data's offset and size together."""
     for line in header.splitlines():
         words = {key: value for key, _, value in (it.strip().partition(b":") for it in line.split(b";"))}
         if words.get(b"field", b"").endswith(b" data"):

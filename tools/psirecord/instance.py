@@ -1,7 +1,9 @@
-"""An instance of the kernel's tracing, with ring buffers of its own, so that nobody else's tracing is touched.
+"""An instance of the kernel's tracing, with ring buffers of its own, so that no other tracing is
+affected.
 
-Documentation/trace/ftrace.rst tells of its files. Pages of the buffers are read as they are (`trace_pipe_raw`): an event has
-some 40 bytes there against 140 of text, the reader takes a fourth of the time, and the pages tell themselves what was lost.
+Documentation/trace/ftrace.rst describes its files. Pages of the buffers are read in binary form
+(`trace_pipe_raw`): an event has some 40 bytes there instead of 140 as text, reading takes a fourth
+of the time, and the pages themselves record lost events.
 """
 from __future__ import annotations
 
@@ -18,20 +20,22 @@ from .probing import NEEDED, Say, Sources, Tell, without
 from .undoing import Undoing
 
 READ_BYTES = 1 << 16
-# One that also switched the sysctl kernel.sched_schedstats on tells so by its name: whoever finds it later knows what to undo.
+# The suffix of an instance whose recorder also switched the sysctl kernel.sched_schedstats on: it
+# shows a later recorder what to undo.
 STATISTICS_SUFFIX = "-schedstats"
-# A recorder by its process number and that process's start time, which those of earlier versions don't have.
+# A recorder's process number and that process's start time, which names from earlier versions don't
+# have.
 RECORDER = rf"{PREFIX}(?P<number>\d+)(?:_(?P<start>\d+))?"
 INSTANCE = re.compile(rf"{RECORDER}(?P<statistics>{STATISTICS_SUFFIX})?")
 PROBE = re.compile(rf"[a-z]\d*:(?P<probe>{RECORDER}/\w+) ")
-# States of processes that nobody waited for yet, in /proc/PID/stat.
+# The states, in /proc/PID/stat, of processes that ended but weren't waited for yet.
 ENDED = (b"Z", b"X")
-# An instance begins with the options of the top one, so those that matter are set.
+# An instance inherits the options of the top one, so those that matter are set.
 OPTIONS = {"overwrite": "1", "markers": "1"}
 
 
 class NotRecorded(Exception):
-    """Why nothing can be recorded, found only after the machine was changed."""
+    """Recording is impossible for a reason that was found only after the machine was changed."""
 
 
 class Instance:
@@ -54,7 +58,9 @@ class Instance:
         write_file(f"{self.folder}/{file}", text)
 
     def prepare(self, buffer_kb: int) -> None:
-        """Nothing is traced yet; times are CLOCK_MONOTONIC; a buffer has so many KiB for each processor."""
+        """Sets the instance up, with nothing traced yet; times are CLOCK_MONOTONIC; a buffer has
+        `buffer_kb` KiB per processor.
+        """
         self.write("tracing_on", "0")
         self.write("trace_clock", "mono")
         self.write("buffer_size_kb", str(buffer_kb))
@@ -63,7 +69,7 @@ class Instance:
                 self.write(f"options/{option}", value)
 
     def enable(self, event: str, wanted: str) -> None:
-        """Switches an event on, where `wanted` isn't empty for those that it fits alone."""
+        """Switches an event on, with the filter `wanted` if that isn't empty."""
         switch = f"events/{event}/enable"
         self.undoing.note(f"the event {event}", lambda: self.write(switch, "0"))
         try:
@@ -75,7 +81,9 @@ class Instance:
             raise
 
     def enable_all(self, sources: Sources, say: Say, tell: Tell) -> list[str]:
-        """Switches on what there is; what isn't is told, with what that costs. The events that are on."""
+        """Switches on the available events, and reports the others with the consequences. Returns
+        the events that are on.
+        """
         events = []
         for event in sources.events:
             try:
@@ -91,8 +99,9 @@ class Instance:
         return events
 
     def open_files(self) -> None:
-        """Opens the buffers and the marker. They are closed before anything is undone that was noted earlier: an instance
-        can't be removed while a file of it is open."""
+        """Opens the buffers and the marker. They are closed before any earlier step is undone: an
+        instance can't be removed while one of its files is open.
+        """
         self.undoing.note("open files", self.close_files)
         self.marker = os.open(f"{self.folder}/trace_marker", os.O_WRONLY)
         for processor in range(self.machine.processors()):
@@ -108,7 +117,7 @@ class Instance:
                 os.close(file)
 
     def mark(self, words: str) -> bool:
-        """Writes a marker among the events; not one that the kernel might cut."""
+        """Writes a marker among the events, unless it is so long that the kernel might cut it."""
         line = words.encode(errors="surrogateescape")
         if len(line) > MOST_MARKER_BYTES:
             return False
@@ -116,12 +125,13 @@ class Instance:
         return True
 
     def note_mark(self, word: str) -> None:
-        """Writes one of the markers that are a word alone."""
+        """Writes a marker that consists of one word."""
         self.mark(f"{MARK}{word}")
 
     def pages(self, processor: int, most_bytes: float) -> Iterator[bytes]:
-        """What stands in a processor's buffer, without waiting for more, in pieces of whole pages; at most about so many
-        bytes."""
+        """The contents of a processor's buffer, without waiting for more, in pieces of whole pages;
+        at most about `most_bytes`.
+        """
         taken = 0
         while taken < most_bytes:
             try:
@@ -144,34 +154,42 @@ class Instance:
 
 
 def lost_events(statistics: dict[str, str], is_ring: bool) -> int:
-    """How many events of a processor were lost. A flight recorder's buffer is overwritten on purpose."""
+    """The number of lost events of a processor. A flight recorder's buffer is overwritten on
+    purpose.
+    """
     return sum(int(statistics.get(it, 0)) for it in LOST_STATS if not (is_ring and it == "overrun"))
 
 
 def oldest_moment(statistics: dict[str, str]) -> float:
-    """Where a processor's buffer begins, in s, where older events were overwritten; else 0."""
+    """The time (s) at which a processor's buffer begins, if older events were overwritten; else 0.
+    """
     return float(statistics.get("oldest event ts", 0)) if int(statistics.get("overrun", 0)) else 0.0
 
 
 def start_time(proc: str, process: str) -> str:
-    """When a process started, in clock ticks since boot; empty if it ended, even if nobody waited for it yet. Its name may contain
-    blanks."""
+    """The start time of a process, in clock ticks since boot; empty if it ended, even if it wasn't
+    waited for yet. Its name may contain blanks.
+    """
     words = read_file(f"{proc}/{process}/stat").rpartition(b")")[2].split()
     return words[19].decode() if len(words) > 19 and words[0] not in ENDED else ""
 
 
 def recorder_name() -> str:
-    """The name of this recorder's instance, and of its probes' group. A process number is used again, with another start time."""
+    """The name of this recorder's instance, and of its probes' group. A process number may be
+    reused, with another start time.
+    """
     return f"{PREFIX}{os.getpid()}_{start_time('/proc', 'self')}"
 
 
 def remover(remove: Callable[[str], None], name: str) -> Callable[[], None]:
-    """The step that removes what has this name."""
+    """The undo step that removes what has this name."""
     return lambda: remove(name)
 
 
 def remove_left_behind(machine: Machine, tell: Tell) -> None:
-    """Removes what killed recorders left: instances and probes that are named after a process that is gone."""
+    """Removes what killed recorders left: instances and probes named after a process that has
+    ended.
+    """
 
     def is_left(found: re.Match[str]) -> bool:
         number, start = found["number"], found["start"]

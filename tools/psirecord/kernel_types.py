@@ -1,7 +1,9 @@
-"""Looks up where a member of a kernel structure stands, and how many parameters a function has, in the kernel's own types.
+"""Looks up the offset of a member of a kernel structure, and the number of a function's parameters,
+in the kernel's own types.
 
-The format is that of Documentation/bpf/btf.rst. Of its 10 MB two names are looked for: a walk over all types would take
-seconds on a slow machine, a search for the place of a name's text takes a tenth of one.
+The format is described in Documentation/bpf/btf.rst. Only two names are needed from its 10 MB: a
+walk over all types would take seconds on a slow machine, and searching for the position of a name's
+text takes a tenth of a second.
 """
 from __future__ import annotations
 
@@ -19,21 +21,27 @@ WORD_BITS = 32
 
 @dataclass(frozen=True)
 class Place:
-    """Where a member stands in its structure: the bit with which it begins, and its width where it is a bit field, else 0."""
+    """The position of a member in its structure: its first bit, and its width if it is a bit field,
+    else 0.
+    """
 
     bit: int
     width: int
 
     def fetch(self, argument: int, plain_type: str) -> str:
-        """How a probe fetches it from the structure to which an argument points (Documentation/trace/kprobetrace.rst). A
-        member that is no bit field has a type, as `s32`."""
+        """The words with which a probe fetches it from the structure to which an argument points
+        (Documentation/trace/kprobetrace.rst). A member that isn't a bit field has a type, such as
+        `s32`.
+        """
         if not self.width:
             return f"+{self.bit // 8}($arg{argument}):{plain_type}"
         return f"+{self.bit // WORD_BITS * 4}($arg{argument}):b{self.width}@{self.bit % WORD_BITS}/{WORD_BITS}"
 
 
 class KernelTypes:
-    """The types of a kernel, from the bytes of /sys/kernel/btf/vmlinux; none where these are something else."""
+    """The types of a kernel, from the bytes of /sys/kernel/btf/vmlinux; without any if these aren't
+    valid.
+    """
 
     def __init__(self, data: bytes) -> None:
         self.data = data
@@ -45,13 +53,15 @@ class KernelTypes:
                 self.strings = header + strings
 
     def name_at(self, place: int) -> bytes:
-        """The name that begins there in the section of strings."""
+        """The name at this position in the section of strings."""
         start = self.strings + place
         return self.data[start : self.data.index(b"\0", start)]
 
     def named(self, name: str, kind: int) -> Iterator[int]:
-        """Where types of this name and kind stand. Each name stands once among the strings; what merely looks like a type
-        isn't one, so whoever asks looks further until what it finds fits."""
+        """The possible positions of types with this name and kind. Each name occurs once among the
+        strings. Some bytes merely look like a type, so the caller tries the positions until one
+        fits.
+        """
         found = self.data.find(b"\0" + name.encode() + b"\0", self.strings)
         if self.strings == 0 or found < 0:
             return
@@ -63,7 +73,7 @@ class KernelTypes:
             place = self.data.find(wanted, place + 1, self.types_end)
 
     def members(self, structure: str, wanted: tuple[str, ...]) -> dict[str, Place]:
-        """Where these members of the structure stand; nothing where not all are there."""
+        """The positions of these members of the structure; empty if not all exist."""
         for place in self.named(structure, STRUCTURE):
             info = TYPE.unpack_from(self.data, place)[1]
             has_widths, count = bool(info >> 31), info & 0xFFFF
@@ -75,7 +85,7 @@ class KernelTypes:
         return {}
 
     def member(self, place: int, has_widths: bool, wanted: tuple[str, ...]) -> tuple[str, Place]:
-        """A member's name, empty where it isn't wanted, and its place."""
+        """A member's name, empty if it isn't wanted, and its position."""
         name_place, _, offset = MEMBER.unpack_from(self.data, place)
         known = [it for it in wanted if self.data.startswith(it.encode() + b"\0", self.strings + name_place)]
         if has_widths:
@@ -83,14 +93,14 @@ class KernelTypes:
         return "".join(known), Place(offset, 0)
 
     def parameters(self, function: str) -> int | None:
-        """How many parameters the function has, or None where it isn't there."""
+        """The number of the function's parameters; None if there is no such function."""
         for place in self.named(function, FUNCTION):
             number = TYPE.unpack_from(self.data, place)[2]
             return self.prototype_parameters(number)
         return None
 
     def prototype_parameters(self, number: int) -> int | None:
-        """How many parameters the prototype has that is the type of this number, from 1."""
+        """The number of parameters of the prototype with this type number, counted from 1."""
         place = self.types
         for _ in range(number - 1):
             if place > self.types_end - TYPE.size:
@@ -104,6 +114,6 @@ class KernelTypes:
 
 
 def extra_size(kind: int, count: int) -> int:
-    """How many bytes stand after a type of this kind."""
+    """The number of bytes that follow a type of this kind."""
     fixed, each = {1: 4, 3: 12, 14: 4, 17: 4}, {4: 12, 5: 12, 6: 8, 13: 8, 15: 12, 19: 12}
     return fixed.get(kind, 0) + each.get(kind, 0) * count

@@ -1,8 +1,9 @@
-"""The machine that is recorded: where its files are, and the few things that are done to it.
+"""The machine that is recorded: the paths of its files, and the few changes that are made to it.
 
-The kernel's own texts tell how each file behaves: Documentation/trace/ftrace.rst (instances, trace_marker, trace_pipe_raw),
-Documentation/trace/kprobetrace.rst (kprobe_events), Documentation/admin-guide/cgroup-v2.rst (groups) and
-Documentation/accounting/psi.rst (pressure, triggers).
+The kernel's documentation describes each file: Documentation/trace/ftrace.rst (instances,
+trace_marker, trace_pipe_raw), Documentation/trace/kprobetrace.rst (kprobe_events),
+Documentation/admin-guide/cgroup-v2.rst (groups) and Documentation/accounting/psi.rst (pressure,
+triggers).
 """
 from __future__ import annotations
 
@@ -13,12 +14,14 @@ from collections.abc import Iterator
 from dataclasses import dataclass
 
 SCHEDULER_STATISTICS = "sys/kernel/sched_schedstats"
-# The number of the first namespace of process numbers (PROC_PID_INIT_INO): events tell numbers as they are there.
+# The number of the first PID namespace (PROC_PID_INIT_INO): events use its process numbers.
 FIRST_PROCESS_NAMESPACE = "pid:[4026531836]"
 
 
 def read_file(path: str) -> bytes:
-    """The whole file, or nothing where it can't be read, as that of a group that went away meanwhile."""
+    """The whole file; empty if it can't be read, for example if its group was removed in the
+    meantime.
+    """
     try:
         with open(path, "rb", buffering=0) as file:
             return file.readall() or b""
@@ -27,7 +30,9 @@ def read_file(path: str) -> bytes:
 
 
 def write_file(path: str, text: str, flags: int = 0) -> None:
-    """Writes to a file that is there. Never with O_TRUNC, which empties the kernel's list of everyone's probes."""
+    """Writes to an existing file. Never with O_TRUNC, which empties the kernel's list of everyone's
+    probes.
+    """
     file = os.open(path, os.O_WRONLY | flags)
     try:
         os.write(file, text.encode())
@@ -45,11 +50,12 @@ class Machine:
     types: str = "/sys/kernel/btf/vmlinux"
 
     def processors(self) -> int:
-        """How many are configured; those that are absent have empty buffers."""
+        """The number of configured processors; those that are absent have empty buffers."""
         return os.sysconf("SC_NPROCESSORS_CONF")
 
     def missing(self) -> Iterator[str]:
-        """What a recording needs and doesn't find here. Nothing is changed to find that out."""
+        """The requirements of a recording that this machine doesn't meet. Checking changes nothing.
+        """
         if os.geteuid() != 0:
             yield "root: tracing a whole machine takes it"
         if os.path.exists(f"{self.proc}/self/ns/pid") and os.readlink(f"{self.proc}/self/ns/pid") != FIRST_PROCESS_NAMESPACE:
@@ -57,7 +63,7 @@ class Machine:
         yield from self.missing_files()
 
     def missing_files(self) -> Iterator[str]:
-        """The files of `missing`."""
+        """The missing files."""
         if not os.path.isdir(f"{self.tracing}/instances"):
             yield f"tracefs: {self.tracing}/instances isn't there (mount -t tracefs tracefs {self.tracing})"
         if not os.path.exists(f"{self.groups}/cgroup.controllers"):
@@ -71,24 +77,26 @@ class Machine:
             yield f"pressure: {self.proc}/pressure/cpu can't be read (psi=1 at boot)"
 
     def make_instance(self, name: str) -> None:
-        """Makes an instance of tracing, which the kernel fills with files."""
+        """Creates an instance of tracing, which the kernel fills with files."""
         os.mkdir(f"{self.tracing}/instances/{name}")
 
     def remove_instance(self, name: str) -> None:
-        """Removes it; EBUSY while a file of it is open. Its events go off with it."""
+        """Removes it, which switches its events off; EBUSY while one of its files is open."""
         os.rmdir(f"{self.tracing}/instances/{name}")
 
     def add_probe(self, definition: str) -> None:
-        """Adds a probe, as Documentation/trace/kprobetrace.rst spells it."""
+        """Adds a probe, in the syntax of Documentation/trace/kprobetrace.rst."""
         write_file(f"{self.tracing}/kprobe_events", f"{definition}\n", os.O_APPEND)
 
     def remove_probe(self, name: str) -> None:
-        """Removes the probe GROUP/EVENT; EBUSY while its event is on anywhere."""
+        """Removes the probe GROUP/EVENT; EBUSY while its event is on in any instance."""
         write_file(f"{self.tracing}/kprobe_events", f"-:{name}\n", os.O_APPEND)
 
     def open_trigger(self, resource: str, words: str) -> tuple[int, int]:
-        """A file that signals pressure as long as it is open, and the condition of poll(2) by which it does. `words` are
-        those of Documentation/accounting/psi.rst: `some|full THRESHOLD WINDOW`, in us."""
+        """Opens a file that signals pressure as long as it is open; returns it with the condition
+        of poll(2) that is the signal. `words` are those of Documentation/accounting/psi.rst:
+        `some|full THRESHOLD WINDOW`, in us.
+        """
         file = os.open(f"{self.proc}/pressure/{resource}", os.O_RDWR | os.O_NONBLOCK)
         try:
             os.write(file, words.encode() + b"\0")

@@ -20,13 +20,13 @@ from .machine import Machine, read_file
 
 
 def plain_machine(folder: str) -> PlainMachine:
-    """The machine that this folder stands for."""
+    """The machine that this folder replaces."""
     top = os.path.abspath(folder)
     return PlainMachine(tracing=f"{top}/tracing", groups=f"{top}/cgroup", proc=f"{top}/proc", types=f"{top}/btf")
 
 
 def busy(path: str) -> OSError:
-    """What the kernel answers while something is in use."""
+    """The kernel's error while something is in use."""
     return OSError(errno.EBUSY, os.strerror(errno.EBUSY), path)
 
 
@@ -44,7 +44,7 @@ class PlainMachine(Machine):
     """A folder in place of the machine."""
 
     def processors(self) -> int:
-        """As many as have buffers."""
+        """The number of processors that have buffers."""
         return sum(bool(re.fullmatch(r"cpu\d+", it)) for it in os.listdir(f"{self.tracing}/per_cpu"))
 
     def missing(self) -> Iterator[str]:
@@ -56,7 +56,7 @@ class PlainMachine(Machine):
         return f"{self.tracing}/instances/{name}"
 
     def make_instance(self, name: str) -> None:
-        """A new instance has the files that the top one has."""
+        """Creates an instance with the files of the top one."""
         os.mkdir(self.instance(name))
         for file in os.listdir(self.tracing):
             source, copy = f"{self.tracing}/{file}", f"{self.instance(name)}/{file}"
@@ -68,14 +68,14 @@ class PlainMachine(Machine):
                 shutil.copy(source, copy, follow_symlinks=False)
 
     def remove_instance(self, name: str) -> None:
-        """As the kernel, none of whose files is open."""
+        """Removes an instance; like the kernel, only if none of its files is open."""
         folder = self.instance(name)
         if any(it.startswith(f"{folder}/") for it in open_files()):
             raise busy(folder)
         shutil.rmtree(folder)
 
     def add_probe(self, definition: str) -> None:
-        """The probe's event stands beside the others from then on."""
+        """Adds a probe, and its event to the other events."""
         super().add_probe(definition)
         event = f"{self.tracing}/events/{definition.split()[0].partition(':')[2]}"
         os.makedirs(event)
@@ -84,7 +84,7 @@ class PlainMachine(Machine):
                 made.write(text)
 
     def remove_probe(self, name: str) -> None:
-        """As the kernel, which keeps the probes whose event is on in some instance."""
+        """Removes a probe; like the kernel, only if its event is off in all instances."""
         instances = [self.instance(it) for it in os.listdir(f"{self.tracing}/instances")]
         if any(read_file(f"{it}/events/{name}/enable").startswith(b"1") for it in [self.tracing, *instances]):
             raise busy(name)

@@ -1,8 +1,10 @@
-"""The events and probes from which a trace is made, and what is taken where one of them can't be had.
+"""The events and probes from which a trace is made, and the alternatives if one of them isn't
+available.
 
-A wait for IO is what the kernel counts as one (`in_iowait`), which is fewer sleeps than those in state D: on a journaling file
-system a third to a half of these aren't. Three sources tell it, the best first: a probe on `psi_task_switch` that reads the
-bit itself, the event `sched_stat_iowait`, which takes the sysctl kernel.sched_schedstats, and the state D.
+A wait for IO is what the kernel counts as one (`in_iowait`), which is fewer sleeps than those in
+state D: on a journaling file system a third to a half of the latter don't count. Three sources show
+it, the best first: a probe on `psi_task_switch` that reads the bit itself, the event
+`sched_stat_iowait`, which requires the sysctl kernel.sched_schedstats, and the state D.
 """
 from __future__ import annotations
 
@@ -17,7 +19,7 @@ from .kernel_types import KernelTypes
 from .machine import SCHEDULER_STATISTICS, Machine, read_file, write_file
 from .undoing import Undoing
 
-# Each event, and what a recording without it can't say.
+# Each event, and what a recording lacks without it.
 NEEDED = ("sched/sched_switch", "sched/sched_wakeup")
 EVENTS = {
     "sched/sched_switch": "nothing can be said",
@@ -34,7 +36,7 @@ EVENTS = {
 STATISTICS_EVENT = "sched/sched_stat_iowait"
 NO_STALLS = "memory stalls aren't recorded, so memory pressure will be 0"
 NO_WAKEUPS = "no probe of wakeups: when psi counts them isn't recorded, only when their events are written"
-# What a recording can't say without a probe.
+# What a recording lacks without a probe.
 PROBES = {
     Probe.STALL_BEGINS: NO_STALLS,
     Probe.STALL_ENDS: NO_STALLS,
@@ -48,13 +50,13 @@ BY_PROBE, BY_STATISTICS, BY_STATE = "the kernel's own flag", "sched_stat_iowait"
 STATE_ALONE = "waits for IO are told by state D alone: up to 3.5 times too many on journaling file systems"
 
 def without(event: str) -> str:
-    """What a recording without this event, which may be that of a probe, can't say."""
+    """What a recording lacks without this event, which may be that of a probe."""
     return EVENTS.get(event) or PROBES.get(event.rpartition("/")[2], "nothing is known of what it tells")
 
 
-# Says (a key of `meta`, its value).
+# Writes a key of `meta` and its value.
 Say = Callable[[str, str], None]
-# Tells the operator.
+# Prints a line for the operator.
 Tell = Callable[[str], None]
 
 
@@ -69,7 +71,9 @@ class Sources:
 
 @dataclass(frozen=True)
 class Plan:
-    """A probe to be added: its event, the kernel's function, what it fetches, and which of its events are wanted."""
+    """A probe to add: its event, the kernel's function, what it fetches, and the filter of its
+    events.
+    """
 
     name: str
     function: str
@@ -77,12 +81,14 @@ class Plan:
     wanted: str = ""
 
     def definition(self, group: str) -> str:
-        """As `kprobe_events` takes it."""
+        """The definition for `kprobe_events`."""
         return f"p:{group}/{self.name} {self.function} {self.fetched}".rstrip()
 
 
 def stall_plans() -> list[Plan]:
-    """Both run in the task itself. The flags at the leave are 0 where it is the outermost one."""
+    """Both functions run in the task itself. The flags at the leave are 0 if it is the outermost
+    one.
+    """
     return [
         Plan(Probe.STALL_BEGINS, "psi_memstall_enter"),
         Plan(Probe.STALL_ENDS, "psi_memstall_leave", f"{Probe.FLAGS}=+0($arg1):u64"),
@@ -90,8 +96,9 @@ def stall_plans() -> list[Plan]:
 
 
 def switch_plan(types: KernelTypes) -> Plan | None:
-    """psi_task_switch(prev, next, sleep) runs right before the event of the switch. Without the filter a third of all events
-    would be its."""
+    """psi_task_switch(prev, next, sleep) runs right before the event of the switch. Without the
+    filter it would account for a third of all events.
+    """
     places = types.members("task_struct", ("pid", "in_iowait"))
     if not places:
         return None
@@ -100,15 +107,18 @@ def switch_plan(types: KernelTypes) -> Plan | None:
 
 
 def interrupt_plan(machine: Machine, types: KernelTypes) -> Plan | None:
-    """psi_account_irqtime(task, delta), where the kernel accounts interrupts at all. Since 6.10 its parameters are others, and
-    none of them is the time."""
+    """psi_account_irqtime(task, delta), if the kernel accounts interrupts at all. Since 6.10 its
+    parameters differ, and none of them is the time.
+    """
     if not read_file(f"{machine.proc}/pressure/irq") or types.parameters("psi_account_irqtime") != 2:
         return None
     return Plan(Probe.INTERRUPT, "psi_account_irqtime", f"{Probe.DELTA}=$arg2:u32")
 
 
 def attach_plan(types: KernelTypes) -> Plan | None:
-    """cgroup_attach_task(group, task, whole): the event of that name doesn't tell whether the task goes alone."""
+    """cgroup_attach_task(group, task, whole): the event of that name doesn't show whether the task
+    moves alone.
+    """
     places = types.members("task_struct", ("pid",))
     if not places or types.parameters("cgroup_attach_task") != 3:
         return None
@@ -117,8 +127,9 @@ def attach_plan(types: KernelTypes) -> Plan | None:
 
 
 def moment_plans(types: KernelTypes) -> list[Plan]:
-    """psi_show(file, group, resource) and psi_avgs_work(work) are where the kernel adds a group's times up: some events a second.
-    One of them alone would tell half of the moments."""
+    """In psi_show(file, group, resource) and psi_avgs_work(work) the kernel adds a group's times
+    up: some events a second. One of them alone would show half of the sampling times.
+    """
     if types.parameters("psi_show") != 3 or types.parameters("psi_avgs_work") != 1:
         return []
     shows = f"{Probe.GROUP}=$arg2:x64 {Probe.RES}=$arg3:u32"
@@ -126,7 +137,9 @@ def moment_plans(types: KernelTypes) -> list[Plan]:
 
 
 def ready_plan(types: KernelTypes) -> Plan | None:
-    """psi_task_change(task, clear, set): one event for each wakeup, and for each task that goes to another processor or group."""
+    """psi_task_change(task, clear, set): one event for each wakeup, and for each task that moves to
+    another processor or group.
+    """
     places = types.members("task_struct", ("pid",))
     if not places or types.parameters("psi_task_change") != 3:
         return None
@@ -135,7 +148,9 @@ def ready_plan(types: KernelTypes) -> Plan | None:
 
 
 def add_probes(machine: Machine, group: str, undoing: Undoing, say: Say, has_wakeups: bool) -> Sources:
-    """Adds the probes that can be had, those of wakeups where they are wanted; why another can't is said."""
+    """Adds the available probes, those of wakeups only if requested; reports why another isn't
+    available.
+    """
     types = KernelTypes(read_file(machine.types))
     switch, attach, moments = switch_plan(types), attach_plan(types), moment_plans(types)
     if not switch:
@@ -166,12 +181,12 @@ def add_probes(machine: Machine, group: str, undoing: Undoing, say: Say, has_wak
 
 
 def probe_remover(machine: Machine, name: str) -> Callable[[], None]:
-    """The step that removes this probe."""
+    """The undo step that removes this probe."""
     return lambda: machine.remove_probe(name)
 
 
 class Statistics(enum.Enum):
-    """Whether the kernel keeps the statistics by which it writes `sched_stat_iowait`."""
+    """Whether the kernel keeps the statistics that `sched_stat_iowait` requires."""
 
     ON = "on"
     OFF = "off"
@@ -179,7 +194,7 @@ class Statistics(enum.Enum):
 
 
 def statistics_of(machine: Machine) -> Statistics:
-    """What the sysctl says, or that there is none."""
+    """The value of the sysctl, or that there is none."""
     if not os.path.exists(f"{machine.proc}/{SCHEDULER_STATISTICS}"):
         return Statistics.ABSENT
     is_on = read_file(f"{machine.proc}/{SCHEDULER_STATISTICS}").strip() == b"1"
@@ -187,7 +202,7 @@ def statistics_of(machine: Machine) -> Statistics:
 
 
 def switch_statistics_on(machine: Machine, undoing: Undoing) -> None:
-    """Switches them on; they are switched off again at the end. OSError where that is refused."""
+    """Switches them on; they are switched off again at the end. OSError if that isn't permitted."""
     path = f"{machine.proc}/{SCHEDULER_STATISTICS}"
     undoing.note("the sysctl kernel.sched_schedstats, which was 0", lambda: write_file(path, "0"))
     try:

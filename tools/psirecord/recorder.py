@@ -1,7 +1,8 @@
-"""The recording itself: what is done when, until it ends, and what is written then.
+"""The recording itself: the periodic work until it ends, and what is written at the end.
 
-A plain recording empties the ring buffers four times a second. A flight recorder lets them be overwritten, waits for pressure,
-and writes what is in them when the trouble has come: the buffers are to be as large as the time that is wanted.
+A plain recording empties the ring buffers four times a second. A flight recorder lets them be
+overwritten, waits for pressure, and writes their contents after the incident: the size of the
+buffers determines how far back they reach.
 """
 from __future__ import annotations
 
@@ -22,11 +23,12 @@ from .samples import MemorySampler, Reading, Snapshot, read_pressure, take_snaps
 from .waiting import Job, Signals, Waiting
 
 DRAIN_SECONDS = 0.25
-# The next turn comes before the busiest buffer is full by so much: 600,000 switches/s fill 8 MB in 0.1 s.
+# The next turn comes before the busiest buffer is filled to this share: 600,000 switches/s fill 8
+# MB in 0.1 s.
 MOST_FULL = 0.25
 LEAST_DRAIN_SECONDS = 0.01
 SNAPSHOT_SECONDS = 60.0
-# Beyond the last reading of pressure files, which falls on the end.
+# The end is this much later than the last reading of pressure files, which is due at the end.
 LAST_READING_SECONDS = 0.02
 FOREVER = float("inf")
 MEGABYTE = 10**6
@@ -34,8 +36,10 @@ MEGABYTE = 10**6
 
 @dataclass(frozen=True)
 class Wanted:
-    """What the operator asked for: times in s, sizes as they are named. `is_ring` asks for a flight recorder, and `until` has
-    its trigger as `RESOURCE some|full THRESHOLD WINDOW`, or nothing. `has_settings` asks for what systemd-oomd decides by."""
+    """The operator's request: times in s, sizes in the named units. `is_ring` requests a flight
+    recorder, and `until` has its trigger as `RESOURCE some|full THRESHOLD WINDOW`, or is empty.
+    `has_settings` requests the settings of systemd-oomd.
+    """
 
     seconds: float
     buffer_kb: int
@@ -52,8 +56,9 @@ class Wanted:
 
 @dataclass
 class Ending:
-    """How it ended: a reason of `layout.Reason`, how many events each processor lost, after how many s, and whether it has
-    all else that it should."""
+    """How the recording ended: a reason of `layout.Reason`, the number of lost events of each
+    processor, its length in s, and whether everything else is complete.
+    """
 
     reason: str
     lost: dict[int, int]
@@ -62,7 +67,7 @@ class Ending:
 
 
 class Recorder:
-    """One recording, with the instance switched on."""
+    """One recording, with its instance switched on."""
 
     def __init__(self, machine: Machine, wanted: Wanted, instance: Instance, folder: Folder, signals: Signals) -> None:
         self.machine, self.wanted, self.instance, self.folder = machine, wanted, instance, folder
@@ -76,7 +81,9 @@ class Recorder:
         self.draining = Job(self.drain, 0.0, DRAIN_SECONDS)
 
     def record(self, tell: Tell) -> Ending:
-        """Records from `begin` until one of the ends that there are; what there is then is written in any case."""
+        """Records from `begin` until the recording ends; what was recorded by then is written in
+        any case.
+        """
         try:
             reason = self.run()
         except DiskFull:
@@ -89,7 +96,9 @@ class Recorder:
             return Ending(f"{Reason.FAILED} {error}", {}, time.monotonic() - self.start)
 
     def begin(self) -> None:
-        """Switches on. NotRecorded if no marker can be written: nothing can be said of a recording without them."""
+        """Switches the instance on. NotRecorded if no marker can be written: without markers a
+        recording can't be interpreted.
+        """
         self.instance.write("tracing_on", "1")
         self.usage = resource.getrusage(resource.RUSAGE_SELF)
         self.start = time.monotonic()
@@ -101,7 +110,7 @@ class Recorder:
             raise NotRecorded(f"no marker can be written, {self.instance.folder}/trace_marker: {error.strerror}") from error
 
     def jobs(self) -> list[Job]:
-        """What is due again and again."""
+        """The periodic jobs."""
         wanted, start = self.wanted, self.start
         jobs = [
             Job(self.read_pressure, start + wanted.pressure_seconds, wanted.pressure_seconds, is_each_due=True),
@@ -112,7 +121,7 @@ class Recorder:
         return [*jobs, self.draining]
 
     def run(self) -> str:
-        """Until it ends; why it does."""
+        """Runs until the recording ends; returns why it ends."""
         self.read_pressure()
         self.take_snapshot()
         self.memory.unaccounted = self.snapshots[-1].unaccounted
@@ -132,7 +141,7 @@ class Recorder:
         return Reason.SIGNAL
 
     def fire(self, jobs: list[Job]) -> None:
-        """The trigger fired: some seconds more. The snapshots that are kept are those from before."""
+        """The trigger fired: records some seconds more. The snapshots from before are kept."""
         self.waiting.unwatch()
         self.fired = time.monotonic()
         self.end = self.fired + self.wanted.after_seconds
@@ -143,7 +152,9 @@ class Recorder:
     # ---------------------------------------------------------------- jobs
 
     def read_pressure(self) -> None:
-        """A flight recorder keeps its readings, since most of them are older than its buffers when it ends."""
+        """Reads the pressure files. A flight recorder keeps its readings, since most of them are
+        older than its buffers when it ends.
+        """
         reading = read_pressure(self.machine, self.instance.mark, self.reading_count, time.monotonic())
         self.reading_count += 1
         if self.wanted.is_ring:
@@ -152,8 +163,10 @@ class Recorder:
             self.folder.append_pressure(reading.text)
 
     def take_snapshot(self) -> None:
-        """Who is where is known by a snapshot and the events after it. A flight recorder keeps the two last ones, so that one
-        lies inside its buffers where these are long enough; readings that are older than both are forgotten."""
+        """Takes a snapshot: with the events after it, this shows the group of each task. A flight
+        recorder keeps the last two, so that one lies inside its buffers if these are large enough;
+        readings older than both are dropped.
+        """
         self.instance.note_mark(layout.SNAPSHOT_BEGINS)
         self.snapshots.append(take_snapshot(self.machine, time.monotonic_ns()))
         self.instance.note_mark(layout.SNAPSHOT_ENDS)
@@ -163,7 +176,9 @@ class Recorder:
             self.readings.popleft()
 
     def drain(self) -> None:
-        """Takes what is in the buffers. A busy processor may fill its own as fast as it is read: at most once its size."""
+        """Reads what is in the buffers. A busy processor may fill its own as fast as it is read, so
+        at most its size is read.
+        """
         size, before = self.wanted.buffer_kb * 1024, self.drained
         self.drained = time.monotonic()
         busiest = self.take_pages(size)
@@ -171,7 +186,7 @@ class Recorder:
         self.draining.period = min(DRAIN_SECONDS, max(LEAST_DRAIN_SECONDS, period))
 
     def take_pages(self, most_bytes: float) -> int:
-        """Takes at most about so many bytes of each processor; how many bytes the busiest had."""
+        """Reads at most about `most_bytes` of each processor; returns the bytes of the busiest."""
         busiest = 0
         for processor in self.instance.buffers:
             before = self.folder.bytes
@@ -183,7 +198,7 @@ class Recorder:
     # ---------------------------------------------------------------- the end
 
     def finish(self, reason: str, tell: Tell) -> Ending:
-        """Nothing is traced any more: the rest is written, and what was lost."""
+        """After tracing was switched off: writes the rest, and what was lost."""
         with contextlib.suppress(OSError):
             if self.wanted.is_ring and not self.has_snapshot_inside():
                 self.take_snapshot()
@@ -206,16 +221,19 @@ class Recorder:
         return Ending(reason, lost, seconds, is_whole)
 
     def has_snapshot_inside(self) -> bool:
-        """Whether the buffers reach back to the last snapshot. There is none yet if a marker failed early."""
+        """Whether the buffers reach back to the last snapshot. There is no snapshot yet if a marker
+        failed early.
+        """
         return bool(self.snapshots) and self.snapshots[-1].moment >= self.buffers_begin() * 1e9
 
     def buffers_begin(self) -> float:
-        """From when on the buffers hold all that happened on all processors, in s."""
+        """The time (s) from which the buffers have all events of all processors."""
         return max([self.start, *(oldest_moment(self.instance.statistics(it)) for it in self.instance.buffers)])
 
     def write_ring(self, begin: float, tell: Tell) -> bool:
-        """The snapshot by which a flight recorder's trace can begin, and the readings of pressure. False where the buffers
-        were too small to keep the moment of the signal."""
+        """Writes the snapshot with which a flight recorder's trace can begin, and the readings of
+        pressure. False if the buffers were too small to keep the time of the signal.
+        """
         self.folder.say(Key.RING_START, f"{begin:.6f}")
         inside = [it for it in self.snapshots if it.moment >= begin * 1e9] or [*self.snapshots][-1:]
         for snapshot in inside[:1]:
@@ -229,7 +247,7 @@ class Recorder:
         return has_signal
 
     def write_statistics(self) -> dict[int, int]:
-        """What the kernel counted, and how many events each processor lost of it."""
+        """Writes the kernel's statistics; returns the number of lost events of each processor."""
         lost = {}
         for processor in self.instance.buffers:
             statistics = self.instance.statistics(processor)
@@ -239,7 +257,7 @@ class Recorder:
         return {processor: count for processor, count in lost.items() if count}
 
     def write_cost(self, seconds: float) -> None:
-        """How long it took, and what it used itself."""
+        """Writes how long the recording took, and what it used itself."""
         usage = resource.getrusage(resource.RUSAGE_SELF)
         user, system = usage.ru_utime - self.usage.ru_utime, usage.ru_stime - self.usage.ru_stime
         self.folder.say(Key.SECONDS, f"{seconds:.3f}")

@@ -1,7 +1,7 @@
-"""What is read of groups, tasks and memory beside the events.
+"""Reads groups, tasks and memory, in addition to the events.
 
-All of it is read while the recording runs, and its moments are told by markers among the events: what changes meanwhile is
-seen by the events. A group or a task may be gone before it is read; then it is passed over.
+All of it is read while the recording runs, and markers among the events show when: changes in
+between are known from the events. A group or a task may end before it is read; then it is skipped.
 """
 from __future__ import annotations
 
@@ -14,7 +14,8 @@ from psirec import layout
 from .machine import Machine, read_file
 
 KIB = 1024
-# Attributes of a group's folder by which its owner asks oomd, or systemd-oomd, to kill it first or last.
+# Attributes of a group's folder with which its owner asks oomd, or systemd-oomd, to kill it first
+# or last.
 PREFERENCES = {
     "user.oomd_prefer": "prefer",
     "trusted.oomd_prefer": "prefer",
@@ -28,15 +29,17 @@ Mark = Callable[[str], bool]
 
 @dataclass(frozen=True)
 class Group:
-    """A group: its folder, its path as a recording spells it, and the folder's number, which is another where a group of that
-    path was removed and made again."""
+    """A group: its folder, its path as written in a recording, and the folder's inode number, which
+    changes if a group is removed and created again.
+    """
 
     folder: str
     path: str
     number: int
 
     def is_root(self) -> bool:
-        """The root has none of the files of memory, and its pressure stands below /proc."""
+        """Whether it is the root, which has no memory files, and whose pressure files are in /proc.
+        """
         return self.path == "/"
 
 
@@ -64,7 +67,7 @@ def memory_information(machine: Machine) -> dict[str, int]:
 
 
 def scanned_pages(group: Group) -> int:
-    """`pgscan` of `memory.stat`; 0 where it isn't told."""
+    """`pgscan` of `memory.stat`; 0 if it isn't there."""
     for line in read_file(f"{group.folder}/memory.stat").splitlines():
         if line.startswith(b"pgscan "):
             return int(line.split()[1])
@@ -72,22 +75,25 @@ def scanned_pages(group: Group) -> int:
 
 
 def number_in(path: str) -> int | None:
-    """The number that a file has, or None where it can't be read."""
+    """The number in a file, or None if it can't be read."""
     words = read_file(path).split()
     return int(words[0]) if words and words[0].isdigit() else None
 
 
 def is_accounted(group: Group) -> bool | None:
-    """Whether the group's pressure is accounted, by its `cgroup.pressure`; None where there is no such file: the root may have
-    none, and before Linux 6.1 no group has one."""
+    """Whether the group's pressure is accounted, according to its `cgroup.pressure`; None if there
+    is no such file: the root may have none, and before Linux 6.1 no group has one.
+    """
     number = number_in(f"{group.folder}/cgroup.pressure")
     return None if number is None else number != 0
 
 
 @dataclass
 class MemorySampler:
-    """Writes the memory of the machine and of each group as markers, and the groups whose `cgroup.pressure` has changed,
-    which no event tells. `unaccounted` are those that weren't accounted when they were last looked at."""
+    """Writes the memory of the machine and of each group as markers, and the groups whose
+    `cgroup.pressure` has changed, which no event shows. `unaccounted` are the groups that weren't
+    accounted when last checked.
+    """
 
     machine: Machine
     mark: Mark
@@ -95,7 +101,9 @@ class MemorySampler:
     too_long: int = 0
 
     def sample(self) -> None:
-        """Once over all groups. The root's use of memory is what isn't available, so that rules on the root find some."""
+        """Samples all groups once. The root's memory use is what isn't available, so that rules on
+        the root find some.
+        """
         known = memory_information(self.machine)
         total, swap_total, swap_free = (known.get(it, 0) for it in ("MemTotal", "SwapTotal", "SwapFree"))
         self.write(layout.host_marker(total, swap_total, swap_free))
@@ -108,22 +116,25 @@ class MemorySampler:
         self.unaccounted = unaccounted
 
     def sample_memory(self, group: Group) -> None:
-        """A group without the files of memory, as the root, has no sample."""
+        """Writes a memory sample. A group without memory files, such as the root, has none."""
         current = number_in(f"{group.folder}/memory.current")
         if current is not None:
             swap = number_in(f"{group.folder}/memory.swap.current") or 0
             self.write(layout.memory_marker(group.path, current, swap, scanned_pages(group)))
 
     def sample_accounting(self, group: Group) -> bool | None:
-        """Whether the group is accounted, which is told where it has changed. A group that was made since is accounted at first,
-        also where its path is that of one that wasn't."""
+        """Whether the group is accounted; a change is written. A group that was created since is
+        accounted at first, even if its path was that of an unaccounted one.
+        """
         is_on = is_accounted(group)
         if is_on is not None and is_on == (group in self.unaccounted):
             self.write(layout.accounting_marker(group.path, is_on))
         return is_on
 
     def write(self, marker: str) -> None:
-        """Counts those that are too long for a marker: their paths are too long for a trace as well."""
+        """Writes a marker. Counts those that are too long: their paths are too long for a trace as
+        well.
+        """
         if not self.mark(marker):
             self.too_long += 1
 
@@ -160,19 +171,21 @@ def read_pressure(machine: Machine, mark: Mark, number: int, moment: float) -> R
 
 @dataclass(frozen=True)
 class Snapshot:
-    """Groups and tasks as they were found; `moment` is CLOCK_MONOTONIC in ns, before the first was read."""
+    """Groups and tasks at the time of reading; `moment` is CLOCK_MONOTONIC in ns, before the first
+    was read.
+    """
 
     moment: int
     lines: list[str]
     unaccounted: set[Group]
 
     def text(self) -> bytes:
-        """The file."""
+        """The contents of the snapshot's file."""
         return "".join(f"{it}\n" for it in [layout.at_line(self.moment), *self.lines, layout.SNAPSHOT_END]).encode(errors="surrogateescape")
 
 
 def preference(group: Group) -> str:
-    """What its owner asks for; the first attribute that is there."""
+    """The preference that its owner set; the first attribute that exists."""
     for attribute, word in PREFERENCES.items():
         try:
             os.getxattr(group.folder, attribute)
@@ -183,8 +196,10 @@ def preference(group: Group) -> str:
 
 
 def task_line(machine: Machine, number: bytes, group: Group) -> str | None:
-    """A thread of a group by /proc/TID, or None where it is gone. Its name may hold anything, so what follows is counted from
-    the last bracket: the state is the first word there, the processor the 37th (proc(5): fields 3 and 39)."""
+    """A thread of a group, from /proc/TID, or None if it has ended. Its name may contain anything,
+    so fields are counted from the last bracket: the state is the first word after it, the processor
+    the 37th (proc(5): fields 3 and 39).
+    """
     folder = f"{machine.proc}/{number.decode()}"
     text = read_file(f"{folder}/stat")
     end = text.rfind(b")")

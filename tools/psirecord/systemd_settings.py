@@ -25,7 +25,7 @@ from .machine import Machine, read_file
 from .samples import Group, groups, number_in
 
 BOOTED = "run/systemd/system"
-# Properties of units by which it is known which group a unit is, and what systemd-oomd is to do there.
+# Properties of units that show a unit's group, and how systemd-oomd treats it.
 SHOWN = (
     "Id",
     "ControlGroup",
@@ -36,7 +36,8 @@ SHOWN = (
     "ManagedOOMPreference",
 )
 SETTING = re.compile(rb"^\s*(ManagedOOM|OOMPolicy)", re.MULTILINE)
-# What is kept of a unit's file: its sections, such settings, and in which slice its group is.
+# The lines of a unit's file that are kept: its sections, the settings of systemd-oomd, and the
+# slice of its group.
 KEPT = re.compile(rb"\s*(\[|(ManagedOOM\w*|OOMPolicy|Slice)\s*=)")
 TRUE = (b"1", b"yes", b"y", b"true", b"t", b"on")
 PATIENCE_SECONDS = 10
@@ -46,7 +47,7 @@ Tell = Callable[[str], None]
 
 @dataclass(frozen=True)
 class Answer:
-    """What `systemctl` printed, and why, if it printed nothing."""
+    """What `systemctl` printed, and the error if it printed nothing."""
 
     printed: bytes
     fault: str
@@ -54,7 +55,9 @@ class Answer:
 
 @dataclass(frozen=True)
 class Place:
-    """Where the machine's files are, and what is run to ask systemd. The real machine has its files below nothing."""
+    """The root of the machine's files, and the command that queries systemd. On the real machine
+    the root is empty.
+    """
 
     root: str
     command: str
@@ -76,7 +79,7 @@ class Place:
 
 
 def place_of(machine: Machine) -> Place:
-    """Of a folder of plain files in place of a machine, all stands in that folder."""
+    """The real machine's place, or a folder of plain files that replaces it."""
     root = os.path.dirname(machine.proc).rstrip("/")
     return Place(root, f"{root}/systemctl" if root else "systemctl")
 
@@ -85,7 +88,8 @@ def place_of(machine: Machine) -> Place:
 
 
 def is_true(folder: str, attribute: str) -> bool:
-    """Whether an attribute of a group's folder is there and says yes, as systemd reads truths."""
+    """Whether an attribute of a group's folder exists and is true, by systemd's rules for booleans.
+    """
     try:
         return os.getxattr(folder, attribute).strip(b"\0 \n").lower() in TRUE
     except OSError:
@@ -93,7 +97,7 @@ def is_true(folder: str, attribute: str) -> bool:
 
 
 def owner(folder: str) -> int:
-    """The number of the user that owns a group; 0 where the group is gone."""
+    """The number of the user that owns a group; 0 if the group was removed."""
     try:
         return os.stat(folder).st_uid
     except OSError:
@@ -101,7 +105,7 @@ def owner(folder: str) -> int:
 
 
 def group_line(group: Group) -> str:
-    """A group with all that systemd-oomd looks at there and that no trace has."""
+    """A group, with everything that systemd-oomd reads there and that no trace has."""
     is_whole = number_in(f"{group.folder}/memory.oom.group") == 1
     avoid, omit = (is_true(group.folder, f"user.oomd_{it}") for it in ("avoid", "omit"))
     return f"{group.path} uid={owner(group.folder)} oom_group={is_whole:d} avoid={avoid:d} omit={omit:d}\n"
@@ -111,7 +115,9 @@ def group_line(group: Group) -> str:
 
 
 def files_below(root: str, folder: str) -> Iterator[str]:
-    """Units' files and their drop-in files, by their names from the root: both stand at most one folder deep."""
+    """Unit files and their drop-in files, by their names from the root: they are at most one folder
+    deep.
+    """
     try:
         names = sorted(os.listdir(f"{root}/{folder}"))
     except OSError:
@@ -132,16 +138,18 @@ def configurations(root: str) -> Iterator[str]:
 
 
 def unit_files(root: str, folders: tuple[str, ...]) -> Iterator[str]:
-    """Those that set something of systemd-oomd, and those that may stand in their place: drop-in files of the same name, and
-    units of the same name."""
+    """The files that have a setting of systemd-oomd, and those that may override them: drop-in
+    files and units of the same name.
+    """
     found = {name: os.path.basename(name) for folder in folders for name in files_below(root, folder)}
     setting = {last for name, last in found.items() if SETTING.search(read_file(f"{root}/{name}"))}
     yield from (name for name, last in found.items() if last in setting)
 
 
 def settings_alone(text: bytes) -> bytes:
-    """A unit's file without its other lines, in whose place empty ones keep the numbers of those that stay. A line that ends in a
-    backslash goes on in the next, over comments."""
+    """A unit's file with all other lines empty, which keeps the line numbers. A line that ends in a
+    backslash continues in the next one, across comments.
+    """
     lines, is_kept, goes_on = [], False, False
     for line in text.splitlines():
         if line.lstrip()[:1] in (b"#", b";"):
@@ -154,12 +162,12 @@ def settings_alone(text: bytes) -> bytes:
 
 
 def is_other_name(root: str, name: str) -> bool:
-    """Whether it stands in `lib`, which is but another name of `usr/lib`."""
+    """Whether it is in `lib`, if that is only another name of `usr/lib`."""
     return name.startswith("lib/") and os.path.islink(f"{root}/lib")
 
 
 def contents(machine: Machine, tell: Tell) -> Iterator[tuple[str, bytes]]:
-    """The files by their names, and what is in them."""
+    """The files by their names, with their contents."""
     place = place_of(machine)
     yield VERSION, place.asked("--version").printed.partition(b"\n")[0] + b"\n"
     shown = place.asked("show", "--no-pager", "--type=service,slice,scope", "--property=" + ",".join(SHOWN), "*")
@@ -177,8 +185,9 @@ def contents(machine: Machine, tell: Tell) -> Iterator[tuple[str, bytes]]:
 
 
 def store(machine: Machine, folder: Folder, tell: Tell) -> None:
-    """Stores all of it into a recording's folder; nothing where systemd doesn't run. What fails is told, and the recording goes
-    on: no trace depends on it."""
+    """Stores all of it in a recording's folder; nothing if systemd doesn't run. Errors are
+    reported, and the recording continues: no trace depends on it.
+    """
     if not place_of(machine).is_booted():
         return
     try:

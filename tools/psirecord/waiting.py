@@ -1,4 +1,5 @@
-"""Waiting for the next thing to do, a signal, or pressure: in one poll(2), so that none of them comes late."""
+"""Waits for the next job, a signal, or pressure: in one poll(2), so that none of them is delayed.
+"""
 from __future__ import annotations
 
 import os
@@ -13,8 +14,9 @@ ENDING = (signal.SIGINT, signal.SIGTERM, signal.SIGHUP)
 
 
 class Signals:
-    """Signals that end a recording, but for a hangup where nohup has it ignored. They are noted and nothing more, so that they
-    interrupt no change of the machine and no step back."""
+    """The signals that end a recording, except a hangup that nohup ignores. A handler only stores
+    the signal, so that it never interrupts a change of the machine or an undo step.
+    """
 
     def __init__(self) -> None:
         self.came: signal.Signals | None = None
@@ -25,7 +27,7 @@ class Signals:
                 signal.signal(number, self.note)
 
     def note(self, number: int, _: FrameType | None) -> None:
-        """The first one counts."""
+        """Stores the first signal."""
         self.came = self.came or signal.Signals(number)
 
     def end_by_it(self) -> None:
@@ -35,13 +37,13 @@ class Signals:
             signal.raise_signal(self.came)
 
     def ignore(self) -> None:
-        """All is done: one more changes not even the status."""
+        """Ignores further signals: after all work is done they don't even change the status."""
         for number in ENDING:
             signal.signal(number, signal.SIG_IGN)
 
 
 class Waiting:
-    """Waits, and says whether pressure was signalled."""
+    """Waits, and reports whether pressure was signalled."""
 
     def __init__(self, signals: Signals) -> None:
         self.poll = select.poll()
@@ -54,12 +56,13 @@ class Waiting:
         self.poll.register(trigger, condition)
 
     def unwatch(self) -> None:
-        """One signal of pressure is enough."""
+        """Stops watching: one signal of pressure is enough."""
         self.poll.unregister(self.trigger)
         self.trigger = -1
 
     def until(self, moment: float) -> bool:
-        """Waits until this moment (CLOCK_MONOTONIC, s), a signal or pressure. True where it was pressure."""
+        """Waits until `moment` (CLOCK_MONOTONIC, s), a signal or pressure. True if it was pressure.
+        """
         pause = max(0.0, moment - time.monotonic())
         found = [file for file, _ in self.poll.poll(int(pause * 1000 + 0.999))]
         return self.trigger in found and self.signals.came is None
@@ -67,16 +70,16 @@ class Waiting:
 
 @dataclass
 class Job:
-    """Something that is due again and again: `due` is CLOCK_MONOTONIC in s, `period` is in s."""
+    """A periodic job: `due` is CLOCK_MONOTONIC in s, `period` is in s."""
 
     run: Callable[[], None]
     due: float
     period: float
-    # Whether each turn counts. Of the others a late one stands for those that it has missed.
+    # Whether each turn counts. If not, one late run replaces all turns that were missed.
     is_each_due: bool = False
 
     def run_until(self, moment: float) -> None:
-        """Runs it for what is due at this moment."""
+        """Runs it for the turns that are due at `moment`."""
         while self.due <= moment:
             self.run()
             self.due += self.period
