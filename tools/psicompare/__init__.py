@@ -1,1 +1,1 @@
-"""Holds a trace against the pressure files of its machine: `tools/compare`."""
+"""Compares a trace with the pressure files of its machine: `tools/compare`."""

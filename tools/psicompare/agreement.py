@@ -1,8 +1,9 @@
-"""Sets the totals of a trace beside those of its machine, each group sampled at the moments at which its kernel did so.
+"""Compares the totals of a trace with those of its machine, sampling each group at the times at
+which its kernel did.
 
-Where a recording doesn't show these moments, of each group one number is searched for: the phase of the grid on which the kernel
-samples by itself, by which the totals come nearest to all readings. One number can't hide a fault of a trace: its totals grow at
-thirty readings of six files.
+If a recording doesn't show these times, one number per group is fitted: the phase of the grid on
+which the kernel samples on its own, chosen so that the totals come nearest to all readings. One
+number can't hide an error of a trace: its totals grow at thirty readings of six files.
 """
 from __future__ import annotations
 
@@ -18,16 +19,17 @@ from .moments import Moments, period_of
 from .sums import Sums
 from .sums import Totals as Grown
 
-# So many phases of a period can be told apart, one each 16 ms of two seconds. Each so many of them is tried, and then those between
-# the best and its neighbours, halving the distance.
+# The number of phases in a period: one each 16 ms of two seconds. Every COARSE-th one is tried
+# first, then those between the best and its neighbours, halving the distance.
 PHASES, COARSE = 128, 4
 LEVELS = 2
 MICROSECOND = 1000
 
 
 class Growth(NamedTuple):
-    """By how much a file's totals of some and full grew, us: those of the machine; those of the trace as the machine's kernel would
-    have added them up, and as it would have in 64 bits."""
+    """The growth of a file's totals of some and full, us: on the machine; in the trace, as the
+    machine's kernel would have added it up; and as it would have in 64 bits.
+    """
 
     file: File
     machine: tuple[int, int]
@@ -36,8 +38,9 @@ class Growth(NamedTuple):
 
 
 class Asked(NamedTuple):
-    """A group whose files are asked for: its path, its number in the trace, and of each resource from which moment to which (ns of
-    the trace), and by how much the machine's totals grew meanwhile, us."""
+    """A group to compare: its path, its number in the trace, and for each resource the start and
+    end (ns of the trace), and the growth of the machine's totals in between, us.
+    """
 
     path: str
     number: int
@@ -45,22 +48,25 @@ class Asked(NamedTuple):
     machine: dict[str, tuple[int, int]]
 
     def ends(self) -> tuple[int, int]:
-        """From when to when something is asked for."""
+        """The earliest start and the latest end."""
         return min(begin for begin, _ in self.spans.values()), max(end for _, end in self.spans.values())
 
 
 class Sampling(NamedTuple):
-    """The moments at which a group was sampled, ns of the trace; and where they weren't told the phase of its grid, in ns after
-    the first of them."""
+    """The times at which a group was sampled, ns of the trace; and if they are unknown, the phase
+    of its grid, in ns after the first of them.
+    """
 
     moments: list[int]
     phase: int | None
 
 
 def asked_of(readings: Sequence[dict[File, Totals]], clocks: Clocks, start: int) -> list[Asked]:
-    """The groups that have files at the last of these readings and are in the trace, which begins at `start` (ns of the recording's
-    clock). Growth is counted from the first reading; of a group that wasn't accounted then from the first that has its files; and
-    of one that was made later from its making on, at 0."""
+    """The groups that have files at the last of these readings and are in the trace, which begins
+    at `start` (ns of the recording's clock). Growth is counted from the first reading; for a group
+    that wasn't accounted then, from the first that has its files; and for a group that was created
+    later, from 0 at its creation.
+    """
     began = max(it.moment for it in readings[0].values()) - start
     found = []
     for path in sorted({file.path for file in readings[-1]}):
@@ -81,7 +87,7 @@ def asked_of(readings: Sequence[dict[File, Totals]], clocks: Clocks, start: int)
 
 
 def growths_of(asked: Asked, clocks: Clocks, sampling: Sampling, hertz: int) -> list[Growth]:
-    """What the clocks say of a group that is sampled at these moments."""
+    """The growth according to the clocks, if the group is sampled at these times."""
     totals = Sums(clocks, asked.number, sampling.moments, hertz).at(sampling.moments)
     found = []
     for resource, (begin, end) in asked.spans.items():
@@ -92,7 +98,7 @@ def growths_of(asked: Asked, clocks: Clocks, sampling: Sampling, hertz: int) -> 
 
 
 def grown(before: Sequence[int], after: Sequence[int], resource: str, path: str) -> tuple[int, int]:
-    """By how much some and full of a resource grew, us. The root's full line of cpu has zeros."""
+    """The growth of some and full of a resource, us. The root's full line of cpu has zeros."""
     place = LEVELS * RESOURCES.index(resource)
     some, full = ((after[place + level] - before[place + level]) // MICROSECOND for level in range(LEVELS))
     return some, 0 if has_no_full(path, resource) else full
@@ -107,8 +113,9 @@ def has_no_full(path: str, resource: str) -> bool:
 
 
 def sampling_of(asked: Asked, clocks: Clocks, told: Moments, inside: Sequence[int], start: int, hertz: int) -> Sampling:
-    """When the group was sampled: as the recording says, or as it must have been nearly. `inside` has the numbers of the readings
-    that are compared."""
+    """When the group was sampled: according to the recording, or fitted. `inside` has the numbers
+    of the readings that are compared.
+    """
     begin, end = asked.ends()
     own = {moment for span in asked.spans.values() for moment in span}
     if told.knows(asked.path, inside[-1]):
@@ -123,20 +130,22 @@ def sampling_of(asked: Asked, clocks: Clocks, told: Moments, inside: Sequence[in
 
 
 def shifted(files: dict[File, Totals], path: str, start: int) -> dict[str, Totals]:
-    """What a reading said of a group, by resource, at moments of the trace."""
+    """A group's totals in a reading, by resource, at times of the trace."""
     return {file.resource: it._replace(moment=it.moment - start) for file, it in files.items() if file.path == path}
 
 
 def fitted_phase(asked: Asked, clocks: Clocks, files: Sequence[dict[str, Totals]], own: Sequence[int], hertz: int) -> int:
-    """The phase by which the totals of a group come nearest to those of its files, by the squares of what lies between them from
-    reading to reading. The readings are samplings too, at the moments `own`."""
+    """The phase for which the totals of a group come nearest to those of its files, by the squared
+    differences of growth from reading to reading. The readings are samplings too, at the times
+    `own`.
+    """
     (begin, end), period = asked.ends(), period_of(hertz)
     grids = [range(begin + period * place // PHASES, end, period) for place in range(PHASES)]
     sums = Sums(clocks, asked.number, sorted({*own, *(moment for grid in grids for moment in grid)}), hertz)
 
     @lru_cache(maxsize=None)
     def distance(place: int) -> int:
-        """How far the totals are off at the grid that stands there."""
+        """The error of the totals for the grid with this phase."""
         return distance_of(asked.path, files, sums.at(sorted({*own, *grids[place]})))
 
     best, step = min(range(0, PHASES, COARSE), key=distance), COARSE
@@ -147,7 +156,9 @@ def fitted_phase(asked: Asked, clocks: Clocks, files: Sequence[dict[str, Totals]
 
 
 def distance_of(path: str, files: Sequence[dict[str, Totals]], totals: dict[int, Grown]) -> int:
-    """The sum of the squares (us^2) of what the totals grow otherwise than the files, from reading to reading."""
+    """The sum of the squared differences (us^2) between the growth of the totals and of the files,
+    from reading to reading.
+    """
     whole = 0
     for before, after in zip(files, files[1:]):
         for resource in RESOURCES:

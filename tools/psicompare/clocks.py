@@ -1,8 +1,9 @@
-"""The kernel's clocks over a trace: of each group and processor, which states held from when on.
+"""The kernel's clocks over a trace: the states of each group on each processor over time.
 
-The states are those of `kernel/sched/psi.c` (`test_state`), as docs/TRACES.md lists them. They are kept as changes of a mask, nine
-bytes each, so that the time in each state between any two moments can be told later: the moments at which a kernel sampled a group
-are its own, and where they aren't known they are searched for.
+The states are those of `kernel/sched/psi.c` (`test_state`), as listed in docs/TRACES.md. They are
+stored as changes of a mask, nine bytes each, so that the time in each state between any two times
+can be computed later: a kernel samples each group at times of its own, which are fitted if they are
+unknown.
 """
 from __future__ import annotations
 
@@ -15,17 +16,19 @@ from psiworld.groups import ROOT, parent_of
 # The states, by their bits.
 IO_SOME, IO_FULL, MEMORY_SOME, MEMORY_FULL, CPU_SOME, CPU_FULL, NONIDLE = (1 << place for place in range(7))
 STATES = 7
-# By a mask: the states that hold.
+# The states that hold, by mask.
 HELD = [tuple(state for state in range(STATES) if mask >> state & 1) for mask in range(1 << STATES)]
-# What of a group's tasks on a processor is counted.
+# The counts of a group's tasks on a processor.
 WAITING, STALLED, READY, READY_STALLED = range(4)
-# How a task that left goes on, by the trace's word.
+# The state of a task that left its processor, by the word of the trace.
 BLOCKED = {"sleep": "S", "iowait": "D"}
 
 
 class Clock:
-    """A group's clock on one processor: how many of its tasks wait, are stalled, and are ready (running ones among them), and the
-    masks of its states, each from a moment (ns) on."""
+    """A group's clock on one processor: the number of its tasks that wait, are stalled, and are
+    ready (including the running one), and the masks of its states, each with the time (ns) from
+    which it holds.
+    """
 
     __slots__ = ("counts", "moments", "masks")
 
@@ -35,7 +38,7 @@ class Clock:
         self.masks = bytearray(1)
 
     def put(self, moment: int, mask: int) -> None:
-        """From this moment on these states hold."""
+        """From `moment` (ns) these states hold."""
         if mask == self.masks[-1]:
             return
         if self.moments[-1] == moment:
@@ -46,8 +49,9 @@ class Clock:
 
 
 def mask_of(counts: Sequence[int], runs: bool, stalls: bool) -> int:
-    """The states of a group whose tasks on a processor are these; `runs` says whether one of them runs there, and `stalls` whether
-    that one is in a memory stall."""
+    """The states of a group with these counts on a processor; `runs` says whether one of its tasks
+    runs there, and `stalls` whether that task is in a memory stall.
+    """
     waiting, stalled, ready, ready_stalled = counts
     mask = NONIDLE if waiting or stalled or ready else 0
     if waiting:
@@ -74,11 +78,14 @@ class Task:
 
 
 class Clocks:
-    """The clocks of a whole trace, by its lines. Groups have numbers in the order in which they were made, the root 0."""
+    """The clocks of a whole trace, computed from its lines. Groups are numbered in the order of
+    their creation, the root is 0.
+    """
 
     def __init__(self, lines: Iterable[str]) -> None:
         self.now = 0
-        # Of each group: the groups from it up to the root, and from when to when it is there (None: until the end).
+        # For each group: the groups from it up to the root, and its first and last time (None:
+        # until the end).
         self.chains: list[tuple[int, ...]] = [(0,)]
         self.lives: list[tuple[int, int | None]] = [(0, None)]
         self.numbers: dict[str, int] = {ROOT: 0}
@@ -103,7 +110,7 @@ class Clocks:
     # ------------------------------------------------------------ groups
 
     def group(self, path: str) -> None:
-        """A group was made."""
+        """A group is created."""
         number = len(self.chains)
         self.chains.append((number, *self.chains[self.numbers[parent_of(path)]]))
         self.lives.append((self.now, None))
@@ -112,12 +119,12 @@ class Clocks:
         self.incarnations.setdefault(path, []).append(number)
 
     def rmgroup(self, path: str) -> None:
-        """A group was removed."""
+        """A group is removed."""
         number = self.numbers.pop(path)
         self.lives[number] = (self.lives[number][0], self.now)
 
     def number_at(self, path: str, moment: int) -> int | None:
-        """The number of the group that has this path at a moment (ns), if one has."""
+        """The number of the group that has this path at a time (ns), if any."""
         for number in reversed(self.incarnations.get(path, ())):
             made, gone = self.lives[number]
             if made <= moment:
@@ -125,7 +132,7 @@ class Clocks:
         return None
 
     def pressure(self, path: str, word: str) -> None:
-        """A group's accounting was switched."""
+        """A group's accounting is switched."""
         number = self.numbers[path]
         (self.off.discard if word == "on" else self.off.add)(number)
         for processor in self.clocks[number]:
@@ -134,14 +141,14 @@ class Clocks:
     # ------------------------------------------------------------ tasks
 
     def clock(self, group: int, processor: int) -> Clock:
-        """The group's clock there."""
+        """The group's clock on this processor."""
         clocks = self.clocks[group]
         if processor not in clocks:
             clocks[processor] = Clock(self.lives[group][0])
         return clocks[processor]
 
     def count(self, task: Task, step: int) -> None:
-        """The task counts once more (1) or no more (-1), in its group and those above."""
+        """Counts the task (1), or stops counting it (-1), in its group and the ancestors."""
         is_ready = task.state == "R"
         waits = task.state == "D"
         for group in self.chains[task.group]:
@@ -156,7 +163,7 @@ class Clocks:
                     counts[READY_STALLED] += step
 
     def tell(self, processor: int, groups: Iterable[int]) -> None:
-        """Keeps which states hold there from now on."""
+        """Stores the present states of these groups on the processor."""
         running = self.runs.get(processor)
         above = self.chains[running.group] if running else ()
         stalls = running is not None and running.is_stalled
@@ -165,13 +172,13 @@ class Clocks:
             clock.put(self.now, 0 if group in self.off else mask_of(clock.counts, group in above, stalls))
 
     def fork(self, label: str, path: str, processor: str) -> None:
-        """A task was made, ready."""
+        """A task is created, ready."""
         task = self.tasks[label] = Task(self.numbers[path], int(processor))
         self.count(task, 1)
         self.tell(task.processor, self.chains[task.group])
 
     def wake(self, label: str, processor: str) -> None:
-        """A task is ready on a processor: one that was blocked, or one that was ready elsewhere."""
+        """A task is ready on a processor: it was blocked, or ready elsewhere."""
         task, before = self.tasks[label], self.tasks[label].processor
         self.count(task, -1)
         task.processor, task.state = int(processor), "R"
@@ -182,7 +189,7 @@ class Clocks:
             self.tell(before, chain)
 
     def move(self, label: str, path: str) -> None:
-        """A task went to another group."""
+        """A task moves to another group."""
         task = self.tasks[label]
         before = self.chains[task.group]
         self.count(task, -1)
@@ -191,22 +198,22 @@ class Clocks:
         self.tell(task.processor, {*before, *self.chains[task.group]})
 
     def stall(self, label: str) -> None:
-        """A task went into a memory stall."""
+        """A task enters a memory stall."""
         self.set_stall(self.tasks[label], True)
 
     def unstall(self, label: str) -> None:
-        """A task came out of it."""
+        """A task leaves its memory stall."""
         self.set_stall(self.tasks[label], False)
 
     def set_stall(self, task: Task, is_stalled: bool) -> None:
-        """A task is in a memory stall from now on, or isn't."""
+        """Sets whether a task is in a memory stall."""
         self.count(task, -1)
         task.is_stalled = is_stalled
         self.count(task, 1)
         self.tell(task.processor, self.chains[task.group])
 
     def switch(self, place: str, following: str, how: str) -> None:
-        """Who ran on a processor left, and another runs, or nobody."""
+        """The running task leaves a processor; another one runs, or none."""
         processor = int(place)
         touched: set[int] = set()
         leaving = self.runs.pop(processor, None)
@@ -225,14 +232,15 @@ class Clocks:
     # ------------------------------------------------------------ what the clocks say
 
     def times(self, group: int, moments: Sequence[int]) -> list[list[tuple[int, ...]]]:
-        """Of each processor that the group was on: the ns in each state from each of these moments, in order, to the next. Of a group
-        that was on none they are all 0."""
+        """For each processor that the group was on: the ns in each state between each two
+        consecutive times. For a group that was on none they are all 0.
+        """
         idle: list[tuple[int, ...]] = [(0,) * STATES] * (len(moments) - 1)
         return [times_of(clock, moments) for clock in self.clocks[group].values()] or [idle]
 
 
 def times_of(clock: Clock, moments: Sequence[int]) -> list[tuple[int, ...]]:
-    """The ns in each state between these moments."""
+    """The ns in each state between these times."""
     changes, masks = clock.moments, clock.masks
     place = bisect_right(changes, moments[0])
     mask, found = masks[place - 1] if place else 0, []

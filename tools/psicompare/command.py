@@ -40,14 +40,16 @@ from .origin import must_be_in_order, must_be_of, must_have_switches_of
 from .table import LEVELS, MICROSECONDS, Limits, Row, Shown, Span, cell_of, report
 
 BEYOND, NOTHING = 1, 2
-# How far totals may be off, in percent, at the root and in groups: at the kernel's moments, and by a replay.
+# The allowed errors of totals, in percent, at the root and in groups: with the kernel's sampling
+# times, and with a replay.
 LIMITS, REPLAY_LIMITS = (1.5, 2.5), (2.5, 4.0)
 TOO_FEW = "less than two readings of the machine's pressure files lie in the trace"
 
 
 class Options(NamedTuple):
-    """What the command line says: times in ns and us, limits in percent. `tick_ms` is none where the kernel's moments are asked for,
-    and `hertz` where the recording is to tell it."""
+    """The parsed command line: times in ns and us, limits in percent. `tick_ms` is None for the
+    kernel's sampling times, and `hertz` is None if it comes from the recording.
+    """
 
     folder: str
     trace: str
@@ -61,7 +63,7 @@ class Options(NamedTuple):
 
 
 def options_of(given: list[str]) -> Options:
-    """What these words say."""
+    """Parses the command line."""
     words = Parser("compare", __doc__, NOTHING)
     words.add_argument("folder", metavar="FOLDER", help="the recording")
     words.add_argument("trace", metavar="TRACE", help="the trace that was made of it")
@@ -93,12 +95,12 @@ def options_of(given: list[str]) -> Options:
 
 
 def start_of(options: Options, source: Source) -> int:
-    """Where the trace begins, in ns of the recording's clock."""
+    """The start of the trace, in ns of the recording's clock."""
     return source.start + options.start - options.lead_in
 
 
 def span_line(first: int, last: int, length: int) -> str:
-    """What is compared: from which reading to which, and how long that was (ns)."""
+    """The readings that are compared, and the time between them (ns)."""
     return f"from reading {first} to {last} of the machine's files, {length / SECOND:.3f} s, in us"
 
 
@@ -106,7 +108,9 @@ def span_line(first: int, last: int, length: int) -> str:
 
 
 def end_of(trace: str) -> int:
-    """How long a trace lasts, in ns, by its last line. One that was made of samples isn't compared with the events of a recording."""
+    """The length of a trace in ns, from its last line. A trace made from samples is rejected: it can't
+    be compared with the events of a recording.
+    """
     found = sampled(trace)
     if found:
         raise Unreadable(refusal(trace, found, "when its tasks changed their states, and tools/samples compared it with its samples"))
@@ -124,7 +128,7 @@ def end_of(trace: str) -> int:
 
 
 def replayed(trace: str, tick_ms: int) -> str:
-    """What psi_oomd prints of the trace, with a report each second."""
+    """The output of psi_oomd for the trace, with a report each second."""
     program = named_program()
     words = [program, "replay", trace, "--tick-ms", str(tick_ms), "--report-s", "1"]
     try:
@@ -137,7 +141,7 @@ def replayed(trace: str, tick_ms: int) -> str:
 
 
 def by_replay(options: Options, tick_ms: int) -> tuple[list[Row], Shown]:
-    """What a replay says of the trace."""
+    """Compares using a replay of the trace."""
     source = read_recording(options.folder, True)
     start, end = start_of(options, source), end_of(options.trace)
     must_be_of(source, options.trace, start, end, options.lead_in)
@@ -153,7 +157,9 @@ def by_replay(options: Options, tick_ms: int) -> tuple[list[Row], Shown]:
 
 
 def clocks_of(trace: str, edited: Callable[[Iterable[str]], Iterable[str]] = iter) -> Clocks:
-    """The clocks of a trace whose lines were edited. Whether all of it is legal psi_oomd knows; what can't be followed isn't."""
+    """The clocks of a trace whose lines were edited. psi_oomd checks that the trace is valid; lines
+    that can't be followed are errors here too.
+    """
     number = 1
 
     def counted(lines: Iterable[str]) -> Iterator[str]:
@@ -178,7 +184,9 @@ def clocks_of(trace: str, edited: Callable[[Iterable[str]], Iterable[str]] = ite
 
 
 def extremes_of(options: Options, source: Source) -> list[Clocks]:
-    """The clocks of the trace with each wakeup as late as it may have been counted, and as early, where that is known at all."""
+    """The clocks of the trace with each wakeup as late as it may have been counted, and as early;
+    none if that is unknown.
+    """
     if not source.has_ready_probe and options.lag is None:
         return []
     found = []
@@ -190,7 +198,9 @@ def extremes_of(options: Options, source: Source) -> list[Clocks]:
 
 
 def row_of(growth: Growth, phase: int | None, extremes: Sequence[Growth] = ()) -> Row:
-    """A file's row; `phase` (ns) is none where the moments of sampling are known, and `extremes` are what the trace may give too."""
+    """A file's row; `phase` (ns) is None if the sampling times are known, and `extremes` are the
+    bounds of the trace's growth.
+    """
     right = growth.true if growth.true != growth.told else None
     note = "" if phase is None else f"{phase // 10**6} ms"
     some, full = ([it.told[level] for it in (growth, *extremes)] for level in range(len(LEVELS)))
@@ -199,12 +209,12 @@ def row_of(growth: Growth, phase: int | None, extremes: Sequence[Growth] = ()) -
 
 
 def is_shown(machine: dict[str, tuple[int, int]], options: Options) -> bool:
-    """Whether a group's files grew so much that a fit is worth while."""
+    """Whether a group's files grew enough for a fit to be worthwhile."""
     return max(max(it) for it in machine.values()) >= min(options.shown, options.limits.least)
 
 
 def by_moments(options: Options) -> tuple[list[Row], Shown]:
-    """What the trace says where each group is sampled when the kernel did."""
+    """Compares with each group sampled at the times at which the kernel did."""
     source = read_recording(options.folder, True)
     start, clocks = start_of(options, source), clocks_of(options.trace)
     must_be_of(source, options.trace, start, clocks.now, options.lead_in)
@@ -227,7 +237,7 @@ def by_moments(options: Options) -> tuple[list[Row], Shown]:
 
 
 def bar_lines(options: Options, source: Source) -> list[str]:
-    """What a percentage from one number to another means."""
+    """Explains the error bars."""
     if source.has_ready_probe:
         return ["from .. to: with wakeups at their events, and when psi counted them; what lies between the recording doesn't say"]
     if options.lag:
@@ -236,7 +246,7 @@ def bar_lines(options: Options, source: Source) -> list[str]:
 
 
 def sampling_lines(told: Moments, fitted: bool, hertz: int, options: Options) -> list[str]:
-    """How the moments of sampling came to be known."""
+    """Explains how the sampling times were found."""
     if told.is_known:
         line = "each group is sampled when the kernel did, as the recording says"
         return [line + "; of those with a phase it doesn't, and that is fitted by all readings" * fitted]
@@ -249,7 +259,7 @@ def sampling_lines(told: Moments, fitted: bool, hertz: int, options: Options) ->
 
 
 def cause_lines(rows: Sequence[Row], limits: Limits) -> list[str]:
-    """Why totals are beyond their limits, as far as that is known."""
+    """The known causes of totals that exceed their limits."""
     cells = [(row, cell_of(row, level, limits)) for row in rows for level in range(len(LEVELS))]
     beyond = [(row, cell) for row, cell in cells if cell.is_beyond]
     short = [row for row, cell in beyond if row.file.resource == "cpu" and not row.bars and cell.off and cell.off[1] < 0]
@@ -268,7 +278,7 @@ def cause_lines(rows: Sequence[Row], limits: Limits) -> list[str]:
 
 
 def run(options: Options) -> int:
-    """Compares, and prints the table; answers the status."""
+    """Compares, and prints the table; returns the status."""
     rows, shown = by_moments(options) if options.tick_ms is None else by_replay(options, options.tick_ms)
     text, beyond = report(rows, options.limits, shown)
     print(text)
@@ -279,7 +289,7 @@ def run(options: Options) -> int:
 
 
 def main(given: list[str]) -> int:
-    """Runs the command; answers its status."""
+    """Runs the command; returns its status."""
     options = options_of(given)
     try:
         must_be_in_order(options.folder, options.trace)

@@ -1,6 +1,7 @@
-"""When the kernel sampled a recording's groups: at each reading of one of a group's files, and some two seconds after the last time
-by itself, as two probes of the recorder tell. A group is told there by the address of its accounts. Which address is whose follows
-from the recorder's own readings, whose files stand in a known order.
+"""When the kernel sampled a recording's groups: at each reading of one of a group's files, and on
+its own some two seconds after the last time, as two probes of the recorder show. A probe identifies
+a group by the address of its accounts. Which address belongs to which group follows from the
+recorder's own readings, which read the files in a known order.
 """
 from __future__ import annotations
 
@@ -15,23 +16,27 @@ from psiread.source import Source
 from psiread.words import SECOND
 from psirec.layout import RESOURCES
 
-# The work stands within a group's accounts, which aren't larger than this many bytes.
+# The work is within a group's accounts, which have at most this many bytes.
 MOST_ACCOUNTS = 4096
-# The rates at which kernels' timers run, and the commonest, taken where nothing tells. The periods at 300 Hz can't be told from
-# those at 250, since each comes up to 20 ms late; nothing differs by that.
+# The rates of kernels' timers; the commonest is the default. The periods at 300 Hz can't be
+# distinguished from those at 250, since each is up to 20 ms late; this makes no difference.
 RATES = (100, 250, 1000)
 COMMON_RATE = 250
-# Two samplings of the kernel's own are successive where they are so far apart, ns.
+# Two samplings by the kernel itself are consecutive if the time between them is in this range, ns.
 LEAST_PERIOD, MOST_PERIOD = 1_950_000_000, 2_050_000_000
 
 
 def period_of(hertz: int) -> int:
-    """After how many ns the kernel samples a group by itself (`PSI_FREQ`), where its timer has this rate."""
+    """The ns after which the kernel samples a group on its own (`PSI_FREQ`), if its timer has this
+    rate.
+    """
     return (2 * hertz + 1) * SECOND // hertz
 
 
 class Moments:
-    """The moments of sampling that a recording tells. `readings` come with a moment of each file as the probe tells it."""
+    """The sampling times in a recording. In `readings` each file has the time that the probe
+    reported.
+    """
 
     def __init__(self, source: Source, readings: Readings) -> None:
         self.readings = readings
@@ -43,7 +48,7 @@ class Moments:
             self.learn(source)
 
     def learn(self, source: Source) -> None:
-        """Takes what the probes tell."""
+        """Takes the events of the probes."""
         shows = [it for it in source.events if isinstance(it, ShowProbe)]
         works: dict[int, list[int]] = defaultdict(list)
         for event in source.events:
@@ -60,8 +65,10 @@ class Moments:
             moments.sort()
 
     def match(self, source: Source, shows: list[ShowProbe]) -> None:
-        """Finds what the recorder's own readings showed, file by file. One that has another number of files, since some were gone
-        or refused, tells no addresses; those of the one before are taken."""
+        """Finds the addresses in the recorder's own readings, file by file. If a reading has a
+        different number of files, since some were removed or couldn't be read, it shows no
+        addresses; those of the previous one are used.
+        """
         known: dict[str, int] = {}
         recorder, begins = recorder_of(source), [it.moment for it in shows]
         spans = spans_of(source)
@@ -78,25 +85,29 @@ class Moments:
             }
 
     def knows(self, path: str, number: int) -> bool:
-        """Whether it is known when the group was sampled that has this path at the reading of this number."""
+        """Whether the sampling times are known for the group that has this path at the reading of
+        this number.
+        """
         return self.addresses.get(number, {}).get(path, 0) in self.sampled
 
     def between(self, path: str, number: int, begin: int, end: int) -> list[int]:
-        """When the group was sampled from `begin` to `end`, both of them ends of a stretch that is asked for, that has this path at
-        the reading of this number; ns of the recording's clock."""
+        """The times from `begin` to `end` at which the group was sampled that has this path at the
+        reading of this number; the ends of the stretch are included; ns of the recording's clock.
+        """
         moments = self.sampled.get(self.addresses.get(number, {}).get(path, 0), [])
         return sorted({begin, end, *moments[bisect_left(moments, begin) : bisect_right(moments, end)]})
 
 
 def offset_of(groups: dict[int, list[int]], works: dict[int, list[int]]) -> int:
-    """How far behind the beginning of a group's accounts its work stands: what the most pairs have in common."""
+    """The offset of the work in a group's accounts: the commonest difference among all pairs."""
     found = Counter(work - group for work in works for group in groups if 0 <= work - group < MOST_ACCOUNTS)
     return found.most_common(1)[0][0] if found else 0
 
 
 def rate_of(works: dict[int, list[int]]) -> int | None:
-    """The rate of the kernel's timer by the length of its periods, in the longest run of them of each group; None where there is
-    none."""
+    """The rate of the kernel's timer, from the length of the periods in each group's longest run of
+    them; None if there is no run.
+    """
     runs = [run for run in map(longest_run, works.values()) if run[0]]
     if not runs:
         return None
@@ -106,7 +117,7 @@ def rate_of(works: dict[int, list[int]]) -> int | None:
 
 
 def longest_run(moments: Sequence[int]) -> tuple[int, float]:
-    """How many periods followed on each other at most, and how long these were, ns."""
+    """The largest number of consecutive periods, and their mean length, ns."""
     best, length, run = 0, 0.0, 0
     for place, moment in enumerate(moments):
         is_next = place > 0 and LEAST_PERIOD <= moment - moments[place - 1] <= MOST_PERIOD

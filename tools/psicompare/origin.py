@@ -1,5 +1,7 @@
-"""Whether a trace was made of a recording: a comparison with another machine's says nothing. The trace's processors, groups and
-length must be those of the recording, and its switches be at the times of the recording's."""
+"""Checks that a trace was made from a recording: a comparison with another machine means nothing.
+The trace's processors, groups and length must be those of the recording, and its switches be at the
+times of the recording's.
+"""
 from __future__ import annotations
 
 import os
@@ -14,15 +16,17 @@ from psirec.layout import escaped_path
 from psiworld.groups import ROOT, prefixes_of
 
 HEADER = re.compile("psitrace [12] cpus=([1-9][0-9]?)")
-# By how much (ns) a trace may be longer than what is left of its recording: --to rounds nothing, so hardly at all.
+# The time (ns) by which a trace may exceed the rest of its recording: --to doesn't round, so this
+# is hardly ever used.
 SLACK = 10**9
-# The least share of a trace's switches that are at times of the recording's. A task that begins to sleep or to wait, or exits, is
-# switched to for no time, and so is a task that the converter puts to sleep: these aren't events of the recording.
+# The least share of a trace's switches that must be at times of the recording's switches. Some
+# aren't events of the recording: a task that begins to sleep or to wait, or exits, is switched to
+# for no time, and so is a task that the converter puts to sleep.
 LEAST_SHARE = 0.5
 
 
 def must_be_in_order(folder: str, trace: str) -> None:
-    """Refuses words in the wrong order."""
+    """Rejects arguments in the wrong order."""
     if os.path.isdir(trace) and is_trace(folder):
         raise Unreadable(f"the words are swapped: compare {trace} {folder}")
 
@@ -37,8 +41,9 @@ def lines_of(trace: str) -> Iterator[str]:
 
 
 def must_be_of(source: Source, trace: str, start: int, length: int, lead_in: int) -> None:
-    """Refuses a trace with other processors, with groups that the recording doesn't have, or that is longer than what is left of the
-    recording from `start` on. Times are ns."""
+    """Rejects a trace with a different number of processors, with groups that the recording doesn't
+    have, or that is longer than the rest of the recording from `start`. Times are ns.
+    """
     lines = lines_of(trace)
     header = HEADER.match(next(lines, ""))
     processors = int(header[1]) if header else 0
@@ -55,14 +60,16 @@ def must_be_of(source: Source, trace: str, start: int, length: int, lead_in: int
 
 
 def groups_of(source: Source) -> set[str]:
-    """All groups that a recording names, and those above them."""
+    """All groups that a recording names, and their ancestors."""
     made = {escaped_path(event.path) for event in source.events if isinstance(event, (GroupMade, Attach))}
     named = {*source.snapshot.groups, *(task.path for task in source.snapshot.tasks.values()), *made}
     return {ROOT, *(above for path in named for above in prefixes_of(path))}
 
 
 def must_have_switches_of(source: Source, trace: str, start: int, lead_in: int) -> None:
-    """Refuses a trace most of whose switches, after a pretended past, aren't at times of the recording's. Times are ns."""
+    """Rejects a trace if most of its switches, after the warm-up, aren't at times of the
+    recording's. Times are ns.
+    """
     moments = {event.moment - start for event in source.events if isinstance(event, Switch)}
     found = count = 0
     for line in lines_of(trace):
@@ -76,5 +83,5 @@ def must_have_switches_of(source: Source, trace: str, start: int, lead_in: int) 
 
 
 def other(trace: str, why: str) -> str:
-    """How a trace is refused."""
+    """The message that rejects a trace."""
     return f"{trace}: this trace isn't of this recording: {why}"

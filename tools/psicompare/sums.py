@@ -1,7 +1,9 @@
-"""A group's totals as the kernel adds them up (`collect_percpu_times` of `kernel/sched/psi.c`): at each of its moments of sampling,
-of each state the mean of what it grew by on the processors, each by the ticks of the timer for which the group kept it busy.
+"""A group's totals as the kernel adds them up (`collect_percpu_times` of `kernel/sched/psi.c`): at
+each sampling time each state's total grows by the mean of its growth on the processors, weighted by
+the ticks of the timer for which the group was not idle there.
 
-The kernel holds these growths in 32 bits: of a state that held for 4.295 s or longer between two moments it counts the rest alone.
+The kernel stores these growths in 32 bits: if a state held for 4.295 s or longer between two
+samplings, only the remainder is counted.
 """
 from __future__ import annotations
 
@@ -16,27 +18,30 @@ from .clocks import STATES, Clocks
 
 WIDTH = 2**32
 NONIDLE = STATES - 1
-# The growths of the states of one processor in one interval, ns.
+# The growth of each state of one processor in one interval, ns.
 Times = Sequence[int]
 
 
 class Step(NamedTuple):
-    """What the totals of the states grow by at a moment of sampling, ns: as the kernel adds them up, in 32 bits, and as it would
-    in 64."""
+    """The growth of the totals of the states at a sampling, ns: as the kernel computes it, in 32
+    bits, and as it would in 64.
+    """
 
     told: list[int]
     true: list[int]
 
 
 def shares(processors: Sequence[Times], hertz: int) -> list[int]:
-    """The shares of the states but `nonidle` of an interval, ns; `hertz` is the rate of the kernel's timer."""
+    """The growth of each state but `nonidle` in an interval, ns; `hertz` is the rate of the
+    kernel's timer.
+    """
     weights = [times[NONIDLE] * hertz // SECOND for times in processors]
     whole = max(1, sum(weights))
     return [sum(times[state] * weight for times, weight in zip(processors, weights)) // whole for state in range(NONIDLE)]
 
 
 def step_of(processors: Sequence[Times], hertz: int) -> Step:
-    """What an interval adds to the totals."""
+    """The growth in an interval."""
     true = shares(processors, hertz)
     if all(times[NONIDLE] < WIDTH for times in processors):
         return Step(true, true)
@@ -44,14 +49,18 @@ def step_of(processors: Sequence[Times], hertz: int) -> Step:
 
 
 class Totals(NamedTuple):
-    """By how much the totals of the states have grown since the first of some moments, ns: as a `Step` has them."""
+    """The growth of the totals of the states since the first sampling, ns: in 32 and 64 bits, as in
+    `Step`.
+    """
 
     told: list[int]
     true: list[int]
 
 
 class Sums:
-    """A group's totals at any choice of these moments (ns of the trace, ascending), which are the moments of sampling then."""
+    """A group's totals for any selection of these times (ns of the trace, ascending) as sampling
+    times.
+    """
 
     def __init__(self, clocks: Clocks, group: int, moments: Sequence[int], hertz: int) -> None:
         self.hertz = hertz
@@ -60,14 +69,14 @@ class Sums:
         self.steps: dict[tuple[int, int], Step] = {}
 
     def step(self, first: int, last: int) -> Step:
-        """What the stretch between the moments at these places adds, which is computed once."""
+        """The growth between the times with these indexes, which is computed once."""
         if (first, last) not in self.steps:
             grown = [[after - before for before, after in zip(times[first], times[last])] for times in self.times]
             self.steps[first, last] = step_of(grown, self.hertz)
         return self.steps[first, last]
 
     def at(self, chosen: Sequence[int]) -> dict[int, Totals]:
-        """The totals at each of these moments, in their order, from the first of them on."""
+        """The totals at each of these times, in order, counted from the first."""
         told = true = [0] * NONIDLE
         found = {chosen[0]: Totals(told, true)}
         for before, after in zip(chosen, chosen[1:]):
@@ -80,5 +89,5 @@ class Sums:
 
 
 def added(times: Times, more: Times) -> tuple[int, ...]:
-    """Both together."""
+    """The sums, element by element."""
     return tuple(map(add, times, more))

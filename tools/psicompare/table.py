@@ -1,4 +1,5 @@
-"""The table of tools/compare: what of each file's totals is shown, and what is beyond its limits."""
+"""The table of tools/compare: which totals of each file are shown, and which exceed their limits.
+"""
 from __future__ import annotations
 
 from collections.abc import Sequence
@@ -11,28 +12,31 @@ MICROSECONDS = 10**6
 
 
 class Limits(NamedTuple):
-    """How far a total may be off, in percent, at the root and in other groups; and from how many us on that is asked of it."""
+    """The allowed errors of a total, in percent, at the root and in other groups; and the growth
+    (us) from which they apply.
+    """
 
     root: float
     groups: float
     least: int
 
     def most(self, file: File) -> float:
-        """How far the totals of this file may be off, in percent."""
+        """The allowed error of this file's totals, in percent."""
         return self.root if file.path == "/" else self.groups
 
 
 class Span(NamedTuple):
-    """From where to where something lies: a total's growth, in us, of which the recording doesn't say more."""
+    """The range of a total's growth, in us, if the recording doesn't determine it exactly."""
 
     low: int
     high: int
 
 
 class Row(NamedTuple):
-    """What is set side by side of a file: by how much its totals of some and full grew, us. `bars` says between which growths those
-    of the trace may lie. Where the machine's sums have lost something, `right` has what they should have been; and `note` stands in
-    a column of its own."""
+    """The comparison for a file: the growth of its totals of some and full, us. `bars` has the
+    ranges of the trace's growth. If the machine's sums have lost something, `right` has what they
+    should have been; and `note` is in a column of its own.
+    """
 
     file: File
     machine: tuple[int, int]
@@ -43,8 +47,9 @@ class Row(NamedTuple):
 
 
 class Cell(NamedTuple):
-    """One number of a row: by how many percent the trace is off, at least and at most, whether that is asked of it, and whether it
-    is too far."""
+    """One number of a row: the least and the greatest error of the trace in percent, whether the
+    limit applies, and whether it is exceeded.
+    """
 
     off: tuple[float, float] | None
     is_asked: bool
@@ -52,12 +57,12 @@ class Cell(NamedTuple):
 
 
 def bar_of(row: Row, level: int) -> Span:
-    """Between what the trace's some (0) or full (1) may lie."""
+    """The range of the trace's some (0) or full (1)."""
     return row.bars[level] if row.bars else Span(row.trace[level], row.trace[level])
 
 
 def cell_of(row: Row, level: int, limits: Limits) -> Cell:
-    """What is to be said of a row's some (0) or full (1)."""
+    """The result for a row's some (0) or full (1)."""
     machine, bar, most = row.machine[level], bar_of(row, level), limits.most(row.file)
     is_asked = max(machine, bar.high) >= limits.least
     if not machine:
@@ -67,7 +72,7 @@ def cell_of(row: Row, level: int, limits: Limits) -> Cell:
 
 
 def words_of(row: Row, level: int, cell: Cell) -> list[str]:
-    """The three cells of a table's row: the machine's growth, the trace's, and how far that is off."""
+    """The three cells of a table's row: the machine's growth, the trace's, and the error."""
     words = "-"
     if cell.off:
         low, high = (f"{it:+.1f}" for it in cell.off)
@@ -77,7 +82,7 @@ def words_of(row: Row, level: int, cell: Cell) -> list[str]:
 
 
 def table_of(rows: Sequence[Sequence[str]]) -> str:
-    """A table in Markdown whose columns stand below each other; the first two go to the left."""
+    """A table in Markdown with aligned columns; the first two are aligned left."""
     widths = [max(len(row[place]) for row in rows) for place in range(len(rows[0]))]
     columns = list(enumerate(widths))
     lines = [
@@ -89,7 +94,7 @@ def table_of(rows: Sequence[Sequence[str]]) -> str:
 
 
 def wrap_lines(rows: Sequence[Row]) -> list[str]:
-    """What the machine's files should have said where its sums have lost something."""
+    """What the machine's files should have contained if its sums have lost something."""
     lines = [
         f"  {row.file.path} {row.file.resource}: some {row.right[0]}, full {row.right[1]}" for row in rows if row.right is not None
     ]
@@ -98,7 +103,7 @@ def wrap_lines(rows: Sequence[Row]) -> list[str]:
 
 
 def verdict_of(cells: Sequence[Cell], limits: Limits, has_bars: bool) -> str:
-    """How many totals are within their limits."""
+    """The number of totals that are within their limits."""
     asked, beyond = sum(it.is_asked for it in cells), sum(it.is_beyond for it in cells)
     least, said = f"{limits.least / MICROSECONDS:g} s", f"{limits.root:g} % at the root, {limits.groups:g} % in groups"
     said += " of what the trace may be" * has_bars
@@ -108,8 +113,9 @@ def verdict_of(cells: Sequence[Cell], limits: Limits, has_bars: bool) -> str:
 
 
 class Shown(NamedTuple):
-    """How a table is shown: the lines above it, what its second numbers are called, the head of its notes (empty where it has
-    none), and from how many us on a file is shown."""
+    """How a table is shown: the lines above it, the name of its second numbers, the head of its
+    notes (empty if it has none), and the growth (us) from which a file is shown.
+    """
 
     head: list[str]
     second: str
@@ -118,7 +124,7 @@ class Shown(NamedTuple):
 
 
 def report(rows: Sequence[Row], limits: Limits, shown: Shown) -> tuple[str, int]:
-    """The table with what it says, and how many totals are beyond their limits."""
+    """The table with its remarks, and the number of totals that exceed their limits."""
     notes = [shown.notes] if shown.notes else []
     table = [["group", "resource", "some: machine", shown.second, "", "full: machine", shown.second, "", *notes]]
     cells = []
