@@ -1,1 +1,3 @@
-"""What systemd-oomd would have killed in a trace, by a machine's own settings of it: tools/systemd-oomd."""
+"""What systemd-oomd would have killed in a trace, with a machine's own settings:
+tools/systemd-oomd.
+"""

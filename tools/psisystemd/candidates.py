@@ -1,4 +1,4 @@
-"""Which groups may be killed, and in which order."""
+"""The groups that may be killed, and their order."""
 from __future__ import annotations
 
 from collections.abc import Iterable, Iterator
@@ -10,13 +10,15 @@ from psiworld.groups import ROOT
 
 
 def is_below(path: str, above: str) -> bool:
-    """Whether a path is this one or below it."""
+    """Whether a path is this one or a descendant of it."""
     return above == ROOT or path == above or path.startswith(f"{above}/")
 
 
 def memory_of(group: Group) -> Sample | None:
-    """What is read of a group's memory: of the root neither its swap nor its scans. None where nothing can be read: the group has no
-    memory controller, or its account is off, so that it has no file of pressure."""
+    """A group's memory as systemd-oomd reads it: for the root without swap and scans. None if
+    nothing can be read: the group has no memory controller, or its accounting is off, so that it
+    has no pressure files.
+    """
     sample = group.whole_sample()
     if group.path == ROOT:
         return Sample(sample.memory if sample else 0, 0, 0)
@@ -24,7 +26,9 @@ def memory_of(group: Group) -> Sample | None:
 
 
 def leaves(group: Group, settings: Settings) -> Iterator[Group]:
-    """The candidates of a watched group: groups without any below them, and below it those that end as a whole."""
+    """The candidates of a watched group: its descendants without children, and those that are
+    killed as a whole.
+    """
     if not group.children:
         yield group
     for child in group.children.values():
@@ -35,7 +39,9 @@ def leaves(group: Group, settings: Settings) -> Iterator[Group]:
 
 
 def preference(group: Group, settings: Settings, above: str) -> str:
-    """What a candidate asks for, which counts where root owns it, or who owns the watched group."""
+    """A candidate's preference, which counts if the candidate belongs to root, or to the owner of
+    the watched group.
+    """
     if settings.owner(group.path) not in (0, settings.owner(above)):
         return "none"
     return settings.preference(group.path, group.preference)
@@ -48,8 +54,9 @@ def candidates_of(world: World, settings: Settings, watched: Iterable[str]) -> d
 
 
 def gathered(candidates: dict[str, Group], settings: Settings, above: str, risen: dict[Group, int]) -> list[Candidate]:
-    """Those that are the group above or below it, by their paths. `risen` has the pages by which they are ranked; if a group isn't
-    in it, all that it ever scanned counts."""
+    """The candidates that are `above` or its descendants, by their paths. `risen` has the scanned
+    pages by which they are ranked; if a group isn't in it, all that it ever scanned counts.
+    """
     found = []
     for path, group in sorted(candidates.items()):
         sample = memory_of(group)
@@ -64,5 +71,5 @@ def gathered(candidates: dict[str, Group], settings: Settings, above: str, risen
 
 
 def is_avoided(candidate: Candidate) -> bool:
-    """Whether it comes after all that aren't."""
+    """Whether it is ranked after all that aren't avoided."""
     return candidate.preference == "avoid"

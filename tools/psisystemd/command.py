@@ -1,4 +1,4 @@
-"""The words of tools/systemd-oomd, and what it prints."""
+"""The command line of tools/systemd-oomd, and its output."""
 from __future__ import annotations
 
 import argparse
@@ -32,7 +32,7 @@ refuses."""
 
 
 class Words(argparse.ArgumentParser):
-    """Words that aren't those of the command are a fault."""
+    """A parser that raises usage errors."""
 
     def error(self, message: str) -> None:  # type: ignore[override]
         raise Fault(f"{message}\n{self.format_usage()}".rstrip())
@@ -71,7 +71,7 @@ def complain(text: str) -> None:
 
 
 class Compared:
-    """The kills by rules of oomd's form."""
+    """The kills by a rules file in oomd's format."""
 
     def __init__(self, name: str, rules: RulesFile, kills: list[Kill]) -> None:
         self.name, self.rules, self.kills = name, rules, kills
@@ -91,14 +91,16 @@ class Compared:
 
 
 def compared(program: Program, name: str, trace: str, interval_s: int | None) -> Compared:
-    """The trace by a rules file."""
+    """Replays the trace with a rules file."""
     with contextlib.ExitStack() as files:
         rules, file = accepted(program, name, files)
         return Compared(name, rules, program.replay(trace, file, Pace(None, interval_s), processors()))
 
 
 def told_decisions(decisions: list[Decision], is_all: bool) -> Iterator[tuple[int, list[str]]]:
-    """The decisions by their moments, in lines. A group that is killed for swap again, look for look, is told once."""
+    """The decisions as lines, by their times (ns). If a group is killed for swap in consecutive
+    checks, it is listed once.
+    """
     for _, same in itertools.groupby(decisions, key=lambda it: (it.by, it.victim, it.by == SWAP or it.moment)):
         first, *others = same
         lines = first.lines(is_all)
@@ -109,7 +111,7 @@ def told_decisions(decisions: list[Decision], is_all: bool) -> Iterator[tuple[in
 
 
 def tell_lines(engine: Engine, other: Compared | None, is_all: bool) -> None:
-    """For people: what was done in order of time, and how near the limits came."""
+    """Prints for people: the decisions in order of time, and how near the limits came."""
     told = [(moment, 0, lines) for moment, lines in told_decisions(engine.decisions, is_all)]
     told += [(it.moment, 1, [other.line(it)]) for it in other.kills] if other else []
     for _, _, lines in sorted(told, key=lambda it: it[:2]):
@@ -132,7 +134,7 @@ def tell_lines(engine: Engine, other: Compared | None, is_all: bool) -> None:
 
 
 def tell_json(engine: Engine, other: Compared | None, given: argparse.Namespace, settings: Settings) -> None:
-    """For programs."""
+    """Prints JSON for programs."""
     swap, memory, moment = engine.swap.most
     told: dict[str, object] = {
         "trace": given.trace,

@@ -1,7 +1,8 @@
-"""systemd-oomd's rule: what it looks at, when, and whom it chooses.
+"""systemd-oomd's rules: what it checks, when, and which group it chooses.
 
-It follows what systemd 252 and 257 do, which is one rule: they differ in settings alone. Each second it looks at the pressure of
-groups, and each 0.15 s at the machine's swap. docs/SYSTEMD.md has what is otherwise here.
+This follows systemd 252 and 257, whose rules are the same: they differ only in settings. It checks
+the pressure of groups each second, and the machine's swap each 0.15 s. docs/SYSTEMD.md lists the
+differences.
 """
 from __future__ import annotations
 
@@ -25,8 +26,9 @@ LEAST_SWAP_PERCENT = 5
 
 @dataclass
 class Look:
-    """What is kept of a watched group from look to look: since when it is above its limit, how many pages were scanned at the look
-    before, and when a scan was seen last."""
+    """The state of a watched group between checks: since when it is above its limit, the pages
+    scanned at the previous check, and when a scan was last seen.
+    """
 
     group: Group
     limit: int
@@ -38,8 +40,9 @@ class Look:
 
 
 class Scans:
-    """How many pages each group scanned between the two last samples. A look that finds no new sample keeps what the one before
-    it found."""
+    """The pages that each group scanned between the last two samples. A check that finds no new
+    sample keeps the result of the previous one.
+    """
 
     def __init__(self) -> None:
         self.samples = 0
@@ -48,7 +51,7 @@ class Scans:
         self.risen: dict[Group, int] = {}
 
     def take(self, now: int, world: World) -> None:
-        """Looks."""
+        """Takes the present samples."""
         if world.samples == self.samples:
             return
         self.samples = world.samples
@@ -58,7 +61,8 @@ class Scans:
             sample = memory_of(group)
             if sample:
                 self.totals[group] = sample.scanned
-                # What a group had scanned when the trace began isn't known to be new.
+                # It isn't known whether pages scanned before the trace began are new, so they don't
+                # count.
                 old = before.get(group, sample.scanned if group.made == 0 else 0)
                 self.risen[group] = sample.scanned - (old if old <= sample.scanned else 0)
 
@@ -67,7 +71,7 @@ class Scans:
 
 
 class PressureRule:
-    """The rule of memory pressure."""
+    """The rule for memory pressure."""
 
     def __init__(self, world: World, settings: Settings) -> None:
         self.world, self.settings = world, settings
@@ -82,7 +86,9 @@ class PressureRule:
         self.rests_until = 0
 
     def look(self, now: int, averages: dict[str, int]) -> list[Decision]:
-        """What is done at this moment, by each group's full memory pressure over 10 s in hundredths of a percent."""
+        """The decisions at `now` (ns), from each group's full memory pressure over 10 s in
+        hundredths of a percent.
+        """
         self.scans.take(now, self.world)
         self.update(now, averages)
         above = [it for it in self.looks.values() if it.since is not None]
@@ -104,7 +110,9 @@ class PressureRule:
         return decisions
 
     def update(self, now: int, averages: dict[str, int]) -> None:
-        """Reads the watched groups. One whose account was off isn't watched any more until it is made again."""
+        """Reads the watched groups. If a group's accounting was off, it isn't watched any more
+        until it is created again.
+        """
         before, self.looks = self.looks, {}
         for path, group in self.world.groups.items():
             watched = self.settings.watched(path)
@@ -127,7 +135,7 @@ class PressureRule:
             self.judge(now, look, averages[path])
 
     def judge(self, now: int, look: Look, pressure: int) -> None:
-        """Whether it is above its limit, and since when."""
+        """Updates since when it is above its limit."""
         if pressure > look.limit:
             look.since = now if look.since is None else look.since
         else:
@@ -141,7 +149,8 @@ class PressureRule:
         return f"memory pressure of {path} {pressure} for {seconds(now - (target.since or 0))} s"
 
     def told_once(self, now: int, target: Look, averages: dict[str, int]) -> list[Decision]:
-        """That nothing was scanned, where it is the first look at which that holds somebody back."""
+        """The decision that nothing was scanned, at the first check at which this prevents a kill.
+        """
         if target.is_told:
             return []
         target.is_told = True
@@ -150,7 +159,9 @@ class PressureRule:
         return [Decision(now, None, MEMORY_PRESSURE, target.group.path, why)]
 
     def decided(self, now: int, target: Look, averages: dict[str, int], known: set[Group]) -> Decision:
-        """Whom it kills, or why nobody. All that a group ever scanned counts if it was no candidate at the look before."""
+        """The victim, or why there is none. If a group was no candidate at the previous check, all
+        pages that it ever scanned count.
+        """
         path = target.group.path
         risen = {group: count for group, count in self.scans.risen.items() if group in known}
         found = gathered(self.candidates, self.settings, path, risen)
@@ -160,7 +171,7 @@ class PressureRule:
 
 
 class SwapRule:
-    """The rule of swap."""
+    """The rule for swap."""
 
     def __init__(self, world: World, settings: Settings) -> None:
         self.world, self.settings = world, settings
@@ -171,11 +182,13 @@ class SwapRule:
         self.was_watched = self.is_absent = False
 
     def is_due(self) -> bool:
-        """Whether a look would find a new sample; without one it finds what the look before found."""
+        """Whether a check would find a new sample; without one the result would be the same as
+        before.
+        """
         return self.world.samples != self.samples
 
     def look(self, now: int) -> list[Decision]:
-        """What is done at this moment."""
+        """The decisions at `now` (ns)."""
         self.samples = self.world.samples
         watched = [path for path in self.world.groups if self.settings.watched(path).swap]
         host, root = self.world.host, self.world.groups[ROOT].sample
@@ -204,8 +217,9 @@ class SwapRule:
 
 
 def chosen(world: World, decision: Decision) -> Decision:
-    """With the first candidate that isn't passed over as the victim. Where nothing runs in it, nobody is killed, and it is passed
-    over for no other."""
+    """The decision with the first candidate that isn't skipped as the victim. If that group has no
+    tasks, nothing is killed, and no other candidate is tried.
+    """
     first: Candidate | None = next((it for it in decision.candidates if not it.passed_over), None)
     if not first:
         return replace(decision, why=f"{decision.why}; but there is no candidate")
@@ -224,22 +238,24 @@ class Engine:
         self.next_look = SWAP_INTERVAL
 
     def look_at_swap(self, until: int) -> None:
-        """The looks at swap before a moment (ns) that find something new: the first of them, since others find the same."""
+        """Checks swap up to `until` (ns), once per new sample, since all further checks have the
+        same result.
+        """
         if self.next_look < until:
             if self.swap.is_due():
                 self.decisions += self.swap.look(self.next_look)
             self.next_look = -(-until // SWAP_INTERVAL) * SWAP_INTERVAL
 
     def take(self, moment: int, verb: str, fields: list[str]) -> None:
-        """A line of the trace. Looks before its moment don't see it."""
+        """Takes a line of the trace. Checks before its time don't see it."""
         self.look_at_swap(moment)
         self.world.take(moment, verb, fields)
 
     def look_at_pressure(self, now: int, averages: dict[str, int]) -> None:
-        """At a second, after the lines of its moment."""
+        """Checks pressure at a full second, after the lines of that time."""
         self.look_at_swap(now + 1)
         self.decisions += self.pressure.look(now, averages)
 
     def kills(self) -> Iterable[Decision]:
-        """The decisions by which somebody is killed."""
+        """The decisions that kill a group."""
         return (it for it in self.decisions if it.victim is not None)

@@ -1,4 +1,4 @@
-"""What oomd.conf and its drop-in files say: the limits for all."""
+"""oomd.conf and its drop-in files: the limits for all groups."""
 from __future__ import annotations
 
 import difflib
@@ -12,7 +12,7 @@ from psisystemd.values import SECOND, duration, share
 SHARE = "a percentage such as 60%, from 0% to 100%, with at most two decimals"
 DURATION = "a time of at least 1 s, such as 20s or 1min 30s"
 SECTION = "OOM"
-# From this version on oomd.conf is looked for below /run and /usr too.
+# From this version oomd.conf is also searched in /run and /usr.
 MAIN_ANYWHERE = 256
 
 
@@ -27,7 +27,7 @@ class Limits:
     """Which settings are given, and where."""
 
     def changed(self, setting: Setting) -> Limits:
-        """With this setting."""
+        """The limits with this setting changed."""
         if setting.name == "DefaultMemoryPressureDurationSec":
             return self.put(setting, "duration", checked_duration(setting) or Limits.duration)
         found = share(setting.value)
@@ -44,7 +44,8 @@ NAMES = {"SwapUsedLimit": "swap_used", "DefaultMemoryPressureLimit": "pressure",
 
 
 def checked_duration(setting: Setting) -> int | None:
-    """The ns of a time of at least a second; none where it is empty or 0, which stand for what is the default there."""
+    """A duration of at least a second, in ns; None if it is empty or 0, which select the default.
+    """
     if not setting.value:
         return None
     found = duration(setting.value)
@@ -56,21 +57,21 @@ def checked_duration(setting: Setting) -> int | None:
 
 
 def unknown(setting: Setting, names: list[str], where: str) -> str:
-    """That systemd knows no such setting there."""
+    """The message that systemd has no such setting there."""
     meant = difflib.get_close_matches(setting.name, names, 1)
     guess = f"; did you mean {meant[0]}?" if meant else ""
     return f"{setting.place}: there is no setting {setting.name} in {where}, so it is passed over{guess}"
 
 
 def configurations(root: str, version: int) -> list[str]:
-    """oomd.conf and its drop-in files, the one that counts last at the end."""
+    """oomd.conf and its drop-in files; the last one has priority."""
     mains = [os.path.join(root, it, "oomd.conf") for it in CONFIGURATIONS]
     main = [it for it in (mains if version >= MAIN_ANYWHERE else mains[:1]) if os.path.exists(it)]
     return main[:1] + drop_ins(root, [f"{it}/oomd.conf.d" for it in CONFIGURATIONS])
 
 
 def read_limits(root: str, version: int, notes: list[str]) -> Limits:
-    """The limits of a folder of files. What is passed over goes to the notes."""
+    """The limits in a folder of files. Ignored settings are added to the notes."""
     limits = Limits()
     for path in configurations(root, version):
         for setting in settings_of(path):

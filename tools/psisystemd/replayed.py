@@ -1,4 +1,6 @@
-"""A trace by systemd-oomd's rule: psi_oomd replays it, and says what its pressure is each second."""
+"""Applies systemd-oomd's rules to a trace: psi_oomd replays it, and prints its pressure each
+second.
+"""
 from __future__ import annotations
 
 import contextlib
@@ -26,7 +28,8 @@ BY = (MEMORY_PRESSURE, SWAP)
 
 @contextlib.contextmanager
 def kept_trace(name: str) -> Iterator[str]:
-    """The file of a trace, which is read twice: the standard input is kept in one meanwhile."""
+    """The path of a trace, which is read twice: the standard input is copied to a temporary file.
+    """
     if name != "-":
         yield name
         return
@@ -38,16 +41,18 @@ def kept_trace(name: str) -> Iterator[str]:
 
 @dataclass(frozen=True)
 class Second:
-    """A look: its moment (ns), and the full memory pressure over 10 s of the groups that are watched for it, in hundredths of a
-    percent."""
+    """A check: its time (ns), and the full memory pressure over 10 s of the watched groups, in
+    hundredths of a percent.
+    """
 
     moment: int
     averages: dict[str, int]
 
 
 def kept(printed: Iterable[bytes], settings: Settings) -> Iterator[bytes]:
-    """The lines without the reports that no look needs: those of other resources, and of groups that aren't watched. The root's
-    stand at each second."""
+    """The lines without the reports that no check needs: those of other resources, and of unwatched
+    groups. The root's reports occur each second.
+    """
     is_kept = True
     for line in printed:
         if line[:5] not in (b"some ", b"full "):
@@ -62,14 +67,14 @@ def is_needed(path: str, settings: Settings) -> bool:
 
 
 def seconds_of(printed: Iterable[bytes], settings: Settings) -> Iterator[Second]:
-    """The looks of a replay."""
+    """The checks of a replay."""
     reports = (it for it in read(kept(printed, settings)) if isinstance(it, Report))
     for moment, of_moment in itertools.groupby(reports, key=lambda it: it.moment):
         yield Second(moment, {it.path: it.full.avg10 for it in of_moment})
 
 
 def decide(engine: Engine, trace: str, seconds: Iterator[Second]) -> None:
-    """Takes the trace's lines and the looks, one after another by their moments."""
+    """Takes the trace's lines and the checks, merged by time."""
     with open(trace, "rb") as file:
         lines = lines_of(file)
         line = next(lines, None)
@@ -84,7 +89,7 @@ def decide(engine: Engine, trace: str, seconds: Iterator[Second]) -> None:
 
 
 def replayed(program: Program, trace: str, settings: Settings, threads: int) -> Engine:
-    """What systemd-oomd would have done in a trace by these settings, or a fault."""
+    """What systemd-oomd would have done in a trace with these settings; or an error."""
     words = ["replay", f"--tick-ms={LOOK_MS}", "--report-s=1", f"--workers={min(threads, 64)}", "--", trace]
     engine = Engine(settings)
     with tempfile.TemporaryFile() as said:
@@ -105,12 +110,12 @@ def replayed(program: Program, trace: str, settings: Settings, threads: int) -> 
 
 
 def kills_of(decisions: Iterable[Decision]) -> list[Kill]:
-    """The kills as replays have them: what it was by stands for the ruleset."""
+    """The kills in the form of replays: the name of the rule takes the place of the ruleset."""
     return [Kill(it.moment, BY.index(it.by), 0, it.victim) for it in decisions if it.victim is not None]
 
 
 def warnings(engine: Engine, settings: Settings) -> list[str]:
-    """What the trace or the settings don't have, by which nothing could be killed."""
+    """What is missing from the trace or the settings, so that nothing could be killed."""
     found = []
     pressure, swap = engine.pressure, engine.swap
     unread = sorted(pressure.unread - set(pressure.courses))

@@ -1,7 +1,8 @@
-"""The settings of a machine: what a folder has, asked for by groups' paths.
+"""The settings of a machine, from a folder, by the paths of groups.
 
-A folder is one of files, as they stand on a machine from its root on, or what tools/record stored of one, which has besides what
-systemd itself said of its units, and each group's owner and attributes. What it said counts before what files say.
+The folder contains files as in a machine's root, or what tools/record stored, which also has what
+systemd itself reported about its units, and each group's owner and attributes. These reports have
+priority over files.
 """
 from __future__ import annotations
 
@@ -25,7 +26,9 @@ NO_UNIT = Unit()
 
 @dataclass(frozen=True)
 class Watched:
-    """A group that is watched: of swap, of memory pressure, with its limit in hundredths of a percent and its duration in ns."""
+    """How a group is watched: for swap, and for memory pressure, with its limit in hundredths of a
+    percent and its duration in ns.
+    """
 
     swap: bool
     pressure: bool
@@ -35,7 +38,9 @@ class Watched:
 
 @dataclass(frozen=True)
 class Attributes:
-    """What a group's folder said: its owner's number, whether it ends as a whole, and what it asks of the killer."""
+    """The attributes of a group's folder: its owner's number, whether it is killed as a whole, and
+    its preference.
+    """
 
     owner: int
     is_whole: bool
@@ -43,7 +48,8 @@ class Attributes:
 
 
 def version_of(path: str) -> int:
-    """The version of a recorded machine's systemd, by the first words of `systemctl --version`."""
+    """The version of a recorded machine's systemd, from the first words of `systemctl --version`.
+    """
     found = re.match(r"systemd ([0-9]{1,4})\b", text_at(path))
     if not found:
         raise Fault(f"{path} line 1: it isn't what `systemctl --version` says: give the version by --systemd")
@@ -63,7 +69,7 @@ def recorded_groups(path: str) -> dict[str, Attributes]:
 
 
 class Settings:
-    """What systemd-oomd would be told. Notes are of what was passed over."""
+    """All settings of systemd-oomd. Notes list what was ignored."""
 
     def __init__(self, root: str, version: int | None = None) -> None:
         self.root = root
@@ -83,7 +89,7 @@ class Settings:
         self.watches: dict[str, Watched] = {}
 
     def unit(self, path: str) -> Unit:
-        """What is said of the unit whose group this is."""
+        """The settings of the unit whose group this is."""
         if path not in self.units:
             self.units[path] = self.looked_up(path)
         return self.units[path]
@@ -105,28 +111,31 @@ class Settings:
         return self.watches[path]
 
     def is_whole(self, path: str) -> bool:
-        """Whether the group is a candidate though there are groups below it (memory.oom.group)."""
+        """Whether the group is a candidate even though it has children (memory.oom.group)."""
         if path in self.groups:
             return self.groups[path].is_whole
         return bool(self.unit(path).is_whole)
 
     def owner(self, path: str) -> int:
-        """The number of the user that owns the group. Where it isn't recorded: a user's manager and all below it is the user's."""
+        """The number of the user that owns the group. If it isn't recorded: a user's manager and
+        its descendants belong to the user.
+        """
         if path in self.groups:
             return self.groups[path].owner
         found = BELOW_MANAGER.search(path)
         return int(found[1]) if found else 0
 
     def preference(self, path: str, traced: str) -> str:
-        """What the group asks for: by its attributes, or else by its unit, or else by what the trace says."""
+        """The group's preference: from its attributes, else from its unit, else from the trace."""
         if path in self.groups:
             return self.groups[path].preference
         return self.unit(path).preference or (traced if traced == "avoid" else "none")
 
 
 def unit_of(path: str) -> tuple[str, bool] | None:
-    """The unit whose group this is, and whether it is one of a user's manager; none where it is none of a manager's: units stand in
-    slices, and a user's units in those below the manager."""
+    """The unit whose group this is, and whether it belongs to a user's manager; None if no manager
+    has it: units are in slices, and a user's units in slices below the manager.
+    """
     if path == "/":
         return "-.slice", False
     *above, name = path[1:].split("/")

@@ -1,4 +1,6 @@
-"""Texts of settings: what systemd.syntax(7) says of sections, settings, comments and long lines."""
+"""Files of settings: sections, settings, comments and continued lines according to
+systemd.syntax(7).
+"""
 from __future__ import annotations
 
 import os
@@ -11,7 +13,7 @@ from psirules.wording import Fault, quoted
 
 @dataclass(frozen=True)
 class Setting:
-    """A setting, the section in which it stands, and its file and line."""
+    """A setting, its section, and its file and line."""
 
     place: str
     section: str
@@ -19,7 +21,7 @@ class Setting:
     value: str
 
     def fault(self, wanted: str) -> Fault:
-        """That its value isn't what it has to be."""
+        """The error that its value is malformed."""
         return Fault(f"{self.place}: {self.name} is {quoted(self.value)}: it has to be {wanted}")
 
 
@@ -33,7 +35,7 @@ def bytes_at(path: str) -> bytes:
 
 
 def text_at(path: str) -> str:
-    """The text of a file, which has to be UTF-8."""
+    """The text of a file, which must be UTF-8."""
     data = bytes_at(path)
     try:
         return data.decode("utf-8")
@@ -43,8 +45,9 @@ def text_at(path: str) -> str:
 
 
 def whole_lines(text: str) -> Iterator[tuple[int, str]]:
-    """Each line with its number from 1, without comments and empty lines; one that ends in a backslash goes on in the next, and
-    comments between don't end it."""
+    """Each line with its number from 1, without comments and empty lines; a line that ends in a
+    backslash continues in the next one, and comments in between don't end it.
+    """
     begun: tuple[int, str] | None = None
     for number, line in enumerate(text.split("\n"), 1):
         if line.lstrip()[:1] in ("#", ";"):
@@ -61,7 +64,7 @@ def whole_lines(text: str) -> Iterator[tuple[int, str]]:
 
 
 def settings_of(path: str) -> Iterator[Setting]:
-    """The settings of a file, in order. A line that is none is a fault."""
+    """The settings of a file, in order. A malformed line is an error."""
     section = ""
     for number, line in whole_lines(text_at(path)):
         place = f"{path} line {number}"
@@ -79,8 +82,9 @@ def settings_of(path: str) -> Iterator[Setting]:
 
 
 def drop_ins(root: str, folders: list[str]) -> list[str]:
-    """The drop-in files in these folders, of which the first counts where several have a file of one name, in the order of their
-    names. One that is empty, or leads to /dev/null, only hides the others."""
+    """The drop-in files in these folders, in the order of their names. If several have one name,
+    the first is used. An empty file, or a link to /dev/null, only hides the others.
+    """
     found: dict[str, str] = {}
     for folder in folders:
         try:

@@ -1,4 +1,4 @@
-"""What comes of it: kills, why nobody was killed, and how near the limits came."""
+"""The results: kills, why nothing was killed, and how near the limits came."""
 from __future__ import annotations
 
 from dataclasses import dataclass, field
@@ -12,7 +12,7 @@ UNITS = ((1 << 30, "G"), (1 << 20, "M"), (1 << 10, "K"))
 
 
 def size(count: int) -> str:
-    """So many bytes, with one decimal of a unit."""
+    """A number of bytes, with one decimal of a unit."""
     for unit, letter in UNITS:
         if count >= unit:
             return f"{count / unit:.1f}{letter}"
@@ -21,9 +21,11 @@ def size(count: int) -> str:
 
 @dataclass(frozen=True)
 class Candidate:
-    """A group that could be chosen: pages scanned in the time by which it is ranked, bytes of memory and swap, and what it asks for.
-    `passed_over` says why it wasn't chosen, if not for its rank alone. `is_new` says that it was no candidate at the look before, so
-    that all pages count."""
+    """A group that could be chosen: pages scanned in the time by which it is ranked, bytes of
+    memory and swap, and its preference. `passed_over` says why it wasn't chosen, if not just
+    because of its rank. `is_new` says that it was no candidate at the previous check, so that all
+    pages count.
+    """
 
     path: str
     scanned: int
@@ -34,7 +36,7 @@ class Candidate:
     is_new: bool = False
 
     def told(self, by: str, span: str) -> str:
-        """By what it was ranked."""
+        """The values by which it was ranked."""
         span = " ever" if self.is_new else span
         rank = f"scanned {self.scanned} pages{span}, memory {size(self.memory)}" if by == MEMORY_PRESSURE else f"swap {size(self.swap)}"
         return ", ".join(filter(None, [rank, self.passed_over or ("avoid" if self.preference == "avoid" else "")]))
@@ -42,8 +44,9 @@ class Candidate:
 
 @dataclass(frozen=True)
 class Decision:
-    """What is done at a moment (ns): whom it kills, or none, by what, the watched group, why, and all candidates by their ranks.
-    `span` says in which time pages were counted."""
+    """A decision at a time (ns): the victim or None, the rule, the watched group, the reason, and
+    all candidates by rank. `span` is the time in which pages were counted.
+    """
 
     moment: int
     victim: str | None
@@ -54,7 +57,7 @@ class Decision:
     span: str = ""
 
     def lines(self, is_all: bool) -> list[str]:
-        """For people."""
+        """The decision as text lines."""
         when = f"{seconds(self.moment)} s"
         gap = " " * (len(when) + 2)
         chosen = next((it for it in self.candidates if it.path == self.victim), None)
@@ -69,7 +72,7 @@ class Decision:
         return told
 
     def record(self) -> dict[str, object]:
-        """For programs."""
+        """The decision for JSON."""
         candidates = [
             {"path": it.path, "scanned": it.scanned, "memory": it.memory, "swap": it.swap, "preference": it.preference,
              "passed_over": it.passed_over or None}
@@ -83,8 +86,9 @@ class Decision:
 
 @dataclass
 class Course:
-    """How near a watched group came: its limit, the greatest pressure (hundredths of a percent) and when (ns), and for how long at
-    most it was above."""
+    """How near a watched group came: its limit, the greatest pressure (hundredths of a percent) and
+    when (ns), and the longest time above the limit.
+    """
 
     path: str
     limit: int
@@ -94,7 +98,7 @@ class Course:
     longest: int | None = None
 
     def take(self, moment: int, pressure: int, since: int | None) -> None:
-        """The pressure at a moment, and since when it is above its limit."""
+        """Takes the pressure at a time (ns), and since when it is above its limit."""
         if pressure > self.most:
             self.most, self.most_at = pressure, moment
         if since is not None:

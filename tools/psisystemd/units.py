@@ -1,4 +1,6 @@
-"""What units say of systemd-oomd: by their files and drop-in files as systemd merges them, and by `systemctl show`."""
+"""The settings of systemd-oomd in units: from their files and drop-in files, merged like systemd
+does, and from `systemctl show`.
+"""
 from __future__ import annotations
 
 import os
@@ -24,9 +26,9 @@ LIMIT, DURATION_OF_UNIT = "ManagedOOMMemoryPressureLimit", "ManagedOOMMemoryPres
 PREFERENCE, POLICY = "ManagedOOMPreference", "OOMPolicy"
 NAMES = (SWAP, PRESSURE, LIMIT, DURATION_OF_UNIT, PREFERENCE)
 POLICIES = ("continue", "stop", "kill")
-# From this version on a unit has a duration of its own.
+# From this version a unit has a duration of its own.
 OWN_DURATION = 257
-# What `systemctl show` calls that duration.
+# The name of that duration in `systemctl show`.
 SHOWN_DURATION = "ManagedOOMMemoryPressureDurationUSec"
 
 
@@ -35,8 +37,9 @@ Meaning = TypeVar("Meaning")
 
 @dataclass(frozen=True)
 class Unit:
-    """What is to be done in a unit's group. The limit is in hundredths of a percent, the duration in ns; none where oomd.conf
-    says it. `is_whole` is memory.oom.group, none where nothing is said of it."""
+    """The settings for a unit's group. The limit is in hundredths of a percent, the duration in ns;
+    None if oomd.conf determines it. `is_whole` is memory.oom.group, None if it isn't set.
+    """
 
     swap: bool = False
     pressure: bool = False
@@ -49,7 +52,7 @@ class Unit:
     """Where each setting stands."""
 
     def changed(self, setting: Setting, version: int) -> Unit:
-        """With this setting, of which systemd knows the name."""
+        """The unit with this setting changed; systemd knows its name."""
         places = {**self.places, setting.name: setting.place}
         if setting.name in (SWAP, PRESSURE):
             is_on = chosen(setting, MODES, "auto")
@@ -75,7 +78,7 @@ class Unit:
 
 
 def chosen(setting: Setting, words: dict[str, Meaning], empty: str) -> Meaning:
-    """What one of the words stands for; an empty value for what another does."""
+    """The meaning of the setting's word; an empty value means the same as the word `empty`."""
     value = setting.value or empty
     if value not in words:
         raise setting.fault(" or ".join(words))
@@ -93,8 +96,9 @@ def template_of(name: str) -> str | None:
 
 
 def widened(name: str) -> str | None:
-    """The name without its part after the last dash: a-b-.service of a-b-c.service, and a-.service of that. A template's is no
-    template any more: a-.service of a-b@.service."""
+    """The name without its part after the last dash: a-b-.service for a-b-c.service, and a-.service
+    for that. For a template the result isn't a template: a-.service for a-b@.service.
+    """
     name = name.replace("@.", ".", 1)
     stem = name.partition("@")[0] if "@" in name else name.rpartition(".")[0]
     front = stem.removesuffix("-").rpartition("-")[0]
@@ -102,8 +106,9 @@ def widened(name: str) -> str | None:
 
 
 def drop_in_names(name: str) -> Iterator[str]:
-    """The names whose drop-in files are this unit's too, the nearest first: of u-v@x.service those of u-v@.service, u-.service and
-    u-@x.service. A name may come twice."""
+    """The names whose drop-in files also apply to this unit, the most specific first: for
+    u-v@x.service those of u-v@.service, u-.service and u-@x.service. A name may occur twice.
+    """
     yield name
     if template := template_of(name):
         yield from drop_in_names(template)
@@ -112,7 +117,7 @@ def drop_in_names(name: str) -> Iterator[str]:
 
 
 class UnitFiles:
-    """The files of units in a folder of files, of the system's manager or of the users'."""
+    """The unit files in a folder, of the system's manager or of the users'."""
 
     def __init__(self, root: str, is_users: bool, version: int, notes: list[str]) -> None:
         self.root, self.version, self.notes = root, version, notes
@@ -121,7 +126,7 @@ class UnitFiles:
         self.known: dict[str, Unit] = {}
 
     def unit(self, name: str) -> Unit:
-        """What is said of this unit, all in all."""
+        """The merged settings of this unit."""
         if name not in self.known:
             self.known[name] = self.read(name)
         return self.known[name]
@@ -143,7 +148,9 @@ class UnitFiles:
         return mains + drop_ins(self.root, folders + [f"{it}/{kind}.d" for it in self.folders])
 
     def is_known(self, setting: Setting, kind: str) -> bool:
-        """Whether it is one of these settings. One that has their beginning and that nobody knows is noted."""
+        """Whether it is one of these settings. An unknown setting with their prefix is added to the
+        notes.
+        """
         if setting.name == DURATION_OF_UNIT and self.version < OWN_DURATION:
             self.note(f"{setting.place}: {setting.name} means nothing before systemd {OWN_DURATION}")
         elif setting.name == PREFERENCE and not setting.value:
@@ -157,7 +164,7 @@ class UnitFiles:
             self.notes.append(text)
 
     def named(self) -> list[str]:
-        """The units and templates of which some file says something, in order."""
+        """The units and templates for which some file has a setting, in order."""
         found = set()
         for folder in self.folders:
             for name in os.listdir(os.path.join(self.root, folder)):
@@ -171,7 +178,9 @@ class UnitFiles:
 
 
 def shown_units(path: str, version: int) -> dict[str, tuple[str, Unit]]:
-    """Units by their groups' paths, each with its name, as `systemctl show` printed them: blocks of lines with an empty one between."""
+    """Units by their groups' paths, each with its name, as `systemctl show` printed them: blocks of
+    lines, separated by empty ones.
+    """
     found: dict[str, tuple[str, Unit]] = {}
     block: list[Setting] = []
     for number, line in enumerate([*text_at(path).splitlines(), ""], 1):
@@ -191,7 +200,7 @@ def shown_units(path: str, version: int) -> dict[str, tuple[str, Unit]]:
 
 
 def shown_unit(shown: dict[str, Setting], version: int) -> Unit:
-    """What a block says."""
+    """The settings in a block."""
     unit = Unit()
     for name in (SWAP, PRESSURE, PREFERENCE):
         if name in shown:

@@ -1,4 +1,4 @@
-"""The forms of systemd's values: shares, times and truths."""
+"""The formats of systemd's values: shares, durations and booleans."""
 from __future__ import annotations
 
 import re
@@ -10,7 +10,7 @@ WHOLE = 10000
 SCALE = (1 << 32) - 1
 """All of it, as `systemctl show` has the limit of a unit."""
 SHARE = re.compile(r"([0-9]{1,9})(?:\.([0-9]{1,2}))?([%‰‱])")
-# A sign, its hundredths of a percent, and how many decimals may stand before it.
+# For each sign its hundredths of a percent, and the most decimals before it.
 SIGNS = {"%": (100, 2), "‰": (10, 1), "‱": (1, 0)}
 PART = re.compile(r"\s*([0-9]{1,18})(?:\.([0-9]{1,9}))?\s*([a-zA-Zµμ]*)")
 UNITS = {
@@ -26,7 +26,9 @@ TRUTHS = {**dict.fromkeys(("1", "yes", "y", "true", "t", "on"), True), **dict.fr
 
 
 def share(text: str) -> int | None:
-    """Hundredths of a percent, up to all of it, of a number with its sign; none where it isn't one."""
+    """A number with its sign as hundredths of a percent, at most 100 percent; None if it is
+    malformed.
+    """
     found = SHARE.fullmatch(text)
     if not found:
         return None
@@ -38,14 +40,16 @@ def share(text: str) -> int | None:
 
 
 def share_of_scale(text: str) -> int | None:
-    """That of a number as `systemctl show` prints it, or with a sign."""
+    """A number as `systemctl show` prints it, or with a sign, as hundredths of a percent."""
     if re.fullmatch("[0-9]{1,10}", text) and int(text) <= SCALE:
         return (int(text) * WHOLE + SCALE // 2) // SCALE
     return share(text)
 
 
 def duration(text: str) -> int | None:
-    """The ns of a time as systemd.time(7) spells it, of seconds where no unit stands; none where it isn't one, or has no end."""
+    """A duration in the format of systemd.time(7) as ns, in seconds if it has no unit; None if it
+    is malformed or infinite.
+    """
     place, ns = 0, 0
     while place < len(text):
         found = PART.match(text, place)
@@ -57,7 +61,7 @@ def duration(text: str) -> int | None:
 
 
 def truth(text: str) -> bool | None:
-    """Whether it says yes; none where it says neither."""
+    """A boolean; None if it is malformed."""
     return TRUTHS.get(text.strip().lower())
 
 

@@ -1,6 +1,7 @@
 """The machine of a trace, line by line: groups with their tasks, and the last samples of memory.
 
-What is read is a trace that psi_oomd takes, so a line that isn't one can't come; docs/TRACES.md has all verbs.
+The input is a trace that psi_oomd accepts, so malformed lines can't occur; docs/TRACES.md has all
+verbs.
 """
 from __future__ import annotations
 
@@ -30,7 +31,7 @@ class Host:
 
 @dataclass(eq=False)
 class Group:
-    """A group from when it was made (ns) until it is removed."""
+    """A group from its creation (`made`, ns) until it is removed."""
 
     path: str
     made: int
@@ -43,8 +44,9 @@ class Group:
     """Pages that groups below it had scanned which are gone: they stay in its count."""
 
     def whole_sample(self) -> Sample | None:
-        """Its last sample. A group without one of its own has the sum of those below it, since the kernel counts what is below in
-        a group too; and none where there is none."""
+        """Its last sample. A group without a sample of its own has the sum of its children's, since
+        the kernel also counts children in their parent; None if they have none either.
+        """
         if self.sample or self.path == ROOT:
             return self.sample
         below = [it for it in (child.whole_sample() for child in self.children.values()) if it]
@@ -54,12 +56,12 @@ class Group:
         return Sample(sum(it.memory for it in below), sum(it.swap for it in below), scanned)
 
     def has_tasks(self) -> bool:
-        """Whether some task is in it or below it."""
+        """Whether it or a descendant has a task."""
         return self.tasks > 0 or any(child.has_tasks() for child in self.children.values())
 
 
 class World:
-    """All of it at a moment."""
+    """The whole machine at one time."""
 
     def __init__(self) -> None:
         self.groups: dict[str, Group] = {ROOT: Group(ROOT, 0)}
@@ -70,7 +72,7 @@ class World:
         """How many samples there were, by which it is seen whether there are new ones."""
 
     def take(self, moment: int, verb: str, fields: list[str]) -> None:
-        """A line at a moment in ns."""
+        """Takes a line at `moment` (ns)."""
         if verb == "switch":
             self.switch(*fields)
         elif verb == "mem":
@@ -91,14 +93,14 @@ class World:
             self.groups[fields[0]].is_accounted = fields[1] == "on"
 
     def switch(self, processor: str, following: str, how: str) -> None:
-        """Who ran leaves, for good by `exit`."""
+        """The running task leaves the processor, by `exit` for good."""
         before = self.running.get(processor, "0")
         self.running[processor] = following
         if how == "exit":
             self.homes.pop(before).tasks -= 1
 
     def enter(self, task: str, path: str) -> None:
-        """A task is in a group from now on."""
+        """A task moves to a group."""
         if task in self.homes:
             self.homes[task].tasks -= 1
         self.homes[task] = self.groups[path]
@@ -116,7 +118,7 @@ class World:
 
 
 def lines_of(file: Iterator[bytes]) -> Iterator[tuple[int, str, list[str]]]:
-    """The lines of a trace after its header: a moment in ns, a verb and its fields."""
+    """The lines of a trace after its header: a time in ns, a verb and its fields."""
     next(file, None)
     for line in file:
         moment, verb, *fields = line.decode("latin-1").split()
