@@ -1,1 +1,1 @@
-"""Makes the package of psi_oomd: a tree of installed files, and the two archives of it."""
+"""Builds the package of psi_oomd: a tree of installed files, and two archives of it."""

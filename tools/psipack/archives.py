@@ -1,4 +1,6 @@
-"""Writes the archives, so that the same files give the same bytes: members in the order of their names, root's, of one time."""
+"""Writes reproducible archives, in which the same files give the same bytes: members sorted by
+name, owned by root, with one time.
+"""
 from __future__ import annotations
 
 import gzip
@@ -9,12 +11,13 @@ import tarfile
 
 from .tree import Member
 
-# Of a member of an ar archive: its name, its time, who owns it, its mode and its size (ar(5)).
+# The header of a member of an ar archive: its name, its time, its owner, its mode and its size
+# (ar(5)).
 AR_HEAD = "{name:<16}{time:<12}{owner:<6}{group:<6}{mode:<8}{size:<10}`\n"
 
 
 def folders_of(paths: list[str]) -> list[str]:
-    """All folders that stand above these paths, each after the one that it is in."""
+    """All folders above these paths, each after its parent."""
     found = {""}
     for path in paths:
         while path := os.path.dirname(path):
@@ -23,7 +26,7 @@ def folders_of(paths: list[str]) -> list[str]:
 
 
 def tar_of(members: list[Member], top: str, seconds: int) -> bytes:
-    """An archive of these files below the folder `top`, all of this time (s since 1970)."""
+    """A tar archive of these files below the folder `top`, all with this time (s since 1970)."""
     placed = {f"{top}/{member.path}": member for member in members}
     rows: list[tuple[str, Member | None]] = [(path, None) for path in folders_of(list(placed))]
     output = io.BytesIO()
@@ -50,12 +53,12 @@ def gzipped(data: bytes, seconds: int) -> bytes:
 
 
 def xz_of(data: bytes) -> bytes:
-    """The bytes compressed by xz, as dpkg wants those of a package."""
+    """The bytes compressed by xz, with the options that dpkg expects."""
     return lzma.compress(data, preset=6)
 
 
 def ar_of(members: dict[str, bytes], seconds: int) -> bytes:
-    """An archive of ar's, as a package of Debian's is (deb(5))."""
+    """An ar archive, the format of a Debian package (deb(5))."""
     parts = [b"!<arch>\n"]
     for name, data in members.items():
         head = AR_HEAD.format(name=name, time=seconds, owner=0, group=0, mode="100644", size=len(data))

@@ -1,4 +1,4 @@
-"""The words of tools/package, and what it makes of them."""
+"""The command line of tools/package, and its steps."""
 from __future__ import annotations
 
 import argparse
@@ -34,7 +34,7 @@ version {version}
 {kit}
 the proof can be run again in a checkout of this commit: by ./psi_oomd --build, and by .ci/run with all tests
 """
-# Where nobody says otherwise Debian's systemd enables each service on the first boot of a machine.
+# By default Debian's systemd enables each service on the first boot of a machine.
 PRESET = "".join(f"disable {it}\n" for it in UNITS)
 UNPROVED = "unproved: these programs were handed to tools/package, and the gate didn't build them"
 PATIENCE_SECONDS = 10
@@ -42,7 +42,7 @@ TAG = re.compile(r"v([0-9][0-9A-Za-z.+-]*)")
 
 
 def git(*words: str) -> str:
-    """What git says of the repository."""
+    """The output of git in the repository."""
     done = subprocess.run(["git", "-C", TOP, *words], capture_output=True, encoding="utf-8")
     if done.returncode:
         raise Fault(f"git {' '.join(words)}: {done.stderr.strip()}: a package is made in a checkout with its history")
@@ -50,8 +50,10 @@ def git(*words: str) -> str:
 
 
 def version_of(commit: str, is_changed: bool) -> str:
-    """The version of a package: that of a tag of this commit, as v1.0, or one below each release, by the commit's day. What stands
-    after a hyphen comes before the release in Debian's order, by a tilde: v1.0-rc1 is 1.0~rc1."""
+    """The version of a package: that of a tag of this commit, as v1.0, or a version below each
+    release, with the commit's day. The part after a hyphen gets a tilde, which sorts before the
+    release in Debian's order: v1.0-rc1 is 1.0~rc1.
+    """
     tags = filter(None, map(TAG.fullmatch, git("tag", "--points-at", "HEAD").split("\n")))
     day = time.strftime("%Y%m%d", time.gmtime(int(git("log", "-1", "--format=%ct"))))
     version = next((tag[1].replace("-", "~") for tag in tags), f"0~git{day}.{commit[:12]}")
@@ -59,7 +61,8 @@ def version_of(commit: str, is_changed: bool) -> str:
 
 
 def kit_of(given: argparse.Namespace) -> str:
-    """What proved the programs: the kit of --kit, or the kit at hand; nothing with --unproved."""
+    """The kit that proved the programs: that of --kit, or the present one; empty with --unproved.
+    """
     if given.unproved:
         return UNPROVED
     if given.kit:
@@ -71,7 +74,9 @@ def kit_of(given: argparse.Namespace) -> str:
 
 
 def programs_named(given: argparse.Namespace) -> dict[str, bytes]:
-    """The bytes of both programs, built if they aren't given. One that is given has to be the one that the gate built."""
+    """The bytes of both programs, built if no paths are given. A program that is given must be
+    identical to the one that the gate built.
+    """
     paths = dict(zip(PROGRAMS, (given.program, given.observer)))
     found = {name: bytes_of(path or built_program(os.path.join(TOP, name))) for name, path in paths.items()}
     for name, path in paths.items():
@@ -87,12 +92,12 @@ def programs_named(given: argparse.Namespace) -> dict[str, bytes]:
 
 
 def built_path(name: str) -> str:
-    """Where the launcher and the gate leave a program that they built."""
+    """The path where the launcher and the gate write a program that they built."""
     return os.path.join("crates", f"{name}_main", "out", f"{name}_main")
 
 
 def built_bytes(name: str) -> bytes:
-    """The program that was built; nothing if there is none."""
+    """The bytes of the program that was built; empty if there is none."""
     path = os.path.join(TOP, built_path(name))
     return bytes_of(path) if os.path.exists(path) else b""
 
@@ -125,7 +130,7 @@ def write(members: list[Member], folder: str) -> None:
 
 
 def helps_of(folder: str) -> dict[str, tuple[Help, dict[str, Help]]]:
-    """What each tool says of itself where it is installed, and of each of its commands."""
+    """The --help of each installed tool, and of each of its commands."""
     found = {}
     for tool in TOOLS:
         path = os.path.join(folder, LIBRARY, "tools", tool.file)
@@ -135,7 +140,9 @@ def helps_of(folder: str) -> dict[str, tuple[Help, dict[str, Help]]]:
 
 
 def completions(folder: str, helps: dict[str, tuple[Help, dict[str, Help]]]) -> list[Member]:
-    """The completions of both shells: a file that each name leads to, since bash looks for a file of the command's name."""
+    """The completions of both shells: one file, and links with the name of each command, since bash
+    looks for a file of the command's name.
+    """
     offered = []
     for name in PROGRAMS:
         offered.append(Offered(name, commands_in(said_by([os.path.join(folder, "bin", name), "--help"]), name)))
@@ -149,7 +156,7 @@ def completions(folder: str, helps: dict[str, tuple[Help, dict[str, Help]]]) -> 
 
 
 def pages(helps: dict[str, tuple[Help, dict[str, Help]]], facts: Facts) -> list[Member]:
-    """The manual pages, compressed as Debian has them."""
+    """The manual pages, compressed as in Debian."""
     date = time.strftime("%Y-%m-%d", time.gmtime(facts.seconds))
     found = pages_of_programs(TOP)
     for tool in TOOLS:
@@ -173,7 +180,7 @@ def files_of(programs: dict[str, bytes], facts: Facts, kit: str) -> list[Member]
 
 
 def facts_of(programs: dict[str, bytes]) -> Facts:
-    """What the package says of itself."""
+    """The metadata of the package."""
     commit, is_changed = git("rev-parse", "HEAD"), bool(git("status", "--porcelain", "--untracked-files=no"))
     told = f"{commit}, with changes" if is_changed else commit
     libc = max((least_libc(name, data) for name, data in programs.items()), key=lambda it: [*map(int, it.split("."))])
@@ -185,7 +192,7 @@ def facts_of(programs: dict[str, bytes]) -> Facts:
 
 
 def parser() -> Words:
-    """The words that there are."""
+    """The parser of the command line."""
     words = Words("package", ABOUT, STATUS)
     words.add_argument("--program", metavar="FILE", help="the built psi_oomd")
     words.add_argument("--observer", metavar="FILE", help="the built psi_observe")
@@ -196,7 +203,7 @@ def parser() -> Words:
 
 
 def make() -> None:
-    """Makes both files, and tells their sums."""
+    """Builds both files, and prints their checksums."""
     given = parser().parse_args()
     if given.unproved and given.kit:
         raise Fault("--unproved and --kit exclude each other")
@@ -216,7 +223,7 @@ def make() -> None:
 
 
 def main() -> int:
-    """Runs the command; answers its status."""
+    """Runs the command; returns its status."""
     try:
         make()
         sys.stdout.flush()

@@ -1,4 +1,4 @@
-"""What the package installs under which name: the one table of its commands."""
+"""The names under which the package installs its commands: the one table of them."""
 from __future__ import annotations
 
 from dataclasses import dataclass
@@ -6,14 +6,17 @@ from dataclasses import dataclass
 
 @dataclass(frozen=True)
 class Tool:
-    """A tool: its file in `tools`, the command that it is once installed, and what it does, for the head of its manual page."""
+    """A tool: its file in `tools`, the installed command, and a summary for the head of its manual
+    page.
+    """
 
     file: str
     command: str
     about: str
 
 
-# A tool that is added to `tools` gets a line here. Its manual page and its completions are made of its own --help.
+# A tool that is added to `tools` gets a line here. Its manual page and its completions are
+# generated from its --help.
 TOOLS = (
     Tool("record", "psi-record", "record what the scheduler, the groups and the memory of a machine do"),
     Tool("psitrace", "psi-trace", "make a trace of a recording, or of a text of ftrace"),
@@ -34,5 +37,5 @@ TOOLS = (
 )
 # The programs, each with a manual page in `docs`.
 PROGRAMS = ("psi_oomd", "psi_observe")
-# What stands in `tools` for those who have a checkout.
+# The files in `tools` that aren't installed.
 OF_CHECKOUTS = ("package", "psipack")

@@ -1,17 +1,19 @@
-"""Completions for bash and zsh of the commands, of their options and of the values that an option takes."""
+"""Completions for bash and zsh: of commands, their options and the values of options."""
 from __future__ import annotations
 
 import re
 from dataclasses import dataclass
 
-# Of these the value is a file. Of others it is a number, a path of a group or a text, for which nothing is offered.
+# Values with these names are files. Others are numbers, paths of groups or texts, which aren't
+# completed.
 FILES = re.compile(r"FILE|FOLDER|DIR|OUT|TRACE|TEXT")
 
 
 @dataclass(frozen=True)
 class Words:
-    """What can be typed after a name: its commands, each with its options and their values as they are written. What has no
-    commands has the one without a name."""
+    """What can be typed after a name: its commands, each with its options and their values as in
+    the usage. A program without commands has one with an empty name.
+    """
 
     name: str
     commands: dict[str, dict[str, str]]
@@ -107,14 +109,14 @@ _psi_oomd "$@"
 
 
 def offered(program: Words) -> dict[str, list[str]]:
-    """What is offered after each name, and after each name with a command."""
+    """The words offered after each name, and after each name with a command."""
     named = [command for command in program.commands if command]
     found = {program.name: [*named, *program.commands.get("", {})]}
     return {**found, **{f"{program.name} {command}": list(program.commands[command]) for command in named}}
 
 
 def valued(program: Words) -> dict[str, str]:
-    """What the value of each option is, after the words up to that option: FILE, or the values that there are."""
+    """The value of each option, by the words up to that option: FILE, or the possible values."""
     found: dict[str, str] = {}
     for command, options in program.commands.items():
         front = f"{program.name} {command}".rstrip()
@@ -127,7 +129,8 @@ def valued(program: Words) -> dict[str, str]:
 
 
 def cases(rows: dict[str, str]) -> str:
-    """The rows as branches of a shell's `case`, which print what follows. Values that are alike share a branch."""
+    """The rows as branches of a shell's `case`, which print the words. Equal values share a branch.
+    """
     alike: dict[str, list[str]] = {}
     for key, text in rows.items():
         alike.setdefault(text, []).append(f'"{key}"')
@@ -135,7 +138,7 @@ def cases(rows: dict[str, str]) -> str:
 
 
 def script_of(template: str, programs: list[Words]) -> bytes:
-    """The completions of these programs, by the text of one of the shells."""
+    """The completions of these programs, from the template for one of the shells."""
     words = {key: " ".join(found) for program in programs for key, found in offered(program).items()}
     values = {key: value for program in programs for key, value in valued(program).items()}
     names = " ".join(program.name for program in programs)

@@ -1,5 +1,6 @@
-"""What makes a package of Debian's of the installed files: what it needs, its log of changes, its licence, and what is done when it
-comes and goes."""
+"""The parts of a Debian package besides the installed files: its dependencies, its changelog, its
+licence, and the scripts that run when it is installed or removed.
+"""
 from __future__ import annotations
 
 import hashlib
@@ -66,7 +67,7 @@ License: Apache-2.0
  /usr/share/common-licenses/Apache-2.0. It is also in the file LICENSE beside
  this one.
 """
-# systemd reads units again where they came, changed or went.
+# systemd reloads units after they were installed, changed or removed.
 RELOADS = """\
 if [ -d /run/systemd/system ]; then
     systemctl --system daemon-reload >/dev/null || true
@@ -76,7 +77,8 @@ BEHIND_UNPACKING = f"""\
 #!/bin/sh
 set -e
 {RELOADS}"""
-# The flight recorder undoes what it changed of the kernel when it is stopped, so it is before its files go.
+# When the flight recorder is stopped, it undoes its changes to the kernel, so it is stopped before
+# its files are removed.
 BEFORE_REMOVAL = f"""\
 #!/bin/sh
 set -e
@@ -84,7 +86,8 @@ if [ "$1" = remove ] && [ -z "$DPKG_ROOT" ] && [ -d /run/systemd/system ]; then
     deb-systemd-invoke stop {" ".join(UNITS)} >/dev/null || true
 fi
 """
-# Where somebody enabled it, systemd keeps a link, which no package owns. Recordings stay: they are whose machine it is.
+# If the service was enabled, systemd has a link that no package owns. Recordings stay: they belong
+# to the machine's owner.
 BEHIND_REMOVAL = f"""\
 #!/bin/sh
 set -e
@@ -104,7 +107,7 @@ OVERRIDES = f"""\
 
 @dataclass(frozen=True)
 class Facts:
-    """What the package says of itself. `seconds` is its time since 1970."""
+    """The metadata of the package. `seconds` is its time since 1970."""
 
     version: str
     commit: str
@@ -113,7 +116,7 @@ class Facts:
     seconds: int
 
     def date(self) -> str:
-        """The time as a log of changes has it."""
+        """The time in the format of a Debian changelog."""
         return time.strftime("%a, %d %b %Y %H:%M:%S +0000", time.gmtime(self.seconds))
 
     def year(self) -> int:
@@ -122,7 +125,7 @@ class Facts:
 
 
 def own_documents(facts: Facts) -> list[Member]:
-    """The files that Debian wants beside the documents."""
+    """The files that Debian requires in the documentation folder."""
     owner = facts.maintainer.partition(" <")[0]
     said = COPYRIGHT.format(maintainer=facts.maintainer, owner=owner, year=facts.year())
     changes = CHANGES.format(
@@ -136,9 +139,9 @@ def own_documents(facts: Facts) -> list[Member]:
 
 
 def control_of(members: list[Member], facts: Facts) -> list[Member]:
-    """The files that say what the package is and what to do at its removal."""
+    """The control files: the description of the package, and the scripts."""
     sums = [f"{hashlib.md5(it.data).hexdigest()}  usr/{it.path}\n" for it in members if not it.target]
-    # In KiB, each file to the next whole one, and one for each folder and link (Debian's policy, 5.6.20).
+    # In KiB: each file rounded up, plus one for each folder and link (Debian's policy, 5.6.20).
     folders = folders_of([f"usr/{member.path}" for member in members])
     size = len(folders) + sum(-(-len(it.data) // 1024) or 1 for it in members)
     said = CONTROL.format(
@@ -154,7 +157,7 @@ def control_of(members: list[Member], facts: Facts) -> list[Member]:
 
 
 def package_of(members: list[Member], facts: Facts) -> bytes:
-    """The package, whose files lie below /usr."""
+    """The package, with its files below /usr."""
     members = sorted(members, key=lambda member: member.path)
     parts = {
         "debian-binary": b"2.0\n",

@@ -1,4 +1,6 @@
-"""What a program asks of the machine's C library, by the versions of the symbols that it takes from there."""
+"""The version of the C library that a program requires, from the versions of the symbols that it
+uses.
+"""
 from __future__ import annotations
 
 import struct
@@ -14,7 +16,7 @@ PREFIX = "GLIBC_"
 
 
 def least_libc(name: str, data: bytes) -> str:
-    """The least version of the C library that has all symbols which this program takes, as 2.34."""
+    """The lowest version of the C library that has all symbols of this program, as 2.34."""
     if not data:
         raise Fault(f"{name} is no program: the file is empty")
     if data[:6] != MAGIC or len(data) < HEADER_BYTES or struct.unpack_from("<H", data, 18)[0] != X86_64:
@@ -27,7 +29,7 @@ def least_libc(name: str, data: bytes) -> str:
 
 
 def needed_versions(data: bytes) -> list[tuple[str, str]]:
-    """Each library that the program names with a version of its symbols, and that version."""
+    """Each library for which the program requires a version of its symbols, and that version."""
     offset, size, count = struct.unpack_from("<Q", data, 40)[0], *struct.unpack_from("<HH", data, 58)
     sections = [struct.unpack_from("<IIQQQQIIQQ", data, offset + size * number) for number in range(count)]
     found: list[tuple[str, str]] = []
@@ -39,7 +41,9 @@ def needed_versions(data: bytes) -> list[tuple[str, str]]:
 
 
 def versions_at(data: bytes, at: int, libraries: int, names: int) -> list[tuple[str, str]]:
-    """The versions of a table (Elf64_Verneed, Elf64_Vernaux) that begins there, of so many libraries."""
+    """The versions in a table (Elf64_Verneed, Elf64_Vernaux) at this offset, with this number of
+    libraries.
+    """
     found: list[tuple[str, str]] = []
     for _ in range(libraries):
         _, count, library, first, following = struct.unpack_from("<HHIII", data, at)
@@ -53,5 +57,5 @@ def versions_at(data: bytes, at: int, libraries: int, names: int) -> list[tuple[
 
 
 def text_at(data: bytes, at: int) -> str:
-    """The text that begins there, up to its zero byte."""
+    """The text at this offset, up to its zero byte."""
     return data[at : data.index(b"\0", at)].decode()

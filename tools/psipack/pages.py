@@ -1,4 +1,6 @@
-"""The manual pages of the tools, made of what each says by --help. The programs have pages of their own in `docs`."""
+"""The manual pages of the tools, generated from the --help of each. The programs have pages of
+their own in `docs`.
+"""
 from __future__ import annotations
 
 import re
@@ -44,12 +46,12 @@ def page_of(tool: Tool, about: Help, commands: dict[str, Help], date: str, sourc
 
 
 def parted(paragraphs: list[str]) -> tuple[list[str], list[str]]:
-    """These paragraphs without those on the status, and these."""
+    """The paragraphs that don't concern the exit status, and those that do."""
     return [it for it in paragraphs if not STATUS.match(it)], [it for it in paragraphs if STATUS.match(it)]
 
 
 def paragraph(text: str) -> str:
-    """A paragraph: one with an indented or an aligned line is shown as it stands."""
+    """A paragraph as roff: if a line is indented or aligned, its layout is kept."""
     lines = text.split("\n")
     if any(line.startswith(" ") or re.search(r"\S {2,}\S", line) for line in lines):
         return ".PP\n.nf\n" + "".join(f"{escaped(line)}\n" for line in lines) + ".fi\n"
@@ -62,6 +64,6 @@ def items_of(items: list[Item]) -> list[str]:
 
 
 def escaped(text: str) -> str:
-    """The text as roff shows it: a hyphen stays the sign that is typed, and no line is a request."""
+    """The text escaped for roff: a hyphen stays a hyphen, and no line is a request."""
     text = text.replace("\\", "\\e").replace("-", "\\-")
     return "\\&" + text if text.startswith((".", "'")) else text

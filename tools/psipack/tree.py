@@ -1,4 +1,6 @@
-"""The files of the package: what of the repository is installed, where, and in which words."""
+"""The files of the package: what is installed from the repository, under which path, and with which
+edits.
+"""
 from __future__ import annotations
 
 import os
@@ -21,19 +23,22 @@ BY_SHELL = b'#!/bin/sh\n'
 STARTED = re.compile(rb'^exec python3 -B ', re.MULTILINE)
 COMMANDS = {tool.file: tool.command for tool in TOOLS}
 NAMED_TOOL = re.compile(rf"(?<![\w./-])tools/({'|'.join(map(re.escape, COMMANDS))})(?![\w/-]|\.\w)")
-# How a message begins, and how a tool names itself for its usage. What psitrace prints of a recording is read by others by its name.
+# The beginning of a message, and a tool's name in its usage. What psitrace prints about a recording
+# is parsed by others, by its name.
 TOOL_NAME = "|".join(map(re.escape, COMMANDS))
 MESSAGE = re.compile(rf'(\bf")({TOOL_NAME.replace("psitrace|", "")})(?=: )')
 ECHOED = re.compile(rf'(?<=echo ")({TOOL_NAME})(?=: )')
 PROGRAM_NAME = re.compile(rf'(\b(?:Words|Parser|run_tool|ended)\("|\bprog=")({TOOL_NAME})(?=")')
-# Parts of documents that are for those who have the sources.
+# Parts of documents for readers who have the sources.
 OF_SOURCES = re.compile(r"<!-- in a checkout -->\n.*?<!-- end -->\n+", re.DOTALL)
 LINK = re.compile(r"(!?)\[([^\]]*)\]\(([^):#]+)(#[^)]*)?\)")
 
 
 @dataclass(frozen=True)
 class Member:
-    """A file, or where `target` is given a symbolic link: its path below the folder of installation, its bytes and its mode."""
+    """A file, or a symbolic link if `target` is given: its path below the installation folder, its
+    bytes and its mode.
+    """
 
     path: str
     data: bytes = b""
@@ -42,7 +47,8 @@ class Member:
 
 
 def tracked(top: str, *names: str) -> list[tuple[str, int]]:
-    """The files below these names of which git knows, with their modes there: what lies beside them isn't packed."""
+    """The files below these names that git tracks, with their modes: untracked files aren't packed.
+    """
     words = ["git", "-C", top, "ls-files", "-sz", "--", *names]
     listed = subprocess.run(words, check=True, stdout=subprocess.PIPE, encoding="utf-8").stdout
     rows = [row.partition("\t") for row in listed.split("\0") if row]
@@ -50,7 +56,7 @@ def tracked(top: str, *names: str) -> list[tuple[str, int]]:
 
 
 def bytes_of(*path: str) -> bytes:
-    """The bytes of a file; one that can't be read is a fault."""
+    """The bytes of a file; if it can't be read, that is an error."""
     name = os.path.join(*path)
     try:
         with open(name, "rb") as file:
@@ -60,21 +66,21 @@ def bytes_of(*path: str) -> bytes:
 
 
 def renamed(text: str) -> str:
-    """A text in which the commands have the names that they have once they are installed."""
+    """A text with the commands' installed names."""
     text = NAMED_TOOL.sub(lambda found: COMMANDS[found[1]], text)
     text = re.sub(rf"\./({'|'.join(PROGRAMS)})\b", r"\1", text)
     return re.sub(rf"man -l docs/({'|'.join(PROGRAMS)})\.1", r"man \1", text)
 
 
 def renamed_code(text: str) -> str:
-    """The text of a tool, whose messages and usage begin with its installed name."""
+    """The source of a tool, whose messages and usage begin with its installed name."""
     text = MESSAGE.sub(lambda found: f'{found[1]}{COMMANDS[found[2]]}', text)
     text = ECHOED.sub(lambda found: COMMANDS[found[1]], text)
     return PROGRAM_NAME.sub(lambda found: f'{found[1]}{COMMANDS[found[2]]}', text)
 
 
 def with_whole_paths(text: str) -> str:
-    """A text in which the documents have whole paths."""
+    """A text with the full paths of documents."""
     text = re.sub(rf"docs/({'|'.join(PROGRAMS)})\.1", r"\1(1)", text)
     return re.sub(r"(?<![\w/-])docs/(?=[A-Z]+\.md)", f"/usr/{DOCUMENTS}/docs/", text)
 
@@ -83,7 +89,7 @@ def with_whole_paths(text: str) -> str:
 
 
 def programs_of(top: str, programs: dict[str, bytes], origin: str) -> list[Member]:
-    """The programs, their launcher, and what `--version` says of them."""
+    """The programs, their launcher, and the text for `--version`."""
     members = [Member(f"{LIBRARY}/origin", origin.encode())]
     for name, data in programs.items():
         members.append(Member(f"{LIBRARY}/programs/{name}", data, 0o755))
@@ -118,7 +124,7 @@ def tools_of(top: str) -> list[Member]:
 
 
 def documents_of(top: str) -> list[Member]:
-    """The documents and the examples. What leads to a file that isn't installed is no link there."""
+    """The documents and the examples, without links to files that aren't installed."""
     files = tracked(top, "README.md", "CHANGELOG.md", "LICENSE", "docs", "examples")
     paths = {path for path, mode in files if mode == 0o644 and not path.endswith(".1")}
     members = []
@@ -131,7 +137,7 @@ def documents_of(top: str) -> list[Member]:
 
 
 def without_dead_links(text: str, path: str, paths: set[str]) -> str:
-    """The text of a document, in which only those are links that lead to one of these paths or below it."""
+    """The text of a document, keeping only links to these paths or below them."""
 
     def link(found: re.Match[str]) -> str:
         target = os.path.normpath(os.path.join(os.path.dirname(path), found[3]))

@@ -1,4 +1,6 @@
-"""Reads what a tool says of itself by --help, and what the launcher says of the programs, for manual pages and completions."""
+"""Parses the --help of a tool, and the launcher's text on the programs, for manual pages and
+completions.
+"""
 from __future__ import annotations
 
 import os
@@ -9,19 +11,19 @@ from dataclasses import dataclass, field
 
 from psireplay.command import Fault
 
-# So wide that few lines are broken, and no colours: what is read is the same wherever it runs.
+# Wide, so that few lines are broken, and without colours: the output is the same everywhere.
 ENVIRONMENT = {"COLUMNS": "100", "NO_COLOR": "1", "TERM": "dumb", "LC_ALL": "C.UTF-8", "PYTHONDONTWRITEBYTECODE": "1"}
 SECTION = re.compile(r"(positional arguments|options|optional arguments):")
 ITEM = re.compile(r" {2}(\S.*?)(?: {2,}(\S.*))?")
-# A command; if its name is long, what it does begins in the next line.
+# A command; if its name is long, its description begins in the next line.
 COMMAND = re.compile(r" {4}([a-z][a-z-]*)(?: {2,}(\S.*))?")
-# How an option is written: its name, and the name of its value or the values that it takes.
+# How an option is written: its name, and the name of its value or the possible values.
 OPTION = re.compile(r"(--?[a-z][a-z0-9-]*)(?:[ =](\{[^}]*\}|'[^']*'|[A-Z][A-Z0-9_:=.]*))?")
 
 
 @dataclass(frozen=True)
 class Item:
-    """An argument or an option: how it is written, and what it means."""
+    """An argument or an option: its syntax, and its meaning."""
 
     words: str
     about: str
@@ -29,8 +31,10 @@ class Item:
 
 @dataclass
 class Help:
-    """What --help has: how the tool is called, without its name, paragraphs on it, its arguments and options, its commands with
-    what each does, and paragraphs after these. A paragraph that is indented is shown as it stands."""
+    """The parts of --help: the usage without the tool's name, paragraphs on the tool, its arguments
+    and options, its commands with their descriptions, and the paragraphs after these. The layout of
+    an indented paragraph is kept.
+    """
 
     usage: str
     before: list[str] = field(default_factory=list)
@@ -41,7 +45,7 @@ class Help:
 
 
 def said_by(words: list[str]) -> str:
-    """What this command prints on standard output; one that fails is a fault."""
+    """The standard output of this command; its failure is an error."""
     done = subprocess.run(words, capture_output=True, encoding="utf-8", env={**os.environ, **ENVIRONMENT})
     if done.returncode:
         raise Fault(f"{' '.join(words)}: status {done.returncode}: {done.stderr.strip()}")
@@ -49,12 +53,12 @@ def said_by(words: list[str]) -> str:
 
 
 def help_of(path: str, *command: str) -> Help:
-    """What a tool says of itself, or of one of its commands."""
+    """The help of a tool, or of one of its commands."""
     return help_in(said_by([sys.executable, "-B", path, *command, "--help"]))
 
 
 def help_in(text: str) -> Help:
-    """What stands in a text of --help."""
+    """Parses the text of --help."""
     head, *blocks = re.split(r"\n\n", text.rstrip("\n"))
     words = re.sub(r"\s+", " ", head.removeprefix("usage: "))
     found = Help(usage_without_name(words))
@@ -73,7 +77,9 @@ def help_in(text: str) -> Help:
 
 
 def usage_without_name(words: str) -> str:
-    """The words of a usage after the tool's name, and its command's where it has one: from the first that isn't a plain word."""
+    """The words of a usage after the tool's name, and after its command's if there is one: from the
+    first that isn't a plain word.
+    """
     _, *rest = words.split(" ")
     while rest and re.fullmatch("[a-z][a-z-]*", rest[0]):
         rest.pop(0)
@@ -81,7 +87,7 @@ def usage_without_name(words: str) -> str:
 
 
 def read_items(text: str, items: list[Item], commands: list[Item]) -> None:
-    """Adds the arguments or options of a section, and the commands that stand below an argument."""
+    """Adds the arguments or options of a section, and the commands listed below an argument."""
     rows = items
     for line in text.split("\n"):
         command, item = COMMAND.fullmatch(line), ITEM.fullmatch(line)
@@ -97,7 +103,7 @@ def read_items(text: str, items: list[Item], commands: list[Item]) -> None:
 
 
 def options_in(items: list[Item]) -> dict[str, str]:
-    """The options of these items, each with its value as it is written: nothing where it takes none."""
+    """The options of these items, each with its value as in the usage: empty if it takes none."""
     found: dict[str, str] = {}
     for item in items:
         written = OPTION.findall(item.words)
@@ -107,8 +113,9 @@ def options_in(items: list[Item]) -> dict[str, str]:
 
 
 def commands_in(text: str, program: str) -> dict[str, dict[str, str]]:
-    """The commands of a program in the launcher's --help, with the options of each and their values. A program without commands
-    has the one without a name."""
+    """The commands of a program in the launcher's --help, with the options of each and their
+    values. A program without commands has one with an empty name.
+    """
     joined = re.sub(r"\n {10,}(?=\[)", " ", text)
     found: dict[str, dict[str, str]] = {}
     for line in re.findall(rf"^ +{program} (.*)$", joined, re.MULTILINE):
