@@ -1,1 +1,1 @@
-"""Texts of ftrace: how they are read and mended, and what `tools/ftrace-check` says of them."""
+"""Texts of ftrace: reading and repairing them, and the checks of `tools/ftrace-check`."""

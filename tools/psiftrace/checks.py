@@ -1,8 +1,9 @@
-"""Looks in text of ftrace for what makes a trace of it wrong without a word.
+"""Checks text of ftrace for defects that make its trace wrong without an error.
 
-An importer takes lines as they come: it can't know that lines are missing, that a task's number changed, or that a sleep in
-state D was no wait for IO. Each finding here has a threshold below which it changes totals by less than what pressure files
-of a machine and of a replay are apart anyway.
+An importer takes lines as they come: it can't know that lines are missing, that a task's number
+changed, or that a sleep in state D was no wait for IO. Each finding here has a threshold, below
+which it changes totals by less than the usual difference between the pressure files of a machine
+and of a replay.
 """
 from __future__ import annotations
 
@@ -14,22 +15,25 @@ from psiread.waits import UNINTERRUPTIBLE
 from .lines import FORMS, Line, event_of, forms_of, head_of
 from .text import ENTRIES, LOST
 
-# Times that go back by less are those of two processors' lines at about one moment, ns.
+# If times go back by less, two processors wrote their lines at about the same time, ns.
 LEAST_BACK = 10**6
-# With fewer switches than this nothing follows from what never comes.
+# With fewer switches than this, the absence of an event means nothing.
 LEAST_SWITCHES = 200
-# Of the time of all sleeps in state D, so much at most may be no wait for IO.
+# The largest share of the time of all sleeps in state D that may be no wait for IO.
 MOST_OTHER_SLEEP = 0.05
-# Where nothing tells which were, sleeps in state D may take so much of the text's time, on all processors together.
+# The largest share of the text's time, on all processors together, that sleeps in state D may take
+# if nothing shows which of them were waits for IO.
 MOST_UNKNOWN_SLEEP = 0.01
-# Processors begin apart by less than this where nothing was overwritten, ns.
+# If nothing was overwritten, the first events of the processors are less than this apart, ns.
 LEAST_APART = 10**8
 
 KINDS = ("sched_switch", "sched_wakeup", "sched_wakeup_new", "sched_migrate_task")
 
 
 class Sleeps:
-    """The sleeps in state D: which goes on, how long those were that a sched_stat_iowait told of, and the others (ns)."""
+    """The sleeps in state D: those in progress, and the total times (ns) of those reported by
+    sched_stat_iowait and of the others.
+    """
 
     def __init__(self) -> None:
         self.begun: dict[int, int] = {}
@@ -37,7 +41,7 @@ class Sleeps:
         self.times: Counter[bool] = Counter()
 
     def end(self, task: int, moment: int, is_wait: bool) -> None:
-        """A task's sleep ends, if one goes on."""
+        """Ends a task's sleep, if one is in progress."""
         begun = self.begun.pop(task, None)
         if begun is not None:
             self.waits[is_wait] += 1
@@ -45,7 +49,7 @@ class Sleeps:
 
 
 class Check:
-    """What was seen in a text."""
+    """The state of checking a text."""
 
     def __init__(self) -> None:
         self.kinds: Counter[str] = Counter()
@@ -78,7 +82,7 @@ class Check:
             self.take_event(number, event)
 
     def take_other(self, number: int, line: bytes) -> None:
-        """Takes a line that tells no event."""
+        """Takes a line that isn't an event."""
         entries, lost = ENTRIES.match(line), LOST.match(line)
         if entries and entries[1] != entries[2]:
             self.overwritten.append((number, int(entries[1]), int(entries[2])))
@@ -86,7 +90,7 @@ class Check:
             self.lost.append(int(lost[2] or 0))
 
     def take_form(self, head: Line, line: bytes, event: Event | None) -> None:
-        """Counts lines that an importer refuses or passes over."""
+        """Counts lines that an importer rejects or ignores."""
         self.faults["perf"] += head.is_perf
         self.faults["return"] += line.endswith(b"\r")
         if event is None:
@@ -95,14 +99,14 @@ class Check:
             self.faults["plain"] += 1
 
     def take_moment(self, number: int, event: Event) -> None:
-        """Looks at the time of an event."""
+        """Checks the time of an event."""
         if self.latest - event.moment > LEAST_BACK:
             self.backs.append((number, self.latest - event.moment))
         self.latest = max(self.latest, event.moment)
         self.firsts.setdefault(event.processor, event.moment)
 
     def take_event(self, number: int, event: Event) -> None:
-        """Looks at what an event says."""
+        """Checks the contents of an event."""
         if isinstance(event, Switch):
             if self.runs.get(event.processor, event.previous) != event.previous:
                 self.strangers.append(number)
@@ -123,11 +127,11 @@ class Check:
     # ------------------------------------------------------------ what follows
 
     def findings(self) -> list[str]:
-        """What makes a trace of the text wrong; nothing where it can be trusted."""
+        """The defects that make a trace of the text wrong; empty if it can be trusted."""
         return [*self.form_findings(), *self.missing_findings(), *self.order_findings(), *self.sleep_findings()]
 
     def form_findings(self) -> list[str]:
-        """What an importer refuses or doesn't see; psitrace takes all of these forms."""
+        """Forms that an importer rejects or doesn't see; psitrace accepts all of them."""
         found = []
         if not self.kinds["sched_switch"]:
             found.append("there is no sched_switch line that can be read")
@@ -142,7 +146,7 @@ class Check:
         return found
 
     def missing_findings(self) -> list[str]:
-        """What isn't there."""
+        """What is missing."""
         found = []
         if self.lost:
             found.append(f"{sum(self.lost)} events were lost, at {len(self.lost)} places")
@@ -161,7 +165,7 @@ class Check:
         return found
 
     def order_findings(self) -> list[str]:
-        """What stands at the wrong place or under another number."""
+        """What is at the wrong place or has a different number."""
         found = []
         if self.backs:
             number, back = self.backs[0]
@@ -177,7 +181,7 @@ class Check:
         return found
 
     def sleep_findings(self) -> list[str]:
-        """How far state D is no wait for IO."""
+        """To what extent state D isn't a wait for IO."""
         other, waits = self.sleeps.times[False], self.sleeps.times[True]
         count = self.sleeps.waits[False]
         if self.kinds["sched_stat_iowait"]:
@@ -191,7 +195,7 @@ class Check:
         return []
 
     def remarks(self) -> list[str]:
-        """What is worth a look, and makes nothing wrong by itself."""
+        """What deserves attention but makes nothing wrong by itself."""
         said = [f"--cpus {max(self.firsts) + 1}"] if self.firsts else []
         said += [f"{kind} {count}" for kind, count in sorted(self.kinds.items())]
         absent = [kind for kind in KINDS if not self.kinds[kind]]

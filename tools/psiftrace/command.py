@@ -25,12 +25,12 @@ FOUND, UNREADABLE = 1, 2
 
 
 def tell(line: str) -> None:
-    """Says something on standard error."""
+    """Prints a line on standard error."""
     print(f"ftrace-check: {line}", file=sys.stderr)
 
 
 def main(given: list[str]) -> int:
-    """Runs the command; answers its status."""
+    """Runs the command; returns its status."""
     words = Parser("ftrace-check", __doc__, UNREADABLE)
     words.add_argument("text", metavar="TEXT", help="the file, or - for the standard input")
     name = words.words_of(given)["text"]
@@ -44,7 +44,7 @@ def main(given: list[str]) -> int:
 
 
 def checked(name: str) -> int:
-    """Looks at a text, and says what it finds; answers the status."""
+    """Checks a text, and prints the findings; returns the status."""
     data = bytes_of(name)
     kind = "it is a trace: psi_oomd check takes it" if TRACE_HEADER.match(data) else kind_of(data[:HEAD])
     if kind and data and not data.startswith(b"#"):

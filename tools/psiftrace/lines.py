@@ -1,8 +1,9 @@
-"""Reads single lines of text that tells of a kernel's events: of `trace` and `trace_pipe`, of `trace-cmd report` with and
-without -N, and of `perf script`.
+"""Parses single lines of text with a kernel's events: from `trace` and `trace_pipe`, from
+`trace-cmd report` with and without -N, and from `perf script`.
 
-The names of tasks may hold anything, so a line's fields are found by all that stands around the names: what lies between two
-of them is longer than a name, which has 15 bytes at most (`TASK_COMM_LEN` of Linux, less its closing zero).
+The names of tasks may contain anything, so a line's fields are found by the text around the names:
+what looks like fields within a name would be longer than a name, which has at most 15 bytes
+(`TASK_COMM_LEN` of Linux, less its terminating zero).
 """
 from __future__ import annotations
 
@@ -19,7 +20,7 @@ TIME = rb"(\d{1,10})\.(\d{1,9}):"
 FTRACE = rb"-(\d{1,10}) +(?:\([ \d-]+\) +)?\[(\d{1,5})\](?: +[A-Za-z0-9.*#]{4,6})? +" + TIME + rb" +([A-Za-z0-9_]+):(?: +(.*))?$"
 PERF = rb" +(?:\d+ +)?[a-z0-9_]+:([A-Za-z0-9_]+):(?: +(.*))?$"
 HEADS = (
-    # The kernel writes names with 16 columns, so the dash after them stands at one place.
+    # The kernel pads names to 16 columns, so the dash after them has a fixed position.
     re.compile(rb".{16}" + FTRACE, re.DOTALL),
     re.compile(rb" *\S.*?" + FTRACE, re.DOTALL),
     re.compile(rb" *\S.*? +(?:\d+/)?(\d{1,10}) +\[(\d{1,5})\] +" + TIME + PERF, re.DOTALL),
@@ -27,8 +28,9 @@ HEADS = (
 
 
 class Line(NamedTuple):
-    """The head of a line and its rest: when and where the event was written, in which task, of what kind it is, and whether
-    perf wrote the line."""
+    """The head of a line and its rest: when and on which processor the event was written, in which
+    task, its kind, and whether perf wrote the line.
+    """
 
     moment: int
     processor: int
@@ -39,7 +41,7 @@ class Line(NamedTuple):
 
 
 def head_of(line: bytes) -> Line | None:
-    """The line of an event, or none where it isn't one."""
+    """The line of an event, or None if it isn't one."""
     for head in HEADS:
         found = head.match(line)
         if found:
@@ -53,19 +55,19 @@ def head_of(line: bytes) -> Line | None:
 
 
 class Form(NamedTuple):
-    """How the fields of a kind are spelled, and what makes the event of them."""
+    """The syntax of the fields of a kind, and the function that creates the event from them."""
 
     pattern: re.Pattern[bytes]
     make: Callable[[Line, tuple[bytes, ...]], Event]
 
 
 def form(pattern: bytes, make: Callable[[Line, tuple[bytes, ...]], Event]) -> Form:
-    """A form whose pattern is matched against all of the fields; a name in it may hold newlines."""
+    """A form whose pattern must match all of the fields; a name in it may contain newlines."""
     return Form(re.compile(pattern, re.DOTALL), make)
 
 
 def numbers(kind: type) -> Callable[[Line, tuple[bytes, ...]], Event]:
-    """What makes an event of this kind, whose fields are decimal numbers."""
+    """A function that creates an event of this kind from decimal fields."""
 
     def make(line: Line, fields: tuple[bytes, ...]) -> Event:
         event: Event = kind(line.moment, line.processor, line.current, *map(int, fields))
@@ -75,7 +77,7 @@ def numbers(kind: type) -> Callable[[Line, tuple[bytes, ...]], Event]:
 
 
 def switch(line: Line, fields: tuple[bytes, ...]) -> Event:
-    """A switch; of a state's letters the first counts, and `R+` is ready."""
+    """A switch; if a state has several letters, the first counts, and `R+` is ready."""
     previous, state, following = fields
     return Switch(line.moment, line.processor, line.current, int(previous), state[:1].decode("latin-1"), int(following))
 
@@ -86,12 +88,12 @@ def new_task(line: Line, fields: tuple[bytes, ...]) -> Event:
 
 
 def attach(line: Line, fields: tuple[bytes, ...]) -> Event:
-    """A task goes to a group."""
+    """A task moves to a group."""
     return Attach(line.moment, line.processor, line.current, int(fields[0]), fields[1], int(fields[2]))
 
 
 def group(kind: Callable[[int, int, int, int, bytes], Event]) -> Callable[[Line, tuple[bytes, ...]], Event]:
-    """A group comes or goes."""
+    """A group is created or removed."""
     return lambda line, fields: kind(line.moment, line.processor, line.current, int(fields[0]), fields[1])
 
 
@@ -105,7 +107,7 @@ def marker(line: Line, fields: tuple[bytes, ...]) -> Event:
     return Marker(line.moment, line.processor, line.current, fields[0])
 
 
-# After the ones that the kernel's own print formats give stand those of trace-cmd's plugins.
+# The forms of the kernel's own print formats, followed by those of trace-cmd's plugins.
 PRIORITY = rb"(?: prio=-?\d+)?"
 PLAIN = rb"\[-?\d+\]"
 LEAVES = rb"prev_comm=.* prev_pid=(\d{1,10})(?: prev_prio=-?\d+)? prev_state=(\S+)"
@@ -135,7 +137,7 @@ FORMS: dict[str, tuple[Form, ...]] = {
     "print": (form(rb"tracing_mark_write: (.*)", marker),),
 }  # fmt: skip
 
-# Probes have names of their own, but tell where they stand.
+# Probes have arbitrary names, but their lines contain the function's name.
 PROBES = {
     b"(psi_memstall_enter": form(rb"\(\S+\)", numbers(StallBegins)),
     b"(psi_memstall_leave": form(rb"\(\S+\)(?: .*)? flags=0x([0-9a-f]+)(?: .*)?", stall_ends),
@@ -145,7 +147,7 @@ PROBES = {
 
 
 def forms_of(line: Line) -> tuple[Form, ...]:
-    """The forms that the fields of this line may have; none where nobody asks for it."""
+    """The possible forms of this line's fields; empty if the event isn't needed."""
     forms = FORMS.get(line.kind, ())
     if not forms and line.fields.startswith((b"(psi_", b"(cgroup_")):
         forms = tuple(it for start, it in PROBES.items() if re.match(re.escape(start) + rb"[+)]", line.fields))
@@ -153,7 +155,7 @@ def forms_of(line: Line) -> tuple[Form, ...]:
 
 
 def event_of(line: Line, forms: tuple[Form, ...]) -> Event | None:
-    """The event that the line tells, or none where its fields aren't whole."""
+    """The event of the line, or None if its fields aren't complete."""
     for one in forms:
         found = one.pattern.fullmatch(line.fields)
         if found:

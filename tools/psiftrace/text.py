@@ -1,5 +1,6 @@
-"""Reads text that tells of a kernel's events, and mends of it what can be mended: lines out of order, names with newlines, a
-buffer whose beginning was overwritten, ends of lines as in files of Windows."""
+"""Reads text with a kernel's events, and repairs what can be repaired: lines out of order, names
+with newlines, a buffer whose beginning was overwritten, and line endings of Windows.
+"""
 from __future__ import annotations
 
 import gzip
@@ -23,16 +24,16 @@ LOST = re.compile(rb"CPU:(\d{1,5}) \[(?:LOST )?(\d{0,18}) ?EVENTS(?: DROPPED)?\]
 ENTRIES = re.compile(rb"# entries-in-buffer/entries-written: (\d{1,18})/(\d{1,18})")
 PROCESSORS = re.compile(rb"#.*#P:(\d{1,6})|cpus=(\d{1,6})$")
 GZIP = b"\x1f\x8b"
-# A text that is compressed may have this many bytes: 4,000,000 events have about 600 MB.
+# The most bytes of a compressed text: 4,000,000 events have about 600 MB.
 MOST_UNPACKED, PIECE = 2 << 30, 8 << 20
-# A name of 15 bytes that holds newlines reaches over so many lines more.
+# The most lines over which a name of 15 bytes with newlines continues.
 MOST_JOINED = 3
-# The times of one processor go back by so much only where another recording begins, ns.
+# If the times of one processor go back by more than this, another recording begins, ns.
 MOST_BACK = 10**6
 
 
 def bytes_of(name: str) -> bytes:
-    """What stands in a file, also in one that is gzipped, or on the standard input, which is `-`."""
+    """The contents of a file, possibly gzipped, or of the standard input, which is `-`."""
     try:
         if name == "-":
             data = sys.stdin.buffer.read()
@@ -45,7 +46,7 @@ def bytes_of(name: str) -> bytes:
 
 
 def unpacked(name: str, data: bytes) -> bytes:
-    """The bytes that were compressed."""
+    """The decompressed bytes."""
     with gzip.GzipFile(fileobj=io.BytesIO(data)) as file:
         pieces, size = [], 0
         while piece := file.read(PIECE):
@@ -57,7 +58,7 @@ def unpacked(name: str, data: bytes) -> bytes:
 
 
 class Text:
-    """The events of a text, as they stand, and what there is to tell about it."""
+    """The events of a text, in its order, and remarks about it."""
 
     def __init__(self, data: bytes) -> None:
         self.lines = data.split(b"\n")
@@ -66,7 +67,7 @@ class Text:
         self.mended: Counter[str] = Counter()
         self.processors = 0
         self.overwritten = 0
-        # Events that were lost on a processor since its last one, and when that was.
+        # The number of events lost on a processor since its last event, and the time of that.
         self.lost: dict[int, int] = {}
         self.lasts: dict[int, int] = {}
         if self.lines.pop():
@@ -85,7 +86,7 @@ class Text:
         return line
 
     def take(self, place: int) -> int:
-        """Takes the line at this place; answers how many lines were taken."""
+        """Takes the line at this place; returns how many lines were taken."""
         line = self.line_at(place)
         head = head_of(line)
         if head is None:
@@ -111,7 +112,7 @@ class Text:
         return 1
 
     def take_other(self, line: bytes) -> None:
-        """Takes a line that is no event's."""
+        """Takes a line that isn't an event."""
         lost, entries, processors = LOST.match(line), ENTRIES.match(line), PROCESSORS.match(line)
         if lost:
             self.lost[int(lost[1])] = self.lost.get(int(lost[1]), 0) + int(lost[2] or 0)
@@ -123,7 +124,7 @@ class Text:
             self.mended["line without an event, passed over"] += 1
 
     def add(self, event: Event) -> None:
-        """An event comes after those that were there."""
+        """Appends an event."""
         processor, last = event.processor, self.lasts.get(event.processor, 0)
         if processor in self.lost:
             self.gaps.append(Gap(processor, last, event.moment, self.lost.pop(processor)))
@@ -135,7 +136,9 @@ class Text:
 
 
 def parts_of(events: list[Event]) -> list[list[Event]]:
-    """The events of each recording that the text holds: where the time of one processor goes back another begins."""
+    """The events of each recording in the text: a new one begins when the time of a processor goes
+    back.
+    """
     parts: list[list[Event]] = [[]]
     lasts: dict[int, int] = {}
     for event in events:
@@ -148,7 +151,9 @@ def parts_of(events: list[Event]) -> list[list[Event]]:
 
 
 def ordered(text: Text, source: Source) -> list[Event]:
-    """The events in the order of their times. Of several recordings the longest is taken, which is a loss."""
+    """The events in order of time. If there are several recordings, the longest is taken, and the
+    rest is a loss.
+    """
     parts = parts_of(text.events)
     longest = max(parts, key=lambda part: max(it.moment for it in part) - min(it.moment for it in part))
     if len(parts) > 1:
@@ -162,8 +167,9 @@ def ordered(text: Text, source: Source) -> list[Event]:
 
 
 def begin(text: Text, source: Source) -> None:
-    """Says where the trace begins: at the recorder's marker if there is one, else at the first event, or where the buffer was
-    overwritten, from where all processors have events."""
+    """Sets where the trace begins: at the recorder's marker if there is one, else at the first
+    event; or, if the buffer was overwritten, at the time from which all processors have events.
+    """
     if text.overwritten > 0:
         whole_from = max(first_moments(source.events).values())
         source.events = [event for event in source.events if event.moment >= whole_from]
@@ -178,7 +184,7 @@ def begin(text: Text, source: Source) -> None:
 
 
 def tell_missing(source: Source) -> None:
-    """What can't be in a whole recording of a machine."""
+    """Adds what a complete recording of a machine can't contain."""
     kinds = {type(event) for event in source.events}
     if not {Wakeup, FirstWakeup} & kinds:
         source.losses.append("there is no wakeup at all: was sched_wakeup on? Each sleep seems to last until the task runs")
@@ -187,7 +193,7 @@ def tell_missing(source: Source) -> None:
 
 
 def processors_of(text: Text, given: int | None, greatest: int) -> int:
-    """How many processors there are: as many as were given, or as the text tells."""
+    """The number of processors: the given one, or what follows from the text."""
     if given is not None and greatest >= given:
         raise Faulty(f"--cpus {given}: there are events of processor {greatest}, and they count from 0")
     return given or max(text.processors, greatest + 1)
