@@ -1,1 +1,3 @@
-"""The machine as a trace knows it: its control groups, its limits, and the lines that may be written."""
+"""The state of the machine in a trace: its control groups, its limits, and the lines that may be
+written.
+"""

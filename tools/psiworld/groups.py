@@ -1,9 +1,12 @@
-"""The control groups of a trace: which are there, how many tasks and groups are in each, and what a trace can't have."""
+"""The control groups of a trace: which exist, how many tasks and groups are in each, and the limits
+of a trace.
+"""
 from __future__ import annotations
 
 from collections import Counter
 
-# What a trace may have at most: groups ever made beside the root, components of a path, and bytes of one.
+# The limits of a trace: groups ever created besides the root, components of a path, and bytes of a
+# path.
 MOST_GROUPS = 1023
 MOST_LEVELS = 32
 MOST_BYTES = 255
@@ -11,7 +14,7 @@ ROOT = "/"
 
 
 def parent_of(path: str) -> str:
-    """The group above; of the root the root."""
+    """The parent; for the root the root."""
     return path.rpartition("/")[0] or ROOT
 
 
@@ -22,7 +25,9 @@ def prefixes_of(path: str) -> list[str]:
 
 
 class Groups:
-    """The groups by path. A group that was removed while a task was in it stays until that leaves."""
+    """The groups by path. A group that was removed while a task was in it stays until that task
+    leaves.
+    """
 
     def __init__(self, deepest: int | None = None) -> None:
         self.deepest = deepest
@@ -31,13 +36,13 @@ class Groups:
         self.live = {ROOT}
         self.leaving: set[str] = set()
         self.made = 0
-        # For a path that the trace doesn't have, the one that stands for it.
+        # For a path that the trace can't have, the group that replaces it.
         self.folded: dict[str, str] = {}
-        # Why groups were folded, and which were first.
+        # Why groups were folded into their parents, and the first ones for each reason.
         self.limits: dict[str, list[str]] = {}
 
     def limit_of(self, path: str) -> str | None:
-        """The limit that this path, which isn't there, would go beyond, if any."""
+        """The limit that this new path would exceed, if any."""
         if path.count("/") > MOST_LEVELS:
             return f"more than {MOST_LEVELS} levels"
         if len(path) > MOST_BYTES:
@@ -45,7 +50,9 @@ class Groups:
         return f"more than {MOST_GROUPS} groups" if self.made >= MOST_GROUPS else None
 
     def make(self, path: str) -> tuple[str, list[str]]:
-        """The path that stands for this one, and the groups that are to be made for it, parents first."""
+        """The path that replaces this one in the trace (usually itself), and the groups to create
+        for it, parents first.
+        """
         if path in self.live:
             return path, []
         place = ROOT
@@ -71,24 +78,24 @@ class Groups:
         return place, made
 
     def is_folded(self, path: str) -> bool:
-        """Whether another group, which is there, stands for this one."""
+        """Whether this group was folded into another one."""
         return self.folded.get(path) in self.live
 
     def place_of(self, path: str) -> str | None:
-        """The path that stands for this one, if it is there."""
+        """The path that replaces this one in the trace, if it exists."""
         return path if path in self.live else self.folded[path] if self.is_folded(path) else None
 
     def enter(self, path: str) -> None:
-        """One task more is in the group."""
+        """A task enters the group."""
         self.tasks[path] += 1
 
     def leave(self, path: str) -> list[str]:
-        """One task fewer is in it; answers the groups that are gone by that."""
+        """A task leaves the group; returns the groups that this removes."""
         self.tasks[path] -= 1
         return self.swept(path)
 
     def remove(self, path: str) -> list[str]:
-        """The kernel removed the group; answers the groups that are gone from the trace by that."""
+        """The kernel removed the group; returns the groups that are removed from the trace."""
         self.folded.pop(path, None)
         if path not in self.live or path == ROOT:
             return []
@@ -96,7 +103,7 @@ class Groups:
         return self.swept(path)
 
     def swept(self, path: str) -> list[str]:
-        """Takes away the group and those above it, as far as they are to leave and nothing is in them."""
+        """Removes the group and its ancestors, as far as they are marked for removal and empty."""
         gone = []
         while path in self.leaving and not self.tasks[path] and not self.children[path]:
             self.leaving.remove(path)
@@ -107,14 +114,14 @@ class Groups:
         return gone
 
     def is_leaving(self, path: str) -> bool:
-        """Whether the kernel removed it, and it is still there."""
+        """Whether the kernel removed it, but the trace still has it."""
         return path in self.leaving
 
     def leaving_below(self, path: str) -> list[str]:
-        """This group and those below it that are to leave, the deepest first."""
+        """This group and its descendants that are marked for removal, the deepest first."""
         found = (it for it in self.leaving if it == path or it.startswith(path + "/"))
         return sorted(found, key=lambda it: (-it.count("/"), it))
 
     def keep(self, path: str) -> None:
-        """The group stays, though the kernel removed it."""
+        """Keeps the group, though the kernel removed it."""
         self.leaving.discard(path)

@@ -1,13 +1,14 @@
-"""What a trace may have at most."""
+"""The limits of a trace."""
 
-# Lines of events with the end's among them, tasks at once, lines that switch accounting, and processors.
+# Lines of events including the end line, tasks at once, lines that switch accounting, and
+# processors.
 MOST_EVENTS = 4_000_000
 MOST_TASKS = 65_536
 MOST_SWITCHES = 65_536
 MOST_PROCESSORS = 64
-# The greatest number of a task, and of bytes or pages in a sample.
+# The greatest number of a task, and the most bytes or pages in a sample.
 MOST_LABEL, MOST_MEMORY = 2**32 - 1, 2**60
-# The latest time (ns): a trace has at most a million ticks, and a tick has at most 60 s.
+# The latest time (ns): a trace has at most a million ticks, and a tick is at most 60 s.
 MOST_TIME = 10**6 * 60 * 10**9
 # A trigger's window, us.
 LEAST_WINDOW, MOST_WINDOW = 500_000, 10_000_000

@@ -1,7 +1,8 @@
-"""The machine as a trace knows it, and the lines of the trace: each act here writes lines that a reader of traces accepts.
+"""The state of the machine in a trace, and the lines of the trace: each method writes lines that a
+reader of traces accepts.
 
-Whatever a caller asks of a world stays legal, so a trace that it writes is never refused: a task that runs is
-put aside before another runs there, one that leaves for good leaves its stall first, and groups come and go in order.
+Any sequence of calls gives a valid trace: a running task is preempted before another runs there, a
+task that exits leaves its stall first, and groups are created and removed in order.
 """
 from __future__ import annotations
 
@@ -11,9 +12,9 @@ from enum import Enum, auto
 from .groups import ROOT, Groups, parent_of
 from .limits import MOST_LABEL
 
-# A label is the kernel's number of the task, unless that is taken: then it is this much more.
+# A label is the kernel's number of the task; if that is in use, this is added to it.
 LABEL_STEP = 100_000_000
-# So long (ns) may the interrupts of one line be.
+# The longest time (ns) that one line of interrupts may have.
 MOST_INTERRUPTS = 10**9
 
 
@@ -27,7 +28,9 @@ class State(Enum):
 
 
 class How(Enum):
-    """How a running task leaves: the word for it, and what the task does then. One that exits is gone."""
+    """How a running task leaves the processor: the word for it, and what the task does then. None
+    after an exit.
+    """
 
     PREEMPT = "preempt", State.READY
     SLEEP = "sleep", State.ASLEEP
@@ -39,8 +42,9 @@ class How(Enum):
 
 
 class Task:
-    """A task of the trace: its number there, its group's path, its processor, what it does, whether it is in a memory stall,
-    and the number of its process."""
+    """A task of the trace: its label there, its group's path, its processor, what it does, whether
+    it is in a memory stall, and the number of its process.
+    """
 
     __slots__ = ("label", "group", "processor", "state", "is_stalled", "process")
 
@@ -49,7 +53,7 @@ class Task:
         self.state, self.is_stalled = State.READY, False
 
     def is_on(self, processor: int, state: State) -> bool:
-        """Whether it does this on the processor."""
+        """Whether it is in this state on the processor."""
         return self.state is state and self.processor == processor
 
     def is_blocked(self) -> bool:
@@ -58,10 +62,13 @@ class Task:
 
 
 class World:
-    """The tasks by their numbers in the kernel, and who runs on each processor. `now` is ns since the trace's start.
+    """The tasks by their numbers in the kernel, and the running task of each processor. `now` is ns
+    since the trace's start.
 
-    Where it has interrupts, `interrupted` is the moment (ns) of the last line of them by processor. `off` has the groups that
-    aren't accounted, and `switched` the paths whose accounting was switched, by so many lines as `switches` says."""
+    If the trace has interrupts, `interrupted` is the time (ns) of their last line by processor.
+    `off` has the groups that aren't accounted, and `switched` the paths whose accounting was
+    switched, by `switches` lines in all.
+    """
 
     def __init__(self, processors: int, groups: Groups, has_interrupts: bool = False) -> None:
         self.processors, self.groups, self.has_interrupts = processors, groups, has_interrupts
@@ -74,7 +81,7 @@ class World:
         self.tasks: dict[int, Task] = {}
         self.runs: dict[int, int] = {}
         self.labels: set[int] = set()
-        # What is written once a group is made.
+        # The lines to write once a group is created.
         self.upon: dict[str, list[str]] = {}
         self.mended: Counter[str] = Counter()
 
@@ -83,14 +90,15 @@ class World:
         self.lines.append(f"{self.now} {words}")
 
     def version(self) -> int:
-        """The version of the trace: the first that has all of its lines."""
+        """The version of the trace: the first that allows all of its lines."""
         return 2 if self.has_interrupts or self.switches else 1
 
     # ------------------------------------------------------------ groups
 
     def make_group(self, path: str) -> str:
-        """Makes the group and those above it, where they aren't there, and answers the one that stands for it: one that the
-        trace can't have is folded into its parent."""
+        """Creates the group and its ancestors, unless they exist, and returns the path that
+        replaces it: a group that the trace can't have is folded into its parent.
+        """
         place, made = self.groups.make(path)
         for one in made:
             self.put(f"group {one}")
@@ -103,17 +111,19 @@ class World:
         self.end_groups(self.groups.remove(path))
 
     def leave_group(self, path: str) -> None:
-        """One task fewer is in the group."""
+        """A task leaves the group."""
         self.end_groups(self.groups.leave(path))
 
     def end_groups(self, gone: list[str]) -> None:
-        """These groups are gone. One that is made again is accounted."""
+        """Removes these groups. If one is created again, it is accounted."""
         for one in gone:
             self.put(f"rmgroup {one}")
             self.off.discard(one)
 
     def make_again(self, path: str) -> None:
-        """Makes a group whose path the kernel had removed before: what is left in that goes to the group above."""
+        """Creates a group whose path the kernel had removed before: the tasks left in the old one
+        move to its parent.
+        """
         for below in self.groups.leaving_below(path):
             for task in [it for it in self.tasks.values() if it.group == below]:
                 self.move(task, parent_of(below))
@@ -125,15 +135,16 @@ class World:
         self.make_group(path)
 
     def move(self, task: Task, path: str) -> None:
-        """The task goes to the group, which is there."""
+        """Moves the task to an existing group."""
         before, task.group = task.group, path
         self.groups.enter(path)
         self.put(f"move {task.label} {path}")
         self.leave_group(before)
 
     def switch_accounting(self, path: str, is_on: bool) -> None:
-        """The group is accounted from now on, or isn't, where that is another thing than before. A trace always accounts the
-        root, and knows nothing of a group for which another stands."""
+        """Switches the group's accounting on or off, if that is a change. A trace always accounts
+        the root, and ignores groups that are folded into others.
+        """
         if path == ROOT or path not in self.groups.live or is_on != (path in self.off):
             return
         (self.off.discard if is_on else self.off.add)(path)
@@ -144,8 +155,9 @@ class World:
     # ------------------------------------------------------------ interrupts
 
     def interrupt(self, processor: int, length: int) -> None:
-        """Interrupts took so long (ns) from the task that runs there. A line can't tell of more than a second, nor of time that a
-        line before it told of."""
+        """Interrupts took `length` ns from the task that runs there. A line has at most one second,
+        and never includes time before the previous line.
+        """
         if not self.has_interrupts or not self.running(processor):
             return
         told = min(length, self.now - self.interrupted.get(processor, 0), MOST_INTERRUPTS)
@@ -158,7 +170,7 @@ class World:
     # ------------------------------------------------------------ tasks
 
     def fork(self, number: int, path: str, processor: int, process: int) -> Task:
-        """A task is made, ready on the processor. One that had its number is gone."""
+        """Creates a task, ready on the processor. An earlier task with its number ends."""
         if number in self.tasks:
             self.vanish(number)
         place = self.make_group(path)
@@ -170,7 +182,9 @@ class World:
         return task
 
     def free_label(self, number: int) -> int:
-        """A number for a task in the trace: the kernel's, unless another task has it or a trace can't have it."""
+        """A label for a task in the trace: the kernel's number, unless another task has it or a
+        trace can't have it.
+        """
         if not 0 < number <= MOST_LABEL:
             self.mended["number of a task that a trace can't have, replaced"] += 1
         label = (number - 1) % MOST_LABEL + 1
@@ -186,7 +200,7 @@ class World:
         return 0
 
     def running(self, processor: int) -> int:
-        """Who runs there, 0 for none."""
+        """The task that runs there, 0 for none."""
         return self.runs.get(processor, 0)
 
     def ready(self, number: int, processor: int) -> None:
@@ -201,20 +215,22 @@ class World:
             task.processor = processor
 
     def wake(self, task: Task, processor: int) -> None:
-        """Wakes the task, which is blocked, on the processor."""
+        """Wakes a blocked task on the processor."""
         if not 0 <= processor < self.processors:
             processor = self.place_of(processor)
         self.lines.append(f"{self.now} wake {task.label} {processor}")
         task.state, task.processor = State.READY, processor
 
     def run(self, number: int, processor: int, how: How = How.PREEMPT) -> None:
-        """Makes the task run on the processor; who ran there leaves by `how`."""
+        """Makes the task run on the processor; the running task leaves by `how`."""
         if self.running(processor) != number:
             self.ready(number, processor)
             self.leave(processor, how, number)
 
     def leave(self, processor: int, how: How, following: int = 0) -> None:
-        """Who runs on the processor leaves, if somebody does, and `following`, which is ready there, runs; or none, where it is 0."""
+        """The running task leaves the processor, if there is one, and `following`, which is ready
+        there, runs; none runs if it is 0.
+        """
         number, label = self.runs.get(processor, 0), 0
         leaves = self.tasks[number] if number else None
         if leaves and leaves.is_stalled and how is How.EXIT:
@@ -231,7 +247,8 @@ class World:
             self.forget(number)
 
     def detour(self, number: int, how: How, stalls: bool = False) -> None:
-        """Lets a ready task run for no time and leave by `how`, and who ran on its processor runs again."""
+        """Lets a ready task run for no time and leave by `how`; then the previous task runs again.
+        """
         processor = self.tasks[number].processor
         before = self.running(processor)
         self.run(number, processor)
@@ -240,13 +257,13 @@ class World:
         self.leave(processor, how, before)
 
     def forget(self, number: int) -> None:
-        """The task isn't in the trace any more."""
+        """Removes the task from the trace."""
         task = self.tasks.pop(number)
         self.labels.discard(task.label)
         self.leave_group(task.group)
 
     def vanish(self, number: int) -> None:
-        """A task is gone, though nothing told how."""
+        """A task ended, though no event shows how."""
         task = self.tasks[number]
         if task.state is State.RUNNING:
             self.leave(task.processor, How.EXIT)
@@ -256,22 +273,22 @@ class World:
         self.mended["task gone without a word"] += 1
 
     def end_wait(self, number: int) -> None:
-        """Of a task that waits for IO: it only sleeps from now on."""
+        """A task that waits for IO only sleeps from now."""
         self.ready(number, self.tasks[number].processor)
         self.detour(number, How.SLEEP)
 
     def stall(self, task: Task) -> None:
-        """The task, which runs, goes into a memory stall."""
+        """The running task enters a memory stall."""
         task.is_stalled = True
         self.put(f"stall {task.label}")
 
     def unstall(self, task: Task) -> None:
-        """The task, which runs, comes out of its memory stall."""
+        """The running task leaves its memory stall."""
         task.is_stalled = False
         self.put(f"unstall {task.label}")
 
     def swap_numbers(self, number: int, other: int) -> None:
-        """A task takes over a number, and who had that has the other from now on. Their labels stay."""
+        """Exchanges the numbers of two tasks. Their labels stay."""
         one, two = self.tasks.pop(number, None), self.tasks.pop(other, None)
         for task, new in ((one, other), (two, number)):
             if task:
