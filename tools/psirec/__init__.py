@@ -1,1 +1,3 @@
-"""The form of a recording: the names by which `tools/record` writes and all else reads. Both need it, and it needs neither."""
+"""The format of a recording: the names that `tools/record` writes and all other tools read. Both
+import this package, and it imports neither.
+"""

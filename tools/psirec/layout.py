@@ -21,10 +21,11 @@ from __future__ import annotations
 
 import re
 
-# The version of this layout, which `meta` tells first: `recording 2`. Where it doesn't, a sketch of the recorder wrote the
-# folder: all of the above but the end, for which SKETCH_END stands last.
+# The version of this layout, in the first line of `meta`: `recording 2`. If that line is missing, a
+# draft of the recorder wrote the folder: all of the above except the end, which is replaced by
+# SKETCH_END in the last line.
 VERSION = "2"
-# The versions that can be read. The first put no SNAPSHOT_END into its snapshot.
+# The versions that can be read. The first wrote no SNAPSHOT_END to its snapshot.
 WITHOUT_END, VERSIONS = "1", ("1", VERSION)
 
 # ---------------------------------------------------------------- files
@@ -40,12 +41,14 @@ def raw_name(processor: int) -> str:
     return f"cpu{processor}.raw"
 
 
-# What a compressed part's name ends with.
+# The suffix of a compressed part's name.
 PACKED = ".gz"
 
 
 def part_name(processor: int, part: int) -> str:
-    """The file of a part of them, from 0 on, where they are compressed as they come; it is packed later."""
+    """The file of a part of a processor's pages, from 0, if they are compressed as they arrive; it
+    is compressed later.
+    """
     return f"cpu{processor}.{part}.raw"
 
 
@@ -53,7 +56,7 @@ def part_name(processor: int, part: int) -> str:
 
 
 class Key:
-    """What a line of `meta` begins with, and what its value is."""
+    """The first word of a line of `meta`, and the meaning of its value."""
 
     RECORDING = "recording"  # VERSION; the first line
     UNAME = "uname"  # the words of uname(2)
@@ -76,7 +79,7 @@ class Key:
 
 SKETCH_END = Key.PROCESSOR_SECONDS
 
-# Lines of `stats` that count events which were lost.
+# Lines of `stats` that count lost events.
 LOST_STATS = ("overrun", "commit overrun", "dropped events")
 
 
@@ -99,7 +102,7 @@ PREFIX = "psirec"
 
 
 class Probe:
-    """Names of probes, and of what they fetch."""
+    """Names of probes, and of the values that they fetch."""
 
     STALL_BEGINS = "ms_enter"  # psi_memstall_enter
     STALL_ENDS = "ms_leave"  # psi_memstall_leave; FLAGS is 0 where it is the outermost one
@@ -120,20 +123,22 @@ class Probe:
     SET = "set"
 
 
-# The bit of `set` by which psi counts a task as ready: TSK_RUNNING of `include/linux/psi_types.h`.
+# The bit of `set` with which psi counts a task as ready: TSK_RUNNING of
+# `include/linux/psi_types.h`.
 SET_READY = 4
 
 
 # ---------------------------------------------------------------- markers
 
-# A marker is a line that the recorder writes into its own `trace_marker`: MARK, and one of the words below.
+# A marker is a line that the recorder writes to its own `trace_marker`: MARK, and one of the words
+# below.
 MARK = "psirec "
 START = "start"
 STOP = "stop"
 TRIGGERED = "fired"
 SNAPSHOT_BEGINS = "snapshot begin"
 SNAPSHOT_ENDS = "snapshot end"
-# Longer markers than this many bytes may be cut by the kernel.
+# The kernel may cut markers that have more bytes.
 MOST_MARKER_BYTES = 1000
 
 
@@ -148,13 +153,16 @@ def memory_marker(path: str, current: int, swap: int, scanned: int) -> str:
 
 
 def pressure_marker(number: int, is_end: bool) -> str:
-    """Before and after the reading of all pressure files; `number` counts the readings from 0."""
+    """Written before and after the reading of all pressure files; `number` counts the readings from
+    0.
+    """
     return f"{MARK}pressure {number} {'end' if is_end else 'begin'}"
 
 
 def accounting_marker(path: str, is_on: bool) -> str:
-    """A group's `cgroup.pressure` was seen to be another than at the sample before, or than that of a new group, which is 1; `path`
-    is escaped."""
+    """A group's `cgroup.pressure` differs from the previous sample, or from that of a new group,
+    which is 1; `path` is escaped.
+    """
     return f"{MARK}accounting {path} {'on' if is_on else 'off'}"
 
 
@@ -165,7 +173,7 @@ RESOURCES = ("io", "memory", "cpu")
 
 
 def at_line(moment_ns: int) -> str:
-    """When a snapshot was begun: CLOCK_MONOTONIC in ns."""
+    """The time at which a snapshot was begun: CLOCK_MONOTONIC in ns."""
     return f"at {moment_ns}"
 
 
@@ -174,11 +182,13 @@ SNAPSHOT_END = "end"
 
 
 def group_line(path: str, preference: str) -> str:
-    """A group that was there; `preference` is one of PREFERENCES, from the attributes that oomd and systemd-oomd read."""
+    """A group of the snapshot; `preference` is one of PREFERENCES, from the attributes that oomd
+    and systemd-oomd read.
+    """
     return f"group {path} {preference}"
 
 
-# The type of a group in which processes are, with all their threads.
+# The type of a group that contains processes with all their threads.
 PLAIN_TYPE = "domain"
 
 
@@ -193,8 +203,9 @@ def unaccounted_line(path: str) -> str:
 
 
 def task_line(task: int, process: int, state: str, processor: int, path: str, name: str) -> str:
-    """A thread, its process (Tgid), its state's letter and its processor by /proc/TID/stat, and its group. A newline in
-    its name is written as a blank."""
+    """A thread, its process (Tgid), its state's letter and its processor from /proc/TID/stat, and
+    its group. A newline in its name is written as a blank.
+    """
     return f"task {task} {process} {state} {processor} {path} {' '.join(name.splitlines())}"
 
 

@@ -1,12 +1,14 @@
-"""The names of systemd-oomd's settings in a recording, which stand in its folder `systemd`: the recorder stores them, and
-tools/systemd-oomd reads them. What stands in each file says `psirecord.systemd_settings`.
+"""The names of systemd-oomd's settings in the folder `systemd` of a recording: the recorder stores
+them, and tools/systemd-oomd reads them. `psirecord.systemd_settings` describes the contents of each
+file.
 """
 
 FOLDER = "systemd"
 VERSION, UNITS, GROUPS = "version", "units", "groups"
-# Where oomd.conf and oomd.conf.d are looked for, the first of them first.
+# The folders of oomd.conf and oomd.conf.d, in order of priority.
 CONFIGURATIONS = ("etc/systemd", "run/systemd", "usr/local/lib/systemd", "usr/lib/systemd", "lib/systemd")
-# Where units' files are looked for, of the system's manager and of the users', the first of them first (systemd.unit(5)).
+# The folders of unit files, of the system's manager and of the users', in order of priority
+# (systemd.unit(5)).
 SYSTEM_UNITS = (
     "etc/systemd/system.control",
     "run/systemd/system.control",
