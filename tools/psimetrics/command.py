@@ -1,4 +1,4 @@
-"""The command: its words, and the text that they ask for."""
+"""The command line, and the text that it prints."""
 from __future__ import annotations
 
 import argparse

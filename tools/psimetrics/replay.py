@@ -1,9 +1,10 @@
-"""What a replay printed, as families of counters.
+"""The output of a replay as families of counters.
 
-Pressure has the names under which a machine's own is collected: those of node_exporter's collector `pressure` for the machine,
-and those of cAdvisor, with the label `id`, for each group, which the root is one of. node_exporter has no time in which all
-waited for a processor, since the kernel has none for the machine. cAdvisor has none of interrupts: that name is made as its
-others are.
+Pressure has the names under which a machine's own is collected: those of node_exporter's collector
+`pressure` for the machine, and those of cAdvisor, with the label `id`, for each group including the
+root. node_exporter has no metric for the time in which all tasks waited for a processor, since the
+kernel has none for the machine. cAdvisor has none for interrupts: that name is formed like its
+others.
 """
 from __future__ import annotations
 
@@ -31,10 +32,10 @@ def pressure_family(prefix: str, whose: str, resource: str, word: str) -> Counte
 
 
 class Metrics:
-    """Takes what was printed, line by line."""
+    """Takes the output of a replay, line by line."""
 
     def __init__(self, rules: Optional[Rules], labels: Labels) -> None:
-        """The labels are those that each metric has beside its own."""
+        """Each metric has these labels in addition to its own."""
         self.rules, self.labels = rules, labels
         self.families: Families = {}
         self.rounds = array("Q")
@@ -74,7 +75,9 @@ class Metrics:
         self.count(EVENTS, event.moment, ("id", event.path), ("trigger", str(event.trigger)), *what, *limits)
 
     def close(self) -> Families:
-        """All families. What is counted is 0 at the start, and has a point at each of its moments and at each report."""
+        """All families. Counts are 0 at the start, and have a point at the time of each event and
+        at each report.
+        """
         for family, metrics in self.happened.items():
             for labels, moments in metrics.items():
                 points = self.families.setdefault(family, {}).setdefault(labels, Points())
@@ -84,7 +87,7 @@ class Metrics:
 
 
 def counted(moments: list[int], rounds: Iterable[int]) -> list[tuple[int, int]]:
-    """How many of the moments were there by the start, by each of them and by each round."""
+    """The number of events up to the start, up to each of their times (ns) and up to each round."""
     value_at = {0: 0}
     done = 0
     for moment in sorted({*moments, *rounds}):
@@ -95,7 +98,7 @@ def counted(moments: list[int], rounds: Iterable[int]) -> list[tuple[int, int]]:
 
 
 def metrics_of(printed: Iterable[bytes], rules: Optional[Rules], labels: Labels) -> Families:
-    """The families of what a replay printed. One without a report is a fault."""
+    """The families of a replay's output. If it has no report, that is an error."""
     metrics = Metrics(rules, labels)
     for line in read(printed):
         if isinstance(line, Report):

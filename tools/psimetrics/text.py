@@ -11,19 +11,20 @@ from typing import Callable, Iterator, NamedTuple
 from psireplay.times import SECOND, WallTime, seconds
 
 MILLISECOND = SECOND // 1000
-# Prometheus cuts moments to whole ms, and a moment may fall one ms short by that. It refuses two points of one ms.
+# Prometheus truncates times to whole ms, which may bring two of them closer by one ms. It rejects
+# two points in one ms.
 NEAREST = 2 * MILLISECOND
 Labels = tuple[tuple[str, str], ...]
 
 
 class Points:
-    """A counter over time: moments in ns since the start of the trace, and what it had come to by then."""
+    """A counter over time: times in ns since the start of the trace, and the count at each."""
 
     def __init__(self) -> None:
         self.moments, self.values = array("Q"), array("Q")
 
     def add(self, moment: int, value: int) -> None:
-        """Takes the next point. It stands in place of the last one where that is too near."""
+        """Takes the next point. It replaces the last one if that is too near."""
         if self.moments and moment - self.moments[-1] < NEAREST:
             self.moments.pop()
             self.values.pop()
@@ -32,7 +33,9 @@ class Points:
 
 
 class Counter(NamedTuple):
-    """A family of counters: its name without `_total`, what is counted, and how often one of its values is in its unit."""
+    """A family of counters: its name without `_total`, a description of what is counted, and the
+    number of counted units in its unit.
+    """
 
     name: str
     help: str
@@ -47,7 +50,7 @@ Families = dict[Counter, dict[Labels, Points]]
 
 
 def escaped(value: str) -> str:
-    """A label's value as it stands between quotes."""
+    """A label's value, escaped for quotes."""
     return value.replace("\\", "\\\\").replace('"', '\\"').replace("\n", "\\n")
 
 
@@ -56,7 +59,7 @@ def braced(labels: Labels) -> str:
 
 
 def lines_of(family: Counter, metrics: dict[Labels, Points], when: Callable[[int], str]) -> Iterator[str]:
-    """The points of a family: one metric after the other, and each in the order of time."""
+    """The points of a family: one metric after the other, each in order of time."""
     for labels in sorted(metrics):
         points = metrics[labels]
         head = f"{family.name}_total{braced(labels)}"
