@@ -1,1 +1,1 @@
-"""Whom oomd 0.5.0 would have killed in a trace: tools/oomd."""
+"""Which groups oomd 0.5.0 would have killed in a trace: tools/oomd."""

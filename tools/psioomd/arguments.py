@@ -38,12 +38,12 @@ def resource(text: str, _: Host) -> str:
 
 
 def memory_size(text: str, host: Host) -> int:
-    """A percentage is one of MemTotal."""
+    """A percentage refers to MemTotal."""
     return size(text, host.memory // KIB * KIB)
 
 
 def swap_size(text: str, host: Host) -> int:
-    """A percentage is one of SwapTotal, of which oomd keeps 32 bits."""
+    """A percentage refers to SwapTotal, which oomd stores in 32 bits."""
     return size(text, signed32(host.swap // KIB * KIB))
 
 
@@ -85,7 +85,7 @@ ANON = "threshold_anon"
 
 
 def known(use: PluginUse) -> tuple[dict[str, Argument], dict[str, str]]:
-    """The arguments that the plugin takes here, and those that it is given."""
+    """The arguments that the plugin accepts here, and those that the configuration has."""
     table, args = dict(ARGUMENTS[use.name]), dict(use.args)
     if use.name in WITH_MEMINFO:
         args.pop("meminfo_location", None)
@@ -96,7 +96,9 @@ def known(use: PluginUse) -> tuple[dict[str, Argument], dict[str, str]]:
 
 
 def values(use: PluginUse, host: Host) -> dict[str, Any]:
-    """The values of a plugin's arguments, or oomd's refusal. `host` has the totals at its start."""
+    """The values of a plugin's arguments; raises an error if oomd rejects them. `host` has the
+    totals at its start.
+    """
     table, args = known(use)
     for name, argument in table.items():
         if argument.is_required and name not in args:

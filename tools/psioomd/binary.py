@@ -1,4 +1,6 @@
-"""oomd itself on a trace: it looks at files of each time, and all its kills are dry."""
+"""Runs oomd itself on a trace: its files show each time of the trace in turn, and all its kills are
+dry.
+"""
 from __future__ import annotations
 
 import contextlib
@@ -38,8 +40,9 @@ MEMORY = "/dev/shm"
 
 @dataclass
 class BinaryRun:
-    """What oomd itself did: its file and version, in what it ran, and how often it looked. `fault`
-    says how it ended, if it did."""
+    """The run of oomd itself: its file and version, its sandbox, and how often it looked. `fault`
+    says how it ended, if it did.
+    """
 
     path: str
     version: str
@@ -64,7 +67,7 @@ class BinaryRun:
         return f"{seconds(kill.moment)} s  by {self.path}: would kill {kill.path}, {self.who(kill)}"
 
     def record(self) -> dict[str, object]:
-        """For programs."""
+        """The run for JSON."""
         kills = [
             {"moment_ns": it.moment, "ruleset": it.ruleset, "action": it.action, "victim": it.path}
             for it in self.kills
@@ -85,7 +88,7 @@ def room() -> Iterator[str]:
 
 
 def program_at(name: str) -> str:
-    """The file of a program of the PATH, or at a path."""
+    """The path of a program, which is given as a path or found in PATH."""
     found = shutil.which(name)
     if not found:
         advice = "give its path, or install Debian's package oomd"
@@ -114,7 +117,7 @@ def store(folder: str, name: str, data: bytes) -> str:
 
 
 def check_config(shut: Sandbox, path: str, name: str) -> None:
-    """Raises oomd's own reason to refuse a configuration."""
+    """Raises oomd's own reason to reject a configuration."""
     kmsg = os.path.join(shut.folder, "machine/dev/kmsg")
     words = [shut.binary, "-f", MOUNT, "--kmsg-override", kmsg, "--check-config", path]
     status, said = answer(shut, words)
@@ -160,7 +163,7 @@ class Looks:
             self.line = next(self.lines, None)
 
     def times(self) -> Iterator[int]:
-        """The times (ns) of the looks, when the files of each are there."""
+        """The times (ns) of the looks; when one is returned, its files are written."""
         for number in range(1, self.warm + 1):
             yield (number - self.warm) * self.run.interval * SECOND
         for tick in self.ticks:
@@ -217,7 +220,7 @@ def run_binary(
     log: str | None = None,
     patience: float = PATIENCE,
 ) -> BinaryRun:
-    """What oomd itself would have done in a trace, or a fault."""
+    """What oomd itself would have done in a trace, or an error."""
     base, parts = run.configurations()
     path = program_at(name)
     machine = Machine(run.extras, first_host(run.trace))

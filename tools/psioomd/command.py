@@ -39,14 +39,14 @@ refuses, a trace that psi_oomd refuses, a program that isn't oomd."""
 
 
 def warm(word: str) -> int:
-    """Seconds before the trace."""
+    """The seconds of looks before the trace."""
     if not (word.isascii() and word.isdigit() and int(word) <= 100000):
         raise argparse.ArgumentTypeError(f"{word} is no whole number from 0 to 100000")
     return int(word)
 
 
 def given_number(word: str) -> tuple[tuple[str, str], int]:
-    """A number that a file of a group has: /batch/memory.low=1073741824."""
+    """The value of a group's file: /batch/memory.low=1073741824."""
     found = re.fullmatch(r"(/(?:\S*/)?)([a-z_.]+)=([0-9]{1,18}|max)", word)
     if not found or found[2] not in FILES:
         raise argparse.ArgumentTypeError(f"{word}: write /GROUP/FILE=NUMBER, FILE one of {', '.join(FILES)}")
@@ -111,7 +111,7 @@ def verdict(own: list[Kill], other: list[Kill], names: tuple[str, str]) -> str:
 
 
 def compare(program: Program, name: str, trace: str, interval_s: int) -> Comparison:
-    """The trace by a rules file, evaluated when oomd looks."""
+    """Replays the trace with a rules file, which is evaluated at each look of oomd."""
     with contextlib.ExitStack() as files:
         rules, file = accepted(program, name, files)
         kills = program.replay(trace, file, Pace(TICK_MS, interval_s), processors())
@@ -120,8 +120,9 @@ def compare(program: Program, name: str, trace: str, interval_s: int) -> Compari
 
 @dataclass(frozen=True)
 class Answers:
-    """All that is printed: what the emulation did (None if it refuses a configuration that oomd
-    itself takes), what oomd itself did, and the kills by rules."""
+    """All results: of the emulation (None if it rejects a configuration that oomd itself accepts),
+    of oomd itself, and the kills by rules.
+    """
 
     run: Run
     own: Engine | None
@@ -138,7 +139,9 @@ class Answers:
 
 
 def agreement(own: Engine, ran: binary.BinaryRun) -> str:
-    """Whether a program's kills are those of the emulation, except among equals."""
+    """Whether a program's kills are those of the emulation, apart from the choice among equal
+    candidates.
+    """
     for decision, other in zip(own.decisions, ran.kills):
         found = decision.kill()
         is_same = (found.moment, found.ruleset, found.action) == (other.moment, other.ruleset, other.action)
@@ -173,7 +176,7 @@ def kill_lines(answers: Answers, is_all: bool) -> list[str]:
 
 
 def print_lines(answers: Answers, is_all: bool) -> None:
-    """For people: the kills in order of time, and how near each detector came."""
+    """Prints for people: the kills in order of time, and how near each detector came."""
     own, other, ran = answers.own, answers.other, answers.ran
     lines = kill_lines(answers, is_all)
     if own and not own.decisions:
@@ -192,7 +195,7 @@ def print_lines(answers: Answers, is_all: bool) -> None:
 
 
 def print_json(answers: Answers, name: str) -> None:
-    """For programs."""
+    """Prints JSON for programs."""
     own, other, ran = answers.own, answers.other, answers.ran
     record: dict[str, object] = {
         "trace": name,
@@ -223,7 +226,8 @@ def run_of(given: argparse.Namespace, trace: str) -> Run:
 
 
 def try_emulation(program: Program, run: Run, has_binary: bool) -> Engine | None:
-    """The emulation. If oomd itself is run too, it has the last word on its configuration."""
+    """Runs the emulation. If oomd itself is run too, its own verdict on the configuration is final.
+    """
     try:
         return emulate(program, run, processors())
     except Refused as refused:

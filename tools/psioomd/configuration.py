@@ -1,4 +1,6 @@
-"""A configuration of oomd, read as oomd reads it: JsonCpp with comments, then its own walk."""
+"""A configuration of oomd, parsed like oomd does: by JsonCpp with comments, and then by its own
+rules.
+"""
 from __future__ import annotations
 
 from collections.abc import Iterable, Iterator
@@ -12,7 +14,7 @@ from psirules.wording import Fault, quoted
 
 @dataclass
 class PluginUse:
-    """A plugin as a configuration names it: its arguments as texts, and its place for messages."""
+    """A plugin in a configuration: its arguments as texts, and its place for messages."""
 
     name: str
     args: dict[str, str]
@@ -83,21 +85,22 @@ def truth_of(value: Any, place: str) -> bool:
 
 
 def items(value: Any) -> Iterable[Any]:
-    """What oomd walks over: a list, or the values of an object by their keys."""
+    """What oomd iterates over: a list, or the values of an object by their keys."""
     if isinstance(value, dict):
         return [value[key] for key in sorted(value)]
     return value if isinstance(value, list) else []
 
 
 def object_at(value: Any, place: str) -> dict[str, Any]:
-    """An object, or nothing for null. oomd aborts at any other value."""
+    """An object; empty for null. oomd aborts at any other value."""
     if value is None or isinstance(value, dict):
         return value or {}
     raise Refused(place, "requires objectValue or nullValue (it aborts)")
 
 
 def plugin_use(value: Any, place: str) -> PluginUse:
-    """A plugin. oomd stops reading arguments at the first that is no text, number or truth."""
+    """A plugin. oomd stops reading arguments at the first that isn't a string, number or boolean.
+    """
     if not isinstance(value, dict) or not isinstance(value.get("name"), str):
         return PluginUse("", {}, place)
     name, args = value["name"], {}
@@ -143,7 +146,7 @@ def ruleset_use(value: Any, number: int, file: str) -> RulesetUse:
 
 
 def configuration(name: str, data: bytes) -> Configuration:
-    """The configuration in these bytes, not yet checked for what its plugins take."""
+    """The configuration in these bytes. Its plugins' arguments aren't checked yet."""
     try:
         read = Reading(data).data
     except Fault as fault:

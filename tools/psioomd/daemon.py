@@ -1,4 +1,4 @@
-"""oomd as a process whose clock stands still: each of its sleeps waits for the driver."""
+"""oomd as a process with a stopped clock: each of its sleeps waits for the driver."""
 from __future__ import annotations
 
 import functools
@@ -92,7 +92,7 @@ class Daemon:
         return kind.decode("latin-1"), value
 
     def is_preloaded(self) -> bool:
-        """Whether the library has begun: it can't in a program that is linked statically."""
+        """Whether the library was loaded: this is impossible in a statically linked program."""
         found = self.message()
         return found is not None and found[0] == HELLO
 
@@ -116,7 +116,7 @@ class Daemon:
             pass
 
     def new_log(self) -> str:
-        """What it has written since the last time."""
+        """The log since the last call."""
         size = os.fstat(self.log.fileno()).st_size
         text = os.pread(self.log.fileno(), min(size, MOST_LOG), 0) if size else b""
         if size:
@@ -138,7 +138,7 @@ class Daemon:
 
 
 def status_text(status: int) -> str:
-    """How a process ended. A sandbox gives 128 and the number of a signal."""
+    """How a process ended. A sandbox returns 128 plus the number of a signal."""
     number = -status if status < 0 else status - 128 if status > 128 else 0
     try:
         return f"by {signal.Signals(number).name}" if number else f"with status {status}"
@@ -147,7 +147,7 @@ def status_text(status: int) -> str:
 
 
 def answer(sandbox: Sandbox, words: list[str], patience: float = PATIENCE) -> tuple[int, str]:
-    """The status and the words of a run of oomd that looks at nothing, such as --version."""
+    """The status and the output of a run of oomd without looks, such as --version."""
     daemon = Daemon(sandbox, words, 0, patience)
     ended = False
     try:

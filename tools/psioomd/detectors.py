@@ -22,7 +22,9 @@ def average(hundredths: int) -> float:
 
 
 def weight(averages: Averages) -> float:
-    """The number by which oomd picks one group: three times avg10, twice avg60, and avg300."""
+    """The number that decides which group oomd picks: three times avg10, plus twice avg60, plus
+    avg300.
+    """
     short, middle, long = map(average, (averages.avg10, averages.avg60, averages.avg300))
     return float32(float32(float32(short * 3) + float32(middle * 2)) + long)
 
@@ -66,7 +68,7 @@ class Above(Plugin):
         self.most.take(look.now, self.watched(), self.path)
 
     def watched(self) -> int:
-        """The average that has to be above the threshold, in hundredths of a percent."""
+        """The average that must be above the threshold, in hundredths of a percent."""
         return self.best.avg10
 
     def is_above(self, hundredths: int) -> bool:
@@ -89,7 +91,9 @@ class Above(Plugin):
 
 
 class Rising(Above):
-    """`pressure_rising_beyond`: avg60 so, avg10 above too, and not much lower than a look ago."""
+    """`pressure_rising_beyond`: avg60 is above the threshold for the duration, avg10 is above it
+    too, and isn't much lower than at the previous look.
+    """
 
     def __init__(self, use: PluginUse, args: dict[str, Any]) -> None:
         super().__init__(use, args)
@@ -137,8 +141,9 @@ class MemoryAbove(Plugin):
 
 
 class Reclaim(Plugin):
-    """`memory_reclaim`: the sum of scanned pages rose within the duration. It begins at 0 pages,
-    and at the machine's start, as oomd does."""
+    """`memory_reclaim`: the sum of scanned pages rose within the duration. Like in oomd, it begins
+    at 0 pages when the machine starts.
+    """
 
     def __init__(self, use: PluginUse, args: dict[str, Any], uptime: int) -> None:
         super().__init__(use, args)
@@ -159,7 +164,7 @@ class Reclaim(Plugin):
 
 
 class SwapFree(Plugin):
-    """`swap_free`: less than a percentage of the swap is free. oomd counts without a sign."""
+    """`swap_free`: less than a percentage of the swap is free. oomd uses unsigned numbers."""
 
     def __init__(self, use: PluginUse, args: dict[str, Any]) -> None:
         super().__init__(use, args)
@@ -206,8 +211,9 @@ class Dying(Plugin):
 
 
 class Constant(Plugin):
-    """A plugin that always returns the same: `continue`, `stop`, `dump_cgroup_overview`, and those
-    that are left out."""
+    """A plugin that always returns the same result: `continue`, `stop`, `dump_cgroup_overview`, and
+    those that aren't emulated.
+    """
 
     def __init__(self, use: PluginUse, args: dict[str, Any], always: Result) -> None:
         super().__init__(use, args)

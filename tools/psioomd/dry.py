@@ -55,7 +55,7 @@ def copy(base: Configuration) -> bytes:
 
 
 def drop_in_copy(base: Configuration, part: Configuration) -> bytes:
-    """The dry copy of a drop-in file, for rulesets that have other names now."""
+    """The dry copy of a drop-in file, for rulesets that were renamed."""
     names: dict[str, str] = {}
     for at, it in enumerate(base.rulesets):
         names.setdefault(it.name, numbered(at, it.name))

@@ -1,4 +1,5 @@
-"""A trace by oomd's algorithm: psi_oomd replays it, and prints the pressure at each look."""
+"""Applies oomd's algorithm to a trace: psi_oomd replays it, and prints the pressure at each look.
+"""
 from __future__ import annotations
 
 import itertools
@@ -29,8 +30,9 @@ Line = tuple[int, str, list[str]]
 
 @dataclass(frozen=True)
 class Run:
-    """What is run: the trace, the configuration and its drop-in files by name, the seconds between
-    looks, what no trace has, the seconds of looks before the trace, and the uptime (ns)."""
+    """The input: the trace, the configuration and its drop-in files by name, the seconds between
+    looks, values that no trace has, the seconds of looks before the trace, and the uptime (ns).
+    """
 
     trace: str
     config: str
@@ -88,7 +90,7 @@ def lines_at(trace: str) -> Iterator[Line]:
 
 
 def first_host(trace: str) -> Host:
-    """The first sample of the host: it is taken to hold from the start."""
+    """The first sample of the host, which is taken as its state from the start."""
     for _, verb, fields in lines_at(trace):
         if verb == "host":
             return Host(*map(int, fields))
@@ -116,7 +118,7 @@ def warm_up(it: Engine, run: Run, world: World) -> None:
 
 
 def decide(it: Engine, run: Run, ticks: Iterator[Tick]) -> None:
-    """Takes the trace's lines and the looks in order of their times."""
+    """Takes the trace's lines and the looks in order of time."""
     world, lines = it.machine.world, lines_at(run.trace)
     line = next(lines, None)
     while line and line[0] == 0:
@@ -133,8 +135,9 @@ def decide(it: Engine, run: Run, ticks: Iterator[Tick]) -> None:
 
 
 def prepare_engine(run: Run) -> Engine:
-    """The engine before its first look. A fault if oomd refuses the configuration, or if the trace
-    lacks what a plugin needs."""
+    """The engine before its first look. An error if oomd rejects the configuration, or if the trace
+    lacks what a plugin needs.
+    """
     base, parts = run.configurations()
     for it in (base, *parts):
         must_have_scans(run.trace, it.plugins(), it.name)
@@ -142,13 +145,13 @@ def prepare_engine(run: Run) -> Engine:
 
 
 def replay_words(run: Run, threads: int) -> list[str]:
-    """How psi_oomd is asked for the pressure at each look."""
+    """The arguments with which psi_oomd prints the pressure at each look."""
     pace = [f"--tick-ms={TICK_MS}", f"--report-s={run.interval}"]
     return ["replay", *pace, f"--workers={min(threads, 64)}", "--", run.trace]
 
 
 def check_trace(program: Program, trace: str) -> None:
-    """Raises psi_oomd's own refusal of a trace."""
+    """Raises psi_oomd's own error if it rejects the trace."""
     with tempfile.TemporaryFile() as said:
         with program.started(["check", f"--tick-ms={TICK_MS}", "--", trace], said) as child:
             assert child.stdout is not None
@@ -163,7 +166,7 @@ def raise_refusal(status: int | None, trace: str, said: IO[bytes]) -> None:
 
 
 def emulate(program: Program, run: Run, threads: int) -> Engine:
-    """What oomd would have done in a trace, or a fault."""
+    """What oomd would have done in a trace, or an error."""
     check_trace(program, run.trace)
     it = prepare_engine(run)
     with tempfile.TemporaryFile() as said:

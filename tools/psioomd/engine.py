@@ -61,7 +61,7 @@ class Start:
 
 
 class Notes:
-    """What of a configuration can't be followed, and what that may change."""
+    """The parts of a configuration that can't be emulated, and what that may change."""
 
     def __init__(self) -> None:
         self.texts: list[str] = []
@@ -73,7 +73,7 @@ class Notes:
 
 
 def plugin(use: PluginUse, start: Start, notes: Notes) -> Plugin:
-    """The plugin that a configuration names, or oomd's refusal."""
+    """The plugin for this part of a configuration; raises an error if oomd rejects it."""
     if not use.name:
         raise Refused(use.place, "Plugin is missing name")
     if use.name in LEFT_OUT:
@@ -96,7 +96,7 @@ def plugin(use: PluginUse, start: Start, notes: Notes) -> Plugin:
 
 
 def delay_of(text: str, what: str, place: str, default: int) -> int:
-    """Seconds. oomd aborts at what is no number."""
+    """A delay in seconds. oomd aborts if it isn't a number."""
     if not text:
         return default
     try:
@@ -109,7 +109,7 @@ def delay_of(text: str, what: str, place: str, default: int) -> int:
 
 
 def check_head(use: RulesetUse, is_drop_in: bool) -> None:
-    """What oomd checks of a ruleset before its plugins."""
+    """The checks of a ruleset that oomd makes before those of its plugins."""
     if not use.name:
         raise Refused(use.place, "Ruleset is missing name")
     for part in filter(None, use.silenced.strip().split(",")):
@@ -120,7 +120,7 @@ def check_head(use: RulesetUse, is_drop_in: bool) -> None:
 
 
 class Ruleset(Pauses):
-    """A ruleset, with the file of the drop-in that it is from."""
+    """A ruleset, and the drop-in file that contains it."""
 
     def __init__(
         self, use: RulesetUse, number: int, start: Start, notes: Notes, drop_in: str = ""
@@ -149,7 +149,7 @@ class Ruleset(Pauses):
         self.is_paused_by_action = True
 
     def run(self, look: Look) -> None:
-        """Runs every detector, and the actions if a group is true and the ruleset doesn't rest."""
+        """Runs every detector, and the actions if a group is true and the ruleset isn't paused."""
         if not self.is_enabled:
             return
         self.now, look.ruleset = look.now, None
@@ -169,7 +169,7 @@ class Ruleset(Pauses):
             self.chain(0, fired, look)
 
     def step(self, it: Plugin, action: int | None, why: list[str], look: Look) -> Result:
-        """Runs a plugin, and stores whom it killed."""
+        """Runs a plugin, and stores its kill."""
         result = it.run(look)
         source = Source(self.number, self.name, action, it.name, self.drop_in)
         self.decisions += [Decision(look.now, source, victim, why) for victim in look.victims]
@@ -177,7 +177,7 @@ class Ruleset(Pauses):
         return result
 
     def chain(self, first: int, why: list[str], look: Look) -> None:
-        """Runs the actions from this one on, until one stops or waits for the next look."""
+        """Runs the actions from this index, until one stops or waits for the next look."""
         for number in range(first, len(self.actions)):
             result = self.step(self.actions[number], number, why, look)
             if result is Result.PAUSED:
@@ -200,7 +200,9 @@ class Course:
 
 @dataclass
 class Engine:
-    """All rulesets, in the order in which they run, and what oomd keeps of groups between looks."""
+    """All rulesets, in the order in which they run, and what oomd remembers about groups between
+    looks.
+    """
 
     machine: Machine
     rulesets: list[Ruleset]
@@ -236,7 +238,7 @@ class Engine:
         self.scanned = {group: self.machine.scanned(path) for path, group in groups}
 
     def courses(self) -> list[Course]:
-        """How near each detector came that measures something."""
+        """How near each measuring detector came to its limit."""
         found = []
         for ruleset in self.rulesets:
             plugins = [it for _, detectors in ruleset.groups for it in detectors]
@@ -245,7 +247,7 @@ class Engine:
 
 
 def merge(base: RulesetUse, part: RulesetUse, place: str) -> RulesetUse:
-    """A ruleset with a drop-in's detectors or actions in place of its own."""
+    """A ruleset whose detectors or actions are replaced by a drop-in's."""
     for is_given, may_replace, what in (
         (part.groups, base.may_replace_detectors, "DetectorGroup"),
         (part.actions, base.may_replace_actions, "Action"),
@@ -269,7 +271,7 @@ def check_hooks(configuration: Configuration, notes: Notes) -> None:
 def drop_in_rulesets(
     base: Configuration, part: Configuration, start: Start, notes: Notes
 ) -> list[Ruleset]:
-    """The further rulesets that a drop-in file makes, or oomd's refusal."""
+    """The additional rulesets of a drop-in file; raises an error if oomd rejects it."""
     found = []
     for use in part.rulesets:
         targets = [(at, it) for at, it in enumerate(base.rulesets) if it.name == use.name]
@@ -286,8 +288,9 @@ def drop_in_rulesets(
 def engine(
     base: Configuration, parts: Sequence[Configuration], machine: Machine, uptime: int
 ) -> Engine:
-    """The engine of a configuration and drop-in files, or oomd's refusal of the configuration. A
-    drop-in file that oomd refuses is noted, since oomd goes on without it."""
+    """The engine of a configuration and drop-in files; raises an error if oomd rejects the
+    configuration. A rejected drop-in file is noted, since oomd continues without it.
+    """
     notes, start = Notes(), Start(machine.totals, uptime)
     rulesets = [Ruleset(it, at, start, notes) for at, it in enumerate(base.rulesets)]
     check_hooks(base, notes)

@@ -1,11 +1,11 @@
-"""Why oomd refuses a configuration."""
+"""Why oomd rejects a configuration."""
 from __future__ import annotations
 
 from psirules.wording import Fault
 
 
 class Refused(Fault):
-    """A place in a configuration, and oomd's reason for refusing it."""
+    """A place in a configuration, and oomd's reason for rejecting it."""
 
     def __init__(self, place: str, reason: str) -> None:
         super().__init__(f"{place}: oomd refuses this: {reason}")
@@ -13,4 +13,4 @@ class Refused(Fault):
 
 
 class Crash(Exception):
-    """What makes oomd 0.5.0 crash."""
+    """An input that makes oomd 0.5.0 crash."""

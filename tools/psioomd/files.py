@@ -1,4 +1,4 @@
-"""The files that oomd reads of a machine, below a temporary folder."""
+"""The files of a machine that oomd reads, below a temporary folder."""
 from __future__ import annotations
 
 import os
@@ -30,7 +30,7 @@ def text_of(hundredths: int) -> str:
 
 
 def pressure_text(averages: Averages) -> str:
-    """A pressure file. Nobody reads its line `some`, so that is the same as `full`."""
+    """A pressure file. oomd doesn't read its line `some`, so that is the same as `full`."""
     shares = (averages.avg10, averages.avg60, averages.avg300)
     names = zip(("avg10", "avg60", "avg300"), map(text_of, shares))
     line = " ".join(f"{name}={share}" for name, share in names) + " total=0\n"
@@ -87,7 +87,7 @@ class Files:
             del self.written[name]
 
     def make(self, path: str) -> None:
-        """The folder of a group, with the files that never change."""
+        """Creates the folder of a group, with the files that never change."""
         self.groups[path] = self.machine.group(path)
         folder = self.folder(path)
         if path != ROOT:

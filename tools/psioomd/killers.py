@@ -1,4 +1,4 @@
-"""oomd's actions that kill: whom each chooses."""
+"""oomd's actions that kill, and how each chooses its victim."""
 from __future__ import annotations
 
 import itertools
@@ -18,9 +18,9 @@ from psisystemd.values import percent
 
 DEFAULT_SIZE, DEFAULT_PERCENTILE, DEFAULT_RATIO = 50, 80, 1.25
 WHOLE = 100
-# What candidates are compared by, the greater first.
+# The values by which candidates are compared, the greater first.
 Key = tuple[float, ...]
-# The keys of the candidates that an action may choose, and what each is ranked by in words.
+# The keys of the candidates that an action may choose, and the reason for each rank in words.
 Ranked = dict[str, tuple[Key, str]]
 
 
@@ -34,7 +34,7 @@ class Killer(Plugin):
 
     @abstractmethod
     def ranks(self, look: Look, paths: list[str]) -> Ranked:
-        """Ranks candidates that stand beside one another."""
+        """Ranks sibling candidates."""
 
     def run(self, look: Look) -> Result:
         found = self.victims(look, look.machine.among(self.args["cgroup"]))
@@ -50,8 +50,9 @@ class Killer(Plugin):
         return Result.STOP
 
     def victims(self, look: Look, paths: list[str]) -> list[tuple[str, list[Candidate]]]:
-        """The groups that may be killed, which are equal in rank, each with the candidates beside
-        it. oomd doesn't say which of them it takes."""
+        """The groups that may be killed, which are equal in rank, each with its sibling candidates.
+        It is undefined which of them oomd takes.
+        """
         ranked = self.ranks(look, paths)
         order = {path: (look.machine.rank(path), *ranked[path][0]) for path in sorted(ranked)}
         best = sorted(order, key=lambda it: order[it], reverse=True)
@@ -65,7 +66,9 @@ class Killer(Plugin):
     def at(
         self, look: Look, path: str, candidates: list[Candidate]
     ) -> list[tuple[str, list[Candidate]]]:
-        """The groups that may be killed once this one is the best: itself, or some below it."""
+        """The groups that may be killed after this one was chosen: itself, or some of its
+        descendants.
+        """
         machine = look.machine
         if self.is_recursive and not machine.ends_as_a_whole(path):
             children = machine.children(path)
@@ -101,8 +104,9 @@ class ByPressure(Killer):
 
 
 class ByScans(Killer):
-    """`kill_by_pg_scan`: by the pages scanned since the look before, also if there are none. It waits
-    for a second look in a row."""
+    """`kill_by_pg_scan`: by the pages scanned since the previous look, even if there are none. It
+    waits for a second consecutive look.
+    """
 
     def __init__(self, use: PluginUse, args: dict[str, Any]) -> None:
         super().__init__(use, args)

@@ -1,4 +1,4 @@
-"""oomd's log: its kills, and which action of which ruleset made each."""
+"""Parses oomd's log: its kills, and which action of which ruleset caused each."""
 from __future__ import annotations
 
 import re
@@ -25,7 +25,7 @@ class Restart:
 
 
 class LogReader:
-    """Reads the log of one look after another. `actions` is how many each ruleset has."""
+    """Reads the log look by look. `actions` is the number of actions of each ruleset."""
 
     def __init__(self, actions: list[int]) -> None:
         self.actions = actions
@@ -35,7 +35,7 @@ class LogReader:
         self.plugins: list[str] = []
 
     def take(self, moment: int, text: str) -> None:
-        """Takes what a look at a time (ns) wrote."""
+        """Takes the log of a look at a time (ns)."""
         waiting, self.waiting = self.waiting, {}
         following: tuple[int, int] | None = None
         running: tuple[int, int] | None = None
@@ -57,7 +57,7 @@ class LogReader:
                 self.restarts.append(Restart(moment, restart[1]))
 
     def after(self, running: tuple[int, int], returned: str) -> tuple[int, int] | None:
-        """The action that follows in the chain, if one does."""
+        """The next action in the chain, if any."""
         ruleset, action = running
         if returned == "ASYNC":
             self.waiting[ruleset] = action
@@ -71,7 +71,7 @@ class LogReader:
 
 
 def reason(log: str) -> str:
-    """The last of oomd's own words, without places in its sources and the copy of the rules."""
+    """The last message of oomd, without source locations and the copy of the rules."""
     said = [PLACE.sub("", it).strip() for it in log.splitlines()]
     kept = [
         line

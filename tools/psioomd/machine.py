@@ -29,7 +29,8 @@ Pressure = dict[str, Averages]
 
 @dataclass(eq=False)
 class Extras:
-    """What no trace has: numbers by a group's path and the file's name, such as memory.low."""
+    """Values that no trace has: numbers by a group's path and the file's name, such as memory.low.
+    """
 
     numbers: dict[tuple[str, str], int] = field(default_factory=dict)
 
@@ -48,13 +49,13 @@ class Machine:
         self.paths: list[str] = []
 
     def refresh(self) -> None:
-        """Forgets what was computed for the look before."""
+        """Discards what was computed for the previous look."""
         paths = sorted(self.world.groups)
         if paths != self.paths:
             self.paths, self.matched = paths, {}
 
     def take_pressure(self, reports: dict[str, Pressure]) -> None:
-        """Stores the pressure of a tick, of groups that are live."""
+        """Stores the pressure at a tick, for groups that are live."""
         for path, pressure in reports.items():
             group = self.world.groups.get(path)
             if group:
@@ -76,14 +77,14 @@ class Machine:
         return self.group(path).sample or NO_SAMPLE
 
     def pressure(self, path: str, resource: str) -> Averages:
-        """0 if the group's account is off: it has no file of pressure then."""
+        """The averages; 0 if the group's accounting is off, since it has no pressure files then."""
         group = self.group(path)
         if not group.is_accounted:
             return NO_PRESSURE
         return self.pressures.get(group, {}).get(resource, NO_PRESSURE)
 
     def current(self, path: str) -> int:
-        """Bytes of memory. That of the root is MemTotal less MemFree, both in KiB."""
+        """Bytes of memory. For the root this is MemTotal less MemFree, both in KiB."""
         used = self.sample(path).memory
         if path != ROOT:
             return used
@@ -91,7 +92,7 @@ class Machine:
         return (total - max(0, total - used // KIB)) * KIB
 
     def swap(self, path: str) -> int:
-        """Bytes of swap; the root has no file of it."""
+        """Bytes of swap; the root has no file for it."""
         return 0 if path == ROOT else self.sample(path).swap
 
     def scanned(self, path: str) -> int:
@@ -112,7 +113,7 @@ class Machine:
         return self.extras.of(path, "memory.oom.group") == 1
 
     def children(self, path: str) -> list[str]:
-        """The groups below, without names that begin with a point."""
+        """The children, without names that begin with a dot."""
         front = "" if path == ROOT else path
         names = sorted(it.rpartition("/")[2] for it in self.group(path).children)
         return [f"{front}/{it}" for it in names if it[0] != "."]

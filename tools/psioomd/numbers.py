@@ -1,4 +1,4 @@
-"""Numbers as oomd reads and computes them: C++'s stoi and stof, sizes, and 32-bit floats."""
+"""Numbers as oomd parses and computes them: C++'s stoi and stof, sizes, and 32-bit floats."""
 from __future__ import annotations
 
 import math
@@ -18,7 +18,7 @@ UNITS = {"": 1, "k": 1 << 10, "m": 1 << 20, "g": 1 << 30, "t": 1 << 40}
 
 
 class BadNumber(ValueError):
-    """A text that oomd doesn't read as this kind of number."""
+    """A text that oomd doesn't accept as this kind of number."""
 
 
 def float32(value: float) -> float:
@@ -107,5 +107,5 @@ def size(text: str, total: int) -> int:
 
 
 def signed32(number: int) -> int:
-    """What remains of a number in 32 bits."""
+    """The low 32 bits of a number, as a signed number."""
     return (number - INT_MIN) % (1 << 32) + INT_MIN

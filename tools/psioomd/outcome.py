@@ -1,4 +1,4 @@
-"""What a look comes to: kills, with why and whom else."""
+"""The result of a look: kills, with the reason and the other candidates."""
 from __future__ import annotations
 
 from dataclasses import dataclass, field
@@ -11,8 +11,9 @@ MOST_CANDIDATES = 4
 
 @dataclass(frozen=True)
 class Candidate:
-    """A group that could be chosen: by what it was ranked, and what it asks for. `passed_over` says
-    why it couldn't be chosen, if it couldn't."""
+    """A group that could be chosen: the values of its rank, and its preference. `passed_over` says
+    why it couldn't be chosen, if it couldn't.
+    """
 
     path: str
     rank: str
@@ -26,7 +27,7 @@ class Candidate:
 
 @dataclass(frozen=True)
 class Victim:
-    """Whom an action kills, those that were ranked equal to it, and all candidates by their ranks."""
+    """The victim of an action, the groups that were equal in rank, and all candidates by rank."""
 
     path: str
     equals: list[str]
@@ -36,8 +37,9 @@ class Victim:
 
 @dataclass(frozen=True)
 class Source:
-    """Who kills: a ruleset by number and name, its action (None for a plugin among the detectors),
-    the plugin, and the drop-in file that the ruleset is from."""
+    """The cause of a kill: a ruleset by number and name, its action (None for a plugin among the
+    detectors), the plugin, and the ruleset's drop-in file.
+    """
 
     ruleset: int
     ruleset_name: str
@@ -53,7 +55,9 @@ class Source:
 
 @dataclass(frozen=True)
 class Decision:
-    """A kill at a time (ns): who, whom, and what the detectors of the group that fired found."""
+    """A kill at a time (ns): its source, its victim, and what the detectors of the group that fired
+    found.
+    """
 
     moment: int
     source: Source
@@ -61,7 +65,7 @@ class Decision:
     why: list[str] = field(default_factory=list)
 
     def kill(self) -> Kill:
-        """The kill as replays have it."""
+        """The kill in the form of replays."""
         action = -1 if self.source.action is None else self.source.action
         return Kill(self.moment, self.source.ruleset, action, self.victim.path)
 
@@ -70,7 +74,7 @@ class Decision:
         return path == self.victim.path or path in self.victim.equals
 
     def lines(self, is_all: bool) -> list[str]:
-        """For people."""
+        """The kill as text lines."""
         when = f"{seconds(self.moment)} s"
         gap = " " * (len(when) + 2)
         path = self.victim.path
@@ -91,7 +95,7 @@ class Decision:
         return lines
 
     def record(self) -> dict[str, object]:
-        """For programs."""
+        """The kill for JSON."""
         candidates = [
             {"path": it.path, "rank": it.rank, "preference": it.preference,
              "passed_over": it.passed_over or None}

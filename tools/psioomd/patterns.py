@@ -1,4 +1,5 @@
-"""Patterns of control groups, which oomd gives to glob(3) with GLOB_BRACE below its mount point."""
+"""Patterns of control groups, which oomd passes to glob(3) with GLOB_BRACE below its mount point.
+"""
 from __future__ import annotations
 
 import re
@@ -10,7 +11,7 @@ NOTHING = re.compile("(?!)")
 
 
 def split(text: str, mark: str) -> list[str]:
-    """The parts between marks, without empty ones."""
+    """The non-empty parts between separators."""
     return [it for it in text.split(mark) if it]
 
 
@@ -57,7 +58,9 @@ def bracket(text: str, at: int) -> tuple[str, int] | None:
 
 
 def component(text: str) -> re.Pattern[str]:
-    """The regular expression of a component. A name's leading point is matched by a point only."""
+    """The regular expression of a component. Only a dot in the pattern matches a name's leading
+    dot.
+    """
     at, parts = 0, []
     while at < len(text):
         mark = text[at]

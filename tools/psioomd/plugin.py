@@ -1,4 +1,4 @@
-"""What all plugins of oomd have in common."""
+"""The common parts of oomd's plugins."""
 from __future__ import annotations
 
 from abc import ABC, abstractmethod
@@ -34,7 +34,9 @@ class Pauses(ABC):
 
 @dataclass
 class Look:
-    """A look at the machine: its time (ns), its number from 1, and what oomd keeps between looks."""
+    """A look at the machine: its time (ns), its number from 1, and what oomd remembers between
+    looks.
+    """
 
     now: int
     number: int
@@ -57,14 +59,14 @@ class Plugin(ABC):
 
     @abstractmethod
     def run(self, look: Look) -> Result:
-        """Looks, or acts."""
+        """Runs the detector or the action."""
 
     def why(self) -> str:
         """What it found at its last look, for people."""
         return self.name
 
     def nearest(self) -> str:
-        """How near it came in all looks, for people; empty if nothing is measured."""
+        """How near it came to its limit in all looks, for people; empty if it measures nothing."""
         return ""
 
 

@@ -18,8 +18,8 @@ NAMES = {
     "unshare": "unshare (no network, nothing of the machine but /usr, read-only)",
     "none": "no sandbox (the preloaded clock alone refuses kills, sockets and writes)",
 }
-# In a mount namespace of its own: a new root with /usr read-only, the folder, and nothing else; then
-# no way back to the old root, and no capability.
+# Runs in a mount namespace of its own: makes a new root with only /usr, read-only, and the folder;
+# then removes the old root and all capabilities.
 ENTER = """set -e
 new=$1 folder=$2 binary=$3; shift 3
 mount -t tmpfs tmpfs "$new"
@@ -56,7 +56,7 @@ class Sandbox:
         return NAMES[self.kind]
 
     def words(self, inside: list[str]) -> list[str]:
-        """The words that run these inside."""
+        """The command that runs these words inside."""
         if self.kind == "bwrap":
             return [*self.bwrap(), *inside]
         if self.kind == "unshare":
@@ -103,7 +103,7 @@ def fault_of(kind: str, binary: str) -> str:
 
 
 def sandbox(kind: str | None, folder: str, binary: str) -> Sandbox:
-    """The sandbox that was asked for, or the first that works."""
+    """The requested sandbox, or the first that works."""
     faults = []
     for it in (kind,) if kind else SANDBOXES[:-1]:
         if it != "none" and not shutil.which(it):
