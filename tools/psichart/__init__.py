@@ -1,1 +1,1 @@
-"""Draws what `psi_oomd replay` printed, as one SVG."""
+"""Draws the output of `psi_oomd replay` as one SVG."""

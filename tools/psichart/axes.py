@@ -1,4 +1,4 @@
-"""The numbers of the axes: round steps of shares, of bytes and of time."""
+"""The numbers on the axes: round steps of percentages, bytes and time."""
 from __future__ import annotations
 
 import itertools
@@ -14,50 +14,50 @@ CLOCK_STEPS = [
 ]  # fmt: skip
 UNITS = (("days", DAY), ("hours", HOUR), ("minutes", MINUTE), ("seconds", SECOND))
 SIZES = ("bytes", "KiB", "MiB", "GiB", "TiB", "PiB", "EiB")
-# An axis of time has at most so many steps, and so many pixels between two of its texts.
+# The most steps of a time axis, and the least pixels between two of its labels.
 MOST_STEPS = 10
 GAP = 12
 
 
 class Mark(NamedTuple):
-    """A moment on an axis (ns since the start of the trace), and what stands there."""
+    """A time on an axis (ns since the start of the trace), and its label."""
 
     moment: int
     text: str
 
 
 def round_steps() -> Iterator[int]:
-    """1, 2 and 5 times each power of ten."""
+    """The round numbers: 1, 2 and 5 times each power of ten."""
     return (digit * int(10**power) for power in itertools.count() for digit in (1, 2, 5))
 
 
 def share_step(most: int) -> int:
-    """The least round step, in hundredths of a percent, that reaches so far in five steps."""
+    """The least round step, in hundredths of a percent, of which five reach `most`."""
     return next(step for step in round_steps() if 5 * step >= most)
 
 
 def byte_step(most: int) -> int:
-    """The least round number of bytes, KiB, MiB and so on that reaches so far in five steps."""
+    """The least round number of bytes, KiB, MiB and so on, of which five reach `most`."""
     counts = (1, 2, 5, 10, 20, 50, 100, 200, 500)
     steps = (count * int(1024**size) for size in itertools.count() for count in counts)
     return next(step for step in steps if 5 * step >= most)
 
 
 def told_bytes(number: int, step: int) -> str:
-    """So many bytes, in the unit in which the step is a whole number."""
+    """A number of bytes, in the unit in which the step is a whole number."""
     size = next(it for it in reversed(range(len(SIZES))) if step >= 1024**it)
     return f"{number // 1024**size} {SIZES[size]}"
 
 
 def time_steps() -> Iterator[int]:
-    """Round steps of time in ns, from the least on."""
+    """Round steps of time in ns, ascending."""
     yield from itertools.takewhile(lambda step: step < 10 * SECOND, round_steps())
     yield from CLOCK_STEPS
     yield from (step * DAY for step in round_steps())
 
 
 class TimeAxis:
-    """The time that is drawn, from `start` to `end` in ns since the start of the trace."""
+    """The time span of a chart, from `start` to `end` in ns since the start of the trace."""
 
     def __init__(self, start: int, end: int) -> None:
         self.start, self.end = start, end
@@ -65,7 +65,9 @@ class TimeAxis:
         self.unit, self.length = next((unit, it) for unit, it in UNITS if self.step >= it or it == SECOND)
 
     def x(self, moment: int) -> float:
-        """Where a moment stands: rounded as it is written, so that it is in the pixel's column in which it is counted."""
+        """The x coordinate (pixels) of a time: rounded as it is written, so that it is in the pixel
+        column in which it is counted.
+        """
         return round(LEFT + (moment - self.start) * (RIGHT - LEFT) / (self.end - self.start), 2)
 
     def holds(self, moment: int) -> bool:
@@ -79,12 +81,12 @@ class TimeAxis:
         return f"{self.unit} since the start of the trace"
 
     def told(self, moment: int) -> str:
-        """A moment as beside this axis: `146 s`, `2 h 1 min`."""
+        """A time in the format of this axis: `146 s`, `2 h 1 min`."""
         return f"{seconds(moment)} s" if self.unit == "seconds" else told(moment)
 
 
 class WallAxis(TimeAxis):
-    """The same by the clock on the wall, which showed `wall` when the trace began."""
+    """An axis with the time of day, which was `wall` when the trace began."""
 
     def __init__(self, start: int, end: int, wall: WallTime) -> None:
         super().__init__(start, end)
@@ -98,7 +100,7 @@ class WallAxis(TimeAxis):
         return steps <= MOST_STEPS and steps * width <= RIGHT - LEFT
 
     def text(self, local: int, step: int) -> str:
-        """What stands at a moment by the wall's clock: a day's beginning has its date."""
+        """The label of a time of day: the beginning of a day has its date."""
         at = shown(local)
         if step >= DAY or (local % DAY == 0 and self.has_days()):
             return f"{at.date.tm_mday} {MONTHS[at.date.tm_mon - 1][:3]}"
@@ -116,7 +118,7 @@ class WallAxis(TimeAxis):
         return shown(self.first + self.start), shown(self.first + self.end)
 
     def has_days(self) -> bool:
-        """Whether more than one day is drawn."""
+        """Whether the chart spans more than one day."""
         first, last = self.days()
         return first.date[:3] != last.date[:3]
 

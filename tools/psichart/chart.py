@@ -1,4 +1,6 @@
-"""The whole picture: a title, a legend, panels with one axis of time, and upright lines for kills and for ends of groups."""
+"""The whole picture: a title, a legend, panels with one time axis, and vertical lines for kills and
+removed groups.
+"""
 from __future__ import annotations
 
 from typing import NamedTuple, Optional
@@ -20,22 +22,22 @@ NAMES = {
     "io": "IO pressure", "memory": "memory pressure", "cpu": "CPU pressure", "irq": "interrupt pressure", "use": "memory in use"
 }  # fmt: skip
 MARKS_TOP = 74
-# Between the texts of upright lines and the first panel there is room for that panel's name.
+# The room for the first panel's name, below the labels of vertical lines.
 NAME_ROOM = 18
 LEGEND = 50
-# Between two panels; and how high one is in which nothing stalled.
+# The gap between two panels, and the height of a panel without stalls.
 PANEL_GAP = 48
 FLAT_HEIGHT = 30
-# A second row of the legend, where two replays are drawn.
+# The height of a second row of the legend, if two replays are drawn.
 LEGEND_ROW = 20
 AVERAGES = ("10 s", "60 s", "300 s")
-# A title has the paths of so many groups at most, and so many letters if it names who kills.
+# The most groups in a title, and the most characters of a title that names the killer.
 TITLED = 3
 TITLE_ROOM = 100
 
 
 class Place(NamedTuple):
-    """Where a panel stands: from its top, and so high."""
+    """The position of a panel: its top and its height."""
 
     top: int
     height: int
@@ -46,7 +48,9 @@ class Place(NamedTuple):
 
 
 class Wanted(NamedTuple):
-    """What is to be drawn, and from what. `recorded` is a replay of the trace as it is, beside one without who is killed."""
+    """What to draw, and its input. `recorded` is a replay of the original trace, to be drawn next
+    to a replay without the killed groups.
+    """
 
     replay: Replay
     resources: list[str]
@@ -57,7 +61,7 @@ class Wanted(NamedTuple):
 
 
 class Chart:
-    """A picture of what is wanted."""
+    """The picture."""
 
     def __init__(self, wanted: Wanted) -> None:
         self.wanted, self.replay, self.axis = wanted, wanted.replay, wanted.axis
@@ -76,7 +80,8 @@ class Chart:
     # ------------------------------------------------------------ what is drawn
 
     def panels_of(self, resource: str) -> list[Panel]:
-        """A panel of the resource for each group; for `use` one of its memory, where there are samples."""
+        """A panel of the resource for each group; for `use` a memory panel, if there are samples.
+        """
         return [panel for path in self.replay.groups for panel in self.panel(resource, path)]
 
     def panel(self, resource: str, path: str) -> list[Panel]:
@@ -91,7 +96,7 @@ class Chart:
         return [MemoryPanel(name, self.axis, memory_thresholds(rules, path, samples.host), samples.lives[path])]
 
     def places_of(self) -> list[Place]:
-        """Where the panels stand, one below the other; those without pressure are low."""
+        """The positions of the panels, one below the other; those without pressure are low."""
         full = [it for it in self.panels if not it.is_flat()]
         height = 300 if len(full) == 1 else 132 if len(full) <= 5 else 96
         places, top = list[Place](), self.top
@@ -101,7 +106,7 @@ class Chart:
         return places
 
     def moments(self) -> list[Moment]:
-        """The kills, and the ends of groups."""
+        """The kills, and the removals of groups."""
         return [self.kill(it) for it in self.replay.kills] + [self.end(it) for it in self.replay.gone()]
 
     def kill(self, kill: Kill) -> Moment:
@@ -112,13 +117,14 @@ class Chart:
             killer = self.wanted.rules.killer(kill)
             who = f"'{killer.ruleset}'"
             hint = f"{would} at {at} by ruleset {kill.ruleset} {who}, action {kill.action} {killer.plugin}"
-        # Who kills is of more worth than when, which the axis has, unless the title says who.
+        # The name of the killer matters more than the time, which the axis shows, unless the title
+        # has the name.
         second = f"{would} at {at}" if f" by {who}" in self.heading else f"{would} by {who}"
         texts = (f"{would} at {at} by {who}", second, f"{would} at {at}", would, kill.path)
         return Moment(kill.moment, "kill", hint, texts)
 
     def end(self, gone: Gone) -> Moment:
-        # The first report without it is known, and not when it went.
+        # Only the first report without the group is known, not the time of its removal.
         was = f"{gone.path} was gone"
         by = f"{was} by {self.axis.told(gone.moment)}"
         return Moment(gone.moment, "gone", by, (by, by, by, was, was))
@@ -133,7 +139,7 @@ class Chart:
         return title + self.killers() if len(title + self.killers()) <= max(most, TITLE_ROOM) else title
 
     def killers(self) -> str:
-        """Whose the kills are: a ruleset's name, or how many rulesets there are, where the rules are known."""
+        """The killers: a ruleset's name, or the number of rulesets, if the rules are known."""
         rules = self.wanted.rules
         names = {it.ruleset: rules.killer(it).ruleset for it in self.replay.kills} if rules else {}
         if len(names) > 1:
@@ -141,7 +147,7 @@ class Chart:
         return "".join(f" by '{name}'" for name in names.values())
 
     def has_events(self) -> bool:
-        """Whether there are ticks for events, so that the legend has them."""
+        """Whether there are ticks for events, so that the legend must explain them."""
         return any(panel.has_events() for panel in self.panels)
 
     # ------------------------------------------------------------ the drawing
@@ -159,14 +165,15 @@ class Chart:
             self.draw_supposed()
         self.draw_time()
         for panel, at in zip(self.panels, self.places):
-            # Panels of one kind reach up to the same, so that groups can be compared; but for those in which nothing is.
+            # Panels of one kind have the same scale, so that groups can be compared, except panels
+            # without pressure.
             alike = [it for it in self.panels if it.kind == panel.kind]
             panel.draw(self.svg, at.top, at.height, max(it.most() for it in ([panel] if panel.is_flat() else alike)))
         self.draw_marks()
         return self.svg
 
     def draw_legend(self) -> None:
-        """The looks of what is drawn; those of events and of kills where there are some."""
+        """The styles of curves; those of events and of kills if there are any."""
         legend = add(self.svg, "g", class_="legend")
         y = LEGEND
         add(legend, "text", "average over", x=16, y=y + 4)
@@ -186,7 +193,7 @@ class Chart:
             add(kill, "text", "would be killed", x=844, y=y + 4)
 
     def draw_legend_beside(self) -> None:
-        """The looks of the two replays."""
+        """The styles of the two replays."""
         legend = add(self.svg, "g", class_="legend beside")
         y = LEGEND + LEGEND_ROW
         for text, classes, x in (
@@ -199,7 +206,9 @@ class Chart:
         add(legend, "text", "after the first kill: others as recorded", x=630, y=y + 4)
 
     def draw_supposed(self) -> None:
-        """A shade over all panels after the first kill, where it is supposed that others do what they did."""
+        """A shade over all panels after the first kill, where the chart assumes that the other
+        tasks behave as recorded.
+        """
         first = min((kill.moment for kill in self.replay.kills), default=self.axis.end)
         if first >= self.axis.end:
             return
@@ -209,7 +218,7 @@ class Chart:
             add(shade, "rect", class_="supposed", x=left, y=at.top, width=RIGHT - left, height=at.height)
 
     def draw_time(self) -> None:
-        """The lines of the time axis through all panels, and their numbers below the last."""
+        """The lines of the time axis through all panels, and their labels below the last."""
         axis = add(self.svg, "g", class_="time")
         for mark in self.axis.marks():
             x = self.axis.x(mark.moment)
@@ -229,7 +238,9 @@ class Chart:
             add(marks, "text", text, class_="small", x=RIGHT, y=self.marks_top - 4, text_anchor="end")
 
     def draw_mark(self, marks: Element, mark: Mark) -> None:
-        """A line from the row of its text down through all panels, with a triangle for a kill, and a cross for an end."""
+        """A line from its label down through all panels, with a triangle for a kill, and a cross
+        for a removal.
+        """
         group = add(marks, "g", class_=mark.kind)
         add(group, "title", mark.told())
         y = self.marks_bottom if mark.row is None else self.marks_bottom - ROW * mark.row - 9

@@ -1,4 +1,4 @@
-"""The command: its words, and the chart that they ask for."""
+"""The command line, and the chart that it draws."""
 from __future__ import annotations
 
 import argparse
@@ -30,7 +30,7 @@ Moment = Union[int, WallTime]
 
 
 class Given(NamedTuple):
-    """What the words say; moments in ns since the start of the trace."""
+    """The parsed command line; times in ns since the start of the trace."""
 
     groups: list[str]
     resource: Optional[str]
@@ -45,7 +45,7 @@ class Given(NamedTuple):
 
 
 def moment(word: str) -> Moment:
-    """A number of seconds, or a time on the wall."""
+    """A number of seconds, or a time of day."""
     found = re.fullmatch(r"([0-9]{1,9})(?:\.([0-9]{1,9}))?", word)
     if found:
         return int(found[1]) * SECOND + int((found[2] or "").ljust(9, "0"))
@@ -55,15 +55,16 @@ def moment(word: str) -> Moment:
 
 
 def count(word: str) -> int:
-    """How many groups are drawn."""
+    """The number of groups to draw."""
     if not re.fullmatch("[1-9][0-9]?", word):
         raise argparse.ArgumentTypeError(f"{word} is no number from 1 to 99")
     return int(word)
 
 
 class Summary(NamedTuple):
-    """What tools/psitrace said of a trace: when that began, if it said so, where (ns) the recording begins in it, and how long (ns,
-    rounded to ms) the trace is."""
+    """The summary that tools/psitrace printed about a trace: when the trace began, if known, the
+    time (ns) at which the recording begins in it, and its length (ns, rounded to ms).
+    """
 
     name: str
     wall: Optional[WallTime]
@@ -71,14 +72,16 @@ class Summary(NamedTuple):
     length: Optional[int]
 
     def must_be_of(self, replay: Replay) -> None:
-        """A trace of another length is another recording's, and has another time of day."""
+        """Rejects the summary of a trace of a different length, since it is another recording's,
+        with another time of day.
+        """
         if self.length is not None and abs(self.length - replay.end.moment) > SECOND // 1000:
             lengths = f"a trace of {seconds(self.length)} s, and the replay's has {seconds(replay.end.moment)} s"
             raise Fault(f"{self.name} is the summary of {lengths}: give the summary of this trace")
 
 
 def summary_of(name: str) -> Summary:
-    """The summary that a file has."""
+    """The summary in a file."""
     with opened(name) as file:
         said = file.read().decode("utf-8", "replace")
     if not re.search("^psitrace: ", said, re.MULTILINE):
@@ -126,7 +129,7 @@ def words() -> Words:
 
 
 def since_start(given: Moment, wall: Optional[WallTime], option: str) -> int:
-    """The moment in ns since the start of the trace."""
+    """The time in ns since the start of the trace."""
     if not isinstance(given, WallTime):
         return given
     if not wall:
@@ -154,7 +157,8 @@ def read_words() -> Given:
 
 
 def resources_of(replay: Replay, given: Given) -> list[str]:
-    """The resources to draw. Interrupts are among them only where some drawn group has reports of them."""
+    """The resources to draw. Interrupts are included only if some drawn group has reports of them.
+    """
     if given.resource:
         return [given.resource]
     has_interrupts = any(resource == "irq" for _, resource in replay.series)
@@ -162,7 +166,7 @@ def resources_of(replay: Replay, given: Given) -> list[str]:
 
 
 def must_be_times(start: int, end: int, replay: Replay) -> None:
-    """Some time of the replay must be left between the two (ns)."""
+    """Rejects times (ns) between which nothing of the replay is left."""
     if start > replay.end.moment:
         raise Fault(f"--from {seconds(start)} is after the end of the replay, {seconds(replay.end.moment)} s")
     if start >= end > 0:
@@ -170,7 +174,7 @@ def must_be_times(start: int, end: int, replay: Replay) -> None:
 
 
 def must_be_groups(replay: Replay, groups: list[str]) -> None:
-    """Each group must have reports at some time."""
+    """Rejects groups that never have a report."""
     paths = replay.rounds.paths
     for path in groups if paths else ():
         if path not in paths:
@@ -178,7 +182,7 @@ def must_be_groups(replay: Replay, groups: list[str]) -> None:
 
 
 def must_have_reports(replay: Replay, resources: list[str], start: int, end: int, groups: list[str]) -> None:
-    """Some report of these groups must be in the time; else the fault says what to do."""
+    """Rejects a time span without reports of these groups; the error says what to do."""
     series = [it for (path, resource), it in replay.series.items() if path in groups and resource in resources]
     if start < end and any(start <= moment <= end for it in series for moment in it.moments):
         return
@@ -189,7 +193,7 @@ def must_have_reports(replay: Replay, resources: list[str], start: int, end: int
 
 
 def read_recorded(name: str, groups: list[str], replay: Replay) -> Replay:
-    """The replay that a file has, which must be of the same trace as the other."""
+    """The replay in a file, which must be of the same trace as the other one."""
     with opened(name) as printed:
         try:
             recorded = read_replay(printed, groups)
@@ -202,7 +206,7 @@ def read_recorded(name: str, groups: list[str], replay: Replay) -> Replay:
 
 
 def read_top(printed: IO[bytes], given: Given) -> tuple[Given, Replay]:
-    """What was printed of the groups that stalled most, which takes reading it twice."""
+    """The output for the groups that stalled most, which requires reading it twice."""
     with tempfile.TemporaryFile() as kept:
         shutil.copyfileobj(printed, kept)
         kept.seek(0)

@@ -1,4 +1,4 @@
-"""Upright lines through all panels, and what stands beside each: kills, and ends of groups."""
+"""Vertical lines through all panels, with their labels: kills, and removed groups."""
 from __future__ import annotations
 
 import itertools
@@ -12,7 +12,9 @@ NAMED = 4
 
 
 class Moment(NamedTuple):
-    """What happens at a moment (ns): how it is drawn, all that is said of it, and texts from the longest to the shortest."""
+    """What happens at a time (ns): its style, its full description, and labels from the longest to
+    the shortest.
+    """
 
     moment: int
     kind: str
@@ -21,7 +23,8 @@ class Moment(NamedTuple):
 
 
 class Mark:
-    """What happens in one pixel's column, and where its text stands: in a row from below, or nowhere."""
+    """What happens in one pixel column, and the position of its label: a row from below, or none.
+    """
 
     def __init__(self, x: float, moments: list[Moment]) -> None:
         self.x, self.moments = x, moments
@@ -31,22 +34,26 @@ class Mark:
         self.text = ""
 
     def say(self, length: int) -> None:
-        """Takes the text of the first moment that is so long, 0 for the longest, and how many moments more there are."""
+        """Takes the first event's label with this index, 0 for the longest, and adds how many more
+        events there are.
+        """
         more = f" +{len(self.moments) - 1}" if len(self.moments) > 1 else ""
         self.text = short(self.moments[0].texts[length], 96 if length == 0 else 64) + more
 
     def told(self) -> str:
-        """What is said of each moment, but of many only of the first ones."""
+        """The description of each event, or only of the first ones if there are many."""
         lines = [it.hint for it in self.moments[:NAMED]]
         return "\n".join(lines + ([f"and {len(self.moments) - NAMED} more"] if len(self.moments) > NAMED else []))
 
     def span(self, is_left: bool) -> tuple[float, float]:
-        """From where to where the text goes, beside the line."""
+        """The left and right end of the label, beside the line."""
         width = MONOSPACE * len(self.text)
         return (self.x - 7 - width, self.x - 7) if is_left else (self.x + 7, self.x + 7 + width)
 
     def is_free(self, row: int, is_left: bool, placed: list[Mark]) -> bool:
-        """Whether no text, and no line up to its text, is in the way, and its own line is in no text's way."""
+        """Whether the label covers no other label and no line to one, and its own line crosses no
+        label.
+        """
         left, right = self.span(is_left)
         for other in placed:
             if other.row is None:
@@ -61,7 +68,9 @@ class Mark:
         return LEFT <= left and right <= WIDTH - 4
 
     def place(self, placed: list[Mark]) -> bool:
-        """Takes the lowest row that is free to the right, or the highest to the left, under which there is room for others."""
+        """Takes the lowest row that is free on the right, or the highest on the left, below which
+        there is room for others.
+        """
         rows = range(ROWS)
         for row, is_left in itertools.chain(((row, False) for row in rows), ((row, True) for row in reversed(rows))):
             if self.is_free(row, is_left, placed):
@@ -71,7 +80,7 @@ class Mark:
 
 
 def marks_of(moments: Iterable[Moment], x_of: Callable[[int], float]) -> list[Mark]:
-    """A mark for each pixel's column in which something of a kind happens."""
+    """A mark for each pixel column and kind of event."""
 
     def column_of(it: Moment) -> tuple[int, str]:
         return int(x_of(it.moment)), it.kind
@@ -81,7 +90,9 @@ def marks_of(moments: Iterable[Moment], x_of: Callable[[int], float]) -> list[Ma
 
 
 def place_all(marks: list[Mark], length: int, are_kills_first: bool) -> list[Mark]:
-    """Places the texts that are so long, from the last mark to the first, and gives those that found no room."""
+    """Places the labels with this index, from the last mark to the first; returns the marks without
+    room.
+    """
     for mark in marks:
         mark.row = None
         mark.say(length)
@@ -93,8 +104,9 @@ def place_all(marks: list[Mark], length: int, are_kills_first: bool) -> list[Mar
 
 
 def place(marks: list[Mark]) -> list[Mark]:
-    """Places the longest texts of which all have room, or the shortest, those of kills first, of which some have none. Drops
-    rows without a text. Gives the marks that have none."""
+    """Places the longest labels for which all have room; or the shortest, those of kills first, if
+    some have none. Drops rows without a label. Returns the marks without room.
+    """
     lengths = min((len(mark.moments[0].texts) for mark in marks), default=1)
     if not any(not place_all(marks, length, False) for length in range(lengths)):
         place_all(marks, lengths - 1, True)

@@ -1,4 +1,4 @@
-"""A panel: one resource's pressure of one group, or its memory."""
+"""A panel: one resource's pressure for one group, or its memory."""
 from __future__ import annotations
 
 import itertools
@@ -13,17 +13,17 @@ from .replay import Replay, Series
 from .svg import LEFT, RIGHT, Element, Point, add, add_line, counted, decimal, thinned, thinned_steps
 from .thresholds import Threshold, draw_thresholds
 
-# A panel reaches at least up to 1 %, or 1 MiB, so that next to nothing doesn't look like much.
+# The least scale of a panel is 1 %, or 1 MiB, so that tiny values don't look large.
 LEAST_SHARE = 100
 LEAST_BYTES = 1024**2
-# An average that began at 0 means something after so many of its periods.
+# An average that began at 0 is meaningful after this number of its periods.
 SETTLED = 3
-# So many letters have room left of a panel.
+# The number of characters that fit to the left of a panel.
 COUNT_ROOM = 17
 
 
 class Frame(NamedTuple):
-    """Where a panel stands: from its top, so high, and up to so much."""
+    """The position of a panel: its top, its height, and the value at its upper edge."""
 
     top: float
     height: float
@@ -39,7 +39,7 @@ class Frame(NamedTuple):
 
 
 class Panel:
-    """What panels have in common: a name, an axis that says of what it is, and thresholds."""
+    """The common parts of panels: a name, an axis with its unit, and thresholds."""
 
     kind = ""
     of_what = ""
@@ -48,11 +48,11 @@ class Panel:
         self.name, self.axis, self.thresholds = name, axis, thresholds
 
     def most(self) -> int:
-        """How far up it reaches at least."""
+        """The least value at its upper edge."""
         raise NotImplementedError
 
     def is_flat(self) -> bool:
-        """Whether there is nothing in it that takes height."""
+        """Whether it has nothing that needs height."""
         return False
 
     def has_events(self) -> bool:
@@ -63,7 +63,7 @@ class Panel:
         raise NotImplementedError
 
     def apart(self, most: int) -> int:
-        """How far apart its lines are: a low one has none between its ends."""
+        """The distance between its lines: a low panel has none between its ends."""
         return most if self.is_flat() else self.step(most)
 
     def number(self, value: int, step: int) -> str:
@@ -73,7 +73,7 @@ class Panel:
         raise NotImplementedError
 
     def draw(self, svg: Element, top: float, height: float, most: int) -> None:
-        """Draws it so that it reaches up to so much, or a little more."""
+        """Draws it with a scale up to `most`, or a little more."""
         step = self.apart(most)
         frame = Frame(top, height, -(-most // step) * step)
         panel = add(svg, "g", class_=f"panel {self.kind}")
@@ -91,14 +91,14 @@ class Panel:
 
 
 class Curves:
-    """The averages of a group's reports on a resource in the time of an axis, drawn by a look of their own."""
+    """The averages in a group's reports on a resource, within an axis, in a style of their own."""
 
     def __init__(self, series: Series, axis: TimeAxis, look: str = "") -> None:
         self.series, self.axis, self.look = series, axis, look
         self.shown = [place for place, moment in enumerate(series.moments) if axis.holds(moment)]
 
     def most(self) -> int:
-        """The greatest share, in hundredths of a percent."""
+        """The greatest value, in hundredths of a percent."""
         shares = (shares[place] for shares in self.series.shares.values() if shares for place in self.shown)
         return max(shares, default=0)
 
@@ -112,8 +112,9 @@ class Curves:
                 add_line(lines, thinned(points), **look)
 
     def does_climb(self, average: str) -> bool:
-        """Whether all that is shown of an average is how it climbs from 0, where averages begin: what it would be on a machine that
-        ran before isn't known there."""
+        """Whether the chart only shows an average climbing from 0, where averages begin: its value
+        on a machine that ran before isn't known then.
+        """
         period = int(average[len("avg") :]) * SECOND
         if self.axis.start >= period or self.axis.end >= SETTLED * period:
             return False
@@ -121,7 +122,7 @@ class Curves:
         return any(any(it) for it in each) and all(one <= other for it in each for one, other in zip(it, it[1:]))
 
     def unbroken(self) -> Iterator[list[int]]:
-        """The places of the reports, cut where the group wasn't there for two pixels or more."""
+        """The places of the reports, split if the group didn't exist for two pixels or more."""
         rounds, moments = self.series.rounds, self.series.moments
         run: list[int] = []
         for place in self.shown:
@@ -135,8 +136,9 @@ class Curves:
 
 
 class PressurePanel(Panel):
-    """The averages of a group's reports on a resource, and below them a tick for each event of its triggers. Beside a replay's
-    own there may be those of what was recorded."""
+    """The averages in a group's reports on a resource, and below them a tick for each event of its
+    triggers. Those of the recorded trace may be drawn with them.
+    """
 
     of_what = "share of time"
 
@@ -147,7 +149,7 @@ class PressurePanel(Panel):
         self.kind = resource
         found = [replay.series.get((path, resource), Series()) for replay in replays]
         self.curves = [Curves(series, axis, look) for series, look in zip(found, ("", " was"))]
-        # By replay and by level, the moments of the shown events.
+        # The times of the shown events, by replay and by level.
         self.events = [
             [list(filter(axis.holds, replay.events.get((path, resource, level), []))) for level in LEVELS] for replay in replays
         ]
@@ -156,7 +158,7 @@ class PressurePanel(Panel):
         return max(LEAST_SHARE, *(it.most() for it in self.curves), *(it.level for it in self.thresholds))
 
     def is_flat(self) -> bool:
-        """No pressure, no event, and no threshold of a rule."""
+        """Whether it has no pressure, no event, and no threshold of a rule."""
         return not any(it.most() for it in self.curves) and not self.has_events() and not self.thresholds
 
     def has_events(self) -> bool:
@@ -186,7 +188,7 @@ class PressurePanel(Panel):
         add(panel, "text", self.counts(), class_="small", x=LEFT - 7, y=top + 10, text_anchor="end")
 
     def counts(self) -> str:
-        """How many events are shown, and how many were, where it was another number."""
+        """The number of events in the chart, and the recorded number if it differs."""
         count, *was = (sum(map(len, events)) for events in self.events)
         text = counted(count, "event")
         if was in ([], [count]):
@@ -196,7 +198,9 @@ class PressurePanel(Panel):
 
 
 class MemoryPanel(Panel):
-    """What samples say of a group's memory and swap, each until the next one, or until the group is removed."""
+    """A group's memory and swap according to its samples, each valid until the next one, or until
+    the group is removed.
+    """
 
     kind = "use"
     of_what = "bytes"
@@ -207,7 +211,9 @@ class MemoryPanel(Panel):
         self.has_swap = any(it.swap for samples in self.lives for it in samples)
 
     def shown(self, life: Life) -> list[Sample]:
-        """The samples in the shown time. The last one before it goes on at its start, and the last one up to its end."""
+        """The samples in the shown time. The last sample before it is continued from its start, and
+        the last one in it up to its end.
+        """
         end = self.axis.end if life.end is None else min(life.end, self.axis.end)
         inside = [it for it in life.samples if self.axis.start <= it.moment <= end]
         before = [it for it in life.samples if it.moment < self.axis.start][-1:]
@@ -238,7 +244,7 @@ class MemoryPanel(Panel):
             add(panel, "text", text, class_="note", x=middle, y=frame.top + 20, text_anchor="middle")
 
     def steps(self, samples: list[Sample], is_swap: bool, frame: Frame) -> Iterator[Point]:
-        """A level up to the next sample, and there a step to that one's."""
+        """A constant value up to the next sample, and then a step to that one's."""
         last: Optional[float] = None
         for sample in samples:
             x, y = self.axis.x(sample.moment), frame.bottom - (sample.swap if is_swap else sample.memory) * frame.scale

@@ -1,4 +1,6 @@
-"""What of a replay is drawn: the reports and events of some groups, all kills, and when groups were gone."""
+"""The parts of a replay that are drawn: the reports and events of some groups, all kills, and the
+removals of groups.
+"""
 from __future__ import annotations
 
 from array import array
@@ -10,15 +12,16 @@ Which = tuple[str, str]
 
 
 class Series:
-    """The averages of one resource of a group: moments in ns, shares in hundredths of a percent. A round is a tick with
-    reports; where one passes without a report of the group, the group wasn't there."""
+    """The averages of one resource of a group: times in ns, values in hundredths of a percent. A
+    round is a tick with reports; if a round has no report of the group, the group didn't exist.
+    """
 
     def __init__(self) -> None:
         self.moments, self.rounds = array("Q"), array("Q")
         self.shares: dict[Which, array[int]] = {(level, it): array("Q") for level in LEVELS for it in AVERAGES}
 
     def take(self, report: Report, number: int) -> None:
-        """Takes the report of the round of this number."""
+        """Takes the report in the round of this number."""
         self.moments.append(report.moment)
         self.rounds.append(number)
         for level, pressure in (("some", report.some), ("full", report.full)):
@@ -31,14 +34,15 @@ class Series:
 
 
 class Gone(NamedTuple):
-    """A group that had a report in the round before, and has none in the round at this moment in ns."""
+    """A group that had a report in the previous round, and has none in the round at this time (ns).
+    """
 
     moment: int
     path: str
 
 
 class Rounds:
-    """Which groups have reports in each round, and when one that had them has none."""
+    """The groups that have reports in each round, and when a group stops having them."""
 
     def __init__(self) -> None:
         self.number = 0
@@ -63,7 +67,7 @@ class Rounds:
 
 
 class Replay:
-    """What was printed of these groups, of all kills, and of the ends of groups."""
+    """The output of a replay for these groups, with all kills, and the removals of groups."""
 
     def __init__(self, groups: list[str]) -> None:
         self.groups = groups
@@ -84,7 +88,7 @@ class Replay:
             self.events.setdefault((event.path, event.resource, event.level), []).append(event.moment)
 
     def gone(self) -> list[Gone]:
-        """The ends of the drawn groups, and of those that would be killed."""
+        """The removals of the drawn groups, and of those that would be killed."""
         named = {*self.groups, *(kill.path for kill in self.kills)}
         return [gone for gone in self.rounds.gone if gone.path in named]
 

@@ -1,4 +1,4 @@
-"""Elements of a picture, where things stand in it, and how they look."""
+"""Elements of a picture, their positions and their styles."""
 from __future__ import annotations
 
 import itertools
@@ -8,15 +8,17 @@ from xml.etree import ElementTree
 Element = ElementTree.Element
 Point = tuple[float, float]
 
-# Places are pixels from the left and from the top. Time goes from LEFT to RIGHT.
+# Positions are pixels from the left and from the top. Time extends from LEFT to RIGHT.
 WIDTH = 960
 LEFT = 112
 RIGHT = 936
-# At most so wide is a letter of one-width fonts of 11 pixels, and one of other fonts of 12 pixels.
+# The largest width of a character: in monospace fonts of 11 pixels, and in other fonts of 12
+# pixels.
 MONOSPACE = 6.7
 LETTER = 7.2
 
-# The colours are those of Okabe and Ito, which colour-blind people tell apart, some of them darker or lighter for the ground.
+# The colours are those of Okabe and Ito, which colour-blind people can distinguish, some of them
+# darker or lighter to suit the background.
 STYLE = """
 text { font: 12px sans-serif; fill: #222; }
 .title { font-size: 16px; font-weight: bold; }
@@ -61,7 +63,8 @@ text { fill: #e6e6e6; }
 }
 """
 
-# Where two replays are drawn, what was is thin, and what would have been is thick.
+# If two replays are drawn, the recorded one has thin lines, and the one without the killed groups
+# thick ones.
 STYLE_BESIDE = """.series.some { stroke-width: 2.5; }
 .series.full { stroke-width: 4.5; }
 .series.some.was { stroke-width: 1; }
@@ -71,12 +74,14 @@ STYLE_BESIDE = """.series.some { stroke-width: 2.5; }
 
 
 def decimal(value: float) -> str:
-    """At most two decimals, and no zeros after the last."""
+    """A number with at most two decimals, and no trailing zeros."""
     return f"{value:.2f}".rstrip("0").rstrip(".")
 
 
 def add(parent: Element, tag: str, text: Optional[str] = None, **attributes: Union[str, float]) -> Element:
-    """A new element. An attribute's name has `_` for `-`, and one after a name that Python keeps for itself."""
+    """Adds an element. In an attribute's name `_` means `-`, and a trailing `_` avoids a Python
+    keyword.
+    """
     names = {name.rstrip("_").replace("_", "-"): value for name, value in attributes.items()}
     element = ElementTree.SubElement(
         parent, tag, {name: value if isinstance(value, str) else decimal(value) for name, value in names.items()}
@@ -86,7 +91,9 @@ def add(parent: Element, tag: str, text: Optional[str] = None, **attributes: Uni
 
 
 def add_line(parent: Element, points: Iterable[Point], **look: str) -> None:
-    """A line through these points, of a look. A point alone stands twice: a line of no length is drawn as a dot."""
+    """Adds a line through these points, with this style. A single point is written twice: a line of
+    no length is drawn as a dot.
+    """
     places = [f"{decimal(x)},{decimal(y)}" for x, y in points]
     add(parent, "polyline", points=" ".join(places * 2 if len(places) == 1 else places), **look)
 
@@ -96,24 +103,26 @@ def counted(number: int, what: str) -> str:
 
 
 def short(text: str, most: int) -> str:
-    """The text, or its front and its end where it is longer."""
+    """The text, or its beginning and its end if it is longer than `most`."""
     return text if len(text) <= most else f"{text[: most // 2 - 1]}…{text[len(text) - (most - most // 2) :]}"
 
 
 def columns(points: Iterable[Point]) -> Iterator[list[Point]]:
-    """The points of each pixel's column."""
+    """The points of each pixel column."""
     for _, column in itertools.groupby(points, key=lambda point: int(point[0])):
         yield list(column)
 
 
 def thinned(points: Iterable[Point]) -> Iterator[Point]:
-    """Of each pixel's column the highest point and the lowest, in their order."""
+    """The highest and the lowest point of each pixel column, in order."""
     for column in columns(points):
         yield from sorted({min(column, key=lambda point: point[1]), max(column, key=lambda point: point[1])})
 
 
 def thinned_steps(points: Iterable[Point]) -> Iterator[Point]:
-    """Of each pixel's column the first point, the highest, the lowest and the last, since a step goes on from the last."""
+    """The first point, the highest, the lowest and the last of each pixel column, since a step
+    continues from the last.
+    """
     for column in columns(points):
         places = range(len(column))
         ends = (0, min(places, key=lambda it: column[it][1]), max(places, key=lambda it: column[it][1]), len(column) - 1)

@@ -1,4 +1,4 @@
-"""The thresholds of rules that concern a drawn group, as lines across its panels."""
+"""The thresholds of rules for a drawn group, as lines across its panels."""
 from __future__ import annotations
 
 from typing import Iterator, NamedTuple, Optional
@@ -7,16 +7,20 @@ from psireplay.rules import Plugin, Rules, Ruleset, size
 
 from .svg import LEFT, RIGHT, Element, Point, add, short
 
-# What each detector of pressure looks at: the average whose colour its line has, and how that is told.
+# What each detector of pressure compares: the average whose colour its line has, and its
+# description.
 WATCHED = {"pressure_above": ("avg10", "full over 10 s"), "pressure_rising_beyond": ("avg60", "full over 60 s and over 10 s")}
-# A letter of a label is at most this wide (pixels); this much is free around it, and so far above or below its line is it.
+# The largest width of a label's character (pixels); the free space around a label, and its distance
+# from its line.
 NOTE_LETTER = 6.6
 NEXT_TO = 2.0
 ABOVE, BELOW = -5.0, 14.0
 
 
 class Threshold(NamedTuple):
-    """A line across a panel: at so many hundredths of a percent or bytes, of a look, and with a text."""
+    """A line across a panel: its value in hundredths of a percent or bytes, its style, and its
+    label.
+    """
 
     level: int
     look: str
@@ -41,7 +45,7 @@ def of_memory(ruleset: Ruleset, detector: Plugin, host: Optional[int]) -> Iterat
 
 
 def pressure_thresholds(rules: Optional[Rules], path: str, resource: str) -> list[Threshold]:
-    """Those of the detectors that look at this group's pressure on the resource."""
+    """The thresholds of the detectors that check this group's pressure on the resource."""
     return [
         of_pressure(ruleset, detector)
         for ruleset in (rules.rulesets if rules else [])
@@ -51,7 +55,9 @@ def pressure_thresholds(rules: Optional[Rules], path: str, resource: str) -> lis
 
 
 def memory_thresholds(rules: Optional[Rules], path: str, host: Optional[int]) -> list[Threshold]:
-    """Those of the detectors that look at this group's memory, on a host with so many bytes of it."""
+    """The thresholds of the detectors that check this group's memory, on a host with `host` bytes
+    of it.
+    """
     return [
         threshold
         for ruleset in (rules.rulesets if rules else [])
@@ -62,7 +68,7 @@ def memory_thresholds(rules: Optional[Rules], path: str, host: Optional[int]) ->
 
 
 def merged(thresholds: list[Threshold]) -> list[Threshold]:
-    """One line for those of one level and look, with all their texts."""
+    """Merges thresholds of one value and style to one line, with all their labels."""
     found: dict[tuple[int, str], list[str]] = {}
     for it in thresholds:
         texts = found.setdefault((it.level, it.look), [])
@@ -71,7 +77,7 @@ def merged(thresholds: list[Threshold]) -> list[Threshold]:
 
 
 class Box(NamedTuple):
-    """Where a text is: its sides, in pixels."""
+    """The rectangle of a label, in pixels."""
 
     left: float
     right: float
@@ -82,11 +88,13 @@ class Box(NamedTuple):
         return self.left < other.right and other.left < self.right and self.top < other.bottom and other.top < self.bottom
 
     def is_crossed(self, points: list[Point]) -> bool:
-        """Whether a line through these points goes through it."""
+        """Whether a line through these points crosses it."""
         return any(self.meets(one, other) for one, other in zip(points, points[1:] or points))
 
     def meets(self, one: Point, other: Point) -> bool:
-        """Whether a stretch between two points does: what of it is between the sides must be above or below."""
+        """Whether the segment between two points crosses it: it doesn't if the part between the
+        left and right side is entirely above or below.
+        """
         (x, y), (end, level) = sorted([one, other])
         if end < self.left or x > self.right:
             return False
@@ -96,7 +104,7 @@ class Box(NamedTuple):
 
 
 class Label(NamedTuple):
-    """A text beside a threshold: where it begins, is in the middle or ends."""
+    """A label of a threshold: the anchor is its start, middle or end."""
 
     text: str
     x: float
@@ -110,8 +118,10 @@ class Label(NamedTuple):
 
 
 def labels_of(it: Threshold, y: float) -> Iterator[Label]:
-    """Where the text of a threshold at this height may be, the best place first: at the right end or the left, in the middle or at a
-    quarter, above the line or below it; and the whole text rather than what comes before the ruleset's name."""
+    """The possible labels of a threshold at this height, the best first: at the right end or the
+    left, in the middle or at a quarter, above the line or below it; and the whole text rather than
+    just the part before the ruleset's name.
+    """
     for text in dict.fromkeys((short(it.text, 100), short(it.text.partition(":")[0], 60))):
         for part, anchor in ((1.0, "end"), (0.0, "start"), (0.5, "middle"), (0.25, "middle"), (0.75, "middle")):
             x = LEFT + 6 + (RIGHT - LEFT - 12) * part
@@ -119,8 +129,9 @@ def labels_of(it: Threshold, y: float) -> Iterator[Label]:
 
 
 def draw_thresholds(panel: Element, thresholds: list[Threshold], top: float, bottom: float, scale: float) -> None:
-    """Draws them from the top down. A text is where it covers no curve, no other text and nothing outside of the panel; if there is no
-    such place the line has none, but for its tooltip."""
+    """Draws the thresholds from the top down. A label must not cover a curve, another label or
+    anything outside of the panel; if there is no such place, the line has only its tooltip.
+    """
     groups = [it for it in panel if (it.get("class") or "").startswith("series")]
     curves = [points_of(line) for group in groups for line in group]
     placed: list[Box] = []
