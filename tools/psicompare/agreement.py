@@ -109,7 +109,7 @@ def has_no_full(path: str, resource: str) -> bool:
     return path == "/" and resource == "cpu"
 
 
-# ---------------------------------------------------------------- the moments of sampling
+# ---------------------------------------------------------------- the sampling times
 
 
 def sampling_of(asked: Asked, clocks: Clocks, told: Moments, inside: Sequence[int], start: int, hertz: int) -> Sampling:

@@ -1,20 +1,20 @@
-"""Holds a trace against the recording of which it was made: the totals of each group's pressure that the trace gives, beside those
-of the machine's own files.
+"""Compares a trace with the recording from which it was made: its totals of each group's pressure with those of the machine's own
+files.
 
   tools/compare FOLDER TRACE
 
-FOLDER is what tools/record wrote, and TRACE what tools/psitrace made of it. The trace's totals are added up as the machine's kernel
-did: at the moments at which it sampled each group, and in 32 bits. Where the recording doesn't show these moments, the phase of
-each group's grid is fitted, and said. With --tick-ms the totals are those of a replay with such ticks: the program is the psi_oomd
-beside tools, or the one that the variable PSI_OOMD names.
+FOLDER is a recording by tools/record, and TRACE the trace that tools/psitrace made from it. The trace's totals are added up as the
+machine's kernel did: at the times at which it sampled each group, and in 32 bits. If the recording doesn't show these times, the phase
+of each group's grid is fitted, and reported. With --tick-ms the totals are those of a replay with such ticks: the program is the
+psi_oomd beside tools, or the one in the variable PSI_OOMD.
 
-The table has, for each file whose total grew by at least --shown-s, the growth from the first reading of the machine's files in
-the trace to the last, in us, by the machine and by the trace, and how much the trace is above or below, in percent. What is
-beyond its limit has a mark (!); where the machine's own sums lost something, since they have 32 bits, it has another (w). The kernel
-shows zeros in the root's full line of cpu, and so does the trace.
+The table has each file whose total grew by at least --shown-s: the growth from the first reading of the machine's files in the trace
+to the last, in us, on the machine and in the trace, and the difference in percent. A value that exceeds its limit has a mark (!); if
+the machine's own sums lost something, since they have 32 bits, it has another (w). The kernel shows zeros in the root's full line of
+cpu, and so does the trace.
 
-The status is 0 where all totals are within the limits, 1 where one isn't, and 2 where there was nothing to compare: faulty
-words, something that can't be read, or no trace.
+The status is 0 if all totals are within the limits, 1 if one isn't, and 2 if there was nothing to compare: a usage error, something
+that can't be read, or no trace.
 """
 from __future__ import annotations
 
@@ -153,7 +153,7 @@ def by_replay(options: Options, tick_ms: int) -> tuple[list[Row], Shown]:
     return rows, Shown([span_line(found.first, found.last, found.length)], "replay", "", options.shown)
 
 
-# ---------------------------------------------------------------- at the kernel's own moments
+# ---------------------------------------------------------------- at the kernel's own sampling times
 
 
 def clocks_of(trace: str, edited: Callable[[Iterable[str]], Iterable[str]] = iter) -> Clocks:

@@ -136,7 +136,7 @@ def options_of(given: list[str]) -> Options:
     return Options(**found)
 
 
-# ---------------------------------------------------------------- what is written
+# ---------------------------------------------------------------- the output
 
 
 def tell(line: str) -> None:

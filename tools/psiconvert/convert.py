@@ -74,7 +74,7 @@ class Told(NamedTuple):
     accounts: Accounts
 
 
-# ---------------------------------------------------------------- what was there before
+# ---------------------------------------------------------------- what was known before
 
 
 def snapshot_prior(snapshot: Snapshot, events: Sequence[Event], beginning: Beginning, off: set[str]) -> Prior:
@@ -115,7 +115,7 @@ def world_prior(world: World, samples: Samples, is_sound: bool) -> Prior:
     return Prior(groups, world.off, tasks, samples, 0 if is_sound else NEVER, is_sound)
 
 
-# ---------------------------------------------------------------- the first moment
+# ---------------------------------------------------------------- the start
 
 
 def first_of(number: int, prior: Prior, beginning: Beginning) -> First:

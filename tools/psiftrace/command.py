@@ -1,14 +1,14 @@
-"""Says what in a text of ftrace makes a trace of it wrong without a word, on standard error.
+"""Finds defects in a text of ftrace that make its trace wrong without an error, and prints them on standard error.
 
   tools/ftrace-check TEXT
 
-TEXT is what trace, trace_pipe or trace-cmd report -N printed: a file, also a gzipped one, or - for the standard input. What an
-importer refuses by itself is said as well. tools/psitrace mends some of it: lines out of order, names with newlines, forms of
-trace-cmd and perf, numbers that change by exec, and sleeps in state D that sched_stat_iowait tells from waits for IO.
+TEXT is the output of trace, trace_pipe or trace-cmd report -N: a file, possibly gzipped, or - for the standard input. It also reports
+what an importer rejects by itself. tools/psitrace repairs some of it: lines out of order, names with newlines, forms of trace-cmd and
+perf, numbers that change by exec, and sleeps in state D, if sched_stat_iowait shows which of them are waits for IO.
 
-The last line has what to give as --cpus, and how many lines of each event there are; nothing in it is a fault by itself.
+The last line has the value for --cpus, and the number of lines of each event; nothing in it is a defect by itself.
 
-The status is 0 where nothing was found, 1 where something was, and 2 for faulty words and where TEXT can't be read.
+The status is 0 if nothing was found, 1 if something was, and 2 for a usage error and if TEXT can't be read.
 """
 from __future__ import annotations
 

@@ -113,7 +113,7 @@ def check_name(name: str, path: str) -> None:
         raise Fault(f"{path} isn't {name}: without words it says {said!r}")
 
 
-# ---------------------------------------------------------------- what is made of what the tools say
+# ---------------------------------------------------------------- files generated from the help of the tools
 
 
 def write(members: list[Member], folder: str) -> None:

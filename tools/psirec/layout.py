@@ -1,16 +1,16 @@
-"""The names that a recording has: the files of its folder, their lines, the markers among its events, and its probes.
+"""The names in a recording: the files of its folder, their lines, the markers among its events, and its probes.
 
-`tools/record` writes by these names and `tools/psitrace` and `tools/compare` read by them, so each stands here once. All
-files are bytes; what isn't UTF-8 in them is kept by the error handler `surrogateescape`. A path of a control group stands
-in each of them as `escaped_path` spells it, from the root of the hierarchy, which is `/`; so no path has a blank.
+`tools/record` writes these names and `tools/psitrace` and `tools/compare` read them, so each is defined once, here. All
+files are bytes; bytes that aren't UTF-8 are kept by the error handler `surrogateescape`. Paths of control groups are written
+as `escaped_path` returns them, from the root of the hierarchy, which is `/`; so no path has a blank.
 
-meta        lines `KEY VALUE`, a key as often as it is needed. The last line is `end REASON`: where it is missing the
+meta        lines `KEY VALUE`, a key as often as it is needed. The last line is `end REASON`: if it is missing, the
             recorder was killed.
 formats     for each event a line `== SYSTEM/EVENT` and the text of the kernel's own file `events/SYSTEM/EVENT/format`;
-            likewise `== header_page`, which tells the size of a page of a ring buffer.
-cpuN.raw    the pages of the ring buffer of processor N, in the order in which they came; of a recording that is compressed
-            parts of them, cpuN.K.raw with K from 0 on, as they came or as cpuN.K.raw.gz.
-snapshot    what there was when the recording had begun: lines `at NS`, `group PATH PREFERENCE`, `type PATH TYPE` (its
+            also `== header_page`, which has the size of a page of a ring buffer.
+cpuN.raw    the pages of the ring buffer of processor N, in the order in which they arrived; in a compressed recording
+            parts of them, cpuN.K.raw with K from 0, uncompressed or as cpuN.K.raw.gz.
+snapshot    the state after the recording had begun: lines `at NS`, `group PATH PREFERENCE`, `type PATH TYPE` (its
             `cgroup.type`), `unaccounted PATH` (its `cgroup.pressure` is 0) and `task TID TGID STATE CPU PATH NAME`; the last
             line is `end`.
 pressure    for each reading `sample NUMBER PATH RESOURCE` and the two lines of that pressure file.

@@ -188,7 +188,7 @@ def wanted_of(arguments: argparse.Namespace, words: argparse.ArgumentParser) -> 
     )
 
 
-# ---------------------------------------------------------------- from the first check to the last line
+# ---------------------------------------------------------------- the recording
 
 
 def choose_sources(machine: Machine, wanted: Wanted, group: str, folder: Folder, undoing: Undoing) -> tuple[Sources, bool]:

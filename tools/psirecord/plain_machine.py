@@ -1,10 +1,10 @@
-"""A folder of plain files in place of the machine, for tests: what the kernel does by itself is done here by hand.
+"""A folder of plain files in place of the machine, for tests: what the kernel does by itself is done by hand here.
 
-    DIR/tracing    a folder with the files of an instance, `instances` and, where probes can be had, `kprobe_events`
+    DIR/tracing    a folder with the files of an instance, `instances` and, if probes are available, `kprobe_events`
     DIR/cgroup     the root of the control groups
     DIR/proc       processes, `meminfo`, `pressure` and `sys/kernel/sched_schedstats`
-    DIR/btf        the kernel's types, as /sys/kernel/btf/vmlinux has them
-    DIR/trigger    a FIFO: what is written into it is a signal of pressure
+    DIR/btf        the kernel's types, in the format of /sys/kernel/btf/vmlinux
+    DIR/trigger    a FIFO: writing to it is a signal of pressure
 """
 from __future__ import annotations
 

@@ -1,14 +1,14 @@
-"""Stores what systemd-oomd decides by, where systemd runs, into the folder `systemd` of a recording, for tools/systemd-oomd.
+"""Stores the settings of systemd-oomd, if systemd runs, in the folder `systemd` of a recording, for tools/systemd-oomd.
 
-version     what `systemctl --version` says first
-units       what `systemctl show` says of all services, slices and scopes that there are (SHOWN)
+version     the first words of `systemctl --version`
+units       the output of `systemctl show` for all services, slices and scopes (SHOWN)
 groups      a line for each control group: its path, and its owner, memory.oom.group and attributes (group_line)
-etc/.. run/.. usr/..   oomd.conf with its drop-in files, and each file of units that has a setting of systemd-oomd, with those of
-            the same name elsewhere: what stands in one folder is in force in place of what stands in another. Of units' files
-            all other lines are empty, since environments and arguments aren't recorded
+etc/.. run/.. usr/..   oomd.conf with its drop-in files, and each unit file that has a setting of systemd-oomd, with those of
+            the same name in other folders, since one folder's files override another's. All other lines of unit files are
+            empty, since environments and arguments aren't recorded
 
-So the folder is one of files as `tools/systemd-oomd --settings` takes any, which says more. Nothing of this is traced: it is
-stored before the recording begins.
+So the folder can be given to `tools/systemd-oomd --settings`, like any folder of files, but has more. Nothing of this is traced: it
+is stored before the recording begins.
 """
 from __future__ import annotations
 
