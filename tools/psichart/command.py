@@ -98,16 +98,16 @@ def summary_of(name: str) -> Summary:
 
 
 HELP = {
-    "group": "a group whose pressure is drawn, several times for several: / if left out",
-    "resource": "the one resource to draw: all if left out, irq where reports have it",
+    "group": "a group whose pressure is drawn; may be repeated: / if left out",
+    "resource": "the one resource to draw: all if left out, irq if reports have it",
     "from": "where the chart begins: seconds, or a time with --start",
-    "to": "where the chart ends, likewise",
-    "top": "draw the groups that stalled most, so many of them, in place of --group",
-    "summary": "what psitrace said of the trace, in a file: when it began, in place of --start, and where the recording begins",
-    "start": "when the trace began, as 2026-11-28T13:58:12Z: all times are by the clock",
+    "to": "where the chart ends, in the same form",
+    "top": "draw the N groups that stalled most, in place of --group",
+    "summary": "a file with psitrace's report on the trace: when it began, in place of --start, and where the recording begins",
+    "start": "when the trace began, as 2026-11-28T13:58:12Z: all times are times of day",
     "rules": "the rules of the replay: draws thresholds of the groups, and names rulesets",
     "trace": "the trace of the replay: draws the groups' memory too",
-    "beside": "what `replay` printed of the trace: draws it thin, and what `whatif` printed thick",
+    "beside": "the output of `replay` for the trace: draws it thin, and the output of `whatif` thick",
 }
 
 

@@ -66,18 +66,18 @@ def options_of(given: list[str]) -> Options:
     """Parses the command line."""
     words = Parser("compare", __doc__, NOTHING)
     words.add_argument("folder", metavar="FOLDER", help="the recording")
-    words.add_argument("trace", metavar="TRACE", help="the trace that was made of it")
+    words.add_argument("trace", metavar="TRACE", help="the trace that was made from it")
     words.add_argument("--from", dest="start", metavar="S", type=nanoseconds, default=0,
-                       help="where in the recording the trace begins, as --from of psitrace or its summary says (0)")  # fmt: skip
+                       help="where the trace begins in the recording: --from of psitrace, or as in its summary (0)")  # fmt: skip
     words.add_argument("--lead-in", dest="lead_in", metavar="LENGTH", type=length, default=0,
-                       help="that the trace has a pretended past of this length, as --lead-in of psitrace said")  # fmt: skip
+                       help="the length of the trace's warm-up: --lead-in of psitrace")  # fmt: skip
     words.add_argument("--tick-ms", metavar="N", type=int, help="compare with a replay by psi_oomd with such ticks")
     words.add_argument("--hz", dest="hertz", metavar="N", type=number_from(24, 10_000),
-                       help="the rate of the kernel's timer, CONFIG_HZ (as the recording says, else 250)")  # fmt: skip
+                       help="the rate of the kernel's timer, CONFIG_HZ (from the recording, else 250)")  # fmt: skip
     words.add_argument("--lag-us", dest="lag", metavar="N", type=number_from(1, 10_000),
-                       help="of a recording that doesn't say: how long before its event the kernel counts a wakeup at most")  # fmt: skip
-    words.add_argument("--root", metavar="PERCENT", type=share, help="the limit at the root (1.5; of a replay 2.5)")
-    words.add_argument("--groups", metavar="PERCENT", type=share, help="the limit in groups (2.5; of a replay 4)")
+                       help="without probes: how long before its event the kernel counts a wakeup, at most")  # fmt: skip
+    words.add_argument("--root", metavar="PERCENT", type=share, help="the limit at the root (1.5; with a replay 2.5)")
+    words.add_argument("--groups", metavar="PERCENT", type=share, help="the limit in groups (2.5; with a replay 4)")
     words.add_argument("--least-s", metavar="S", type=share, default=0.5, help="totals below this have no limit (0.5)")
     words.add_argument("--shown-s", metavar="S", type=share, default=0.01, help="totals below this aren't shown (0.01)")
     found = words.words_of(given)

@@ -87,34 +87,34 @@ def parser() -> Parser:
     """The parser of the command line."""
     words = Parser("psitrace", __doc__, FAULTY)
     words.add_argument("source", metavar="FOLDER|TEXT", help="a folder of tools/record, or a file of ftrace's text")
-    words.add_argument("-o", dest="output", metavar="FILE", help="write the trace there, and not to the standard output")
+    words.add_argument("-o", dest="output", metavar="FILE", help="write the trace to FILE instead of the standard output")
     words.add_argument("--cpus", dest="processors", metavar="N", type=number_from(1, MOST_PROCESSORS),
-                       help="how many processors the machine of a text has (without it: as many as the text shows)")  # fmt: skip
+                       help="the number of processors of a text's machine (without it: as many as the text shows)")  # fmt: skip
     words.add_argument("--iowait", dest="method", choices=[it.value for it in Method],
                        help="what shows a wait for IO: a probe of the recorder, sched_stat_iowait, or each sleep in state D"
                        " (without it the first of these that the recording has)")  # fmt: skip
     words.add_argument("--wakeups", dest="counting", choices=[it.value for it in Counting],
-                       help="where a wakeup stands: when psi counted it, by a probe of the recorder; halfway from there to its event;"
+                       help="the time of a wakeup: when psi counted it, by a probe of the recorder; halfway from there to its event;"
                        " or at its event (without it the first of these that the recording has)")  # fmt: skip
     words.add_argument("--from", dest="start", metavar="S", type=nanoseconds, default=0, help="begin the trace there")
     words.add_argument("--to", dest="end", metavar="S", type=nanoseconds, help="end it there")
     words.add_argument("--groups", dest="deepest", metavar="DEPTH", type=number_from(0, 32),
-                       help="groups down to so many levels below the root; what is deeper counts in the one above; 0: the"
+                       help="groups down to DEPTH levels below the root; deeper ones count in their ancestor; 0: the"
                        " root alone")  # fmt: skip
     words.add_argument("--trigger", dest="triggers", metavar="'PATH RES LEVEL THRESHOLD WINDOW'", type=trigger_of,
                        action="append", default=[],
-                       help="put a trigger into the trace, times in us, such as '/ memory full 100000 1000000'; also more"
-                       " than once")  # fmt: skip
+                       help="add a trigger to the trace, times in us, such as '/ memory full 100000 1000000'; may be"
+                       " repeated")  # fmt: skip
     words.add_argument("--interrupts", dest="has_interrupts", action="store_true",
-                       help="write for how long interrupts held up who ran, where the recorder's machine accounted"
+                       help="write how long interrupts held up the running tasks, if the recorder's machine accounted"
                        " them")  # fmt: skip
     words.add_argument("--lead-in", dest="lead_in", metavar="LENGTH", type=length,
-                       help="begin with a pretended past of this length, as 12min, by which averages begin as the machine's did; at"
+                       help="begin with a warm-up of this length, as 12min, so that averages begin as the machine's did; at"
                        " least 5min")  # fmt: skip
-    add_window(words, "--fold", False, "fold the trace into windows of S seconds, the tick's length or a whole part of it: with the"
-               " same pressure at such ticks it is as long as the recording, and not as busy")  # fmt: skip
+    add_window(words, "--fold", False, "fold the trace into windows of S seconds, which divide the tick's length: the pressure at such"
+               " ticks is the same, and its size depends on the recording's length instead of its events")  # fmt: skip
     words.add_argument("--force", dest="is_forced", action="store_true",
-                       help="write what is sound, though something was lost: the longest stretch without loss")  # fmt: skip
+                       help="if something was lost, write the longest stretch without loss")  # fmt: skip
     return words
 
 

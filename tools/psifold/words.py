@@ -36,10 +36,10 @@ def add_window(words: argparse.ArgumentParser, name: str, is_required: bool, tex
     """
     words.add_argument(name, dest="fold", metavar="S", type=window_of, required=is_required, help=text)
     words.add_argument("--victims", metavar="PATTERNS", action="append", default=[],
-                       help="groups that might be killed, as patterns of rules with commas between: `whatif` is exact without"
-                       " them, too; also more than once")  # fmt: skip
+                       help="groups that might be killed, as comma-separated patterns of rules: `whatif` is exact without"
+                       " them, too; may be repeated")  # fmt: skip
     words.add_argument("--rules", metavar="FILE", action="append", default=[],
-                       help="the same of all groups that the actions of a rules file might kill")  # fmt: skip
+                       help="like --victims, for all groups that the actions of a rules file might kill")  # fmt: skip
 
 
 class Folding(NamedTuple):

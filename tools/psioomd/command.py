@@ -25,7 +25,7 @@ OK = 0
 DEFAULT_INTERVAL = 5
 VERSION = "0.5.0"
 FILES = ("memory.low", "memory.min", "memory.oom.group", "nr_dying_descendants")
-ABOUT = """Prints whom oomd 0.5.0 would have killed in TRACE, when and why, by its own configuration.
+ABOUT = """Prints which groups oomd 0.5.0 would have killed in TRACE, when and why, with its own configuration.
 
   tools/oomd incident.trace --config oomd.json
 

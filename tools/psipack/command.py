@@ -22,11 +22,11 @@ from .pages import page_of
 from .tree import LIBRARY, PAGES, Member, bytes_of, documents_of, pages_of_programs, programs_of, tools_of
 from .usage import Help, commands_in, help_of, options_in, said_by
 
-ABOUT = "Makes the packages of the programs and the tools: a .deb of Debian's and a .tar.gz of the same files."
+ABOUT = "Builds the packages of the programs and the tools: a Debian package (.deb) and a .tar.gz of the same files."
 STATUS = (
-    "Programs that aren't given are built by ./psi_oomd --build and ./psi_observe --build, which proves them where that is due. "
-    "The last lines are the sums of both files, as sha256sum has them. The status is 1 where nothing was made. "
-    "Times in the files are those of the commit, or what SOURCE_DATE_EPOCH says."
+    "Programs that aren't given are built with ./psi_oomd --build and ./psi_observe --build, which proves them if necessary. "
+    "The last lines are the checksums of both files, as printed by sha256sum. The status is 1 if nothing was built. "
+    "Times in the files are those of the commit, or SOURCE_DATE_EPOCH."
 )
 ORIGIN = """\
 {commit}

@@ -49,28 +49,28 @@ EXAMPLE = '"memory full 100000 1000000"'
 LEAST_WINDOW_US, MOST_WINDOW_US = 500_000, 10_000_000
 
 DESCRIPTION = """\
-Records, as root, what the scheduler, the control groups and the memory of this machine do, into the new folder OUT.
-tools/psitrace makes a trace of it, by which psi_oomd tells pressure and kills.
+Records, as root, the scheduler, the control groups and the memory of this machine, in the new folder OUT.
+tools/psitrace converts it to a trace, from which psi_oomd computes pressure and kills.
 
   tools/record incident --seconds 60
   tools/psitrace incident > incident.trace
 
-It ends after --seconds, at Ctrl-C (SIGINT, SIGTERM, SIGHUP) or at --max-mb, and leaves nothing behind on the machine.
+It ends after --seconds, at Ctrl-C (SIGINT, SIGTERM, SIGHUP) or at --max-mb, and leaves no changes on the machine.
 
-With --ring it is a flight recorder: it keeps the newest events in memory, waits for pressure, and writes what it has when
-that comes, or at Ctrl-C:
+With --ring it is a flight recorder: it keeps the newest events in memory, waits for pressure, and writes them when
+it comes, or at Ctrl-C:
 
   tools/record incident --ring --until "memory full 100000 1000000"
 """
 EPILOG = """\
-It takes root, tracefs at /sys/kernel/tracing, control groups of version 2 and /proc/pressure; what is missing is told before
-anything is changed. What is recorded: switches, wakeups, births, moves and ends of all tasks with their names, the file names
+It needs root, tracefs at /sys/kernel/tracing, control groups of version 2 and /proc/pressure; what is missing is reported before
+anything is changed. It records: switches, wakeups, creation, moves and exits of all tasks with their names, the file names
 of executed programs, paths, memory and pressure of all groups. No arguments, no environment, no contents.
 
 status  0 recorded
-        1 nothing was recorded: the words, or something that is missing; the machine is as before
-        2 it failed in the middle; what there was then was kept
-        3 recorded, but not whole: events were lost (then a larger --buffer-kb helps), or the disk is full
+        1 nothing was recorded: a usage error, or something is missing; the machine is unchanged
+        2 it failed during the recording; what was recorded by then was kept
+        3 recorded, but incomplete: events were lost (then a larger --buffer-kb helps), or the disk is full
         4 something couldn't be removed from the machine: standard error says what
 """
 
@@ -143,20 +143,20 @@ def parser() -> argparse.ArgumentParser:
     form = argparse.RawDescriptionHelpFormatter
     words = Words(prog="tools/record", description=DESCRIPTION, epilog=EPILOG, formatter_class=form, allow_abbrev=False)
     add = words.add_argument
-    add("out", metavar="OUT", help="a folder, which isn't there yet")
-    add("--seconds", type=positive, metavar="N", help="how long at most; until it is stopped, if left out")
+    add("out", metavar="OUT", help="a folder that doesn't exist yet")
+    add("--seconds", type=positive, metavar="N", help="the longest time in seconds; until it is stopped, if left out")
     add("--buffer-kb", type=whole, default=BUFFER_KB, metavar="N", help="ring buffer of each processor in KiB; %(default)s")
     add("--memory-s", type=positive, default=1.0, metavar="N", help="seconds between samples of memory; %(default)g")
     add("--pressure-s", type=positive, default=2.0, metavar="N", help="seconds between readings of pressure; %(default)g")
-    add("--max-mb", type=positive, metavar="N", help=f"ends when so much was written, in MB of events; {MOST_MB:g}")
-    add("--compress", action="store_true", help="compress pages as they come, in a process of its own with the least priority")
+    add("--max-mb", type=positive, metavar="N", help=f"ends after N MB of events; {MOST_MB:g}")
+    add("--compress", action="store_true", help="compress pages as they arrive, in a process of its own with the lowest priority")
     add("--no-probes", action="store_true", help="no kprobes: waits for IO by schedstats, no memory stalls")
     add("--wakeups", action="store_true", help="record when psi counts each wakeup, by one more probe: some 30 %% more events")
-    add("--no-settings", action="store_true", help="doesn't store what systemd-oomd decides by, where systemd runs")
+    add("--no-settings", action="store_true", help="doesn't store the settings of systemd-oomd, if systemd runs")
     add("--ring", action="store_true", help="a flight recorder")
     add("--until", type=trigger, metavar="TRIGGER", help="with --ring: `io|memory|cpu some|full THRESHOLD WINDOW`, in us")
     add("--after-s", type=positive, metavar="N", help="with --until: seconds that are recorded after the signal; 10")
-    add("--daily-limit", type=whole, metavar="N", help="waits first, while there are N recordings of the last 24 hours beside OUT")
+    add("--daily-limit", type=whole, metavar="N", help="waits first, while there are N recordings of the last 24 hours next to OUT")
     add("--root", metavar="DIR", help="for tests: a folder of plain files in place of the machine")
     return words
 

@@ -19,16 +19,16 @@ from psisystemd.told import SWAP, Decision
 from psisystemd.values import percent
 
 TOLD = 0
-ABOUT = """Says whom systemd-oomd would have killed in TRACE, when and why, by the settings of a machine.
+ABOUT = """Prints which groups systemd-oomd would have killed in TRACE, when and why, with the settings of a machine.
 
   tools/systemd-oomd incident.trace --settings incident/systemd
 
-FOLDER is what tools/record stored as `systemd` in a recording, or a folder of files as they stand on a machine from its root
-on: etc/systemd/oomd.conf.d/*.conf, usr/lib/systemd/system/user@.service.d/*.conf and so on, merged as systemd does."""
-STATUS = """A kill changes nothing, as in `psi_oomd replay`: what stands after the first supposes that it freed nothing.
+FOLDER is what tools/record stored as `systemd` in a recording, or a folder with files as in a machine's root:
+etc/systemd/oomd.conf.d/*.conf, usr/lib/systemd/system/user@.service.d/*.conf and so on, merged as systemd does."""
+STATUS = """A kill changes nothing, as in `psi_oomd replay`: what follows the first assumes that it freed nothing.
 
-The status is 0 where all was printed, and 2 where something couldn't be run: a wrong word, a bad setting, a trace that psi_oomd
-refuses."""
+The status is 0 if everything was printed, and 2 if something couldn't be run: a usage error, a bad setting, a trace that psi_oomd
+rejects."""
 
 
 class Words(argparse.ArgumentParser):
@@ -58,9 +58,9 @@ def parser() -> Words:
     add = words.add_argument
     add("trace", metavar="TRACE", help="a trace, or - for the standard input")
     add("--settings", metavar="FOLDER", required=True, help="the settings of a machine")
-    add("--systemd", metavar="N", type=version, help="by which version of systemd; that of the recording, or 257, if left out")
+    add("--systemd", metavar="N", type=version, help="the version of systemd; that of the recording, or 257, if left out")
     add("--compare", metavar="FILE", help="print the kills by these rules of oomd's form too")
-    add("--interval-s", metavar="N", type=interval, help="with --compare: the interval of evaluations, as of `psi_oomd replay`")
+    add("--interval-s", metavar="N", type=interval, help="with --compare: the interval of evaluations, as in `psi_oomd replay`")
     add("--all", dest="is_all", action="store_true", help="print each candidate that isn't chosen")
     add("--json", dest="is_json", action="store_true", help="print it as JSON")
     return words
