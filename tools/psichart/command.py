@@ -182,7 +182,7 @@ def must_be_groups(replay: Replay, groups: list[str]) -> None:
 
 
 def must_have_reports(replay: Replay, resources: list[str], start: int, end: int, groups: list[str]) -> None:
-    """Rejects a time span without reports of these groups; the error says what to do."""
+    """Rejects a time span without reports on these groups; the error says what to do."""
     series = [it for (path, resource), it in replay.series.items() if path in groups and resource in resources]
     if start < end and any(start <= moment <= end for it in series for moment in it.moments):
         return

@@ -88,7 +88,7 @@ class Replay:
             self.events.setdefault((event.path, event.resource, event.level), []).append(event.moment)
 
     def gone(self) -> list[Gone]:
-        """The removals of the drawn groups, and of those that would be killed."""
+        """The removals of the drawn groups, and of groups that would be killed."""
         named = {*self.groups, *(kill.path for kill in self.kills)}
         return [gone for gone in self.rounds.gone if gone.path in named]
 

@@ -163,7 +163,7 @@ class Clocks:
                     counts[READY_STALLED] += step
 
     def tell(self, processor: int, groups: Iterable[int]) -> None:
-        """Stores the present states of these groups on the processor."""
+        """Stores the groups' present states on the processor."""
         running = self.runs.get(processor)
         above = self.chains[running.group] if running else ()
         stalls = running is not None and running.is_stalled

@@ -58,7 +58,7 @@ class Totals(NamedTuple):
 
 
 class Sums:
-    """A group's totals for any selection of these times (ns of the trace, ascending) as sampling
+    """A group's totals for any selection of the times (ns of the trace, ascending) as sampling
     times.
     """
 
@@ -76,7 +76,7 @@ class Sums:
         return self.steps[first, last]
 
     def at(self, chosen: Sequence[int]) -> dict[int, Totals]:
-        """The totals at each of these times, in order, counted from the first."""
+        """The totals at each chosen time, in order, counted from the first."""
         told = true = [0] * NONIDLE
         found = {chosen[0]: Totals(told, true)}
         for before, after in zip(chosen, chosen[1:]):

@@ -309,5 +309,5 @@ def convert(source: Source, wanted: Wanted) -> Converted:
 
 
 def count_in(found: set[int], places: range) -> int:
-    """How many of these are among the places."""
+    """How many are among the places."""
     return sum(it in places for it in found)

@@ -105,7 +105,7 @@ class Slice:
         return [*self.events, *self.following]
 
     def has(self, *kinds: type) -> bool:
-        """Whether this slice or the next has an event of one of these kinds."""
+        """Whether this slice or the next has an event with one of these kinds."""
         return not self.kinds.isdisjoint(kinds)
 
 

@@ -5,7 +5,7 @@ A trace's averages begin at 0. Three stretches of constant pressure bring each a
 file to the value in the machine's file: the last 20 s, the 100 s before, and the time before these,
 since there are three averages. Each group has processors of its own for this, in addition to the
 machine's: a few artificial tasks wait, stall and run there for the times that result in its shares,
-less the shares that it has from its descendants. At the end all of these tasks exit.
+less the shares that it has from its descendants. At the end all artificial tasks exit.
 """
 from __future__ import annotations
 

@@ -17,7 +17,7 @@ from psiread.window import Window, overlapping
 
 # The name of such a switch among the repairs that are counted.
 UNWRITTEN = "switch that wasn't written, put where the task that left was seen last"
-# The letters of tasks that leave and stay ready, and of those that sleep.
+# The letters of tasks that leave and stay ready, and of tasks that sleep.
 STAYS, SLEEPS = "R", "S"
 
 
@@ -50,7 +50,7 @@ class Chains:
 
     def mended(self, events: Iterable[Event]) -> tuple[list[Event], list[int]]:
         """The next events with the unwritten switches, each before the event that shows it, and the
-        times (ns) of these switches.
+        times (ns) of the latter.
         """
         whole: list[Event] = []
         moments: list[int] = []
@@ -88,7 +88,7 @@ class Chains:
         return any(gap.processor == event.processor for gap in overlapping(self.gaps, since))
 
     def switches(self, processor: int, route: Sequence[int]) -> Iterator[Switch]:
-        """Switches from each of these tasks to the next, each at its earliest possible time."""
+        """Switches from each task to the next, each at its earliest possible time."""
         moment = self.moments[processor]
         for previous, following in zip(route, route[1:]):
             self.ready.pop(previous, None)
@@ -111,7 +111,7 @@ class Chains:
 
 
 def with_unwritten(events: Sequence[Event], gaps: Sequence[Gap]) -> tuple[list[Event], list[int]]:
-    """The events with the unwritten switches, and the times (ns) of these; none after lost events,
+    """The events with the unwritten switches, and their times (ns); none after lost events,
     since it isn't known which tasks ran during the gap.
     """
     whole, moments = Chains(events, gaps).mended(events)

@@ -60,7 +60,7 @@ def put_at(events: Sequence[Event], counted: dict[int, int], counting: Counting)
 
 class Wakeups:
     """Moves the wakeups of a recording to the requested time, and counts how long before their
-    events psi counted them: the number of wakeups by ns, and of those without a probe.
+    events psi counted them: the number of wakeups by ns, and the number without a probe.
     """
 
     def __init__(self, counting: Counting) -> None:

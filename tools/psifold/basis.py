@@ -4,7 +4,7 @@ independent sums, with other times.
 
 The joint states that are kept are the *basis*. The column of a joint state has a 1 for each sum
 that it takes part in, and the columns of the basis are linearly independent. A further joint state
-is either independent too and is added to the basis, or its column is a combination of those in the
+is either independent too and is added to the basis, or its column is a combination of columns in the
 basis. In that case its time is distributed among them until the time of one is 0: this one is
 removed, and the new one stays with the rest of its time (a step of the simplex method, called a
 *pivot*). Usually the basis has room for all of the time, and even for many joint states at once: so

@@ -271,7 +271,7 @@ class Check:
                 del self.behind[key]
 
     def keep_without(self, removals: list[tuple[str, ...]]) -> None:
-        """From the next window, sums are also compared without each of these sets of groups."""
+        """From the next window, sums are also compared without each set of groups."""
         known = {clocks.without: clocks for clocks in self.clocks}
         self.clocks = [known.get(it) or self.new_clocks(it) for it in [(), *removals]]
 

@@ -1,7 +1,7 @@
 """Joint states: the combined state of the tasks of a processor, as far as pressure depends on it.
 
 It doesn't matter how many tasks of a group are ready, only whether there is one. So only the set of
-the kinds of tasks matters for each group, and the joint state of a processor is the set of these,
+the kinds of tasks matters for each group, and the joint state of a processor is their set,
 each with its kind and its group.
 """
 from __future__ import annotations

@@ -102,9 +102,9 @@ class Writer:
     def write(
         self, start: int, durations: dict[JointState, int], interrupts: Sequence[Interrupt] = (), present: set[str] | None = None
     ) -> list[Line]:
-        """The lines that keep the processor in each of these joint states for its duration (ns),
+        """The lines that keep the processor in each joint state for its duration (ns),
         beginning at `start`, and the lines of interrupts among them, in order of time. If `present`
-        is given, the first joint state only has tasks of these groups.
+        is given, the first joint state only has tasks in these groups.
         """
         lines: list[Line] = []
         moment, due = start, list(interrupts)
@@ -181,7 +181,7 @@ class Writer:
         return (self.made - 1) * self.processors + self.processor + 1
 
     def empty(self, moment: int, paths: Iterable[str]) -> list[Line]:
-        """The lines that end all representatives of these groups."""
+        """The lines that end all representatives in these groups."""
         moves = []
         for path in sorted(set(paths) & self.groups()):
             moves += [Move(path, task, kind, None) for kind, task in self.busy.get(path, {}).items()]
@@ -189,7 +189,7 @@ class Writer:
         return [(moment, words) for words in self.perform(moves)]
 
     def keep(self, moment: int, counts: dict[str, int]) -> list[Line]:
-        """The lines that give each of these groups at least this number of representatives: new
+        """The lines that give each group at least this number of representatives: new
         ones sleep.
         """
         moves = []
@@ -199,7 +199,7 @@ class Writer:
         return [(moment, words) for words in self.perform(moves)]
 
     def perform(self, moves: list[Move]) -> list[str]:
-        """The lines of these moves, without their times. All turns of no length are one chain, in
+        """The lines for these moves, without their times. All turns of no length are one chain, in
         which each task hands the processor to the next: a running task that leaves begins it, and
         the task that runs next ends it.
         """

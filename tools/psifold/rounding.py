@@ -13,7 +13,7 @@ from .world import bits_of
 # The number of ns that each sum lacks.
 Left = Counter[Sum]
 # If a sum lacks more ns than this, 1 ns moves from one joint state to another, even if their times
-# are whole; this is also the limit of such moves.
+# are whole; at most MOST_STEPS times.
 MOST_LEFT = 2
 MOST_STEPS = 20
 

@@ -26,7 +26,7 @@ def folders_of(paths: list[str]) -> list[str]:
 
 
 def tar_of(members: list[Member], top: str, seconds: int) -> bytes:
-    """A tar archive of these files below the folder `top`, all with this time (s since 1970)."""
+    """A tar archive of the members below the folder `top`, all with this time (s since 1970)."""
     placed = {f"{top}/{member.path}": member for member in members}
     rows: list[tuple[str, Member | None]] = [(path, None) for path in folders_of(list(placed))]
     output = io.BytesIO()

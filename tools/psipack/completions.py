@@ -138,7 +138,7 @@ def cases(rows: dict[str, str]) -> str:
 
 
 def script_of(template: str, programs: list[Words]) -> bytes:
-    """The completions of these programs, from the template for one of the shells."""
+    """The completions of the programs, from the template for one of the shells."""
     words = {key: " ".join(found) for program in programs for key, found in offered(program).items()}
     values = {key: value for program in programs for key, value in valued(program).items()}
     names = " ".join(program.name for program in programs)

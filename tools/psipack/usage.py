@@ -103,7 +103,7 @@ def read_items(text: str, items: list[Item], commands: list[Item]) -> None:
 
 
 def options_in(items: list[Item]) -> dict[str, str]:
-    """The options of these items, each with its value as in the usage: empty if it takes none."""
+    """The options in these items, each with its value as in the usage: empty if it takes none."""
     found: dict[str, str] = {}
     for item in items:
         written = OPTION.findall(item.words)

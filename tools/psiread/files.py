@@ -1,5 +1,5 @@
 """Opens the files of a recording's folder: regular files only, since a device or a FIFO would block
-or never end. Of compressed pages at most the bytes that `meta` counts are read.
+or never end. At most the bytes that `meta` counts are read from compressed pages.
 """
 from __future__ import annotations
 

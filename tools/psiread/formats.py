@@ -116,7 +116,7 @@ def state_letters(print_format: str) -> tuple[dict[int, str], int]:
 
 
 def integers_of(form: Format, names: Sequence[str]) -> IntegerReader:
-    """A reader of these fields, all of them integers."""
+    """A reader for these fields, all of them integers."""
     try:
         fields = [form.fields[name] for name in names]
         order = sorted(range(len(fields)), key=lambda place: fields[place].offset)

@@ -104,7 +104,7 @@ def unread_processors(folder: str, processors: int) -> list[int]:
 
 def missing_in_snapshot(source: Source) -> str | None:
     """What a snapshot without an end mark must list and doesn't: the recorder itself, and all
-    groups of the first memory sample that no event created. None if it lists all of these.
+    groups of the first memory sample that no event created. None if it lists all.
     """
     snapshot = source.snapshot
     if snapshot.is_cut:

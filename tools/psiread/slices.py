@@ -67,7 +67,7 @@ class Records:
 
 
 def reader_of(forms: dict[str, Format], name: str, fields: tuple[str, ...]) -> tuple[int, IntegerReader]:
-    """An event's number, and a reader of these fields of its records; -1 and a reader of nothing if
+    """An event's number, and a reader for these fields of its records; -1 and a reader of nothing if
     the recording doesn't have it.
     """
     form = forms.get(name)
@@ -113,7 +113,7 @@ class Reader:
             raise Unreadable(f"{self.name}: {fault}") from None
 
     def decoded(self, data: bytes) -> list[Event]:
-        """The events of these pages except probes of switches."""
+        """The events in these pages except probes of switches."""
         events: list[Event] = []
         add, processor, records, told, moment = events.append, self.processor, self.records, self.told, self.before
         decoders, switch, probe, told_by = records.kernel.decoders, records.switch, records.probe, records.told_by

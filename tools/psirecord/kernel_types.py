@@ -73,7 +73,7 @@ class KernelTypes:
             place = self.data.find(wanted, place + 1, self.types_end)
 
     def members(self, structure: str, wanted: tuple[str, ...]) -> dict[str, Place]:
-        """The positions of these members of the structure; empty if not all exist."""
+        """The positions of the wanted members of the structure; empty if not all exist."""
         for place in self.named(structure, STRUCTURE):
             info = TYPE.unpack_from(self.data, place)[1]
             has_widths, count = bool(info >> 31), info & 0xFFFF

@@ -148,7 +148,7 @@ class UnitFiles:
         return mains + drop_ins(self.root, folders + [f"{it}/{kind}.d" for it in self.folders])
 
     def is_known(self, setting: Setting, kind: str) -> bool:
-        """Whether it is one of these settings. An unknown setting with their prefix is added to the
+        """Whether it is a known setting. An unknown setting with their prefix is added to the
         notes.
         """
         if setting.name == DURATION_OF_UNIT and self.version < OWN_DURATION:
