@@ -21,10 +21,10 @@ from .axes import time_axis
 from .chart import Chart, Wanted
 from .replay import Replay, read_replay
 
-ABOUT = "Draws what `psi_oomd replay` or `whatif` printed, as an SVG. Lines of --live are passed over."
+ABOUT = "Draws the output of `psi_oomd replay` or `whatif` as an SVG. Lines of --live are ignored."
 AFTER = (
-    "--rules and --trace run the psi_oomd beside this tool, or the program that the variable PSI_OOMD names, which says "
-    "whether the file is one."
+    "--rules and --trace run the psi_oomd beside this tool, or the program in the variable PSI_OOMD, which checks "
+    "the file."
 )
 Moment = Union[int, WallTime]
 

@@ -12,10 +12,10 @@ from psireplay.times import wall_time
 from .replay import metrics_of
 from .text import openmetrics, prometheus
 
-ABOUT = "Writes what `psi_oomd replay` printed as metrics with timestamps, under the names of node_exporter and cAdvisor."
+ABOUT = "Writes the output of `psi_oomd replay` as metrics with timestamps, under the names of node_exporter and cAdvisor."
 AFTER = (
-    "--rules runs the psi_oomd beside this tool, or the program that the variable PSI_OOMD names, which says "
-    "whether the file is one."
+    "--rules runs the psi_oomd beside this tool, or the program in the variable PSI_OOMD, which checks "
+    "the file."
 )
 TEXTS = {"openmetrics": openmetrics, "prometheus": prometheus}
 TAKEN = {"id", "ruleset", "action", "ruleset_name", "plugin"}
