@@ -1,12 +1,14 @@
-"""Which definitions the contracts of the top calls rest on: a closure over names.
+"""Finds the definitions that the contracts of the top calls rest on: a closure over names.
 
-It begins with the clauses of `run` and `observe` and those of the traits `Shelf` and `Sink`, and follows each name that they cite to
-its definition, and from there on, also in the kit's libraries, but not in its standard library. A definition stands in a file of
-`specs/`, a type in one of `src/`; of a type that has a `Model` contracts see that alone. The kit's own types aren't listed. Where no
-kit is installed, its definitions aren't followed.
+It starts from the clauses of `run` and `observe` and of the traits `Shelf` and `Sink`, and follows
+each name that they cite to its definition, and so on, also into the kit's libraries, but not into
+its standard library. A definition is in a file of `specs/`, a type in one of `src/`; if a type has
+a `Model`, contracts see only that. The kit's own types aren't listed. If no kit is installed, its
+definitions aren't followed.
 
-Names are found by their spelling, without the prover. One that a definition binds itself, as a parameter, may be taken for that of
-another: so too much may be found, and nothing is passed over.
+Names are found by their spelling, without the prover. A name that a definition binds itself, as a
+parameter, may be mistaken for another definition's: the result may be too large, but it lacks
+nothing.
 """
 
 from __future__ import annotations
@@ -21,10 +23,12 @@ from collections.abc import Iterator
 TOP = pathlib.Path(__file__).resolve().parent.parent
 CRATES = TOP / "crates"
 
-# Stands for the folder of the kit's libraries: `kit/json/specs/Lex.antt` is a file of definitions of `json`.
+# The folder of the kit's libraries in paths: `kit/json/specs/Lex.antt` is a file of definitions of
+# `json`.
 KIT = pathlib.Path("kit")
 
-# What the reader of a contract begins with: a file, and the words with which its function or trait begins there.
+# Where the reader of a contract starts: a file, and the words with which its function or trait
+# begins.
 ROOTS = (
     ("replay_core/src/entry.rt", "pub fn run<"),
     ("observe_core/src/entry.rt", "pub fn observe<"),
@@ -32,12 +36,12 @@ ROOTS = (
     ("outside/src/sink.rt", "pub trait Sink "),
 )
 
-# The kit's language and standard library, of which nothing is listed.
+# The kit's language and standard library, which aren't listed.
 PLAIN = ("std", "core", "mathlib")
 
 NAME = re.compile(r"[^\W\d][\w'◌-]*")
 DECLARED = re.compile(r"(?:unfoldable |abbrev |pub |record |data )*(?P<name>[\w'-]*◌[^\s:]*|[^\W\d][\w'-]*)(?= [^=]*?:| *$)")
-# What a line says that begins a block of definitions by one another, which stand two places in.
+# Lines that begin a block of mutual definitions, which are indented by two.
 BLOCKS = ("mutual", "abbrev mutual", "unfoldable mutual")
 IMPORT = re.compile(r"^ *(?:pub |ghost )*use ([\w.]+?)(?:\.\{([^}]*)\}| as (\w+));? *$", re.MULTILINE)
 ACCESS = re.compile(r"(?<=[\w)}\]'])\.[\w']+(?:\.[\w']+)*")
@@ -45,7 +49,7 @@ ACCESS = re.compile(r"(?<=[\w)}\]'])\.[\w']+(?:\.[\w']+)*")
 
 @dataclasses.dataclass(frozen=True, order=True)
 class Item:
-    """A definition or a type, by its file and its name."""
+    """A definition or a type: its file and its name."""
 
     path: pathlib.Path
     name: str
@@ -53,7 +57,7 @@ class Item:
 
 @dataclasses.dataclass
 class Module:
-    """A file: what each of its definitions says, and what its names stand for elsewhere."""
+    """A file: the bodies of its definitions, and what its imported names refer to."""
 
     path: pathlib.Path
     bodies: dict[str, str]
@@ -62,12 +66,14 @@ class Module:
 
 
 def without_comments(text: str, mark: str) -> str:
-    """A text without its comments, which begin with a mark."""
+    """A text without its comments, which begin with `mark`."""
     return "\n".join(re.sub(rf"(^| ){mark}.*", "", line) for line in text.splitlines())
 
 
 def imports_of(text: str) -> tuple[dict[str, tuple[str, str]], dict[str, str]]:
-    """What names of other modules a text uses: each with its module and its name there; and modules under names of their own."""
+    """The imports of a text: each name with its module and its name there; and modules by their
+    aliases.
+    """
     names: dict[str, tuple[str, str]] = {}
     aliases: dict[str, str] = {}
     for module, listed, alias in IMPORT.findall(text):
@@ -80,7 +86,9 @@ def imports_of(text: str) -> tuple[dict[str, tuple[str, str]], dict[str, str]]:
 
 
 def bodies_of(text: str) -> dict[str, str]:
-    """What each definition of a file of definitions says: all lines from the one that declares it to the next such line."""
+    """The body of each definition of a file: all lines from its declaration to the next
+    declaration.
+    """
     bodies: dict[str, list[str]] = {}
     lines: list[str] = []
     is_mutual = False
@@ -98,7 +106,7 @@ def bodies_of(text: str) -> dict[str, str]:
 
 
 def types_of(text: str) -> dict[str, str]:
-    """What each type of a file of code says: its declaration, or its `Model` where it has one."""
+    """The body of each type of a file of code: its declaration, or its `Model` if it has one."""
     found = {}
     for one in re.finditer(r"^pub (?:struct|enum) (\w+)[^\n]*(?:;\n|(?:\n[^\n}][^\n]*|\n)*\n\})", text, re.MULTILINE):
         model = re.search(rf"^impl(?:<[^>]*>)? Model for {one[1]}\b.*?^\}}", text, re.MULTILINE | re.DOTALL)
@@ -107,7 +115,7 @@ def types_of(text: str) -> dict[str, str]:
 
 
 def code_imports(text: str) -> dict[str, tuple[str, str]]:
-    """The types that a file of code takes from its own crate and from others: each with its crate, `crate` for its own."""
+    """The types that a file of code imports, each with its crate: `crate` for the file's own."""
     found = {}
     for crate, listed, one in re.findall(r"^use (\w+)(?:::\w+)*::(?:\{([^}]*)\}|(\w+));", text, re.MULTILINE):
         for name in filter(None, map(str.strip, (listed or one).split(","))):
@@ -117,7 +125,7 @@ def code_imports(text: str) -> dict[str, tuple[str, str]]:
 
 @functools.cache
 def module_at(path: pathlib.Path) -> Module:
-    """A file of definitions or of code."""
+    """Parses a file of definitions or of code."""
     text = path.read_text(encoding="utf-8")
     if path.suffix == ".antt":
         text = without_comments(text, "--")
@@ -137,14 +145,14 @@ def file_of_type(crate: pathlib.Path, name: str) -> pathlib.Path | None:
 
 @functools.cache
 def kit_libraries() -> pathlib.Path | None:
-    """The folder of the installed kit's libraries; none where no kit is installed."""
+    """The folder of the installed kit's libraries, or None if no kit is installed."""
     command = shutil.which("rt")
     folder = pathlib.Path(command).resolve().parents[1] / "rlibs" if command else None
     return folder if folder and folder.is_dir() else None
 
 
 def source_of(path: pathlib.Path) -> pathlib.Path | None:
-    """Where a file lies: one of the kit's in its library, if the kit is installed."""
+    """The path on disk: a file of the kit is in its library, if the kit is installed."""
     if not path.is_relative_to(KIT):
         return path
     _, crate, _, name = path.parts
@@ -153,14 +161,14 @@ def source_of(path: pathlib.Path) -> pathlib.Path | None:
 
 
 def folder_of(crate: str) -> pathlib.Path | None:
-    """The folder of a library: of this repository, or of the kit; none for what isn't listed."""
+    """The folder of a library of this repository or of the kit, or None if it isn't listed."""
     if crate in PLAIN:
         return None
     return CRATES / crate if (CRATES / crate).is_dir() else KIT / crate
 
 
 def item_at(module: str, name: str, own: pathlib.Path) -> Item | None:
-    """The item that a name of a module is, seen from a file; none where it is taken as it is."""
+    """The item that a name of a module refers to, seen from a file, or None if it isn't listed."""
     if module.startswith("type "):
         crate = own if module == "type crate" else folder_of(module.removeprefix("type "))
         path = file_of_type(crate, name) if crate and crate.is_relative_to(CRATES) else None
@@ -180,7 +188,7 @@ def item_at(module: str, name: str, own: pathlib.Path) -> Item | None:
 
 
 def found_in(path: pathlib.Path, name: str) -> Item | None:
-    """The definition with a name in a file, or the one that the file takes in turn from elsewhere."""
+    """The definition with this name in a file, or the definition that the file imports by it."""
     module = module_at(path)
     if name in module.bodies:
         return Item(path, name)
@@ -192,7 +200,7 @@ def found_in(path: pathlib.Path, name: str) -> Item | None:
 
 
 def cited_in(body: str, module: Module) -> Iterator[tuple[str, str]]:
-    """The names that a body cites, each with its module; '' for the file's own."""
+    """The names that a body cites, each with its module: '' for the file's own."""
     for alias, there in module.aliases.items():
         yield from ((there, name) for name in re.findall(rf"(?<![\w.]){re.escape(alias)}\.([\w']+)", body))
     known = module.imports.keys() | module.bodies.keys()
@@ -222,7 +230,7 @@ def cited_by(item: Item) -> Iterator[Item]:
 
 
 def roots() -> Iterator[Item]:
-    """What the clauses of the top calls and of the traits below them cite."""
+    """The items that the clauses of the top calls and of the traits below them cite."""
     for name, begins in ROOTS:
         path = CRATES / name
         text = without_comments(path.read_text(encoding="utf-8"), "//")
@@ -248,11 +256,11 @@ def believed() -> frozenset[Item]:
 
 
 def unreached(path: pathlib.Path) -> list[str]:
-    """The definitions of a file on which none of those contracts rests."""
+    """The definitions of a file that none of those contracts rests on."""
     names = {item.name for item in believed() if item.path == path}
     return [name for name in module_at(path).bodies if name not in names]
 
 
 def has_model(item: Item) -> bool:
-    """Whether contracts see a type by its `Model` alone."""
+    """Whether contracts see only the `Model` of a type."""
     return item.path.suffix == ".rt" and "Model for" in module_at(item.path).bodies.get(item.name, "")

@@ -1,4 +1,4 @@
-"""The program that is measured: the one that tests run too."""
+"""The program that is measured: the same that tests run."""
 from __future__ import annotations
 
 import os

@@ -3,7 +3,7 @@
 
 usage: bench/crates_page.py [--write]
 
-With --write the page is stored. `tests/house` compares the stored page with what this prints.
+--write stores the page. `tests/house` compares the stored page with what this prints.
 """
 from __future__ import annotations
 
@@ -23,13 +23,13 @@ One line for each crate: the first sentence of its own header. The groups and th
 
 
 def root_file(crate: str) -> pathlib.Path:
-    """The file in which a crate begins."""
+    """The root file of a crate."""
     library = ROOT / "crates" / crate / "src" / "lib.rt"
     return library if library.exists() else library.with_name("main.rt")
 
 
 def header_of(crate: str) -> list[str]:
-    """The lines of a crate's header, without their marks."""
+    """The lines of a crate's header, without comment marks."""
     lines = root_file(crate).read_text(encoding="utf-8").splitlines()
     end = next((i for i, line in enumerate(lines) if not line.startswith("//!")), len(lines))
     return [line[3:].strip() for line in lines[:end]]

@@ -1,28 +1,28 @@
 #!/usr/bin/env python3
-"""Compares what small runs of the programs cost with the figures that stand in bench/effort.json, and says what rose.
+"""Compares the cost of small runs of the programs with the figures stored in bench/effort.json, and prints what rose.
 
 usage: bench/effort.py [--program PATH] [--store] [NAME ..]     (the built psi_oomd, and all runs of bench/effort_runs.py; of
 psi_observe PSI_OBSERVE, or the built one)
 
-Time depends on the machine, so what is counted is what doesn't:
+Time depends on the machine, so these are counted instead:
 
-    instructions a line   those of a greater input less those of a smaller one, by the lines between them (or the ticks); what a
-                          run costs at its start is none of it
-    instructions          in thousands, of the smaller input, its start included
-    reads, opens          calls of the system with the greater input, less those by which a run without words is loaded
+    instructions a line   (those of a larger input - those of a smaller one) / the lines, or ticks, between them; without the
+                          cost of starting a run
+    instructions          in thousands, with the smaller input, including the start
+    reads, opens          system calls with the larger input, less those that load the program (a run without arguments)
     writes, threads       calls that write, and threads that were started
-    memory calls          by which memory was asked of the system and given back, counted as reads are; not where threads ask,
-                          since that varies
-    peak                  the most memory that was resident with the greater input, in KB; the least of three runs
+    memory calls          calls that allocate and free memory from the system, counted as reads are; not counted for runs
+                          with threads, since the number varies
+    peak                  the peak resident memory with the larger input, in KB; the least of three runs
 
-A figure in instructions or KB may rise by 3 percent, a peak by 256 KB more, and where a reader looks at the clocks of others
-while they go on, each by so much more as its run says. A number of calls must be the one that is stored: one thread for four is
-no gain. What fell by more than that is reported, and is no fault; `--store` writes the figures anew, and their difference shows in
-the commit. They hold for the machine's kind and the C library that are stored with them: elsewhere, what stood before a change
-is measured and stored first.
+A figure in instructions or KB may rise by 3 percent, and a peak by 256 KB more. If a thread reads the clocks of threads that are
+running, each figure may rise further, by the percentage in its run. A number of calls must equal the stored one: one thread
+instead of four is no gain. A figure that fell by more than that is reported, but isn't a fault; `--store` stores the figures
+again, and the commit shows the difference. Figures are valid for the architecture and the C library that are stored with them: on
+another system, measure and store the state before a change first.
 
-Valgrind, strace and GNU time do the counting: Debian's packages of these names. Ends with status 1 where a figure is wrong, and 2
-where one of them is missing or a run failed.
+Requires the Debian packages valgrind, strace and time. Ends with status 1 if a figure is wrong, and 2 if a package is missing or
+a run failed.
 """
 from __future__ import annotations
 
@@ -41,7 +41,8 @@ HERE = os.path.dirname(os.path.abspath(__file__))
 STORED = os.path.join(HERE, "effort.json")
 TOOLS = ("valgrind", "strace", "time")
 MAY_RISE_PERCENT = 3.0
-# How often the peak is taken, and by how much it may rise in any case: the system counts pages in lots.
+# How many runs the peak is taken from, and the rise (KB) that is always allowed: the system counts
+# pages in batches.
 PEAKS = 3
 PEAK = "peak in KB"
 MAY_RISE_KB = 256
@@ -53,19 +54,19 @@ CALLS = {
     "threads": ("clone", "clone3", "fork", "vfork"),
     "memory calls": ("mmap", "mremap", "munmap", "brk", "madvise"),
 }
-# The calls that are also made where a program is loaded.
+# The calls that loading a program makes too.
 LOADING = ("reads", "opens", "memory calls")
 
-# The figures of a run by their names, which have the unit.
+# The figures of a run by name; the name contains the unit.
 Figures = dict[str, float]
 
 
 class Failed(Exception):
-    """A run that can't be measured, and why."""
+    """A run that can't be measured, with the reason."""
 
 
 def run_to_end(words: list[str], status: int = 0) -> None:
-    """Runs a program whose output doesn't matter, and which must end with this status."""
+    """Runs a program, drops its output, and raises Failed unless it ends with this status."""
     done = subprocess.run(words, stdin=subprocess.DEVNULL, stdout=subprocess.DEVNULL, stderr=subprocess.PIPE)
     if done.returncode != status:
         said = done.stderr.decode(errors="replace")[-600:]
@@ -73,7 +74,9 @@ def run_to_end(words: list[str], status: int = 0) -> None:
 
 
 def instructions_of(words: list[str], room: str) -> int:
-    """How many instructions all threads of a run take, by callgrind. What runs before an `exec` isn't counted."""
+    """The number of instructions of all threads of a run, by callgrind. What runs before an `exec`
+    isn't counted.
+    """
     counted = os.path.join(room, "callgrind")
     tool = ["valgrind", "--quiet", "--tool=callgrind", "--trace-children=yes", "--fair-sched=try"]
     run_to_end([*tool, f"--callgrind-out-file={counted}", *words])
@@ -85,7 +88,7 @@ def instructions_of(words: list[str], room: str) -> int:
 
 
 def calls_of(words: list[str], room: str, status: int = 0) -> dict[str, int]:
-    """How many calls of each kind all threads of a run make, by strace."""
+    """The number of system calls of each kind in all threads of a run, by strace."""
     counted = os.path.join(room, "strace")
     run_to_end(["strace", "-f", "-q", "-c", "-o", counted, *words], status)
     times = {}
@@ -97,8 +100,9 @@ def calls_of(words: list[str], room: str, status: int = 0) -> dict[str, int]:
 
 
 def peak_of(words: list[str], room: str) -> int:
-    """The most memory that was resident in a run, in KB. (The system counts what its parent has as its own, and `time` has
-    little.)"""
+    """The peak resident memory (KB) of a run. It is run by `time`, since the system counts the
+    parent's memory as its own, and `time` has little.
+    """
     counted = os.path.join(room, "time")
     peaks = []
     for _ in range(PEAKS):
@@ -109,12 +113,12 @@ def peak_of(words: list[str], room: str) -> int:
 
 
 def costs_of(run: Run) -> list[str]:
-    """The names of a run's two figures of instructions."""
+    """The names of a run's two instruction figures."""
     return [f"instructions a {run.step.value}", "thousands of instructions"]
 
 
 def figures_of(run: Run, program: str, loading: dict[str, int], room: str) -> Figures:
-    """Measures a run of a program. `loading` has the calls of a run of it without words."""
+    """Measures a run of a program. `loading` has the calls of a run without arguments."""
     small, large = ([program, *run.words_for(size, room)] for size in run.sizes)
     at_first = instructions_of(small, room)
     more = instructions_of(large, room) - at_first
@@ -128,14 +132,14 @@ def figures_of(run: Run, program: str, loading: dict[str, int], room: str) -> Fi
 
 
 def may_differ(name: str, before: float, run: Run) -> float:
-    """By how much a figure may differ from the one that is stored."""
+    """How much a figure may differ from the stored one."""
     if name in CALLS:
         return 0.0
     return before * (MAY_RISE_PERCENT + run.varies_percent) / 100 + (MAY_RISE_KB if name == PEAK else 0)
 
 
 def faults_of(run: Run, stored: Figures, found: Figures) -> tuple[list[str], list[str]]:
-    """What is wrong with the figures of a run, and what is lower and may be stored anew."""
+    """The faults of a run's figures, and the figures that are lower and may be stored again."""
     wrong: list[str] = []
     lower: list[str] = []
     for name in [*found, *(name for name in stored if name not in found)]:
@@ -151,12 +155,12 @@ def faults_of(run: Run, stored: Figures, found: Figures) -> tuple[list[str], lis
 
 
 def system() -> str:
-    """The machine's kind and its C library, on which figures depend."""
+    """The machine's architecture and C library, which the figures depend on."""
     return ", ".join([platform.machine(), " ".join(platform.libc_ver())])
 
 
 def read_stored() -> tuple[str, dict[str, Figures]]:
-    """The system on which figures were stored, and those of each run."""
+    """The system on which the figures were stored, and the figures of each run."""
     if not os.path.exists(STORED):
         return system(), {}
     with open(STORED, encoding="utf-8") as file:
@@ -165,7 +169,7 @@ def read_stored() -> tuple[str, dict[str, Figures]]:
 
 
 def write_stored(figures: dict[str, Figures]) -> None:
-    """Writes the figures in the order of the runs."""
+    """Stores the figures in the order of the runs."""
     with open(STORED, "w", encoding="utf-8") as file:
         runs = {run.name: figures[run.name] for run in RUNS if run.name in figures}
         json.dump({"system": system(), "runs": runs}, file, indent=1)
@@ -173,8 +177,9 @@ def write_stored(figures: dict[str, Figures]) -> None:
 
 
 def compare(runs: list[Run], programs: dict[str, str], is_stored: bool) -> bool:
-    """Measures these runs of programs by name, tells their figures, and whether none is wrong. They are stored where that is
-    wanted."""
+    """Measures these runs, prints their figures, and returns whether none is wrong. Stores them if
+    `is_stored`.
+    """
     where, stored = read_stored()
     if where != system():
         print(f"these figures are of {where}, and this is {system()}: what differs may be the system's", flush=True)
@@ -196,7 +201,9 @@ def compare(runs: list[Run], programs: dict[str, str], is_stored: bool) -> bool:
 
 
 def words_of(given: list[str]) -> tuple[list[str], bool, list[Run]]:
-    """The words that name the program, if any do, whether figures are to be stored, and the runs."""
+    """Parses the arguments: the program's path if one is named, whether to store the figures, and
+    the runs.
+    """
     named, is_stored = list[str](), False
     while given[:1] in (["--program"], ["--store"]):
         if given[0] == "--store":
@@ -212,7 +219,7 @@ def words_of(given: list[str]) -> tuple[list[str], bool, list[Run]]:
 
 
 def programs_of(named: list[str], runs: list[Run]) -> dict[str, str]:
-    """The programs of these runs, and psi_oomd, which makes what they read."""
+    """The programs of these runs by name, and psi_oomd, which generates what they read."""
     others = {run.program for run in runs} - {"psi_oomd"}
     return {"psi_oomd": program_of(named)[0], **{name: program_of([], name)[0] for name in others}}
 

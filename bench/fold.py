@@ -4,10 +4,9 @@
 usage: bench/fold.py [SECONDS [CPUS [SERVICES [LEAST_US MOST_US]]]]     (4, 4, 12, 20 and 200 if left out)
        bench/fold.py --trace SECONDS CPUS SERVICES LEAST_US MOST_US     (prints the trace and folds nothing)
 
-The trace is of services that call each other, as they do behind a web server: each has six threads and a group, and there are 0.75
-tokens a service. A thread that takes a token computes for a time between the two, now and then waits for IO or stalls, and
-hands the token to some service. Processor time is that of this process and of
-those that it started.
+The trace has services that call each other, like those of a web server: each has six threads and a group, and there are 0.75 tokens
+a service. A thread that takes a token computes for LEAST_US to MOST_US, sometimes waits for IO or stalls, and passes the token to
+a random service. Processor time is that of this process and its children.
 """
 from __future__ import annotations
 
@@ -27,13 +26,15 @@ from psifold.fold import Fold  # noqa: E402
 
 THREADS = 6
 SLICES = ("/system.slice", "/user.slice", "/batch.slice")
-# Longest turn, and how long waits for IO take (ns).
+# The longest turn, and the shortest and longest wait for IO (ns).
 TURN, LEAST_IO, MOST_IO = 3_000_000, 200_000, 3_000_000
 Line = tuple[int, str]
 
 
 class Services:
-    """The machine, and what its threads have still to compute (ns). Things to come stand in `due` by their moments."""
+    """The machine, and how long its threads still have to compute (ns). `due` holds future events
+    by time (ns).
+    """
 
     def __init__(self, cpus: int, services: int, least: int, most: int) -> None:
         self.draw, self.cpus, self.services = random.Random(1), cpus, services
@@ -49,7 +50,7 @@ class Services:
         self.count = 0
 
     def begin(self) -> Iterator[str]:
-        """Groups and tasks, which sleep."""
+        """Creates groups and tasks, all asleep."""
         yield from (f"group {path}" for path in SLICES)
         for service in range(self.services):
             path = f"{SLICES[service % 3]}/svc{service}.service"
@@ -59,7 +60,7 @@ class Services:
                 yield from (f"fork {number} {path} {cpu}", f"switch {cpu} {number} idle", f"switch {cpu} 0 sleep")
 
     def lines(self, end: int) -> Iterator[Line]:
-        """What happens up to the end (ns)."""
+        """The lines of the trace up to the end (ns)."""
         yield from ((0, words) for words in self.begin())
         for token in range(self.services * 3 // 4):
             yield from self.call(token % self.services, 0)
@@ -69,19 +70,19 @@ class Services:
         yield end, "end"
 
     def later(self, moment: int, what: str, about: int) -> None:
-        """Something is to happen."""
+        """Schedules an event for a later time (ns)."""
         self.count += 1
         heapq.heappush(self.due, (moment, self.count, what, about))
 
     def call(self, service: int, moment: int) -> Iterator[Line]:
-        """A token goes to a service."""
+        """Passes a token to a service."""
         if self.idle[service]:
             yield from self.wake(self.idle[service].popleft(), moment)
         else:
             self.queue[service] += 1
 
     def wake(self, number: int, moment: int) -> Iterator[Line]:
-        """A thread is woken, on an idle processor if there is one."""
+        """Wakes a thread, on an idle processor if there is one."""
         cpu = self.home[number]
         if self.running[cpu] or self.ready[cpu]:
             idle = [it for it in range(self.cpus) if not self.running[it] and not self.ready[it]]
@@ -93,20 +94,20 @@ class Services:
             self.later(moment + self.draw.randrange(1000, 6000), "schedule", cpu)
 
     def schedule(self, cpu: int, moment: int) -> Iterator[Line]:
-        """An idle processor takes who is ready."""
+        """An idle processor starts a ready thread."""
         if not self.running[cpu] and self.ready[cpu]:
             number = self.ready[cpu].popleft()
             yield moment, f"switch {cpu} {number} idle"
             self.start(number, cpu, moment)
 
     def start(self, number: int, cpu: int, moment: int) -> None:
-        """A thread's turn begins."""
+        """Begins a thread's turn."""
         self.running[cpu] = number
         left = self.left[number] = self.left.get(number) or self.draw.randrange(self.least, self.most) * 1000
         self.later(moment + min(left, TURN), "done", cpu)
 
     def leave(self, cpu: int, moment: int, how: str) -> Iterator[Line]:
-        """The running thread leaves, and the next one runs."""
+        """The running thread leaves the processor, and the next one runs."""
         following = self.ready[cpu].popleft() if self.ready[cpu] else 0
         yield moment, f"switch {cpu} {following} {how}"
         self.running[cpu] = 0
@@ -114,7 +115,7 @@ class Services:
             self.start(following, cpu, moment)
 
     def done(self, cpu: int, moment: int) -> Iterator[Line]:
-        """A turn is over."""
+        """Ends a turn."""
         number = self.running[cpu]
         self.left[number] -= min(self.left[number], TURN)
         service = (number - 1) // THREADS
@@ -133,7 +134,7 @@ class Services:
             yield from self.hand_on(cpu, number, service, moment)
 
     def hand_on(self, cpu: int, number: int, service: int, moment: int) -> Iterator[Line]:
-        """A thread hands its token on, and takes another or sleeps."""
+        """A thread passes its token on, and takes another or sleeps."""
         self.waited.discard(number)
         if service == 5 and self.draw.random() < 0.02:
             yield from ((moment, f"stall {number}"), (moment, f"unstall {number}"))
@@ -153,7 +154,7 @@ def lines_of(seconds: float, cpus: int, services: int, least: int, most: int) ->
 
 
 def processor_seconds() -> float:
-    """What this process and those that it waited for used."""
+    """The processor time (s) of this process and of the children that it waited for."""
     used = [resource.getrusage(who) for who in (resource.RUSAGE_SELF, resource.RUSAGE_CHILDREN)]
     return sum(it.ru_utime + it.ru_stime for it in used)
 

@@ -3,16 +3,16 @@
 
 usage: bench/gate.py [--anew | --dear]
 
---anew  proves also what an earlier run on this machine kept; an `rt` that keeps nothing between runs, and so has no such word, is
-        run without it
---dear  runs nothing: lists the functions whose walk by the borrow checker takes more than 3 MB in what `rt check` kept, the
-        largest first. A deep value that goes out of scope at many exits makes these (docs/DECISIONS.md, "What makes proofs dear")
+--anew  proves again what an earlier run on this machine proved and stored; ignored if this `rt` stores nothing and so has no
+        such option
+--dear  runs nothing: lists the functions whose stored borrow-checker walk has at least 3 MB, the largest first. The cause is a
+        deep value that goes out of scope at many exits (docs/DECISIONS.md, "What makes proofs dear")
 
-Prints what `rt ci` prints, and after it the minutes by the clock and, for each crate and the whole, the minutes of processor time
-that its proofs, the proofs of its tests and its must-fail edits took, the dearest first, and the minutes after the start at which
-its first check began, it was proved, and its last check ended. Once a second it looks which checks run, so a crate that takes less
-than some seconds is shown too low; the last lines have what the system counted of all. Under `taskset -c 0,1` it times a machine of
-two processors. Ends with the status of `rt ci`.
+Prints what `rt ci` prints, then the wall-clock minutes. Then, for each crate and in total, the costliest first: minutes of processor
+time for its proofs, the proofs of its tests and its must-fail edits; and when its first check began, its proofs ended and its last
+check ended, in minutes after the start. The running checks are sampled once a second, so the time of a crate that takes only a few
+seconds is too low; the last lines print what the system counted in total. Run it under `taskset -c 0,1` to time a machine with two
+processors. Ends with the status of `rt ci`.
 """
 
 from __future__ import annotations
@@ -30,12 +30,14 @@ from typing import NamedTuple
 ROOT = pathlib.Path(__file__).resolve().parent.parent
 TICKS = os.sysconf("SC_CLK_TCK")
 KINDS = ("proof", "tests", "edits")
-# From how many bytes on the walk of a function is worth a look.
+# The least size (bytes) of a function's stored borrow-checker walk that is worth a look.
 DEAR = 3_000_000
 
 
 class Work(NamedTuple):
-    """The checks of a crate of one kind: seconds of processor time, and seconds after the start of the first and the last."""
+    """A crate's checks of one kind: processor time (s), and when the first and the last were seen
+    (s after the start).
+    """
 
     seconds: float
     begun: float
@@ -46,7 +48,7 @@ Works = dict[tuple[str, str], Work]
 
 
 def words_of(process: pathlib.Path) -> list[str]:
-    """The words by which a process was started, none where it has ended."""
+    """The arguments that a process was started with; empty if it has ended."""
     try:
         return process.joinpath("cmdline").read_text(errors="replace").split("\0")
     except OSError:
@@ -54,9 +56,9 @@ def words_of(process: pathlib.Path) -> list[str]:
 
 
 def check_of(process: pathlib.Path, gate: int) -> tuple[str, str] | None:
-    """The crate that a process checks, and for what, if it is a check that the gate started.
+    """The crate that a process checks and the kind of check, if the gate started it.
 
-    Copies that a check makes of itself aren't: once they have ended, their time is part of its own.
+    A check's own child processes don't count: once they have ended, their time is part of its own.
     """
     words = words_of(process)
     if "--crate-name" not in words or not words[0].endswith("/rattle") or parent_of(process) != gate:
@@ -72,7 +74,7 @@ def check_of(process: pathlib.Path, gate: int) -> tuple[str, str] | None:
 
 
 def numbers_of(process: pathlib.Path) -> list[str]:
-    """What the kernel says of a process, from its state on (proc(5), `stat`), or nothing where it has ended."""
+    """The fields of a process from its state on (proc(5), `stat`); empty if it has ended."""
     try:
         return process.joinpath("stat").read_text().rpartition(")")[2].split()
     except OSError:
@@ -80,18 +82,20 @@ def numbers_of(process: pathlib.Path) -> list[str]:
 
 
 def parent_of(process: pathlib.Path) -> int | None:
-    """The number of the process that started this one, if it is there."""
+    """The number of the process that started this one, or None if it has ended."""
     numbers = numbers_of(process)
     return int(numbers[1]) if numbers else None
 
 
 def processor_time(process: pathlib.Path) -> float:
-    """The seconds of processor time that a process took so far, with its children that have ended."""
+    """The processor time (s) of a process so far, with its children that have ended."""
     return sum(map(int, numbers_of(process)[11:15])) / TICKS
 
 
 def watch(gate: subprocess.Popen[bytes], start: float) -> Works:
-    """The work by crate and kind, once the gate has ended that began at a second of the monotonic clock."""
+    """Waits for the gate, which began at `start` (s, monotonic clock). Returns the work by crate
+    and kind.
+    """
     taken: dict[tuple[int, str, str], Work] = {}
     while gate.poll() is None:
         now = time.monotonic() - start
@@ -111,7 +115,9 @@ def watch(gate: subprocess.Popen[bytes], start: float) -> Works:
 
 
 def row(name: str, works: dict[str, Work]) -> str:
-    """A line of a crate: minutes of processor time by kind, then when its first check began, its proofs ended and all ended."""
+    """A crate's row: minutes of processor time by kind, and when its first check began, its proofs
+    ended and all ended.
+    """
     minutes = [works[kind].seconds / 60 if kind in works else 0.0 for kind in KINDS]
     begun = min(work.begun for work in works.values()) / 60
     proved = works["proof"].ended / 60 if "proof" in works else begun
@@ -120,7 +126,7 @@ def row(name: str, works: dict[str, Work]) -> str:
 
 
 def table(works: Works) -> str:
-    """A line for each crate, the dearest first, and one for the whole."""
+    """A row for each crate, the costliest first, and a row for the total."""
     crates: dict[str, dict[str, Work]] = collections.defaultdict(dict)
     for (crate, kind), work in works.items():
         crates[crate][kind] = work
@@ -132,7 +138,7 @@ def table(works: Works) -> str:
 
 
 def dear_walks() -> list[tuple[int, str, str]]:
-    """The bytes, the crate and the function of each walk that is kept and dear, the largest first."""
+    """The stored walks of at least DEAR bytes, the largest first: bytes, crate and function."""
     found: dict[tuple[str, str], int] = {}
     for kept in ROOT.glob("crates/*/out/incremental/*/*.Lts.oantt"):
         crate, size = kept.parts[len(ROOT.parts) + 1], kept.stat().st_size
@@ -143,13 +149,13 @@ def dear_walks() -> list[tuple[int, str, str]]:
 
 
 def keeps_between_runs() -> bool:
-    """Whether this `rt` keeps what a gate has proved for the next one, and so knows `--anew`."""
+    """Whether this `rt` keeps proofs for the next gate, and so has `--anew`."""
     said = subprocess.run(["rt", "help"], stdout=subprocess.PIPE, stderr=subprocess.STDOUT, text=True, check=False).stdout
     return "--anew" in said
 
 
 def main() -> int:
-    """Runs the gate and reports its times, or lists what is dear."""
+    """Runs the gate and prints its times, or lists the large walks."""
     words = sys.argv[1:]
     if words not in ([], ["--anew"], ["--dear"]):
         print(re.sub(r"\n\n.*", "", __doc__.split("usage: ")[1], flags=re.S), file=sys.stderr)

@@ -1,4 +1,4 @@
-"""The largest machine that a trace may have, for an hour, and rules with as much to do."""
+"""A trace of an hour of the largest machine that is allowed, and rules with as much to do."""
 from __future__ import annotations
 
 import json
@@ -13,12 +13,16 @@ Plugin = dict[str, "str | dict[str, str]"]
 
 
 def patterns() -> str:
-    """As many patterns as an argument may have: the groups of each depth from 1 to 16."""
+    """The largest number of patterns that an argument may have: the groups of each depth from 1 to
+    16.
+    """
     return ",".join("/".join(["*"] * depth) for depth in range(1, 17))
 
 
 def greatest_rules() -> str:
-    """64 rulesets of 16 detectors and 16 actions each, all of which are taken at each evaluation. One has 16 patterns."""
+    """64 rulesets of 16 detectors and 16 actions each; each evaluation runs them all. One has 16
+    patterns.
+    """
     detectors: list[Plugin] = [
         {"name": "pressure_above", "args": {"cgroup": "*,*/*", "resource": "io", "threshold": "10", "duration": "10"}},
         {"name": "memory_above", "args": {"cgroup": "*,*/*", "threshold": "1%", "duration": "10"}},

@@ -3,8 +3,8 @@
 
 usage: bench/import_time.py [--program PATH]     (the built program)
 
-The text is a stored recording, again and again with later times. Of five runs in turns it prints the best of each in seconds by the
-clock, their ratio and, where GNU time is installed, the peak memory. A benchmark: nothing is asserted.
+The text is a stored recording, repeated with later times. Both run five times, in turns. Prints the best time of each (wall-clock
+seconds), their ratio and, if GNU time is installed, the peak memory. A benchmark: nothing is asserted.
 """
 from __future__ import annotations
 
@@ -26,12 +26,12 @@ MOMENT = re.compile(rb" ([0-9]+)(\.[0-9]{6}: )")
 
 
 def later(data: bytes, seconds: int) -> bytes:
-    """The text with so many seconds added to each of its times."""
+    """The text with `seconds` added to each of its times."""
     return MOMENT.sub(lambda it: b" %d%b" % (int(it[1]) + seconds, it[2]), data)
 
 
 def long_text(path: str) -> None:
-    """Writes about 100 MB of a recording that goes on and on."""
+    """Writes about 100 MB: a recording repeated with later times."""
     data = text(TIMED)
     times = [int(it[1]) for it in MOMENT.finditer(data)]
     length = times[-1] - times[0] + 1
@@ -41,7 +41,7 @@ def long_text(path: str) -> None:
 
 
 def measure(program: str, folder: str) -> None:
-    """Times both in turns."""
+    """Times both programs in turns."""
     path = os.path.join(folder, "text")
     long_text(path)
     runs = [(once(["wc", "-lw", path]), once([program, "import", path, "--cpus", "2"])) for _ in range(RUNS)]

@@ -1,11 +1,11 @@
 #!/usr/bin/env python3
-"""Makes a recording of a trace, as tools/record would have written it: for measuring tools/psitrace on recordings of any length.
+"""Makes a recording from a trace, as tools/record would have written it, to measure tools/psitrace on recordings of any length.
 
-usage: bench/make_recording.py TRACE FOLDER [TIMES]     (1 where TIMES is left out)
+usage: bench/make_recording.py TRACE FOLDER [TIMES]     (1 if TIMES is left out)
 
-TRACE has groups and tasks that are made at its start, and wakeups, switches and stalls; FOLDER is made. The pages are those of the
-kernel of the stored recording mix-2. With TIMES they come so often, one after the other with later moments: where one begins again
-tasks aren't as the end left them, which psitrace mends and counts.
+TRACE must create its groups and tasks at its start, and have only wakeups, switches and stalls otherwise. FOLDER is created. The
+pages have the layout of the kernel of the stored recording mix-2. The pages are repeated TIMES times, each with later times. At the
+start of a repetition the tasks' states differ from those at the end of the previous one, which psitrace repairs and counts.
 """
 from __future__ import annotations
 
@@ -27,7 +27,7 @@ HOWS = {"preempt": 0, "sleep": 1, "iowait": 2, "exit": 32, "idle": 0}
 
 
 class Record:
-    """Writes records of an event: numbers by their fields, all else zeros."""
+    """Writes records of an event: numbers by field, all other bytes zero."""
 
     def __init__(self, form: Format, names: tuple[str, ...]) -> None:
         fields = [form.fields[name] for name in ("common_type", *names)]
@@ -36,7 +36,7 @@ class Record:
         self.layouts = [(struct.Struct("<" + INTEGERS[it.size, it.is_signed]).pack_into, it.offset) for it in fields]
 
     def bytes(self, *values: int) -> bytes:
-        """A record's bytes."""
+        """The bytes of a record with these values."""
         data = bytearray(self.size)
         for (pack, offset), value in zip(self.layouts, (self.number, *values)):
             pack(data, offset, value)
@@ -44,7 +44,7 @@ class Record:
 
 
 class Pages:
-    """The pages of a processor, written as they fill."""
+    """The pages of a processor; each is written once it is full."""
 
     def __init__(self, name: str) -> None:
         self.file = open(name, "wb")
@@ -66,7 +66,7 @@ class Pages:
 
 
 class Recording:
-    """A recording as it grows."""
+    """A recording that is being written."""
 
     def __init__(self, folder: str, processors: int) -> None:
         os.mkdir(folder)
@@ -88,12 +88,12 @@ class Recording:
         self.snapshot = [f"at {START + 1}", "group / none"]
 
     def write(self, name: str, text: str) -> None:
-        """A file."""
+        """Writes a file of the recording."""
         with open(os.path.join(self.folder, name), "w", encoding="ascii") as file:
             file.write(text)
 
     def take(self, moment: int, words: list[str]) -> None:
-        """What a line of the trace tells."""
+        """Records a line of the trace."""
         verb = words[0]
         if verb == "group":
             self.snapshot.append(f"group {words[1]} none")
@@ -116,7 +116,7 @@ class Recording:
             self.pages[cpu].add(moment, self.stalls[verb].bytes(number))
 
     def end(self) -> None:
-        """Writes what is left."""
+        """Writes the pages that aren't full."""
         for pages in self.pages:
             pages.end()
             pages.file.close()
@@ -126,7 +126,7 @@ class Recording:
 
 
 def later(data: bytes, times: int, length: int) -> Iterator[bytes]:
-    """Pages as they are, and again with later moments (ns)."""
+    """The pages `times` times, each copy later than the previous one by `length` ns."""
     heads = [struct.unpack_from("<Q", data, at)[0] for at in range(0, len(data), PAGE)]
     for turn in range(times):
         found = bytearray(data)
@@ -141,7 +141,7 @@ def main(given: list[str]) -> None:
         recording = Recording(folder, int(file.readline().partition("cpus=")[2]))
         for line in file:
             moment, *words = line.split()
-            # What begins at 0 is there in the snapshot, asleep.
+            # Tasks and groups that begin at 0 are in the snapshot, asleep.
             if words[0] in ("group", "fork") or int(moment):
                 recording.take(START + int(moment), words)
     recording.end()

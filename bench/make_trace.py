@@ -1,13 +1,13 @@
 #!/usr/bin/env python3
-"""Prints a legal trace.
+"""Prints a valid random trace.
 
 usage: make_trace.py EVENTS TASKS [CPUS [GROUPS [DEPTH [SEED]]]]     (1, 0, 1 and 1 if left out)
 
 EVENTS is the number of lines after the header, the `end` line included. GROUPS groups are made, in chains of DEPTH below
-the root, and TASKS tasks are forked in the lowest ones (in the root where there is none). In the other lines a random task
-of a random processor runs, waits for IO, sleeps or wakes, at times on another processor; the running one is in a memory
-stall for a while; a ready one migrates; one moves to another group; a group's memory is sampled. There are up to 2 us from
-line to line, as on a busy machine.
+the root, and TASKS tasks are forked in the deepest ones (in the root if there are none). In the other lines a random task
+of a random processor runs, waits for IO, sleeps or wakes, sometimes on another processor; a running task is in a memory
+stall for a while; a ready task migrates; a task moves to another group; a group's memory is sampled. Lines are up to 2 us
+apart, as on a busy machine.
 """
 from __future__ import annotations
 
@@ -17,7 +17,7 @@ from collections.abc import Iterator
 
 
 def group_paths(groups: int, depth: int) -> tuple[list[str], list[str]]:
-    """The paths, parents first, and the lowest of each chain."""
+    """The paths, parents first, and the deepest path of each chain."""
     paths: list[str] = []
     lowest: list[str] = []
     while len(paths) < groups:
@@ -30,7 +30,9 @@ def group_paths(groups: int, depth: int) -> tuple[list[str], list[str]]:
 
 
 class Machine:
-    """Processors and tasks, as the lines so far made them. Each method makes an event, and gives its words."""
+    """Processors and tasks after the lines so far. Each method generates an event, and returns its
+    words.
+    """
 
     def __init__(self, draw: random.Random, cpus: int, tasks: int, homes: list[str]) -> None:
         self.draw = draw
@@ -49,7 +51,7 @@ class Machine:
         return f"fork {pid} {self.homes[(pid - 1) % len(self.homes)]} {cpu}"
 
     def take(self, pids: list[int]) -> int:
-        """Takes any task out of these."""
+        """Removes and returns a random pid."""
         place = self.draw.randrange(len(pids))
         pids[place], pids[-1] = pids[-1], pids[place]
         return pids.pop()
@@ -81,7 +83,7 @@ class Machine:
         return f"switch {cpu} {following or 0} {how}"
 
     def rare(self, cpu: int, tasks: int) -> str | None:
-        """One of the rarer lines, or None where it can't be."""
+        """One of the rarer lines, or None if it isn't possible."""
         kind = self.draw.randrange(8)
         running = self.running[cpu]
         if kind < 4 and running is not None:
@@ -95,7 +97,7 @@ class Machine:
         return None
 
     def line(self, tasks: int) -> str:
-        """Any line, of any processor."""
+        """A random line, of any processor."""
         cpu = self.draw.randrange(self.cpus)
         line = self.rare(cpu, tasks) if self.draw.randrange(8) == 0 else None
         if line is not None:

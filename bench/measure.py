@@ -3,11 +3,10 @@
 
 usage: bench/measure.py [--program PATH] [--rounds N] [--events N]     (the built program, 10 rounds, 3600000 events)
 
-Of each command it prints: instructions a line (by callgrind, where that is installed; they don't depend on the machine), the best
-and the median of its seconds by the clock as times of the best and of the median of `wc -lw` on the same file, its seconds of
-processor time so too (the median), and the most memory that was resident (MB, by GNU time). Below stand the seconds of an hour of
-the largest machine that a trace may have, with 1,024 actions at each evaluation. A benchmark: nothing is asserted; README has its
-last table.
+Prints for each command: instructions a line (by callgrind, if installed; they don't depend on the machine); the best and the median
+wall-clock time, and the median processor time, relative to `wc -lw` on the same file; and the peak resident memory (MB, by GNU
+time). Then it prints how many seconds an hour of the largest allowed machine takes, with 1,024 actions at each evaluation. A
+benchmark: nothing is asserted. README has the latest table.
 """
 from __future__ import annotations
 
@@ -25,7 +24,8 @@ from effort import instructions_of, peak_of
 from greatest import greatest_lines, greatest_rules
 
 SHAPE = ("--seed", "1", "--cpus", "8", "--groups", "40")
-# Instructions a line are those of the longer of these traces less those of the shorter, in lines.
+# Instructions a line: those of the longer trace less those of the shorter, per line (sizes in
+# lines).
 SHORT, LONG = 20_000, 60_000
 COMMANDS: dict[str, tuple[str, ...]] = {
     "check": ("check", "TRACE"),
@@ -40,14 +40,14 @@ GREATEST_EVENTS = 1_000_000
 
 @dataclasses.dataclass(frozen=True)
 class Taken:
-    """What one run took: seconds by the clock, and seconds of processor time."""
+    """What one run took: wall-clock seconds, and seconds of processor time."""
 
     clock: float
     processor: float
 
 
 def once(words: list[str]) -> Taken:
-    """One run, which must end well."""
+    """Runs once; the run must succeed."""
     before = time.perf_counter()
     child = subprocess.Popen(words, stdout=subprocess.DEVNULL)
     _, status, usage = os.wait4(child.pid, 0)
@@ -58,7 +58,7 @@ def once(words: list[str]) -> Taken:
 
 
 def write_trace(program: str, events: int, path: str) -> str:
-    """Writes a generated trace of so many events, and gives its path."""
+    """Writes a generated trace of `events` events, and returns its path."""
     with open(path, "wb") as file:
         subprocess.run([program, "gen", *SHAPE, "--events", str(events)], stdout=file, check=True)
     return path
@@ -69,7 +69,7 @@ def with_trace(program: str, words: tuple[str, ...], trace: str) -> list[str]:
 
 
 def instructions(program: str, room: str) -> dict[str, float]:
-    """Instructions a line of each command, none where callgrind isn't installed."""
+    """Instructions a line of each command; empty if callgrind isn't installed."""
     if shutil.which("valgrind") is None:
         return {}
     short, long = (write_trace(program, size, os.path.join(room, f"{size}.trace")) for size in (SHORT, LONG))
@@ -81,7 +81,7 @@ def instructions(program: str, room: str) -> dict[str, float]:
 
 
 def in_turns(runs: dict[str, list[str]], rounds: int) -> dict[str, list[Taken]]:
-    """What each run took in each round, one after the other, so that a busy moment meets them all."""
+    """Times each run once a round, in turns, so that a busy machine slows all of them."""
     taken: dict[str, list[Taken]] = {name: [] for name in runs}
     for _ in range(rounds):
         for name, words in runs.items():
@@ -90,7 +90,7 @@ def in_turns(runs: dict[str, list[str]], rounds: int) -> dict[str, list[Taken]]:
 
 
 def row(name: str, counted: float | None, peak: int, taken: list[Taken], count: list[Taken]) -> str:
-    """A line of the table: a command's figures beside those of `wc -lw`, and its peak memory (KB)."""
+    """A row of the table: a command's figures, relative to `wc -lw`, and its peak memory (KB)."""
     best = min(it.clock for it in taken) / min(it.clock for it in count)
     clock = statistics.median(it.clock for it in taken) / statistics.median(it.clock for it in count)
     processor = statistics.median(it.processor for it in taken) / statistics.median(it.processor for it in count)
@@ -113,7 +113,7 @@ def tell_hour(program: str, events: int, rounds: int, room: str) -> None:
 
 
 def tell_greatest(program: str, room: str) -> None:
-    """Prints what an hour of the largest machine takes, with rules and without."""
+    """Prints the cost of an hour of the largest machine, with rules and without."""
     trace, rules = os.path.join(room, "greatest.trace"), os.path.join(room, "greatest.json")
     with open(trace, "w", encoding="utf-8") as file:
         file.writelines(f"{line}\n" for line in greatest_lines(GREATEST_EVENTS))

@@ -1,14 +1,14 @@
 #!/usr/bin/env python3
-"""Counts how often psi_oomd's kills by a rules file are those that oomd 0.5.0 would make by it, and why not: the figures of the table
-in docs/RULES.md.
+"""Counts how often psi_oomd's kills with a rules file are those of oomd 0.5.0 with the same file, and finds why they differ: the
+figures of the table in docs/RULES.md.
 
 usage: bench/oomd_differences.py [CASES [DEFAULT_CASES]]     (400 and 200 if left out; PSI_OOMD names the program)
-       bench/oomd_differences.py --binary [CASES]            (holds the emulation against oomd itself on each case, 100 if left out)
+       bench/oomd_differences.py --binary [CASES]            (compares the emulation with oomd itself in each case, 100 if left out)
 
-First come the 58 experiments of tests/oomd_checks, whose answers oomd itself gave. Then made incidents with usual rules: at ticks of
-a second, where both look at the same times, and at psi_oomd's default ticks of two seconds, where they don't. Kills of oomd are those
-of tools/oomd. The cause of a first kill that differs is the smallest set of oomd's rules which, with psi_oomd's in their place, gives
-psi_oomd's first kill.
+It begins with the 58 experiments of tests/oomd_checks, whose answers come from oomd itself. Generated incidents with usual rules
+follow: at ticks of a second, when both programs look at the same times, and at psi_oomd's default ticks of two seconds, when they
+don't. Kills of oomd are those of tools/oomd. If the first kills differ, the cause is the smallest set of oomd's rules that leads to
+psi_oomd's first kill when psi_oomd's rules replace them.
 """
 from __future__ import annotations
 
@@ -51,7 +51,7 @@ def scan_ranks(self: ByScans, look: Look, paths: list[str]) -> Ranked:
 
 
 def pressure_ranks(self: ByPressure, look: Look, paths: list[str]) -> Ranked:
-    """The exact sum, above 0."""
+    """Ranks by the exact sum, above 0."""
     found = {path: look.machine.pressure(path, self.args["resource"]) for path in paths}
     sums = {path: it.avg10 + it.avg60 for path, it in found.items()}
     return {path: ((it,), "") for path, it in sums.items() if it > 0}
@@ -65,7 +65,7 @@ def read_greatest(self: Above, look: Look) -> None:
 
 
 def reclaim_run(self: Reclaim, look: Look) -> Result:
-    """Whether a group that was there a look ago scanned."""
+    """Whether a group that existed at the previous look scanned pages."""
     machine = look.machine
     paths = machine.among(self.args["cgroup"])
     if any(machine.scanned(it) > look.scanned.get(machine.group(it), machine.scanned(it)) for it in paths):
@@ -75,7 +75,7 @@ def reclaim_run(self: Reclaim, look: Look) -> Result:
 
 
 def size_ranks(self: BySize, look: Look, paths: list[str]) -> Ranked:
-    """Growth by the mean of the last four sizes, of groups in which a task is live."""
+    """Ranks by growth over the mean of the last four sizes, for groups with a live task."""
     live = [it for it in paths if look.machine.is_populated(it)]
     past = {look.machine.group(it): HISTORY.get(look.machine.group(it), [])[-PAST:] for it in live}
     look.average = {group: sum(it) / len(it) if it else 0 for group, it in past.items()}  # type: ignore[misc]
@@ -83,7 +83,7 @@ def size_ranks(self: BySize, look: Look, paths: list[str]) -> Ranked:
 
 
 def at_last(self: Killer, look: Look, path: str, candidates: list[object]) -> list[tuple[str, list[object]]]:
-    """The last victim, if none below it is one."""
+    """The previous victim, unless a group below it is one."""
     if not look.machine.is_populated(path):
         return []
     below = look.machine.children(path) if self.is_recursive else []
@@ -92,7 +92,7 @@ def at_last(self: Killer, look: Look, path: str, candidates: list[object]) -> li
 
 
 def remembered(self: Engine, now: int) -> None:
-    """A look, and each group's sizes after it."""
+    """Evaluates once, and then stores each group's sizes."""
     OWN_LOOK(self, now)
     for path, group in self.machine.world.groups.items():
         HISTORY.setdefault(group, []).append(self.machine.current(path))
@@ -113,7 +113,7 @@ FIRST_LOOK = "pressure_rising_beyond begins at 100"
 
 @contextlib.contextmanager
 def switched(names: tuple[str, ...]) -> Iterator[None]:
-    """psi_oomd's rules in place of these of oomd's."""
+    """Replaces these rules of oomd by psi_oomd's."""
     HISTORY.clear()
     with contextlib.ExitStack() as stack:
         stack.enter_context(mock.patch.object(Engine, "look", remembered))
@@ -137,7 +137,7 @@ OWN_RISING = Rising.run
 
 @dataclass
 class Case:
-    """A trace with rules, and the kills of both."""
+    """A trace with rules, and the kills of both programs."""
 
     run: Run
     rules: list[Kill]
@@ -163,7 +163,7 @@ def kills_of(run: Run) -> list[Kill]:
 
 
 def case(folder: str, seed: int, tick_ms: int | None, interval: int) -> Case:
-    """A made incident by usual rules."""
+    """The case of a generated incident and usual rules."""
     names = [os.path.join(folder, it) for it in ("t.trace", "r.json")]
     plugins = usual_rules(seed)
     for name, text in zip(names, (incident(seed // 2), plugins)):
@@ -179,7 +179,7 @@ def share(count: int, total: int) -> str:
 
 
 def tell(title: str, cases: list[Case]) -> None:
-    """The shares of cases in which both say the same."""
+    """Prints the share of cases in which both agree."""
     found = [it for it in cases if it.rules or it.oomd]
     print(f"{title}: {len(cases)} cases, {len(found)} with kills")
     rows: dict[str, Callable[[Case], bool]] = {
@@ -208,7 +208,9 @@ def tell_experiments() -> None:
 
 
 def by_binary(count: int) -> int:
-    """Holds the emulation against oomd itself. The status is 1 if a kill differs, except among equal ranks."""
+    """Compares the emulation with oomd itself. Returns 1 if a kill differs, except among equal
+    ranks.
+    """
     kills = wrong = 0
     with tempfile.TemporaryDirectory() as folder:
         for seed in range(count):
@@ -230,7 +232,7 @@ def main() -> int:
         same = [case(folder, seed, TICK_MS, INTERVALS[seed % 2]) for seed in range(counts[0])]
         tell_experiments()
         tell("incidents, ticks of a second, interval 1 or 5 s", same)
-        # The files of a case are made again, since all cases share their names.
+        # Each case writes its files again, since all cases use the same file names.
         tell_causes([remade(folder, seed, it) for seed, it in enumerate(same) if not it.is_first_same()])
         seeds = range(counts[1] if counts[1:] else DEFAULT_CASES)
         tell("incidents, default ticks of 2 s and interval of 5 s", [case(folder, it, None, 5) for it in seeds])
@@ -238,7 +240,7 @@ def main() -> int:
 
 
 def remade(folder: str, seed: int, it: Case) -> Case:
-    """The case with files of its own."""
+    """The case, with its files written again."""
     own = os.path.join(folder, str(seed))
     os.mkdir(own)
     return case(own, seed, TICK_MS, it.run.interval)

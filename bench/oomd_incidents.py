@@ -1,5 +1,6 @@
-"""Made incidents on machines with systemd, as traces, and usual rules for them. They are for bench/oomd_differences.py: each has a
-seed, and is the same each time."""
+"""Generated incidents on machines with systemd, as traces, and usual rules for them.
+bench/oomd_differences.py uses them. The same seed always gives the same incident.
+"""
 from __future__ import annotations
 
 import json
@@ -39,11 +40,11 @@ class Incident:
     homes: dict[int, str] = field(default_factory=dict)
 
     def put(self, at: int, text: str) -> None:
-        """A line at a time (ns)."""
+        """Adds a line at a time (ns)."""
         self.lines.append((at, len(self.lines), text))
 
     def start(self) -> None:
-        """Groups, tasks and sizes."""
+        """Creates groups and tasks, and writes the first sizes."""
         draw = self.draw
         self.memory = draw.choice((2, 4, 8)) * GIB
         self.swap = draw.choice((0, self.memory // 2, self.memory))
@@ -67,7 +68,7 @@ class Incident:
             self.put(0, f"switch {task - 1} 0 sleep")
 
     def grow(self, second: int) -> float:
-        """A second of memory. Returns how short it is, from 0 to 1."""
+        """Advances memory by a second. Returns the shortage, from 0 to 1."""
         draw = self.draw
         for it in self.services:
             self.size[it] = max(4 * MIB, int(self.size[it] * draw.uniform(0.99, 1.01)))
@@ -85,7 +86,7 @@ class Incident:
         return min(1.0, excess / (self.memory * 0.03))
 
     def sample(self, second: int) -> None:
-        """The samples of a second: a group has what is below it."""
+        """Writes the samples of a second. A group's size includes its children's."""
         at = second * SECOND
         for group in ("/", *self.groups):
             inside = [it for it in self.services if group == "/" or f"{it}/".startswith(f"{group}/")]
@@ -94,7 +95,7 @@ class Incident:
         self.put(at, f"host {self.memory} {self.swap} {self.swap - sum(self.swapped.values())}")
 
     def turn(self, at: int, task: int, state: str) -> None:
-        """Brings a task into another state."""
+        """Changes the state of a task."""
         before, processor = self.states[task], task - 1
         if before == state:
             return
@@ -110,7 +111,7 @@ class Incident:
         self.states[task] = state
 
     def act(self, second: int, shortage: float) -> None:
-        """A second of tasks, in five steps."""
+        """Advances the tasks by a second, in five steps."""
         draw, is_storm = self.draw, self.kind == "io" and self.begin <= second < self.stop
         for step in range(5):
             at = second * SECOND + step * 200 * MS
@@ -148,7 +149,8 @@ def plugin(name: str, **args: object) -> Rules:
 
 
 def debian(draw: random.Random) -> list[Rules]:
-    """Debian's own file without its first ruleset, for these groups, with thresholds that are met more or less often."""
+    """Debian's own rules file without its first ruleset, for these groups, with random thresholds.
+    """
     share = draw.choice((1, 0.5, 0.25))
     groups = [
         [name, plugin("pressure_above", cgroup=slice_, resource="memory", threshold=int(limit * share), duration=int(length * share)),
@@ -163,7 +165,7 @@ def debian(draw: random.Random) -> list[Rules]:
 
 
 def own(draw: random.Random) -> list[Rules]:
-    """One rule as people write it."""
+    """A rule like those that people write."""
     resource, watched = draw.choice(("io", "memory", "memory", "memory")), draw.choice(WATCHED)
     pressure = {"cgroup": watched, "resource": resource, "threshold": draw.choice((5, 10, 20, 40, 60)), "duration": draw.choice((5, 10, 20))}
     detectors = [
@@ -187,6 +189,6 @@ def own(draw: random.Random) -> list[Rules]:
 
 
 def usual_rules(seed: int) -> str:
-    """The rules of a seed, which mean the same for psi_oomd and for oomd as far as one file can."""
+    """The rules of a seed, which mean the same to psi_oomd and to oomd as far as one file can."""
     draw = random.Random(f"rules {seed}")
     return json.dumps({"rulesets": draw.choice((debian, own, own, own))(draw)})

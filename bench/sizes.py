@@ -3,13 +3,13 @@
 
 usage: bench/sizes.py [--unreached]
 
-A line counts where it isn't blank and no comment; of definitions and proofs what takes names from elsewhere (`use`) isn't
-counted either. The files that have to be believed are those that docs/ARCHITECTURE.md lists; laws, which are proved, stand in
-others. A contract is a clause of a function or a loop (`requires`, `ensures`, `invariant`), an `assert`, or a `ghost` item, up to
-the line where its brackets are closed.
+Counts lines that are neither blank nor comments; in definitions and proofs, `use` lines aren't counted either. The files that have
+to be believed are those that docs/ARCHITECTURE.md lists; laws, which are proved, are in other files. A contract is a clause of a
+function or a loop (`requires`, `ensures`, `invariant`), an `assert`, or a `ghost` item, up to the line with its last closing
+bracket.
 
-Status 1 where that list isn't the one that bench/believed.py finds: where it lacks a file on which the contracts of the top calls
-rest, or has one on which none does. With `--unreached` it prints the definitions in those files on which none rests.
+Ends with status 1 if that list differs from what bench/believed.py finds: if it lacks a file that the contracts of the top calls
+rest on, or has a file that none of them needs. `--unreached` prints the definitions in those files that no contract rests on.
 """
 import pathlib
 import re
@@ -24,20 +24,20 @@ BELIEVED_TITLE = "## The files that have to be believed"
 
 
 def counted(lines: Iterable[str], comment: str) -> Iterator[str]:
-    """The lines that count, without what stands before and after them."""
+    """The lines that count, stripped: neither empty nor comments."""
     for line in map(str.strip, lines):
         if line and not line.startswith(comment):
             yield line
 
 
 def definition_lines(path: pathlib.Path) -> int:
-    """How many lines of an .antt file define something."""
+    """The number of lines of an .antt file that define something."""
     lines = path.read_text(encoding="utf-8").splitlines()
     return sum(1 for line in counted(lines, "--") if not line.startswith(("use ", "pub use ")))
 
 
 def rust_lines(path: pathlib.Path) -> tuple[int, int]:
-    """How many lines of an .rt file are code, and how many are contracts."""
+    """The numbers of lines of code and of contracts in an .rt file."""
     code = contracts = depth = 0
     for line in counted(path.read_text(encoding="utf-8").splitlines(), "//"):
         if depth == 0 and not CONTRACT.match(line):
@@ -49,15 +49,17 @@ def rust_lines(path: pathlib.Path) -> tuple[int, int]:
 
 
 def believed_section() -> str:
-    """What docs/ARCHITECTURE.md says of the files that have to be believed."""
+    """The section of docs/ARCHITECTURE.md on the files that have to be believed."""
     text = (TOP / "docs" / "ARCHITECTURE.md").read_text(encoding="utf-8")
     return text[text.index(BELIEVED_TITLE) :].partition("\n## ")[0]
 
 
 def believed_files() -> tuple[list[pathlib.Path], list[pathlib.Path]]:
-    """The definitions and the files of types that docs/ARCHITECTURE.md lists as those that have to be believed.
+    """The definitions and the files of types that docs/ARCHITECTURE.md lists as those that have to
+    be believed.
 
-    A cell of the table's first column names a library, and files of its `specs`; one without a library goes on with that above it.
+    A cell of the table's first column names a library, and files of its `specs`; a cell without a
+    library continues the row above.
     """
     section = believed_section()
     definitions, folder = [], CRATES
@@ -73,13 +75,15 @@ def believed_files() -> tuple[list[pathlib.Path], list[pathlib.Path]]:
 
 
 def is_told(item: believed.Item, types: list[pathlib.Path]) -> bool:
-    """Whether the reader is told of a type: by its file, by its name where contracts see its `Model` alone, or as a trait's."""
+    """Whether the list covers a type: by its file, by its name if contracts see only its `Model`,
+    or as a trait's.
+    """
     by_name = believed.has_model(item) and f"`{item.name}`" in believed_section()
     return by_name or item.path in (*types, *(CRATES / name for name, _ in believed.ROOTS))
 
 
 def list_faults() -> Iterator[str]:
-    """What the list lacks, and what it has in vain."""
+    """What the list lacks, and what it contains needlessly."""
     definitions, types = believed_files()
     reached: dict[pathlib.Path, list[str]] = {}
     for item in sorted(believed.believed()):
@@ -95,7 +99,7 @@ def list_faults() -> Iterator[str]:
 
 
 def sum_of(pairs: Iterable[tuple[int, int]]) -> tuple[int, int]:
-    """The sums of the first and of the second numbers."""
+    """The sums of the first numbers and of the second numbers."""
     first = second = 0
     for one, other in pairs:
         first, second = first + one, second + other
@@ -103,7 +107,7 @@ def sum_of(pairs: Iterable[tuple[int, int]]) -> tuple[int, int]:
 
 
 def sizes() -> Iterator[tuple[str, int]]:
-    """What is counted, each with its number."""
+    """Each size by name."""
     definitions, types = believed_files()
     specs, proofs = (sorted(CRATES.glob(f"*/{kind}/**/*.antt")) for kind in ("specs", "proofs"))
     rust = sorted(CRATES.glob("*/src/**/*.rt"))
@@ -129,7 +133,9 @@ def cases() -> Iterator[str]:
 
 
 def main(words: list[str]) -> int:
-    """Prints the sizes, or the definitions that needn't stand where they are, unless the list is another than the one that is found."""
+    """Prints the sizes, or the definitions that aren't needed. Fails if the document's list differs
+    from the one found.
+    """
     faults = [f"docs/ARCHITECTURE.md, of the files that have to be believed: {fault}" for fault in list_faults()]
     if faults:
         print("\n".join(faults), file=sys.stderr)
