@@ -1,4 +1,4 @@
-"""Chromium, without a window, by its own debugging protocol over a socket: for tests of pages."""
+"""Drives headless Chromium through its debugging protocol over a socket: for tests of pages."""
 from __future__ import annotations
 
 import base64
@@ -17,18 +17,18 @@ from typing import Any, Optional
 
 from must import Wrong, must
 
-# How long (s) an answer may take on a busy machine.
+# The timeout (s) of an answer on a busy machine.
 SECONDS = 120
 NAMES = ("chromium", "chromium-browser", "google-chrome")
 
 
 def browser_path() -> Optional[str]:
-    """The browser, where one is installed."""
+    """The path of the browser, or None if none is installed."""
     return next((path for path in map(shutil.which, NAMES) if path), None)
 
 
 class Socket:
-    """A WebSocket to a page, as RFC 6455 has it: texts from here are masked, those from there aren't."""
+    """A WebSocket client (RFC 6455): sent texts are masked, received ones aren't."""
 
     def __init__(self, port: int, path: str) -> None:
         self.stream = socket.create_connection(("127.0.0.1", port), SECONDS)
@@ -48,7 +48,7 @@ class Socket:
         self.stream.sendall(b"\x81" + length + mask + bytes(it ^ mask[place % 4] for place, it in enumerate(data)))
 
     def receive(self) -> str:
-        """The next text, of one piece or several."""
+        """The next text, from one frame or several."""
         whole = b""
         while True:
             first, second = self.file.read(2)
@@ -67,7 +67,7 @@ class Socket:
 
 
 class Page:
-    """A page that is open. `faults` has what stood on its console, and what it threw."""
+    """An open page. `faults` has what it wrote on its console, and what it threw."""
 
     def __init__(self, stream: Socket) -> None:
         self.stream, self.number = stream, 0
@@ -78,7 +78,9 @@ class Page:
         self.asked: list[str] = []
 
     def ask(self, method: str, **params: Any) -> dict[str, Any]:
-        """Asks the browser something, and takes down what it tells meanwhile."""
+        """Calls a method of the browser and returns its result; stores the events that arrive
+        before it.
+        """
         self.number += 1
         self.stream.send(json.dumps({"id": self.number, "method": method, "params": params}))
         while True:
@@ -104,13 +106,13 @@ class Page:
             self.asked.append(params["request"]["url"])
 
     def open(self, path: str) -> None:
-        """Opens a file, and waits until it is loaded."""
+        """Opens a file, and waits until it has loaded."""
         before = self.loads
         self.ask("Page.navigate", url=f"file://{path}")
         self.wait_for_load(before)
 
     def wait_for_load(self, before: int) -> None:
-        """Waits until a page more is loaded than so many."""
+        """Waits until more than `before` pages have loaded."""
         end = time.monotonic() + SECONDS
         while self.loads == before:
             must(time.monotonic() < end, "the page is loaded")
@@ -118,13 +120,13 @@ class Page:
             time.sleep(0.02)
 
     def value(self, script: str) -> Any:
-        """What an expression gives on the page."""
+        """The value of an expression on the page."""
         found = self.ask("Runtime.evaluate", expression=script, returnByValue=True)
         must("exceptionDetails" not in found, f"{script}: {found.get('exceptionDetails')}")
         return found["result"].get("value")
 
     def look(self, width: int, height: int = 900, scheme: str = "light", media: str = "") -> None:
-        """Shows it so wide and high, by a reader's choice of light or dark."""
+        """Sets the size (pixels), the reader's colour scheme (light or dark) and the medium."""
         self.ask("Emulation.setDeviceMetricsOverride", width=width, height=height, deviceScaleFactor=1, mobile=False)
         self.ask("Emulation.setEmulatedMedia", media=media, features=[{"name": "prefers-color-scheme", "value": scheme}])
 
@@ -140,28 +142,30 @@ class Page:
         self.drag(x, x, y)
 
     def drag(self, left: float, right: float, y: float) -> None:
-        """Presses the button at one place, and lets it go at another."""
+        """Presses the mouse button at x `left`, and releases it at `right`."""
         self.mouse("mousePressed", left, y, button="left", clickCount=1)
         self.mouse("mouseMoved", (left + right) / 2, y, button="left", buttons=1)
         self.mouse("mouseMoved", right, y, button="left", buttons=1)
         self.mouse("mouseReleased", right, y, button="left", clickCount=1)
 
     def key(self, name: str, code: int, text: str = "", modifiers: int = 0) -> None:
-        """Presses a key by its name and its number."""
+        """Presses a key, with its name and its code."""
         for kind in ("keyDown", "keyUp"):
             more = {"text": text} if text and kind == "keyDown" else {}
             self.ask("Input.dispatchKeyEvent", type=kind, key=name, windowsVirtualKeyCode=code, modifiers=modifiers, **more)
 
 
 def flags(folder: str) -> list[str]:
-    """How the browser is started: as root it takes no sandbox, and it must ask nobody."""
+    """The browser's arguments: no requests to the network, and no sandbox if run as root, since
+    Chromium would refuse.
+    """
     found = ["--headless", "--disable-gpu", "--hide-scrollbars", "--no-first-run", "--disable-extensions", "--disable-dev-shm-usage"]
     found += ["--disable-background-networking", "--disable-component-update", "--disable-sync", f"--user-data-dir={folder}"]
     return found + (["--no-sandbox"] if os.geteuid() == 0 else [])
 
 
 def port_of(folder: str, process: subprocess.Popen[bytes]) -> int:
-    """The port at which the browser takes questions, once it wrote it down."""
+    """The port of the debugging protocol, once the browser has written it."""
     path = os.path.join(folder, "DevToolsActivePort")
     end = time.monotonic() + SECONDS
     while time.monotonic() < end and process.poll() is None:

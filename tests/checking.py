@@ -1,4 +1,6 @@
-"""What checks of charts and metrics have in common: what must be near, and runs of the program and of a tool."""
+"""Shared by checks of charts and metrics: comparing with a tolerance, and runs of the program and
+of a tool.
+"""
 from __future__ import annotations
 
 import functools
@@ -10,7 +12,7 @@ from typing import Callable, Iterator, Sequence
 from must import Wrong, must, must_be
 
 TOP = os.path.dirname(os.path.dirname(os.path.abspath(__file__)))
-# Places in a chart have two decimals, and so have the axes from which the scales are read.
+# Coordinates in a chart have two decimals, and so have the axes from which the scales are read.
 NEAR = 0.02
 
 RUNAWAY = ("replay", "examples/runaway.trace", "--rules", "examples/runaway.json", "--report-s", "2")
@@ -25,7 +27,7 @@ def must_be_near(what: str, found: Sequence[Sequence[float]], wanted: Sequence[S
 
 
 def run(words: Sequence[str], given: bytes = b"") -> bytes:
-    """What a run prints that must end well."""
+    """The output of a run, which must succeed."""
     done = subprocess.run(words, cwd=TOP, input=given, capture_output=True)
     must_be(f"the status of {words}, which said {done.stderr!r}", done.returncode, 0)
     return done.stdout
@@ -33,12 +35,12 @@ def run(words: Sequence[str], given: bytes = b"") -> bytes:
 
 @functools.lru_cache(maxsize=None)
 def story(program: str) -> bytes:
-    """What a replay of the story prints."""
+    """The output of a replay of the story."""
     return run([program, *RUNAWAY])
 
 
 def fault_of(tool: str, printed: bytes, *words: str, **variables: str) -> str:
-    """What the tool says of a fault: it must print nothing, and end with status 1."""
+    """The tool's message for a fault: the tool must print nothing else, and exit with status 1."""
     at = {**os.environ, **variables}
     done = subprocess.run([tool, *words], cwd=TOP, input=printed, capture_output=True, env=at)
     must_be(f"the status and the output of {words}", (done.returncode, done.stdout), (1, b""))
@@ -46,7 +48,7 @@ def fault_of(tool: str, printed: bytes, *words: str, **variables: str) -> str:
 
 
 def checks_of(modules: Sequence[ModuleType], names: Sequence[str]) -> Iterator[tuple[str, Check]]:
-    """The functions `check_..` of the modules, or those of them that are named."""
+    """The functions `check_..` of the modules, or only the named ones."""
     for module in modules:
         for name, check in vars(module).items():
             plain = name[6:].replace("_", " ")
@@ -55,7 +57,9 @@ def checks_of(modules: Sequence[ModuleType], names: Sequence[str]) -> Iterator[t
 
 
 def run_checks(what: str, modules: Sequence[ModuleType], program: str, names: Sequence[str]) -> int:
-    """Runs the checks on the program, and tells what was wrong. The status is 1 where something was, or nothing was checked."""
+    """Runs the checks on the program, and prints what was wrong. Returns 1 if something was, or if
+    there was no check.
+    """
     passed = failed = 0
     for name, check in checks_of(modules, names):
         try:

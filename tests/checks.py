@@ -1,4 +1,6 @@
-"""What the tests of the tools share: comparing, running a tool in a folder of its own, and running all checks of a file."""
+"""Shared by tests of the tools: comparing, running a tool in a temporary folder, and running all
+checks of a file.
+"""
 import inspect
 import json
 import os
@@ -24,36 +26,38 @@ REFUSED = os.path.join(TOP, "examples", "refused.trace")
 
 @dataclass(frozen=True)
 class Done:
-    """What a run left: its status and its two streams."""
+    """The result of a run: its exit status and both its streams."""
 
     status: int
     output: str
     error: str
 
     def json(self) -> object:
-        """The output as Python's own reader of JSON gives it back."""
+        """The output, parsed as JSON."""
         read = subprocess.run([sys.executable, "-m", "json.tool"], input=self.output, capture_output=True, text=True)
         must_be("what json.tool says", (read.returncode, read.stderr), (0, ""))
         return json.loads(read.stdout)
 
     def without_notes(self) -> "Done":
-        """The run without the notes of lint. tests/oomd has those of what oomd does otherwise."""
+        """The run without the notes of lint. Notes on oomd's differences are tested by tests/oomd.
+        """
         kept = [it for it in self.output.splitlines(True) if ": note: " not in it]
         return Done(self.status, "".join(kept), self.error)
 
     def must_print(self, what: str, status: int, output: str) -> None:
-        """Compares the status and the output; where they are others, what was said of it is told too."""
+        """Compares the status and the output; if they differ, the failure shows standard error too.
+        """
         must_be(f"{what}, where standard error was {self.error!r}", (self.status, self.output), (status, output))
 
 
 class Room:
-    """A folder of a check's own, and the program by which the tools work in it."""
+    """A check's temporary folder, and the program that the tools use there."""
 
     def __init__(self, program: str, path: str) -> None:
         self.program, self.path = program, path
 
     def file(self, name: str, text: str | bytes, mode: int = 0o644) -> str:
-        """Writes a file, and gives its name back."""
+        """Writes a file, and returns its name."""
         path = os.path.join(self.path, name)
         with open(path, "wb") as file:
             file.write(text if isinstance(text, bytes) else text.encode())
@@ -61,7 +65,9 @@ class Room:
         return name
 
     def run(self, *words: str, given: str | bytes = b"", program: str | None = None, **more: str) -> Done:
-        """Runs a tool of the repository, or psi_oomd where the first word is that, with these variables too."""
+        """Runs a tool of the repository, or psi_oomd if that is the first word, with these
+        additional environment variables.
+        """
         first = self.program if words[0] == "psi_oomd" else os.path.join(TOP, words[0])
         environment: dict[str, str] = {**os.environ, "PSI_OOMD": program or self.program, **more}
         data = given if isinstance(given, bytes) else given.encode()
@@ -69,7 +75,9 @@ class Room:
         return Done(done.returncode, done.stdout.decode(), done.stderr.decode())
 
     def kills(self, *words: str, given: str = "") -> list[tuple[int, int, int, str]]:
-        """The kills that psi_oomd itself tells of this replay: moment (ns), ruleset, action and path."""
+        """The kills that psi_oomd itself prints for this replay: time (ns), ruleset, action and
+        path.
+        """
         done = self.run("psi_oomd", "replay", *words, given=given)
         must_be(f"the status of replay {words}, which said {done.error}", done.status, 0)
         found = re.findall(r"^kill ([0-9]+) ruleset=([0-9]+) action=([0-9]+) (\S+)$", done.output, re.MULTILINE)
@@ -80,13 +88,15 @@ Check = Callable[..., None]
 
 
 def run_checks(title: str, checks: dict[str, object]) -> int:
-    """Runs each function whose name begins with check_ in a room of its own. The words may name the program."""
+    """Runs each function whose name begins with check_ in its own room. The arguments may name the
+    program.
+    """
     program, _ = program_of(sys.argv[1:])
     return run_named(title, checks, lambda check, path: check(Room(program, path)))
 
 
 def run_named(title: str, checks: dict[str, object], call: Callable[[Check, str], None]) -> int:
-    """Runs each check with a folder of its own, side by side, and tells which failed."""
+    """Runs the checks in parallel, each in its own folder, and prints which failed."""
 
     def fault(check: Check) -> str | None:
         try:

@@ -1,4 +1,6 @@
-"""The clocks of a path's groups after each change of each processor, and the ticks of a trace: by the rules alone."""
+"""The clocks of a path's groups after each change of each processor, and the ticks of a trace: from
+the rules alone.
+"""
 from __future__ import annotations
 
 import dataclasses
@@ -7,14 +9,16 @@ from collections.abc import Iterable
 from machine import Machine
 
 NO_TIMES = [0] * 7
-# By the number of a group, the times (ns) of its states, and whether each of them holds.
+# For each group's number: the times (ns) of its states, and whether each state holds.
 Times = dict[int, list[int]]
 States = dict[int, list[bool]]
 
 
 @dataclasses.dataclass
 class Tick:
-    """A tick (ns): the group that has the path, if one has, and how many changes each processor had up to it."""
+    """A tick (ns): the group with the path, if any, and the number of changes of each processor up
+    to it.
+    """
 
     moment: int
     group: int | None
@@ -51,17 +55,19 @@ class Clocks:
             self.end_tick(tick, machine, path)
 
     def end_tick(self, tick: int, machine: Machine, path: str) -> None:
-        """Notes the next tick."""
+        """Adds the next tick."""
         counts = [len(changes) - 1 for changes in self.changes]
         self.ticks.append(Tick((len(self.ticks) + 1) * tick, machine.live.get(path), counts))
 
     def times(self, tick: Tick, cpu: int, count: int, at: int) -> list[int]:
-        """The times (ns) that the group which has the path at a tick had by so many changes of the processor, opened to a moment."""
+        """The times (ns) of the tick's group after `count` changes of the processor, extended to
+        the time `at` (ns).
+        """
         moment, times, states = self.changes[cpu][count]
         group = -1 if tick.group is None else tick.group
         return opened(times.get(group, NO_TIMES), states.get(group, NO_TIMES), at - moment)
 
 
 def opened(times: list[int], holds: Iterable[int], length: int) -> list[int]:
-    """The times (ns) after so many ns more, in which these states held."""
+    """The times (ns) after these states held for `length` ns more."""
     return [time + length if is_held else time for time, is_held in zip(times, holds)]

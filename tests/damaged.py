@@ -1,5 +1,7 @@
-"""Makes damaged recordings of the stored ones, the same for each number, and converts them: whatever was damaged, `psitrace` may
-refuse it, but never with a traceback, and a trace that it writes must be accepted by `check`."""
+"""Damages the stored recordings, in the same way for the same number, and converts them: `psitrace`
+may reject any of them, but never with a traceback, and `check` must accept each trace that it
+writes.
+"""
 from __future__ import annotations
 
 import contextlib
@@ -28,7 +30,8 @@ from psiread.pages import page_at, records_of  # noqa: E402
 from psiread.recording import kernel_of  # noqa: E402
 
 BASES = ("exec-2", "cg-2", "mix-2", "threads", "wakeups")
-# How many pages of each processor are kept, so that a conversion takes a fraction of a second.
+# The number of pages of each processor that are used, so that a conversion takes a fraction of a
+# second.
 PAGES = 6
 NUMBERS = (0, 1, 2, -1, -2, 3, 63, 64, 65, 255, 4096, 2**15, 2**31 - 1, -(2**31), 2**32, 2**53, 2**62, 2**63 - 1, -(2**63), 10**18)
 DIGITS = ("0", "-1", "-0", "007", "4294967295", "4294967296", "18446744073709551616", "1e9", "0x10", "²", "٣", "", "9" * 5000)
@@ -46,7 +49,7 @@ class Base(NamedTuple):
 
 @functools.lru_cache(maxsize=None)
 def base_of(name: str) -> Base:
-    """A stored recording's first pages, with the count of bytes that belongs to them."""
+    """A stored recording's first pages, with the matching byte counts."""
     with recording(name) as folder:
         files = {}
         for one in os.listdir(folder):
@@ -63,16 +66,16 @@ def base_of(name: str) -> Base:
 
 
 class Damage:
-    """Damages the files of a recording in one or some ways, by a seed."""
+    """Damages the files of a recording in one or more ways, chosen by a seed."""
 
     def __init__(self, base: Base, draw: random.Random) -> None:
         self.files, self.formats, self.draw = dict(base.files), base.formats, draw
         self.page = PAGE
-        # What stands in place of a file: a device, a FIFO or a folder.
+        # Replacements of files: a device, a FIFO or a folder.
         self.odd: dict[str, str] = {}
 
     def raw(self) -> str:
-        """The name of some pages."""
+        """The name of a random file of pages."""
         return self.draw.choice(sorted(name for name in self.files if name.endswith(".raw")))
 
     def put(self, name: str, at: int, data: bytes) -> None:
@@ -81,7 +84,7 @@ class Damage:
         self.files[name] = before[:at] + data + before[at + len(data) :]
 
     def bits(self) -> None:
-        """Some bits of pages are flipped."""
+        """Flips some bits of pages."""
         for _ in range(self.draw.choice((1, 1, 5, 50))):
             name = self.raw()
             if self.files[name]:
@@ -89,7 +92,7 @@ class Damage:
                 self.put(name, at, bytes([self.files[name][at] ^ 1 << self.draw.randrange(8)]))
 
     def fields(self) -> None:
-        """Fields of some records have other numbers."""
+        """Puts other numbers into fields of some records."""
         for _ in range(self.draw.choice((1, 3, 10))):
             name = self.raw()
             data, page = self.files[name], kernel_page()
@@ -104,7 +107,7 @@ class Damage:
                 self.field(name, self.draw.choice(records)[1])
 
     def field(self, name: str, start: int) -> None:
-        """A field of the record that begins there has another number."""
+        """Puts another number into a field of the record that begins at `start`."""
         form = self.formats.get(int.from_bytes(self.files[name][start : start + 2], "little"))
         fields = [it for it in form.fields.values() if it.size in (1, 2, 4, 8)] if form else []
         if fields:
@@ -113,7 +116,7 @@ class Damage:
             self.put(name, start + field.offset, value.to_bytes(field.size, "little"))
 
     def heads(self) -> None:
-        """The head of a page has another time, or another length."""
+        """Changes the time or the length in the head of a page."""
         name = self.raw()
         pages = len(self.files[name]) // PAGE
         if pages:
@@ -123,7 +126,7 @@ class Damage:
             self.put(name, at + self.draw.choice((0, 0, 8)), (value % 2**64).to_bytes(8, "little"))
 
     def order(self) -> None:
-        """Pages are lost, doubled or in another order, or the end is cut."""
+        """Removes, doubles or reorders pages, or cuts the end."""
         name = self.raw()
         data = self.files[name]
         pages = [data[at : at + PAGE] for at in range(0, len(data), PAGE)]
@@ -136,7 +139,7 @@ class Damage:
         self.files[name] = b"".join(pages)[: -self.draw.choice((1, 100, 4095)) if self.draw.random() < 0.3 else None]
 
     def lines(self) -> None:
-        """A text has other words, or lines too few or too many."""
+        """Changes words of a text, and adds or removes lines."""
         name = self.draw.choice(("snapshot", "snapshot", "meta", "formats", "pressure"))
         lines = self.files[name].split(b"\n")
         for _ in range(self.draw.choice((1, 2, 8))):
@@ -154,12 +157,12 @@ class Damage:
         self.files[name] = b"\n".join(lines)
 
     def cut(self) -> None:
-        """A file is cut, or empty."""
+        """Cuts or empties a file."""
         name = self.draw.choice(sorted(self.files))
         self.files[name] = self.files[name][: self.draw.choice((0, self.draw.randrange(len(self.files[name]) + 1)))]
 
     def packed(self) -> None:
-        """Pages are compressed, perhaps with far more after them, or the compressed bytes are damaged."""
+        """Compresses pages, perhaps followed by far more, or damages the compressed bytes."""
         name = self.raw()
         data = self.files.pop(name) + bytes(self.draw.choice((0, 0, 1 << 20)))
         data = gzip.compress(data, 1)
@@ -168,16 +171,16 @@ class Damage:
         self.files[name.replace(".raw", ".0.raw.gz")] = data
 
     def odd_file(self) -> None:
-        """A file is gone, or a device, a FIFO or a folder is in its place."""
+        """Removes a file, or puts a device, a FIFO or a folder in its place."""
         name = self.draw.choice(sorted(self.files))
         self.odd[name] = self.draw.choice(("gone", "/dev/zero", "/dev/null", "fifo", "folder"))
 
     def more(self) -> None:
-        """There are pages of a processor that `meta` doesn't know."""
+        """Adds pages of a processor that `meta` doesn't list."""
         self.files[f"cpu{self.draw.choice((2, 4, 9, 70))}.raw"] = self.files[self.raw()]
 
     def apply(self) -> list[str]:
-        """Damages the recording; in which ways."""
+        """Damages the recording, and returns the names of the ways."""
         often = {"bits": 6, "fields": 12, "heads": 6, "order": 4, "lines": 8, "cut": 2, "packed": 1, "odd_file": 1, "more": 1}
         ways = self.draw.choices(list(often), list(often.values()), k=self.draw.choice((1, 1, 2, 3)))
         for way in ways:
@@ -203,7 +206,7 @@ class Damage:
 
 @functools.lru_cache(maxsize=None)
 def kernel_page() -> Any:
-    """How the pages of the stored recordings look."""
+    """The page layout of the stored recordings."""
     with recording("exec-2") as folder:
         return kernel_of(folder).page
 
@@ -212,7 +215,7 @@ def kernel_page() -> Any:
 
 
 def converted_here(folder: str, output: str, words: tuple[str, ...]) -> tuple[int, str]:
-    """The status of psitrace in this process, and what it says."""
+    """Runs psitrace in this process: its status, and its messages."""
     said = io.StringIO()
     with contextlib.redirect_stderr(said):
         status = command.main([folder, "-o", output, *words])
@@ -220,7 +223,9 @@ def converted_here(folder: str, output: str, words: tuple[str, ...]) -> tuple[in
 
 
 def convert(program: str, number: int) -> tuple[int, bool]:
-    """Damages and converts a recording: the status, and whether a trace was written, which `check` accepted."""
+    """Damages and converts a recording: the status, and whether it wrote a trace, which `check`
+    accepted.
+    """
     draw = random.Random(number)
     damage = Damage(base_of(draw.choice(BASES)), draw)
     ways, words = damage.apply(), draw.choice(WORDS)
@@ -244,7 +249,7 @@ def convert(program: str, number: int) -> tuple[int, bool]:
 
 
 def damages(program: str, numbers: Iterator[int] | range, tell: Callable[[str], None]) -> int:
-    """Converts damaged recordings of these numbers; how many are wrong."""
+    """Converts damaged recordings of these numbers, and returns how many fail."""
     found: Counter[tuple[int, bool]] = Counter()
     wrong = 0
     for number in numbers:

@@ -1,5 +1,6 @@
-"""What checks of folding have in common: folding a trace here, replays that must be the same, and traces on which tasks don't come
-and go."""
+"""Shared by checks of folding: folding a trace, replays that must be equal, and traces whose tasks
+exist from start to end.
+"""
 from __future__ import annotations
 
 import os
@@ -22,7 +23,7 @@ TOTAL = re.compile(rb"total=([0-9]+)")
 
 
 def folded(trace: str, window: int, victims: Sequence[Victim] = ()) -> tuple[str, Fold]:
-    """The folded trace, by windows of so many ns, and what folded it."""
+    """The folded trace, with windows of `window` ns, and the fold that made it."""
     header, *lines = trace.splitlines()
     found = [header]
     fold = Fold(int(header.partition("cpus=")[2]), window, found.extend, victims)
@@ -31,14 +32,14 @@ def folded(trace: str, window: int, victims: Sequence[Victim] = ()) -> tuple[str
 
 
 def printed(program: str, trace: str, *words: str) -> bytes:
-    """What a command of psi_oomd prints of a trace."""
+    """The output of a command of psi_oomd on a trace."""
     done = run([program, words[0], "-", *words[1:]], trace.encode())
     must_be(f"the status of {' '.join(words)}, which said {done.said}", done.status, 0)
     return done.output
 
 
 def must_replay_alike(what: str, program: str, trace: str, other: str, window: int, words: Sequence[str] = ()) -> None:
-    """Replays of both traces at the window and at two multiples print the same bytes."""
+    """Replays of both traces with ticks of the window and of two multiples print the same bytes."""
     for times in (1, 2, 3):
         if window * times <= 60_000 * MS:
             given = ("replay", f"--tick-ms={window * times // MS}", "--report-s=1", *words)
@@ -46,14 +47,16 @@ def must_replay_alike(what: str, program: str, trace: str, other: str, window: i
 
 
 def must_print_alike(what: str, wanted: bytes, found: bytes) -> None:
-    """Both are the same. The first line that isn't is told."""
+    """Fails if the outputs differ, and shows the first line that does."""
     for line, other in zip(wanted.splitlines(), found.splitlines()):
         must_be(what, other, line)
     must_be(f"{what}, how many lines", len(found.splitlines()), len(wanted.splitlines()))
 
 
 class Settled(Maker):
-    """Makes traces in which all groups and tasks are there from the start, so that a victim gets no task later."""
+    """Makes traces in which all groups and tasks exist from the start, so that a victim gets no
+    task later.
+    """
 
     FIRST = {**Maker.FIRST, "fork": 0, "move": 0, "group": 0, "rmgroup": 0, "stall": 3, "side": 4}
     OFTEN = {1: FIRST, 2: {**FIRST, "irq": 4, "pressure": 3}}
@@ -68,7 +71,7 @@ class Settled(Maker):
                 self.begin(event)
 
     def begin(self, event: Event) -> None:
-        """Something that is there from the start."""
+        """Adds something that exists from the start."""
         self.machine.take(*event)
         self.lines.append(f"0 {' '.join(event)}")
 
@@ -79,7 +82,7 @@ class Settled(Maker):
 
 
 class Wide(Maker):
-    """Makes traces of up to 64 processors and of hundreds of groups, in which few things happen."""
+    """Makes traces of up to 64 processors and hundreds of groups, with few events."""
 
     PATHS = tuple(f"/g{one}{below}" for one in range(80) for below in ("", "/a", "/a/b", "/c"))
 
@@ -94,24 +97,24 @@ class Wide(Maker):
 
 
 def window_of(maker: Maker, number: int) -> int:
-    """A window for a made trace, in ns: mostly the tick for which it was made."""
+    """A window (ns) for a generated trace: mostly the tick that it was made for."""
     return random.Random(number).choice((1, 1, 2, 3)) * maker.tick
 
 
 def files_of(folder: str) -> list[str]:
-    """The traces of a folder of the repository that are small."""
+    """The small traces of a folder of the repository."""
     names = (os.path.join(folder, name) for name in sorted(os.listdir(folder)) if name.endswith(".trace"))
     return [name for name in names if "refused" not in name]
 
 
 def text_of(name: str) -> str:
-    """What stands in a file."""
+    """The text of a file."""
     with open(name, encoding="ascii") as file:
         return file.read()
 
 
 def lines_between(trace: str, start: int, end: int) -> list[str]:
-    """The lines of a trace from after one moment up to another (ns)."""
+    """The lines of a trace later than `start` and up to `end` (ns)."""
     found = [line for line in trace.splitlines()[1:] if start < int(line.split(" ")[0]) <= end]
     must(trace.endswith("\n"), "the trace ends with a newline")
     return found

@@ -1,4 +1,4 @@
-"""Texts of ftrace that are made up at random: what a scheduler could have done, and what becomes of it by faults."""
+"""Random texts of ftrace: what a scheduler could have done, with and without faults."""
 from __future__ import annotations
 
 import random
@@ -31,7 +31,9 @@ PIECES = (
 
 @dataclass
 class Scheduler:
-    """Tasks on some processors, which only do what a scheduler lets them, and the lines that tell of it. Moments are in us."""
+    """Tasks on some processors that do only what a scheduler allows, and the lines that report it.
+    Times are in us.
+    """
 
     rng: random.Random
     cpus: int
@@ -44,16 +46,16 @@ class Scheduler:
     others: tuple[bytes, ...] = OTHERS
 
     def line(self, cpu: int, event: bytes) -> bytes:
-        """A line on this processor, with one of the forms of a head."""
+        """A line on this processor, with a random form of head."""
         moment = b"%d.%06d" % divmod(self.now, 10**6)
         return self.rng.choice(HEADS) % (self.name(), self.runs.get(cpu, 0), cpu, moment) + event + b"\n"
 
     def name(self) -> bytes:
-        """A task's name, which nobody compares."""
+        """A random task name; names aren't compared."""
         return self.rng.choice(self.names)
 
     def switch(self, cpu: int, state: bytes, pid: int) -> bytes:
-        """The task that runs on a processor leaves, and another runs, or none where it is 0."""
+        """The running task leaves the processor, and task `pid` runs, or none if it is 0."""
         before = self.runs.pop(cpu, 0)
         left = b"prev_comm=%b prev_pid=%d prev_prio=120 prev_state=%b" % (self.name(), before, state)
         line = self.line(cpu, b"sched_switch: %b ==> next_comm=%b next_pid=%d next_prio=120" % (left, self.name(), pid))
@@ -64,7 +66,7 @@ class Scheduler:
         return line
 
     def wakeup(self, pid: int) -> bytes:
-        """A task that is gone, or sleeps, is woken."""
+        """Wakes a task that is asleep or has exited."""
         cpu = self.rng.randrange(self.cpus)
         event = b"sched_wakeup_new" if self.modes.get(pid, "gone") == "gone" else b"sched_wakeup"
         self.modes[pid], self.places[pid] = "ready", cpu
@@ -72,7 +74,7 @@ class Scheduler:
         return self.line(self.rng.randrange(self.cpus), told)
 
     def step(self) -> bytes:
-        """One thing that happens."""
+        """One random event."""
         self.now += self.rng.choice((0, 1, 7, 1000, 300_000))
         pid = self.rng.randint(1, self.tasks)
         mode = self.modes.get(pid, "gone")
@@ -88,13 +90,15 @@ class Scheduler:
         return self.switch(cpu, self.rng.choice(STATES) if self.runs.get(cpu) else b"R", pid)
 
     def text(self, count: int) -> bytes:
-        """So many things that happen, with other lines among them."""
+        """A text of `count` events, with other lines among them."""
         is_other = [bool(self.others) and self.rng.random() < 0.05 for _ in range(count)]
         return b"".join(self.rng.choice(self.others) if it else self.step() for it in is_other)
 
 
 def spoiled(rng: random.Random, text: bytes) -> bytes:
-    """The text with a few faults: bytes that are others, pieces put in or taken out, lines that move, come twice or go."""
+    """The text with a few faults: changed bytes, pieces inserted or removed, lines moved, doubled
+    or dropped.
+    """
     data = text
     for _ in range(rng.choice((0, 1, 1, 2, 3))):
         at = rng.randrange(len(data) + 1)
@@ -114,7 +118,7 @@ def spoiled(rng: random.Random, text: bytes) -> bytes:
 
 
 def swapped(rng: random.Random, line: bytes) -> bytes:
-    """The line with two of its words exchanged."""
+    """The line with two of its words swapped."""
     words = line.split(b" ")
     one, other = rng.randrange(len(words)), rng.randrange(len(words))
     words[one], words[other] = words[other], words[one]
