@@ -1,4 +1,6 @@
-"""Tasks, groups and states after each event of a trace, by the rules alone: which states hold is read off the tasks."""
+"""Tasks, groups and states after each event of a trace, from the rules alone: the states are
+derived from the tasks.
+"""
 from __future__ import annotations
 
 import collections
@@ -7,7 +9,9 @@ import dataclasses
 
 @dataclasses.dataclass
 class Task:
-    """A task by its group and processor: `at` is "ready", "running", "sleep" or "iowait"."""
+    """A task: its group, its processor, and its state `at`: "ready", "running", "sleep" or
+    "iowait".
+    """
 
     group: int
     cpu: int
@@ -16,10 +20,12 @@ class Task:
 
 
 class Machine:
-    """What a legal trace made so far. Groups are numbers in the order in which they were made; 0 is the root.
+    """The state after the events so far of a valid trace. Groups are numbered in the order of their
+    creation; 0 is the root.
 
-    `off` has the groups whose account is off. `interrupts` has, by processor and group, how long (ns) interrupts took there while
-    the group's account was on and a task of it ran."""
+    `off` has the groups whose account is off. `interrupts` has, by processor and group, how long
+    (ns) interrupts took there while the group's account was on and a task of it ran.
+    """
 
     def __init__(self, cpus: int) -> None:
         self.cpus = cpus
@@ -36,11 +42,13 @@ class Machine:
         return group == top
 
     def running(self, cpu: int) -> list[str]:
-        """The numbers of the tasks that run there: one or none."""
+        """The numbers of the tasks that run on the processor: one or none."""
         return [pid for pid, task in self.tasks.items() if task.cpu == cpu and task.at == "running"]
 
     def holds(self, cpu: int, group: int) -> list[bool]:
-        """Which of the seven states hold for the group on the processor: none while its account is off."""
+        """Whether each of the seven states holds for the group on the processor: none while its
+        account is off.
+        """
         if group in self.off:
             return [False] * 7
         tasks = [task for task in self.tasks.values() if task.cpu == cpu and self.is_under(task.group, group)]
@@ -61,7 +69,7 @@ class Machine:
         ]
 
     def take(self, verb: str, *fields: str) -> set[int]:
-        """Makes this event, and answers which processors it changes."""
+        """Applies an event, and returns the processors that it changes."""
         changed: set[int] = getattr(self, f"take_{verb}")(*fields)
         return changed
 
@@ -108,8 +116,9 @@ class Machine:
         return {self.tasks[pid].cpu}
 
     def take_irq(self, cpu: str, length: str) -> set[int]:
-        """Interrupts take so long (ns) from the task that runs, so from its group and all above whose account is on. It is a change
-        in any case."""
+        """Interrupts take `length` ns from the running task, and so from its group and all
+        ancestors whose account is on. The processor changes in any case.
+        """
         for pid in self.running(int(cpu)):
             group: int | None = self.tasks[pid].group
             while group is not None:
@@ -119,7 +128,7 @@ class Machine:
         return {int(cpu)}
 
     def take_pressure(self, path: str, switched: str) -> set[int]:
-        """Switches the account of a group. Every processor changes."""
+        """Switches the account of a group on or off. Every processor changes."""
         (self.off.discard if switched == "on" else self.off.add)(self.live[path])
         return set(range(self.cpus))
 
@@ -131,5 +140,5 @@ class Machine:
 
 
 def parent_of(path: str) -> str:
-    """The path of the group above."""
+    """The path of the parent group."""
     return path.rpartition("/")[0] or "/"

@@ -1,13 +1,13 @@
-"""How a check says that something is wrong."""
+"""The functions with which a check fails."""
 from __future__ import annotations
 
 
-# So many letters of what was wrong are told.
+# The most characters of a failure that are shown.
 SHOWN = 2000
 
 
 class Wrong(Exception):
-    """What there is, and what must be."""
+    """A failed check: what was found, and what is wanted."""
 
 
 def must(is_right: object, what: str) -> None:
