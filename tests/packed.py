@@ -1,4 +1,6 @@
-"""A package that was made for a test: what its archives hold, and its commands, run where they lie."""
+"""A package that is built for a test: the contents of its archives, and its commands, run from the
+unpacked folder.
+"""
 from __future__ import annotations
 
 import filecmp
@@ -22,7 +24,9 @@ PYTHON = "/usr/bin/python3"
 
 @dataclass(frozen=True)
 class Made:
-    """What was made: both archives by the ends of their names, twice; the same, unpacked; and the programs that went in."""
+    """Built packages: both archives by suffix, from two builds; the unpacked folders; and the
+    programs in them.
+    """
 
     first: dict[str, bytes]
     second: dict[str, bytes]
@@ -40,22 +44,24 @@ class Made:
         return sorted(os.listdir(self.path("bin")))
 
     def run(self, name: str, *words: str, given: str = "", path_first: str = "") -> subprocess.CompletedProcess[str]:
-        """Runs an installed command from another folder, on a path of its own, with no variable that names a program."""
+        """Runs an installed command from another folder, with its own PATH, and no variable that
+        names a program.
+        """
         path = self.path("bin", name)
-        # The tools want Debian's own Python; the programs are started by sh.
+        # The tools require Debian's own Python; sh starts the programs.
         words = (path, *words) if os.access(PYTHON, os.X_OK) or "_" in name else (sys.executable, "-B", path, *words)
         environment = {"PATH": f"{path_first}/usr/bin:/bin", "LC_ALL": "C.UTF-8", "HOME": os.path.dirname(self.tree)}
         return subprocess.run(words, cwd="/", env=environment, input=given, capture_output=True, encoding="utf-8")
 
 
 def is_built(name: str, path: str) -> bool:
-    """Whether a program is the one that the gate builds."""
+    """Whether a program is the one that the gate built."""
     built = os.path.join(TOP, "crates", f"{name}_main", "out", f"{name}_main")
     return os.path.exists(built) and filecmp.cmp(path, built, shallow=False)
 
 
 def make(into: str, programs: dict[str, str], **more: str) -> dict[str, bytes]:
-    """Makes both archives in this folder. The lines that tell of them have their sums."""
+    """Builds both archives in this folder. The printed lines have the archives' sums."""
     words = [os.path.join(TOP, "tools", "package"), "--program", programs["psi_oomd"], "--observer", programs["psi_observe"]]
     words += [] if all(is_built(*it) for it in programs.items()) else ["--unproved"]
     environment = {**os.environ, "SOURCE_DATE_EPOCH": str(SECONDS), **more}
@@ -102,7 +108,7 @@ def files_of(data: bytes, top: str) -> dict[str, tuple[int, str, bytes]]:
 
 
 def skipped(name: str, what: str) -> bool:
-    """Whether a command isn't installed here, which is told with what is passed over."""
+    """Whether a command isn't installed here; prints what is skipped."""
     if not shutil.which(name):
         print(f"{name} isn't installed, so this is passed over: {what}")
     return not shutil.which(name)

@@ -1,6 +1,8 @@
-"""Who ran while a group waited, and who stalled at the same time, by a plain walk: for checks of what tools/blame says.
+"""Who ran while a group waited, and who stalled at the same time, by a plain walk: the reference
+for tools/blame.
 
-It follows docs/TRACES.md alone: after each event all tasks of tests/machine.py are looked at, on each processor, for each group.
+It follows docs/TRACES.md alone: after each event it looks at all tasks of tests/machine.py, on each
+processor, for each group.
 """
 from __future__ import annotations
 
@@ -10,12 +12,15 @@ from typing import NamedTuple, Optional
 from machine import Machine
 
 WAITS_FOR_IO, IN_A_STALL, WAITS = 0, 2, 4
-# By the group, and who ran or was in the state too, ns. Groups are numbers in the order in which they were made; none ran where it is None.
+# Times (ns) by group, and by the group that ran or was in the same state. Groups are numbered in
+# the order of their creation; None means that nothing ran.
 Pairs = collections.Counter[tuple[int, Optional[int]]]
 
 
 class Plain(NamedTuple):
-    """The sums of a stretch. `times` is by group, processor and state; `less` by group, for a victim."""
+    """The sums of an interval. `times` is by group, processor and state; `less` by group, for a
+    victim.
+    """
 
     ran: collections.Counter[int]
     times: collections.Counter[tuple[int, int, int]]
@@ -26,19 +31,21 @@ class Plain(NamedTuple):
 
 
 def runner_of(machine: Machine, cpu: int) -> Optional[int]:
-    """The group of the task that runs there."""
+    """The group of the task that runs on the processor."""
     running = machine.running(cpu)
     return machine.tasks[running[0]].group if running else None
 
 
 def would_wait(machine: Machine, cpu: int, victims: set[int]) -> bool:
-    """Whether somebody would wait there if the tasks of these groups, of which one runs, were gone: one more could run."""
+    """Whether a task would wait there if the tasks of these groups, one of which runs, didn't
+    exist: one more task could run.
+    """
     ready = [task for task in machine.tasks.values() if task.cpu == cpu and task.at == "ready" and task.group not in victims]
     return len(ready) > 1
 
 
 def add_stretch(plain: Plain, machine: Machine, victims: set[int], length: int) -> None:
-    """Adds what holds for so long (ns)."""
+    """Adds what holds for `length` ns."""
     groups, cpus = range(len(machine.parents)), range(machine.cpus)
     holds = {(group, cpu): machine.holds(cpu, group) for group in groups for cpu in cpus}
     for cpu in cpus:
@@ -61,7 +68,8 @@ def add_stretch(plain: Plain, machine: Machine, victims: set[int], length: int) 
 
 
 def walk(trace: str, start: int, to: int, victim: str) -> Plain:
-    """The sums from one moment (ns) to another. The victim is all groups that had this path, and those below."""
+    """The sums from `start` to `to` (ns). The victim is all groups with this path, and those below.
+    """
     header, *lines = trace.splitlines()
     machine = Machine(int(header.partition("cpus=")[2]))
     plain = Plain(

@@ -1,7 +1,8 @@
-"""What `import` must make of a text of ftrace, in plain Python, by the rules of docs/IMPORT.md and nothing else.
+"""The result that `import` must give for a text of ftrace, in plain Python, from docs/IMPORT.md
+alone.
 
-It keeps no table but that of the tasks which the trace so far has, and compares nothing with the program: tests/imports and
-tests/release/import_lines do. Times and moments are in ns.
+Its only table is that of the tasks that the trace has so far. tests/imports and
+tests/release/import_lines compare it with the program. Times are in ns.
 """
 from __future__ import annotations
 
@@ -23,11 +24,11 @@ HOW = {b"R": "preempt", b"D": "iowait", b"X": "exit", b"Z": "exit"}
 
 
 class Bad(Exception):
-    """The cause against a line."""
+    """The cause for which a line is rejected."""
 
 
 class Switch(NamedTuple):
-    """On a processor a task made way for the next; 0 is the idle task."""
+    """A processor switched from one task to the next; 0 is the idle task."""
 
     cpu: int
     previous: int
@@ -43,7 +44,7 @@ class Wakeup(NamedTuple):
 
 
 class Migration(NamedTuple):
-    """A task went to a processor."""
+    """A task moved to a processor."""
 
     pid: int
     cpu: int
@@ -61,7 +62,7 @@ class Task:
 
 
 class Result(NamedTuple):
-    """What a run must end with: its status, its output and what it says."""
+    """The expected result of a run: its status, its output and its message."""
 
     status: int
     output: bytes
@@ -72,7 +73,7 @@ class Result(NamedTuple):
 
 
 def after_last(key: bytes, part: bytes) -> bytes:
-    """What stands after the last occurrence of the key."""
+    """The part after the last occurrence of the key."""
     before, found, after = part.rpartition(key)
     if not found:
         raise Bad("BadLine")
@@ -97,7 +98,7 @@ def head_of(head: bytes) -> tuple[int, int]:
 
 
 def switch_of(cpu: int, tail: bytes) -> Switch:
-    """A switch by its tail, which the last arrow parts."""
+    """Parses a switch's tail, which the last arrow divides."""
     left, arrow, right = tail.rpartition(b" ==> ")
     if not arrow:
         raise Bad("BadLine")
@@ -108,7 +109,7 @@ def switch_of(cpu: int, tail: bytes) -> Switch:
 
 
 def task_and_cpu(tail: bytes, key: bytes) -> tuple[int, int]:
-    """The task that a tail names, which isn't 0, and the processor after the key."""
+    """The task in a tail, which mustn't be 0, and the processor after the key."""
     pid = number(b" pid=", tail)
     if pid == 0:
         raise Bad("BadLine")
@@ -116,7 +117,8 @@ def task_and_cpu(tail: bytes, key: bytes) -> tuple[int, int]:
 
 
 def read_line(line: bytes) -> tuple[int, Seen] | None:
-    """What a line tells, with its time; nothing of a line without a mark, or that begins with #."""
+    """The event of a line, with its time; None for a line without an event, or that begins with #.
+    """
     mark = None if line.startswith(b"#") else MARK.search(line)
     if mark is None:
         return None
@@ -133,7 +135,7 @@ def read_line(line: bytes) -> tuple[int, Seen] | None:
 
 
 class Importer:
-    """The trace that the lines so far became."""
+    """The trace of the lines so far."""
 
     def __init__(self, cpus: int) -> None:
         self.cpus = cpus
@@ -144,7 +146,7 @@ class Importer:
         self.lines: list[bytes] = []
 
     def acts_of(self, seen: Seen) -> list[str]:
-        """The verbs with their fields that a line becomes."""
+        """The verbs and fields that a line becomes."""
         if isinstance(seen, Switch):
             return [] if seen.next and self.runs.get(seen.cpu) == seen.next else self.arrival(seen) + self.turn(seen)
         task = self.tasks.get(seen.pid)
@@ -155,7 +157,7 @@ class Importer:
         return [f"wake {seen.pid} {seen.cpu}"] if task.mode == "asleep" else []
 
     def arrival(self, seen: Switch) -> list[str]:
-        """What makes the next task ready on its processor."""
+        """The events that make the next task ready on its processor."""
         pid, cpu = seen.next, seen.cpu
         task = self.tasks.get(pid)
         if not pid:
@@ -169,14 +171,14 @@ class Importer:
         return [f"migrate {pid} {cpu}"] if task.cpu != cpu else []
 
     def turn(self, seen: Switch) -> list[str]:
-        """What makes the next task run."""
+        """The events that make the next task run."""
         runner = self.runs.get(seen.cpu)
         if runner is None:
             return [f"switch {seen.cpu} {seen.next} idle"] if seen.next else []
         return [f"switch {seen.cpu} {seen.next} {seen.how if runner == seen.previous else 'preempt'}"]
 
     def play(self, act: str) -> None:
-        """Follows an act."""
+        """Applies an event to the table of tasks."""
         verb, *fields = act.split()
         if verb == "switch":
             cpu, pid, how = int(fields[0]), int(fields[1]), fields[2]
@@ -192,7 +194,7 @@ class Importer:
             self.tasks[int(fields[0])] = Task("ready", int(fields[-1]))
 
     def take(self, time: int, seen: Seen) -> None:
-        """Takes what a line tells, or raises the first cause against it."""
+        """Adds a line's event to the trace, or raises the first cause against it."""
         self.first = time if self.first is None else self.first
         moment = max(self.moment, time - self.first)
         acts = self.acts_of(seen)
@@ -211,7 +213,7 @@ class Importer:
 
 
 def imported(text: bytes, cpus: int) -> Result:
-    """What `import - --cpus N` must do with this text."""
+    """The result that `import - --cpus N` must give for this text."""
     importer = Importer(cpus)
     lines = text.split(b"\n")
     for place, line in enumerate(lines, 1):

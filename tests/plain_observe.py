@@ -1,8 +1,9 @@
-"""What observers of a group may print of a trace, read plainly: for checks of what psi_observe prints.
+"""What observers of a group may print for a trace, computed plainly: the reference for psi_observe.
 
-It follows docs/OBSERVERS.md alone. Which samples are due of an observer, and what one must say after so many changes of its processor,
-is computed from the rules: states are read off the tasks, and the signals are those of docs/PRESSURE.md. How many changes a sample
-saw is open within its interval, and so is the order of the samples of different observers in one interval.
+It follows docs/OBSERVERS.md alone. The samples that are due for an observer, and what a sample must
+contain after N changes of its processor, are computed from the rules: states are derived from the
+tasks, and the signals are those of docs/PRESSURE.md. The number of changes that a sample saw is
+free within its interval, and so is the order of different observers' samples in one interval.
 """
 from __future__ import annotations
 
@@ -22,7 +23,9 @@ SAMPLE = re.compile(rb"sample observer=([0-9]+) cpu=[0-9]+ count=([0-9]+) .*")
 
 @dataclasses.dataclass
 class Due:
-    """A sample that is due of each observer: its tick, its processor, and after how many changes it is at least and at most."""
+    """A sample that is due for each observer: its tick, its processor, and the least and the
+    largest number of changes that it may have seen.
+    """
 
     tick: Tick
     cpu: int
@@ -31,7 +34,9 @@ class Due:
 
 
 class Observed:
-    """What observers of a path may print of a trace: the samples that are due of each, in its order, and the lines after them."""
+    """What observers of a path may print for a trace: the samples due for each, in their order, and
+    the lines after them.
+    """
 
     def __init__(self, trace: str, path: str) -> None:
         self.clocks = Clocks(trace, path, TICK)
@@ -39,11 +44,13 @@ class Observed:
         replay = Replay(Run("", trace, TICK, 0))
         self.signals = sum(line.startswith("event ") for line in replay.output())
         self.end = replay.end
-        # The texts after the observer's number, by group, processor and count: many samples of a quiet trace are the same.
+        # The texts after the observer's number, by group, processor and count: many samples of a
+        # quiet trace are equal.
         self.texts: dict[tuple[int | None, int, int], str] = {}
 
     def all_due(self) -> Iterator[Due]:
-        """Of each tick at which the path is live a sample on each processor, from processor 0 on."""
+        """For each tick at which the path is live, a sample on each processor, from processor 0 on.
+        """
         before = [0] * len(self.clocks.changes)
         for tick in self.clocks.ticks:
             for cpu, (least, most) in enumerate(zip(before, tick.counts) if tick.group is not None else ()):
@@ -51,7 +58,7 @@ class Observed:
             before = tick.counts
 
     def line(self, due: Due, observer: int, count: int) -> bytes:
-        """The line of an observer's sample after so many changes of its processor."""
+        """The line of an observer's sample after `count` changes of its processor."""
         key = due.tick.group, due.cpu, count
         if key not in self.texts:
             at = self.clocks.changes[due.cpu][count][0]
@@ -60,23 +67,23 @@ class Observed:
         return f"sample observer={observer} {self.texts[key]}".encode()
 
     def last_lines(self, observers: int) -> list[bytes]:
-        """The lines after all samples: what each observer read last of the board, and the end."""
+        """The lines after all samples: each observer's last reading of the board, and the end."""
         board = f"tick={len(self.clocks.ticks)} events={self.signals} kills=0"
         lines = [f"board observer={observer} {board}" for observer in range(observers)]
         return [line.encode() for line in (*lines, f"end {self.end} samples={observers * len(self.due)}")]
 
 
 class Observer:
-    """An observer whose samples are taken off an output, one after the other."""
+    """An observer whose samples are taken from an output, one after another."""
 
     def __init__(self, number: int, observed: Observed) -> None:
         self.number, self.observed = number, observed
         self.left = iter(observed.due)
-        # By processor, after how many changes its last sample is.
+        # For each processor, the number of changes that its last sample saw.
         self.last: dict[int, int] = {}
 
     def take(self, line: bytes, count: int) -> Tick:
-        """Takes its next sample, which has this count, and answers the tick of that."""
+        """Takes its next sample, which has this count, and returns the sample's tick."""
         due = next(self.left, None)
         if due is None:
             raise Wrong("a sample that isn't due")
@@ -89,8 +96,7 @@ class Observer:
 
 
 def compare(printed: bytes, observed: Observed, observers: int) -> None:
-    """Refuses an output that so many observers may not print. Each sample stands in its interval: those of a tick after those of the
-    tick before."""
+    """Raises unless this many observers may print the output. Samples are in order of ticks."""
     *lines, after = printed.split(b"\n")
     must_be("what stands after the last line", after, b"")
     count = observers * len(observed.due)
@@ -109,5 +115,7 @@ def compare(printed: bytes, observed: Observed, observers: int) -> None:
 
 
 def is_too_many(cpus: int, ticks: int, observers: int) -> bool:
-    """Whether so many observers are refused, of a trace of so many processors and ticks, whatever the path is."""
+    """Whether this many observers are rejected for a trace with this many
+    processors and ticks, for any path.
+    """
     return ticks * observers * cpus > MOST_SAMPLES

@@ -1,6 +1,7 @@
-"""What `replay` and `stall` print of a trace, by the formulas of docs/PRESSURE.md as they stand there.
+"""The output of `replay` and `stall` for a trace, computed with the formulas in docs/PRESSURE.md.
 
-What tasks do, which states hold and whom interrupts hold up is taken from tests/machine.py, which has that from the rules alone.
+What tasks do, which states hold and which tasks interrupts delay comes from tests/machine.py, which
+follows the rules alone.
 """
 from __future__ import annotations
 
@@ -16,12 +17,13 @@ from machine import Machine
 PAGE = pathlib.Path(__file__).resolve().parent.parent / "docs" / "PRESSURE.md"
 RESOURCES = ("io", "memory", "cpu")
 LEVELS = ("some", "full")
-# The times of a group on a processor: six states of pressure, how long it wasn't idle, and how long interrupts took.
+# The times of a group on a processor: six pressure states, the time not idle, and the time of
+# interrupts.
 PRESSURES, NONIDLE, INTERRUPTS, TIMES = 6, 6, 7, 8
 
 
 def formulas_of(page: str) -> dict[str, Any]:
-    """What the page's blocks of Python define."""
+    """The definitions in the page's blocks of Python."""
     names: dict[str, Any] = {}
     for block in re.findall(r"^```python\n(.*?)^```$", page, re.DOTALL | re.MULTILINE):
         exec(compile(block, str(PAGE), "exec"), names)
@@ -33,7 +35,9 @@ PRESSURE = formulas_of(PAGE.read_text(encoding="utf-8"))
 
 @dataclasses.dataclass
 class Run:
-    """A replay: its name, its trace, the length of a tick and the period of reports (ns), and other words of its command."""
+    """A replay: its name, its trace, the length of a tick and the period of reports (ns), and more
+    arguments.
+    """
 
     name: str
     trace: str
@@ -43,7 +47,9 @@ class Run:
 
 
 class Group:
-    """The times (ns) of a group on each processor, and the pressure that the page's formulas make of them, by place of a time."""
+    """The times (ns) of a group on each processor, and its pressure by the page's formulas, indexed
+    like the times.
+    """
 
     def __init__(self, number: int, path: str, cpus: int, made: int) -> None:
         self.number, self.path = number, path
@@ -53,7 +59,7 @@ class Group:
         self.averages = {place: PRESSURE["Averages"](made) for place in self.totals}
 
     def sample(self, now: int) -> None:
-        """Takes what the times grew by into the totals and averages, at a tick (ns)."""
+        """Adds the growth of the times to the totals and averages, at a tick (ns)."""
         growths = [[time - before for time, before in zip(*them)] for them in zip(self.times, self.sampled)]
         self.sampled = [list(times) for times in self.times]
         weights = [PRESSURE["weight"](growth[NONIDLE]) for growth in growths]
@@ -62,7 +68,7 @@ class Group:
             averages.tick(now, self.totals[place])
 
     def file_line(self, place: int, level: str) -> str:
-        """The line of a pressure file that tells of a state, or of interrupts, by the place of its time."""
+        """The line of a pressure file for a state, or for interrupts, by the index of its time."""
         is_zero = self.path == "/" and place == PRESSURES - 1
         averages = [0] * 3 if is_zero else self.averages[place].averages.values()
         texts = [PRESSURE["percent_text"](average) for average in averages]
@@ -111,14 +117,14 @@ class Replay:
         yield f"end {self.end} ticks={self.ticks} events={self.signals}"
 
     def stall(self) -> Iterator[str]:
-        """The lines that `stall` prints, where all of `output` was taken."""
+        """The lines that `stall` prints, once all of `output` has been taken."""
         shown = TIMES if self.version == 2 else INTERRUPTS
         for cpu in range(self.machine.cpus):
             for path in sorted(self.live):
                 yield f"stall cpu={cpu} {path} {' '.join(map(str, self.live[path].times[cpu][:shown]))}"
 
     def go_to(self, moment: int, is_end: bool) -> Iterator[str]:
-        """Lets time go by up to this moment (ns). A tick at the moment itself comes after its events."""
+        """Advances to this time (ns). A tick at exactly this time comes after its events."""
         while (self.ticks + 1) * self.run.tick < moment + is_end:
             self.ticks += 1
             self.pass_to(self.ticks * self.run.tick)
@@ -173,7 +179,7 @@ class Replay:
 
 
 def difference(run: Run, words: list[str], wanted: list[str]) -> str:
-    """Where what the program prints of the trace first differs from these lines, or nothing."""
+    """The first difference between the program's output for the trace and these lines, or ''."""
     done = subprocess.run(words, input=run.trace, capture_output=True, encoding="utf-8")
     if done.returncode != 0:
         return f"the status of {words[1]} is {done.returncode}: {done.stderr}"
@@ -185,7 +191,7 @@ def difference(run: Run, words: list[str], wanted: list[str]) -> str:
 
 
 def fault_of(run: Run, program: str) -> str:
-    """Where `replay` or `stall` first differs from what the page's formulas give, or nothing."""
+    """The first difference between `replay` or `stall` and the page's formulas, or ''."""
     replay = Replay(run)
     wanted = list(replay.output())
     words = [program, "replay", "-", f"--tick-ms={run.tick // 10**6}", f"--report-s={run.period // 10**9}"]

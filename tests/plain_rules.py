@@ -1,7 +1,8 @@
-"""What rules files and drop-in files say, read plainly: for checks of what psi_oomd makes of them.
+"""What rules files and drop-in files mean, read plainly: the reference for psi_oomd.
 
-It follows docs/RULES.md alone. A file's bytes become rulesets, with every argument as the text in which it is printed, or the
-first fault on the walk through the file; parts are put into rulesets; and rulesets become the line that `rules` prints.
+It follows docs/RULES.md alone. A file's bytes become rulesets, with every argument as the text that
+is printed for it, or the first fault on the walk through the file; parts are joined into rulesets;
+and rulesets become the line that `rules` prints.
 """
 from __future__ import annotations
 
@@ -21,20 +22,20 @@ Place = tuple[tuple[str, int], ...]
 
 
 class Refused(Exception):
-    """The first fault of a file: where it is, and why."""
+    """The first fault of a file: its place and its cause."""
 
     def __init__(self, place: Place, cause: str) -> None:
         super().__init__(f"{''.join(f' {word} {number}' for word, number in place)}: {cause}")
 
 
 class Token(NamedTuple):
-    """A JSON number, as it is spelled."""
+    """A JSON number as it is spelled."""
 
     text: str
 
 
 class Plugin(NamedTuple):
-    """A detector or an action: its name, and each argument as it is printed."""
+    """A detector or an action: its name, and the printed text of each argument."""
 
     name: str
     args: dict[str, str]
@@ -48,7 +49,7 @@ class Group(NamedTuple):
 
 
 class Ruleset(NamedTuple):
-    """A ruleset. One of a drop-in file may lack its groups or its actions."""
+    """A ruleset. In a drop-in file it may lack its groups or its actions."""
 
     name: str
     groups: Optional[list[Group]]
@@ -61,12 +62,12 @@ Form = Callable[[str], Optional[str]]
 
 
 def number(most: int) -> Form:
-    """A decimal number up to this one, without leading zeros."""
+    """A form: a decimal number of at most `most`, without leading zeros."""
     return lambda text: text if re.fullmatch(NUMBER, text, re.ASCII) and int(text) <= most else None
 
 
 def ratio(text: str) -> Optional[str]:
-    """A number up to 1000 with up to three digits after a point; it is printed with three."""
+    """A number of at most 1000 with up to three decimals; it is printed with three."""
     found = re.fullmatch(NUMBER + PART, text, re.ASCII)
     return f"{found[1]}.{(found[2] or '').ljust(3, '0')}" if found and int(found[1]) <= 1000 else None
 
@@ -94,7 +95,7 @@ def resource(text: str) -> Optional[str]:
 
 
 def pattern(text: str) -> Optional[str]:
-    """The root, or components with slashes between; a slash at the front isn't printed."""
+    """The root, or components separated by slashes; a leading slash isn't printed."""
     parts = text.removeprefix("/").split("/")
     is_good = all(re.fullmatch(r"[A-Za-z0-9_.@:\\*-]+", part, re.ASCII) and part not in (".", "..") for part in parts)
     return text if text == "/" else text.removeprefix("/") if is_good else None
@@ -129,7 +130,7 @@ ACTIONS: dict[str, Arguments] = {
 
 
 def of_each_action(delay: str) -> Arguments:
-    """What every action has, where this is the ruleset's own delay (seconds)."""
+    """The arguments that every action has, if this is the ruleset's own delay (seconds)."""
     truths: Arguments = tuple((name, truth, "false") for name in ("recursive", "always_continue"))
     return (*truths, ("post_action_delay", SECONDS, delay))
 
@@ -142,14 +143,14 @@ def refuse(_: str) -> None:
 
 
 def float_token(text: str) -> Token:
-    """A number with a point or an exponent, which must be one of 64 bits."""
+    """A number with a point or an exponent, which must fit a 64-bit float."""
     if float(text) in (float("inf"), float("-inf")):
         raise ValueError("no number")
     return Token(text)
 
 
 def texts_in(value: Any) -> Iterator[str]:
-    """All texts of a JSON value, keys too."""
+    """All strings of a JSON value, including keys."""
     if isinstance(value, str):
         yield value
     elif isinstance(value, dict):
@@ -162,14 +163,15 @@ def texts_in(value: Any) -> Iterator[str]:
 
 
 def depth_of(value: Any) -> int:
-    """How many lists and objects stand within one another."""
+    """The nesting depth of lists and objects."""
     if not isinstance(value, (dict, list)):
         return 0
     return 1 + max(map(depth_of, value.values() if isinstance(value, dict) else value), default=0)
 
 
 def json_of(data: bytes) -> Any:
-    """The JSON value of a file, whose numbers are tokens; of equal keys the last one counts."""
+    """The JSON value of a file, with tokens for numbers; if a key is repeated, the last one counts.
+    """
     try:
         value = json.loads(data.decode("utf-8"), parse_int=float_token, parse_float=float_token, parse_constant=refuse)
         for text in texts_in(value):
@@ -185,7 +187,7 @@ def json_of(data: bytes) -> Any:
 
 
 def member(value: dict[str, Any], key: str, kind: type, place: Place) -> Any:
-    """What stands under a key that is required."""
+    """The value of a required key."""
     if key not in value:
         raise Refused(place, "MissingKey")
     return of_kind(value[key], kind, place)
@@ -204,7 +206,7 @@ def short(items: list[Any], most: int, place: Place) -> list[Any]:
 
 
 def argument(value: Any, form: Form, place: Place) -> str:
-    """An argument as it is printed: a text, a whole number or a truth may stand for it."""
+    """The printed text of an argument; a string, a whole number or a boolean may give it."""
     if isinstance(value, bool):
         value = "true" if value else "false"
     if isinstance(value, Token):
@@ -220,7 +222,7 @@ def argument(value: Any, form: Form, place: Place) -> str:
 
 
 def plugin(value: Any, known: dict[str, Arguments], more: Arguments, place: Place) -> Plugin:
-    """A plugin of one of these names, with these arguments beside its own."""
+    """A plugin with one of these names, and with these arguments besides its own."""
     value = of_kind(value, dict, place)
     name = member(value, "name", str, place)
     if name not in known:
@@ -243,7 +245,9 @@ def group(value: Any, place: Place) -> Group:
 
 
 def ruleset(value: Any, is_part: bool, place: Place) -> Ruleset:
-    """A ruleset: its name, its delay, its groups and its actions, in this order. A part may lack the last two."""
+    """Reads a ruleset: its name, its delay, its groups and its actions, in this order. A part may
+    lack the last two.
+    """
     value = of_kind(value, dict, place)
     name = member(value, "name", str, place)
     delay = argument(value["post_action_delay"], SECONDS, place) if "post_action_delay" in value else "15"
@@ -259,7 +263,7 @@ def ruleset(value: Any, is_part: bool, place: Place) -> Ruleset:
 
 
 def read(data: bytes, is_drop_in: bool = False) -> list[Ruleset]:
-    """The rulesets of a rules file, or the parts of a drop-in file, by its bytes."""
+    """The rulesets of a rules file, or the parts of a drop-in file, from its bytes."""
     if len(data) > LONGEST:
         raise Refused((), "TooLong")
     rulesets = short(member(of_kind(json_of(data), dict, ()), "rulesets", list, ()), MOST_RULESETS, ())
@@ -270,7 +274,7 @@ def read(data: bytes, is_drop_in: bool = False) -> list[Ruleset]:
 
 
 def joined(base: list[Ruleset], parts: list[Ruleset]) -> list[Ruleset]:
-    """The rulesets, each part in place of what it gives of the first ruleset of its name."""
+    """The rulesets; what a part gives replaces that of the first ruleset with its name."""
     rulesets = list(base)
     for i, part in enumerate(parts):
         if part.groups is None and part.actions is None:
@@ -296,7 +300,7 @@ def text_of(rulesets: list[Ruleset]) -> str:
 
 
 def run(rules: bytes, drop_in: Optional[bytes]) -> tuple[int, str, str]:
-    """What `rules` does with these files: its status, and what it writes on standard output and error."""
+    """The result of `rules` for these files: its status, its output, and its standard error."""
     try:
         base = read(rules)
     except Refused as fault:

@@ -1,5 +1,6 @@
-"""A plain reading of docs/SYSTEMD.md, which looks at the whole trace anew at each look; and random traces of slices, all of which are
-watched for swap and for memory pressure by one limit."""
+"""A plain version of docs/SYSTEMD.md, which reads the whole trace again at each look; and random
+traces of slices, all watched for swap and for memory pressure with one limit.
+"""
 from __future__ import annotations
 
 import random
@@ -14,8 +15,10 @@ Decision = tuple[int, "str | None", str]
 
 @dataclass
 class State:
-    """What stands at a moment: of each group the number of the line that made it, its sample, what it and gone ones below it scanned,
-    its wish, and whether its account is on; the group of each task; the machine's sample, and how many samples there were."""
+    """The state at a time: for each group the number of the line that created it, its sample, the
+    scans of it and of removed groups below it, its preference, and whether its account is on; the
+    group of each task; the machine's sample, and the number of samples.
+    """
 
     made: dict[str, int]
     samples: dict[str, list[int]]
@@ -30,14 +33,14 @@ class State:
         return [it for it in self.made if it != "/" and it.rpartition("/")[0] == path.rstrip("/")]
 
     def sample(self, path: str) -> list[int] | None:
-        """Memory, swap and scans: its own, or the sum of those below."""
+        """Memory, swap and scans: the group's own sample, or the sum of its children's."""
         if path in self.samples or path == "/":
             return self.samples.get(path)
         parts = [it for it in map(self.sample, self.below(path)) if it]
         return [sum(it) for it in zip(*parts, [0, 0, self.gone.get(path, 0)])] if parts else None
 
     def read(self, path: str) -> list[int] | None:
-        """What systemd-oomd sees of it."""
+        """The figures that systemd-oomd reads for it."""
         found = self.sample(path)
         return [found[0] if found else 0, 0, 0] if path == "/" else None if path in self.off else found
 
@@ -80,12 +83,12 @@ def state_at(lines: list[Line], moment: int) -> State:
 
 
 def first_of(state: State, ranked: list[str]) -> str | None:
-    """The first candidate, if something runs there."""
+    """The first candidate with a task in it."""
     return ranked[0] if ranked and state.runs(ranked[0]) else None
 
 
 def by_swap(lines: list[Line], end: int) -> Iterator[Decision]:
-    """Each 0.15 s, where there is a new sample."""
+    """Decisions by swap: a look each 0.15 s, if there is a new sample."""
     count, was_told = 0, False
     for now in range(SECOND * 15 // 100, end + 1, SECOND * 15 // 100):
         state = state_at(lines, now)
@@ -105,12 +108,12 @@ def by_swap(lines: list[Line], end: int) -> Iterator[Decision]:
         was_told = victim is None
 
 
-# A group: its path, and when it was made.
+# A group: its path, and the number of the line that created it.
 Key = tuple[str, int]
 
 
 def by_pressure(lines: list[Line], end: int, averages: dict[tuple[int, str], int], limit: int, length: int) -> Iterator[Decision]:
-    """Each second."""
+    """Decisions by memory pressure: a look each second."""
     known: dict[Key, list[int | None]] = {}
     lost, told, totals, risen = set[Key](), set[Key](), dict[Key, int](), dict[str, int]()
     count, rests, had = 0, 0, set[Key]()
@@ -152,7 +155,9 @@ def by_pressure(lines: list[Line], end: int, averages: dict[tuple[int, str], int
 
 
 def most_scanned(state: State, above: str, risen: dict[str, int]) -> str | None:
-    """Whom it chooses below a group, by the scans that are new; by all for a group that wasn't a leaf at the look before."""
+    """The victim below a group, by new scans; by all scans if the group wasn't a leaf at the
+    previous look.
+    """
     inside = [it for it in state.leaves() if is_inside(it, above)]
     found = {it: state.read(it) or [0, 0, 0] for it in inside}
     ranks = {it: risen.get(it, all_[2]) for it, all_ in found.items() if all_[0] or all_[2]}
@@ -164,12 +169,12 @@ def is_inside(path: str, above: str) -> bool:
 
 
 def is_first(lines: list[Line], key: tuple[str, int]) -> bool:
-    """Whether a group was there when the trace began."""
+    """Whether a group existed at the start of the trace."""
     return not key[1] or lines[key[1] - 1][0] == 0
 
 
 def decisions(text: str, printed: str, limit: int, length: int) -> list[Decision]:
-    """What is done in a trace, by what psi_oomd printed of it, in order of time."""
+    """The decisions for a trace, from psi_oomd's output for it, in order of time."""
     lines = [(int(it.split()[0]), it.split()[1:]) for it in text.splitlines()[1:-1]]
     end = int(text.splitlines()[-1].split()[0])
     found = re.findall(r"^report (\d+) (\S+) memory\nsome .*\nfull avg10=(\d+)\.(\d\d)", printed, re.MULTILINE)
@@ -178,7 +183,9 @@ def decisions(text: str, printed: str, limit: int, length: int) -> list[Decision
 
 
 def random_trace(seed: int) -> str:
-    """Slices that come and go, with tasks that wait for memory, samples, wishes and accounts, at moments many of which are looks."""
+    """Slices that are created and removed, with tasks that wait for memory, samples, preferences
+    and accounts, often at the times of looks.
+    """
     draw, moment, scanned, homes = random.Random(seed), 0, {"/": 0}, {}
     lines, runs, is_stalled, label = ["0 host 1000 1000 500", "0 mem / 500 0 0"], 0, False, 0
     for _ in range(200):

@@ -1,7 +1,9 @@
-"""Which traces are refused, at which line and for which cause, read plainly: for checks of what psi_oomd says of them.
+"""Which traces are rejected, at which line and for which cause, computed plainly: the reference for
+psi_oomd.
 
-It follows docs/TRACES.md alone: a line is spelled as there, or it isn't; and then it is held against the world that the lines
-before it made. Of all causes against a line it reports the first in the order of that page's table.
+It follows docs/TRACES.md alone: a line is spelled as defined there, or it is malformed; then it is
+checked against the state after the previous lines. If a line has several causes, the first in the
+order of that page's table is reported.
 """
 from __future__ import annotations
 
@@ -15,7 +17,7 @@ LONGEST_LINE = 512
 MOST_MOMENT, MOST_NUMBER = 2 * 10**15, 2**64 - 1
 MOST_EVENTS, MOST_GROUPS, MOST_TASKS, MOST_TRIGGERS, MOST_PRESSURES = 4_000_000, 1024, 65_536, 256, 65_536
 MOST_INTERRUPTS = 10**9
-# Those against a line that is spelled well, in their order.
+# The causes for a line that is spelled correctly, in their order.
 ORDER = (
     "TimeBack", "TimeTooLate", "TooManyEvents", "TooManyGroups", "TooManyTasks", "TooManyTriggers", "TooManyPressures",
     "UnknownGroup", "GroupExists", "NoParent", "GroupBusy", "RootPressure", "UnknownTask", "TaskExists", "BadWindow", "BadCpu",
@@ -29,7 +31,7 @@ Form = Callable[[str], bool]
 
 
 def number(least: int, most: int) -> Form:
-    """A decimal number in a range, without leading zeros."""
+    """A form: a decimal number in a range, without leading zeros."""
     return lambda text: bool(re.fullmatch("0|[1-9][0-9]{0,19}", text, re.ASCII)) and least <= int(text) <= most
 
 
@@ -38,7 +40,9 @@ def word(*words: str) -> Form:
 
 
 def is_path(text: str) -> bool:
-    """The root, or 1 to 32 components, each after a slash, with at most 255 bytes together."""
+    """Whether a text is the root, or 1 to 32 components, each after a slash, with at most 255 bytes
+    in total.
+    """
     parts = text[1:].split("/")
     are_names = all(re.fullmatch(r"[A-Za-z0-9_.@:\\-]+", part, re.ASCII) and part not in (".", "..") for part in parts)
     return text == "/" or (text[:1] == "/" and are_names and len(parts) <= 32 and len(text) <= 255)
@@ -69,7 +73,7 @@ LATER_VERBS = ("irq", "pressure")
 
 
 def fault_of_spelling(version: int, line: str) -> Optional[str]:
-    """What is wrong first with how an event line is spelled."""
+    """The first fault in the spelling of an event line, or None."""
     moment, *rest = line.split(" ")
     if not TIME(moment):
         return "BadTime"
@@ -83,7 +87,7 @@ def fault_of_spelling(version: int, line: str) -> Optional[str]:
 
 
 def header_of(line: str) -> Optional[tuple[int, int]]:
-    """The version and the processors of a header."""
+    """The version and the number of processors in a header."""
     found = re.fullmatch("psitrace ([12]) cpus=([1-9][0-9]?)", line, re.ASCII)
     return (int(found[1]), int(found[2])) if found and int(found[2]) <= 64 else None
 
@@ -92,7 +96,7 @@ def header_of(line: str) -> Optional[tuple[int, int]]:
 
 
 class World:
-    """What the lines so far made."""
+    """The state after the lines so far."""
 
     def __init__(self, cpus: int) -> None:
         self.machine = Machine(cpus)
@@ -100,7 +104,7 @@ class World:
         self.interrupted: dict[int, int] = {}
 
     def take(self, moment: int, verb: str, fields: list[str]) -> None:
-        """Makes an event that nothing stands against, at a moment (ns)."""
+        """Applies a valid event, at its time (ns)."""
         self.machine.take(verb, *fields)
         self.last, self.events = moment, self.events + 1
         self.triggers += verb == "trigger"
@@ -109,7 +113,7 @@ class World:
             self.interrupted[int(fields[0])] = moment
 
     def causes(self, moment: int, verb: str, fields: list[str], most: int) -> Iterator[str]:
-        """All causes that stand against the event, where moments may be up to `most` ns."""
+        """All causes against the event, if times may be up to `most` ns."""
         limits = (moment < self.last, "TimeBack"), (moment > most, "TimeTooLate"), (self.events >= MOST_EVENTS, "TooManyEvents")
         yield from (cause for stands, cause in limits if stands)
         against = getattr(self, f"against_{verb}", None)
@@ -122,7 +126,7 @@ class World:
         return int(cpu) < self.machine.cpus
 
     def is_at(self, pid: str, *at: str) -> bool:
-        """Whether the task is there and does one of these."""
+        """Whether the task exists and is in one of these states."""
         return pid in self.machine.tasks and self.machine.tasks[pid].at in at
 
     def is_stalled(self, pid: str) -> bool:
@@ -196,7 +200,9 @@ class World:
         yield path == "/", "RootPressure"
 
     def against_irq(self, moment: int, cpu: str, length: str) -> Iterator[str]:
-        """Interrupts are no longer than a second, nor than the time since the processor's last line of them."""
+        """Interrupts take at most a second, and at most the time since the processor's previous
+        `irq` line.
+        """
         if not self.is_cpu(cpu):
             yield "BadCpu"
         if int(length) > min(MOST_INTERRUPTS, moment - self.interrupted.get(int(cpu), 0)):
@@ -207,8 +213,9 @@ class World:
 
 
 def lines_of(data: bytes) -> Iterator[tuple[int, bytes, Optional[str]]]:
-    """The lines with their numbers from 1, and whether one is too long or cut off: then it is the last. After the last newline there
-    is an empty line, which is cut off."""
+    """The lines with their numbers from 1, each with its fault if it is too long or cut off; such a
+    line is the last. The last newline is followed by an empty line, which is cut off.
+    """
     at, count = 0, 1
     while True:
         end = data.find(b"\n", at)
@@ -223,7 +230,9 @@ def lines_of(data: bytes) -> Iterator[tuple[int, bytes, Optional[str]]]:
 
 
 def refusal_of(data: bytes, most: int = MOST_MOMENT) -> Optional[Refusal]:
-    """The first bad line of a trace with its cause, where moments may be up to `most` ns; none where the trace is one."""
+    """The first bad line of a trace and its cause, if times may be up to `most` ns; None if the
+    trace is valid.
+    """
     version, world, is_ended = 0, World(1), False
     for count, line, fault in lines_of(data):
         text = line.decode("latin-1")

@@ -1,7 +1,8 @@
-"""What is left of a trace after the kills of its rules, by a plain walk: for checks of what `psi_oomd whatif` prints.
+"""The trace that remains after the kills of its rules, by a plain walk: the reference for `psi_oomd
+whatif`.
 
-It follows docs/COMMANDS.md alone, event by event over the tasks of tests/machine.py. Who is killed it takes from what a replay of
-the trace printed.
+It follows docs/COMMANDS.md alone, event by event over the tasks of tests/machine.py. The victims
+are those that a replay of the trace printed.
 """
 from __future__ import annotations
 
@@ -12,12 +13,12 @@ from typing import NamedTuple
 from machine import Machine
 
 MOST_ROUNDS = 64
-# Events of a task, whose number is their first field.
+# Events of a task, whose first field is its number.
 OF_A_TASK = ("wake", "stall", "unstall", "migrate", "move")
 
 
 class Event(NamedTuple):
-    """An event: its moment (ns), its verb, and the fields of that."""
+    """An event: its time (ns), its verb, and its fields."""
 
     moment: int
     verb: str
@@ -25,7 +26,7 @@ class Event(NamedTuple):
 
 
 class Kill(NamedTuple):
-    """A kill: its moment (ns) and the victim's path."""
+    """A kill: its time (ns) and the victim's path."""
 
     moment: int
     path: str
@@ -38,7 +39,7 @@ class Trace(NamedTuple):
     events: list[Event]
 
     def machine(self) -> Machine:
-        """The machine of the trace, on which nothing happened yet."""
+        """The trace's machine before any event."""
         return Machine(int(self.header.partition("cpus=")[2]))
 
     def text(self) -> str:
@@ -47,14 +48,14 @@ class Trace(NamedTuple):
 
 
 def trace_of(text: str) -> Trace:
-    """The trace that a text is, which must be one."""
+    """Parses a text, which must be a trace."""
     header, *lines = text.splitlines()
     parts = (line.split(" ") for line in lines)
     return Trace(header, [Event(int(moment), verb, tuple(fields)) for moment, verb, *fields in parts])
 
 
 def kills_of(printed: str) -> list[Kill]:
-    """The kills that a replay printed, in their order: by tick, ruleset and action."""
+    """The kills that a replay printed, in order: by tick, ruleset and action."""
     found = re.findall(r"^kill ([0-9]+) ruleset=[0-9]+ action=[0-9]+ (\S+)$", printed, re.MULTILINE)
     return [Kill(int(moment), path) for moment, path in found]
 
@@ -63,14 +64,15 @@ def kills_of(printed: str) -> list[Kill]:
 
 
 def members(machine: Machine, path: str) -> list[str]:
-    """The numbers of the tasks that are in the live group of this path or below it, ascending."""
+    """The numbers of the tasks in the live group with this path and below it, ascending."""
     top = machine.live[path]
     return sorted((pid for pid, task in machine.tasks.items() if machine.is_under(task.group, top)), key=int)
 
 
 def exit_of(machine: Machine, pid: str, moment: int) -> list[Event]:
-    """How a task exits at a moment (ns): it wakes if it sleeps, runs if it doesn't, ends its stall, and is gone. Who ran there
-    makes room for it, and runs on after it."""
+    """The events by which a task exits at a time (ns): it wakes if it sleeps, runs if it doesn't,
+    ends its stall, and exits. The task that ran there stops for it, and runs on after it.
+    """
     task = machine.tasks[pid]
     cpu, others = str(task.cpu), [other for other in machine.running(task.cpu) if other != pid]
     events = []
@@ -84,7 +86,8 @@ def exit_of(machine: Machine, pid: str, moment: int) -> list[Event]:
 
 
 def left_of(machine: Machine, dead: set[str], event: Event) -> list[Event]:
-    """What is left of an event where these tasks are dead, on the machine as it was before it in the trace."""
+    """What remains of an event if these tasks are dead. `machine` is the trace's before the event.
+    """
     if event.verb in OF_A_TASK:
         return [] if event.fields[0] in dead else [event]
     if event.verb != "switch":
@@ -97,7 +100,9 @@ def left_of(machine: Machine, dead: set[str], event: Event) -> list[Event]:
 
 
 def rest_of(machine: Machine, dead: set[str], events: list[Event]) -> Iterator[Event]:
-    """The events without these tasks. A number is another task's once the dead one has exited in the trace."""
+    """The events without these tasks. Once a dead task has exited in the trace, its number may be
+    another task's.
+    """
     for event in events:
         yield from left_of(machine, dead, event)
         if event.verb == "switch" and event.fields[2] == "exit":
@@ -106,8 +111,9 @@ def rest_of(machine: Machine, dead: set[str], events: list[Event]) -> Iterator[E
 
 
 def without(trace: Trace, kill: Kill) -> Trace:
-    """The trace without the victim's tasks: up to the kill it stays, they exit a nanosecond later, and then the rest follows. A
-    kill at the end leaves all."""
+    """The trace without the victim's tasks: it is unchanged up to the kill, they exit a nanosecond
+    later, and the rest follows. A kill at the end changes nothing.
+    """
     if kill.moment >= trace.events[-1].moment:
         return trace
     front = [event for event in trace.events if event.moment <= kill.moment]
@@ -128,7 +134,9 @@ def without(trace: Trace, kill: Kill) -> Trace:
 
 
 class Round(NamedTuple):
-    """A trace of the way to the last one, what its replay prints, and the kill after which the next is left, if one follows."""
+    """One trace of the sequence, the output of its replay, and its kill that is applied next, if
+    there is one.
+    """
 
     trace: Trace
     printed: str
@@ -136,7 +144,9 @@ class Round(NamedTuple):
 
 
 def rounds(trace: Trace, replay: Callable[[str], str]) -> Iterator[Round]:
-    """The traces up to that whose output `whatif` prints: in each the kill of the next number is looked for, up to 64 times."""
+    """The traces up to the one whose output `whatif` prints: in the trace after N kills, the kill
+    with index N is applied, up to 64 times.
+    """
     for number in range(MOST_ROUNDS + 1):
         printed = replay(trace.text())
         kills = kills_of(printed)

@@ -1,11 +1,12 @@
-"""The program that tests run: the one that `--program PATH` names, or the variable PSI_OOMD, or else the one that the launcher
-builds, without the launcher around it. So it is with another program and its variable."""
+"""The program that tests run: the one named by `--program PATH` or the variable PSI_OOMD, or else
+the one that the launcher builds, without the launcher itself. Another program has its own variable.
+"""
 from __future__ import annotations
 
 import os
 import sys
 
-# Whether the program was named from outside: then nothing else is built unasked.
+# Whether the program was named by the caller: then nothing else is built unasked.
 IS_NAMED = bool(os.environ.get("PSI_OOMD")) or "--program" in sys.argv[1:2]
 TOP = os.path.dirname(os.path.dirname(os.path.abspath(__file__)))
 sys.path.append(os.path.join(TOP, "tools"))
@@ -15,8 +16,9 @@ from psireplay.program import built_program  # noqa: E402
 
 
 def program_of(words: list[str], name: str = "psi_oomd") -> tuple[str, list[str]]:
-    """The program of this name, built where none is named, and the words after `--program PATH`. Tools that a test runs run it
-    too. Who asks for `--help` gets what the test says of itself, and no build of an hour."""
+    """The program of this name, built if none is named, and the arguments after `--program PATH`.
+    Tools that a test runs use it too. `--help` prints the test's own docstring, and builds nothing.
+    """
     if words[:1] == ["--help"]:
         print((sys.modules["__main__"].__doc__ or "").strip())
         sys.exit(0)
