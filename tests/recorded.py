@@ -1,4 +1,5 @@
-"""What the tests of the tools for recordings share: how they are run, what a check says, and the stored recordings.
+"""Shared by tests of the tools for recordings: running them, checking their results, and the stored
+recordings.
 
 The recordings are those of tests/recordings, whose README says where they come from.
 """
@@ -23,12 +24,12 @@ TOP = os.path.dirname(os.path.dirname(os.path.abspath(__file__)))
 TOOLS = os.path.join(TOP, "tools")
 STORED = os.path.join(TOP, "tests", "recordings")
 SECONDS = 600
-# The bytes of a page of the recordings' ring buffers.
+# The size (bytes) of a page of the recordings' ring buffers.
 PAGE = 4096
 
 
 class Done(NamedTuple):
-    """What a program left: its status, and what it wrote."""
+    """The result of a run: its exit status, and what it wrote."""
 
     status: int
     output: bytes
@@ -36,7 +37,7 @@ class Done(NamedTuple):
 
 
 def run(words: list[str], given: bytes = b"", program: str = "") -> Done:
-    """Runs a program, to which `program` is the psi_oomd to use."""
+    """Runs a program; `program` is the psi_oomd that it uses."""
     environment = {**os.environ, "PYTHONDONTWRITEBYTECODE": "1", "PSI_OOMD": program}
     done = subprocess.run(words, input=given, capture_output=True, timeout=SECONDS, env=environment, cwd=TOP)
     return Done(done.returncode, done.stdout, done.stderr.decode())
@@ -48,7 +49,7 @@ def tool(name: str, *words: str, given: bytes = b"", program: str = "") -> Done:
 
 
 def accepted(program: str, trace: bytes) -> str:
-    """What psi_oomd says of a trace that it must accept."""
+    """Psi_oomd's message for a trace that it must accept."""
     done = run([program, "check", "-"], trace)
     must_be(f"the status of check, which said {done.said}", done.status, 0)
     return done.output.decode()
@@ -56,7 +57,7 @@ def accepted(program: str, trace: bytes) -> str:
 
 @contextlib.contextmanager
 def recording(name: str) -> Iterator[str]:
-    """A stored recording, as a folder that may be changed."""
+    """A copy of a stored recording, as a folder that may be changed."""
     with tempfile.TemporaryDirectory() as place:
         with tarfile.open(os.path.join(STORED, f"{name}.tar.xz")) as archive:
             archive.extractall(place)
@@ -70,7 +71,7 @@ def text(name: str) -> bytes:
 
 
 def stored(name: str) -> str:
-    """A stored text that must come."""
+    """A stored expected text."""
     with open(os.path.join(STORED, name), encoding="utf-8") as file:
         return file.read()
 
@@ -87,19 +88,19 @@ def change(folder: str, name: str, edit: Callable[[bytes], bytes]) -> None:
 
 
 def count_bytes(folder: str) -> None:
-    """Lets `meta` count the bytes of pages that there are."""
+    """Sets the byte counts in `meta` to the sizes of the files of pages."""
     names = [os.path.join(folder, name) for name in os.listdir(folder) if ".raw" in name]
     count = sum(os.path.getsize(name) for name in names)
     change(folder, "meta", lambda it: re.sub(rb"(?m)^bytes \d+$", b"bytes %d" % count, it))
 
 
 def end_of(trace: bytes) -> int:
-    """The end moment of a trace, in ns."""
+    """The end of a trace, in ns."""
     return int(trace.splitlines()[-1].split(b" ")[0])
 
 
 def digest_of(trace: bytes) -> str:
-    """A trace's sha256."""
+    """The sha256 of a trace."""
     return hashlib.sha256(trace).hexdigest()
 
 
@@ -109,14 +110,14 @@ def digests() -> dict[str, str]:
 
 
 def converted(folder: str, *words: str, status: int = 0) -> Done:
-    """What psitrace makes of a recording."""
+    """The result of psitrace for a recording."""
     done = tool("psitrace", folder, *words)
     must_be(f"the status of psitrace {' '.join(words)}, which said {done.said}", done.status, status)
     return done
 
 
 def compared(program: str, folder: str, trace: bytes, *words: str) -> Done:
-    """What compare says of a trace."""
+    """The result of compare for a trace."""
     with tempfile.NamedTemporaryFile(suffix=".trace") as file:
         file.write(trace)
         file.flush()
@@ -124,19 +125,19 @@ def compared(program: str, folder: str, trace: bytes, *words: str) -> Done:
 
 
 def must_agree(program: str, folder: str, trace: bytes, *words: str) -> None:
-    """The trace agrees with the machine's files."""
+    """Fails unless the trace agrees with the machine's files."""
     done = compared(program, folder, trace, *words)
     must_be(f"the status of compare, which said {done.output.decode()}{done.said}", done.status, 0)
     must("are within" in done.output.decode(), f"some totals are compared: {done.output.decode()}")
 
 
 def hide(folder: str, event: bytes) -> None:
-    """Makes an event of the recording unknown."""
+    """Makes an event unknown in the recording."""
     change(folder, "formats", lambda it: it.replace(b"/" + event + b"\n", b"/not_" + event + b"\n"))
 
 
 def main(checks: dict[str, object], title: str) -> int:
-    """Runs all checks of a module on a program; answers the status."""
+    """Runs all checks of a module on a program, and returns the exit status."""
     program, _ = program_of(sys.argv[1:])
     found = [(name, check) for name, check in checks.items() if name.startswith("check_") and callable(check)]
     failed = 0

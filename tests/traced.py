@@ -1,5 +1,6 @@
-"""Runs a program and counts what the system itself reports of it: calls that read and write, threads that were started, and the
-addresses that were asked for."""
+"""Runs a program and counts what the system reports of it: calls that read and write, threads that
+were started, and address space.
+"""
 from __future__ import annotations
 
 import ctypes
@@ -11,7 +12,7 @@ LIBC = ctypes.CDLL(None, use_errno=True)
 LIBC.ptrace.argtypes = [ctypes.c_long, ctypes.c_long, ctypes.c_void_p, ctypes.c_void_p]
 LIBC.ptrace.restype = ctypes.c_long
 
-# Of <sys/ptrace.h> and <sys/wait.h>.
+# From <sys/ptrace.h> and <sys/wait.h>.
 TRACEME, CONT, SETOPTIONS = 0, 7, 0x4200
 TRACE_CLONE, TRACE_EXIT, EXIT_KILL = 0x8, 0x40, 0x100000
 EVENT_CLONE, EVENT_EXIT = 3, 6
@@ -21,13 +22,15 @@ NOT_TRACED = 126
 
 
 class NotTold(Exception):
-    """The system doesn't tell, and why."""
+    """The system doesn't report this, with the reason."""
 
 
 @dataclass
 class Calls:
-    """What all threads of a run did: calls that read and that write, starts of threads, and the most addresses that they had,
-    in KB, whether or not there was memory after them. `status` is the exit status."""
+    """The totals of all threads of a run: calls that read and that write, starts of threads, and
+    the peak address space in KB, whether or not memory was used for it. `status` is the exit
+    status.
+    """
 
     reads: int = 0
     writes: int = 0
@@ -37,16 +40,16 @@ class Calls:
 
 
 def ask(request: int, who: int, data: int = 0) -> None:
-    """A request to the thread with this number, which stands still."""
+    """Makes a request about the thread with this number, which is stopped."""
     if LIBC.ptrace(request, who, None, data) < 0:
         error = ctypes.get_errno()
-        # One that was killed meanwhile is told of by its exit.
+        # If the thread was killed in the meantime, its exit reports that.
         if error != 3:
             raise NotTold(f"ptrace {request}: {os.strerror(error)}")
 
 
 def start(words: list[str]) -> int:
-    """Starts a program that stands still after its loading, with nothing to read and its output thrown away."""
+    """Starts a program that stops once it is loaded, with empty input and discarded output."""
     child = os.fork()
     if child:
         return child
@@ -61,7 +64,7 @@ def start(words: list[str]) -> int:
 
 
 def told_in(child: int, name: str) -> dict[str, str]:
-    """The lines of a file of /proc about a program, by their names."""
+    """The lines of a file of /proc about a program, by name."""
     try:
         with open(f"/proc/{child}/{name}", encoding="utf-8") as file:
             return dict(line.rstrip("\n").split(":", 1) for line in file)
@@ -70,14 +73,16 @@ def told_in(child: int, name: str) -> dict[str, str]:
 
 
 def take_down(child: int, calls: Calls) -> None:
-    """Takes down what all threads did so far."""
+    """Stores the counts of all threads so far."""
     told = told_in(child, "io")
     calls.reads, calls.writes = int(told["syscr"]), int(told["syscw"])
     calls.addresses = int(told_in(child, "status")["VmPeak"].split()[0])
 
 
 def go_on(child: int, who: int, status: int, calls: Calls) -> None:
-    """Takes down why a thread stands still, and lets it go on. A signal that isn't the tracer's own is handed on."""
+    """Counts why a thread is stopped, and continues it. A signal that isn't the tracer's own is
+    passed on.
+    """
     event, stop = status >> 16, os.WSTOPSIG(status)
     if event == EVENT_CLONE:
         calls.threads += 1
@@ -88,7 +93,8 @@ def go_on(child: int, who: int, status: int, calls: Calls) -> None:
 
 
 def calls_of(words: list[str]) -> Calls:
-    """Runs a program to its end, and counts. No other child of this process may end meanwhile."""
+    """Runs a program to its end, and counts. No other child of this process may end during the run.
+    """
     calls = Calls()
     child = start(words)
     _, status = os.waitpid(child, 0)

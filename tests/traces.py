@@ -1,4 +1,6 @@
-"""Traces for checks that compute what must be printed of them: fixed ones, each for something that happens, and random ones."""
+"""Traces for checks that compute the expected output: fixed ones, each for one situation, and
+random ones.
+"""
 from __future__ import annotations
 
 import dataclasses
@@ -113,7 +115,7 @@ STALLS_ASLEEP = """psitrace 1 cpus=2
 3500000000 unstall 2
 5000000000 end
 """
-# The trace of which docs/COMMANDS.md shows a live line.
+# The trace for which docs/COMMANDS.md shows a live line.
 BETWEEN = """psitrace 1 cpus=1
 0 fork 1 / 0
 0 switch 0 1 idle
@@ -121,7 +123,7 @@ BETWEEN = """psitrace 1 cpus=1
 1500000000 wake 1 0
 2000000000 end
 """
-# No count differs at most of these events, and each is a change.
+# At most of these events no count differs, and each is a change.
 NOTHING_DIFFERS = """psitrace 1 cpus=2
 0 switch 0 0 idle
 0 fork 1 / 0
@@ -141,7 +143,8 @@ IDLE = """psitrace 1 cpus=2
 0 switch 0 0 iowait
 9000000000 end
 """
-# Interrupts are changes, also of a processor that is idle; no state begins or ends by them, and live lines have none of their time.
+# Interrupts are changes, also on an idle processor; they begin and end no state, and live lines
+# don't have their time.
 INTERRUPTS = """psitrace 2 cpus=2
 0 irq 0 0
 0 group /a
@@ -156,7 +159,8 @@ INTERRUPTS = """psitrace 2 cpus=2
 2500000000 irq 0 1
 3000000000 end
 """
-# One account goes off across a tick and a change of its task, and one with a child that is on; a group goes off, and comes again.
+# An account goes off over a tick and a change of its task, and another has a child that is on; a
+# group is removed, and created again.
 SWITCHED = """psitrace 2 cpus=2
 0 group /a
 0 group /a/b
@@ -201,7 +205,9 @@ RUNAWAY = ("--rules", "examples/runaway.json")
 
 @dataclasses.dataclass(frozen=True)
 class Run:
-    """A trace with a path, and with what it is replayed: the length of ticks (ms), the period of reports (s) and other words."""
+    """A trace with a path, and the options of its replay: the length of ticks (ms), the period of
+    reports (s) and other arguments.
+    """
 
     name: str
     trace: str
@@ -218,7 +224,8 @@ def text_of(name: str) -> str:
 
 
 def fixed_runs() -> list[Run]:
-    """The traces above, and some of the examples, each with a path that is live, was or never is."""
+    """The traces above, and some of the examples, each with a path that is, was or never is live.
+    """
     return [
         Run("one-wait", text_of("one-wait.trace"), "/", 2000, 10),
         Run("one-wait-in-ticks", text_of("one-wait.trace"), "/", 300, 1),
@@ -257,12 +264,13 @@ def fixed_runs() -> list[Run]:
 
 
 class Maker:
-    """Makes a legal trace at random: at each turn time passes, or not, and something happens that may."""
+    """Makes a valid random trace: in each turn time passes, or not, and a possible event happens.
+    """
 
     PATHS = ("/a", "/a/b", "/a/b/c", "/d", "/d/e")
-    # How many turns there are, at least and at most.
+    # The least and the largest number of turns.
     TURNS = (30, 120)
-    # By the version of the trace, how often each verb comes.
+    # How often each verb comes, by the version of the trace.
     FIRST = dict(fork=2, switch=8, wake=4, stall=2, unstall=2, migrate=2, move=3, group=4, rmgroup=2, side=1)
     OFTEN = {1: FIRST, 2: {**FIRST, "irq": 8, "pressure": 5}}
 
@@ -274,7 +282,7 @@ class Maker:
         self.last_interrupts = [0] * self.machine.cpus
 
     def trace(self) -> str:
-        """The whole trace, with its end."""
+        """The complete trace, with its end."""
         for _ in range(self.draw.randint(*self.TURNS)):
             verb = self.draw.choices(list(self.often), list(self.often.values()))[0]
             for event in getattr(self, f"some_{verb}")():
@@ -284,7 +292,9 @@ class Maker:
         return "\n".join([*self.lines, f"{self.now} end\n"])
 
     def pass_time(self) -> None:
-        """Half of the time nothing passes; some events come exactly at a tick, and some intervals have no event."""
+        """In half of the turns no time passes; some events come exactly at a tick, and some
+        intervals have no event.
+        """
         way = self.draw.random()
         if way > 0.95:
             self.now += self.draw.randrange(4 * self.tick)
@@ -294,19 +304,19 @@ class Maker:
             self.now += self.draw.randrange(self.tick // 2)
 
     def path(self) -> str:
-        """The root, or a path that some group had."""
+        """The root, or a path that some group has had."""
         return self.draw.choice(["/", *(path for path in self.PATHS if any(line.endswith(f" group {path}") for line in self.lines))])
 
     def cpu(self) -> str:
         return str(self.draw.randrange(self.machine.cpus))
 
     def some(self, them: Iterable[Thing]) -> list[Thing]:
-        """One of them, or none if there is none."""
+        """A list of one random thing, or an empty one if there is none."""
         listed = list(them)
         return [self.draw.choice(listed)] if listed else []
 
     def task(self, *at: str) -> list[str]:
-        """The number of a task that is in one of these ways, or none."""
+        """The number of a random task in one of these states, or none."""
         return self.some(pid for pid, task in self.machine.tasks.items() if task.at in at)
 
     def some_fork(self) -> list[Event]:
@@ -344,7 +354,8 @@ class Maker:
         return [("group", path) for path in self.some(it for it in self.PATHS if it not in live and parent_of(it) in live)]
 
     def some_rmgroup(self) -> list[Event]:
-        """A group without one below it goes, and perhaps comes again at once, after its tasks."""
+        """A group without children is removed, and perhaps created again at once, after its tasks.
+        """
         live = self.machine.live
         parents = {parent_of(path) for path in live if path != "/"}
         for path in self.some(it for it in live if it != "/" and it not in parents):
@@ -354,7 +365,9 @@ class Maker:
         return []
 
     def some_irq(self) -> list[Event]:
-        """Interrupts take some of the time since the processor's last line of them, or all of it, but a second at most."""
+        """Interrupts take some or all of the time since the processor's previous `irq` line, but at
+        most a second.
+        """
         busy = [cpu for cpu in range(self.machine.cpus) if self.machine.running(cpu)]
         cpu = self.draw.choice(busy if busy and self.draw.random() < 0.8 else range(self.machine.cpus))
         most = min(self.now - self.last_interrupts[cpu], 1000 * MS)
@@ -362,12 +375,14 @@ class Maker:
         return [("irq", str(cpu), str(self.draw.choice((0, most, self.draw.randint(0, most)))))]
 
     def some_pressure(self) -> list[Event]:
-        """The account of a group is switched, perhaps to what it is, and at times back at once."""
+        """The account of a group is set on or off, perhaps to its present state, and sometimes back
+        at once.
+        """
         switches = self.draw.choice((("on",), ("off",), ("off",), ("off", "on"), ("on", "off")))
         return [("pressure", path, to) for path in self.some(it for it in self.machine.live if it != "/") for to in switches]
 
     def some_side(self) -> list[Event]:
-        """Something that changes neither a processor nor a group."""
+        """An event that changes neither a processor nor a group."""
         (path,) = self.some(self.machine.live)
         resource, level = self.draw.choice(("io", "memory", "cpu")), self.draw.choice(("some", "full"))
         sides: list[Event] = [("mem", path, "4096", "0", "7"), ("prefer", path, "avoid"), ("host", "4096", "0", "0")]
@@ -375,16 +390,17 @@ class Maker:
 
 
 def random_run(number: int, version: int = 1, kind: type[Maker] = Maker) -> Run:
-    """A random trace of this version by a kind of maker, the same for each number."""
+    """A random trace of this version by this kind of maker; the same number gives the same trace.
+    """
     maker = kind(number, version)
     trace = maker.trace()
-    # Mostly at the ticks that it was made for.
+    # Mostly with the ticks that it was made for.
     tick_ms = maker.tick // MS * maker.draw.choice((2, 2, 2, 1, 7)) // 2
     return Run(f"random-{number}" + "-with-interrupts" * (version - 1), trace, maker.path(), tick_ms, maker.draw.choice((0, 1, 10)))
 
 
 def all_runs() -> Iterator[Run]:
-    """The fixed ones, and random ones of both versions."""
+    """The fixed traces, and random ones of both versions."""
     yield from fixed_runs()
     yield from (random_run(number) for number in range(RANDOM_TRACES))
     yield from (random_run(number, 2) for number in range(RANDOM_TRACES_WITH_INTERRUPTS))
