@@ -1,1 +1,3 @@
-"""How near a recording comes to its machine, and what is said where it is a guess: the checks of tests/accuracy."""
+"""How closely a recording agrees with its machine, and what is reported if it is a guess: the
+checks of tests/accuracy.
+"""

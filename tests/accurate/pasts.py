@@ -1,4 +1,6 @@
-"""Checks of lead-ins: of the shares that its made-up tasks have, and of the averages with which recordings begin then."""
+"""Checks of lead-ins (warm-up periods): the shares of their generated tasks, and the averages with
+which recordings then begin.
+"""
 from __future__ import annotations
 
 import os
@@ -18,13 +20,15 @@ from psiworld.groups import Groups  # noqa: E402
 from psiworld.world import World  # noqa: E402
 
 LEAD = 720
-# So many points may averages be off at the start, by their periods: avg10 moves by that much within a tick, of which the machine's
-# readings and the replay's reports stand at different places.
+# How far averages may be off at the start (percentage points), by period: avg10 moves by that much
+# within a tick, and the machine's readings and the replay's reports are at different times in it.
 NEAR = {10: 5.0, 60: 2.0, 300: 0.6}
 
 
 def check_stretches(_: str) -> None:
-    """Whether averages that go by the kernel's factors come to those that are wanted, where pressures from 0 to 100 % can do it."""
+    """Averages by the kernel's factors reach the wanted ones, if pressures from 0 to 100 % can do
+    it.
+    """
     for wanted in ((12.5, 30.0, 22.2), (50.0, 20.0, 10.0), (5.0, 5.0, 5.0), (0.0, 0.0, 0.0)):
         stretches = stretches_of(wanted, LEAD // 2)
         averages = [0.0] * 3
@@ -36,8 +40,9 @@ def check_stretches(_: str) -> None:
 
 
 def check_what_a_stage_shows(_: str) -> None:
-    """Whether the made-up tasks of a group have its shares on their processor: waits, stalls and waits for the processor of some
-    and of all, each by itself and together, as the states of a trace have them."""
+    """The generated tasks of a group have its shares on their processor: waits, stalls and waits
+    for the processor, some and full, alone and combined, as the states of a trace define them.
+    """
     for shares in (
         Shares(0, 0, 0, 0, 0, 0), Shares(40, 10, 0, 0, 0, 0), Shares(30, 30, 0, 0, 20, 5), Shares(0, 0, 50, 20, 0, 0),
         Shares(0, 0, 50, 50, 60, 60), Shares(60, 25, 45, 35, 70, 30), Shares(100, 100, 100, 100, 0, 0),
@@ -58,7 +63,7 @@ def check_what_a_stage_shows(_: str) -> None:
 
 
 def check_groups_above(_: str) -> None:
-    """Whether a group above has its own shares, higher or lower than those of the groups below."""
+    """A parent group has its own shares, higher or lower than its children's."""
     flat = {key: (30.0, 30.0, 30.0) for key in (("io", "some"), ("io", "full"))}
     for above in (10.0, 29.0, 45.0):
         world = World(2, Groups())
@@ -74,7 +79,7 @@ def check_groups_above(_: str) -> None:
 
 
 def printed_averages(program: str, trace: str) -> dict[tuple[str, str, str], tuple[float, ...]]:
-    """The averages of all files where the recording begins, by path, resource and level."""
+    """The averages of all files at the recording's start, by path, resource and level."""
     out = subprocess.run([program, "replay", trace, "--report-s", "2"], capture_output=True, text=True, check=True).stdout
     found = {}
     for path, resource, some, full in re.findall(rf"^report {LEAD}000000000 (\S+) (\w+)\nsome (.*)\nfull (.*)$", out, re.MULTILINE):
@@ -84,8 +89,9 @@ def printed_averages(program: str, trace: str) -> dict[tuple[str, str, str], tup
 
 
 def check_how_recordings_begin(program: str) -> None:
-    """Whether the averages at a recording's first moment are those that the machine's files had then, where they were 0 before, and
-    the totals of the recording are what they were; and the summary says where the recording begins."""
+    """The averages at the recording's start are those of the machine's files then, instead of 0,
+    and the recording's totals don't change; the summary says when the recording begins.
+    """
     for name in ("threads", "mem-2"):
         with recording(name) as folder, tempfile.NamedTemporaryFile(suffix=".trace") as file:
             done = converted(folder, "--lead-in", "12min")
@@ -109,7 +115,7 @@ def check_how_recordings_begin(program: str) -> None:
 
 
 def check_words_of_lead_ins(_: str) -> None:
-    """Whether faulty lengths are refused, and one that nothing can be known of."""
+    """Invalid lengths are rejected, and so is a length about which nothing can be known."""
     with recording("exec-2") as folder:
         for word in ("4min", "61min", "721", "12h", "-1", "0"):
             must("--lead-in" in converted(folder, f"--lead-in={word}", status=1).said, word)

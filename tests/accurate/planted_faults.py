@@ -1,5 +1,6 @@
-"""Checks that recordings agree with their machines at the kernel's own moments, and that faults of their conversion show there: one
-fitted number a group hides none."""
+"""Recordings agree with their machines at the kernel's own sampling times, and faults of their
+conversion show there: one fitted number per group hides none.
+"""
 from __future__ import annotations
 
 import re
@@ -8,21 +9,26 @@ import struct
 from recorded import PAGE, change, compared, converted, must, must_agree, must_be, recording
 
 HOUR = 3600 * 10**9
-# Psi counted wakeups up to 132 us before their events, in 99 of 100 on this kernel in this emulator, and 60 at the median. Where the
-# recording doesn't say how long, so much is said; and of `exec-2`, whose machine was all but idle, no total is from 0.5 s on.
+# Psi counted wakeups up to 132 us before their events, for 99 of 100 on this kernel in this
+# emulator, with a median of 60. If the recording doesn't contain the lag, this option gives it. In
+# `exec-2`, whose machine was almost idle, no total is at least 0.5 s.
 LAG = ("--lag-us", "60")
 WORDS = {"mem-2": LAG, "threads": LAG, "exec-2": (*LAG, "--least-s", "0.1")}
 
 
 def check_each_recording(program: str) -> None:
-    """Whether each agrees with its machine: `threads` at the moments that it tells, the others at those that are fitted."""
+    """Each recording agrees with its machine: `threads` at the recorded sampling times, the others
+    at fitted ones.
+    """
     for name in ("mix-2", "mem-2", "cg-2", "exec-2", "threads"):
         with recording(name) as folder:
             must_agree(program, folder, converted(folder).output, *WORDS.get(name, ()))
 
 
 def check_fitted_moments(program: str) -> None:
-    """Whether a recording that tells the moments agrees with its machine without them too, and says that they were fitted."""
+    """A recording with sampling times agrees with its machine without them too, and the output says
+    that they were fitted.
+    """
     with recording("threads") as folder:
         trace = converted(folder).output
         told = compared(program, folder, trace).output.decode()
@@ -37,7 +43,7 @@ def check_fitted_moments(program: str) -> None:
 
 
 def check_causes_that_are_known(program: str) -> None:
-    """Whether it is said why totals are beyond their limits, where it is known."""
+    """The output states the known causes of totals beyond their limits."""
     with recording("exec-2") as folder:
         trace = converted(folder).output
         done = compared(program, folder, trace, "--least-s", "0.1")
@@ -51,21 +57,21 @@ def check_causes_that_are_known(program: str) -> None:
 
 
 def marked(program: str, folder: str, trace: bytes, *words: str) -> str:
-    """The files with totals that are beyond their limits; there must be some."""
+    """The files with totals beyond their limits; there must be some."""
     done = compared(program, folder, trace, *words)
     must_be(f"the status: {done.output.decode()}", done.status, 1)
     return "\n".join(line for line in done.output.decode().splitlines() if line.startswith("| /") and "!" in line)
 
 
 def check_waits_by_state(program: str) -> None:
-    """Whether IO that is told by state D alone is found to be too much."""
+    """If IO is derived from state D alone, its total is found to be too high."""
     with recording("mix-2") as folder:
         found = marked(program, folder, converted(folder, "--iowait", "D").output)
         must("| io  " in found and "cpu" not in found, found)
 
 
 def later(data: bytes) -> bytes:
-    """Pages of a ring buffer whose events are an hour later."""
+    """Pages of a ring buffer, with all events an hour later."""
     after = bytearray(data)
     for at in range(0, len(data), PAGE):
         struct.pack_into("<Q", after, at, struct.unpack_from("<Q", after, at)[0] + HOUR)
@@ -73,7 +79,9 @@ def later(data: bytes) -> bytes:
 
 
 def check_a_processor_that_is_late(program: str) -> None:
-    """Whether a processor whose events are an hour late is found, with the moments told and with fitted ones."""
+    """A processor whose events are an hour late is found, with recorded and with fitted sampling
+    times.
+    """
     for name in ("mix-2", "threads"):
         with recording(name) as folder:
             change(folder, "cpu1.raw", later)

@@ -1,4 +1,4 @@
-"""Checks of the kernel's sums on made-up recordings whose totals are computed by hand."""
+"""Checks of the kernel's sums on synthetic recordings whose totals are computed by hand."""
 from __future__ import annotations
 
 import sys
@@ -19,12 +19,13 @@ from psiread.source import Source  # noqa: E402
 
 MS, SECOND = 10**6, 10**9
 RESOURCES = ("io", "memory", "cpu")
-# Where the accounts of the root and of the group stand, and how far behind their beginning the kernel's work is.
+# The addresses of the root's and the group's accounts, and the offset of the kernel's work in them.
 ROOT, GROUP, WORK = 0x1000, 0x9000, 0x78
 # The task that reads the files.
 READER = 77
 
-# Of the group one task waits for IO on processor 0 from 1 s on, and one runs on processor 1 from 2 s to 3 s.
+# One task of the group waits for IO on processor 0 from 1 s on, and one runs on processor 1 from 2
+# s to 3 s.
 SPREAD = """\
 0 group /a
 0 fork 1 /a 0
@@ -40,8 +41,9 @@ SPREAD = """\
 
 
 def probed(reads: list[int], averages: list[int]) -> Source:
-    """A recording in which the root's files and the group's were read at these moments, and the kernel sampled the group by itself
-    at the others, ns."""
+    """A recording in which the files of the root and the group were read at `reads`, and the kernel
+    itself sampled the group at `averages` (ns).
+    """
     events: list[Event] = [Marker(0, 0, READER, b"psirec start")]
     for number, moment in enumerate(reads):
         events.append(Marker(moment - MS, 0, READER, b"psirec pressure %d begin\n" % number))
@@ -54,7 +56,9 @@ def probed(reads: list[int], averages: list[int]) -> Source:
 
 
 def readings_of(reads: list[int], totals: dict[File, list[int]]) -> Readings:
-    """What the machine's files said at each reading, us, where some and full are alike; the others said 0."""
+    """The machine's files at each reading (us), with some and full equal; files without totals have
+    0.
+    """
     readings: Readings = {number: {} for number in range(len(reads))}
     for file in [File(path, resource) for path in ("/", "/a") for resource in RESOURCES]:
         for number, (moment, total) in enumerate(zip(reads, totals.get(file, [0] * len(reads)))):
@@ -63,7 +67,7 @@ def readings_of(reads: list[int], totals: dict[File, list[int]]) -> Readings:
 
 
 def growth_in(trace: str, reads: list[int], averages: list[int], totals: dict[File, list[int]]) -> dict[File, Growth]:
-    """What is found of each file, by its name."""
+    """The computed growth of each file, by name."""
     clocks, told = Clocks(trace.splitlines()), Moments(probed(reads, averages), readings_of(reads, totals))
     inside = list(told.readings)
     found = {}
@@ -74,10 +78,12 @@ def growth_in(trace: str, reads: list[int], averages: list[int], totals: dict[Fi
 
 
 def check_shares_between_moments(_: str) -> None:
-    """Whether each stretch between two samplings has weights of its own. From 0.5 s to 4 s processor 0 is busy for 3.5 s, of which 3
-    are waits, and processor 1 for 1 s: in one stretch 3 * 3.5 / 4.5 s are 2.333333. With one more sampling at 2 s it is 1 s of the
-    first, where processor 1 does nothing, and 2 * 2 / 3 of the second: 2.333333 too. With one at 3 s the first has 2 * 2.5 / 3.5,
-    which are 1.428571, and the second 1."""
+    """Each interval between two samplings has its own weights. From 0.5 s to 4 s processor 0 is
+    busy for 3.5 s, 3 s of them waiting, and processor 1 for 1 s: in one interval 3 * 3.5 / 4.5 s
+    are 2.333333. With another sampling at 2 s it is 1 s in the first interval, in which processor 1
+    does nothing, and 2 * 2 / 3 in the second: also 2.333333. With a sampling at 3 s the first has 2
+    * 2.5 / 3.5, which is 1.428571, and the second 1.
+    """
     file = File("/a", "io")
     for averages, wanted in (([], 2333333), ([2 * SECOND], 2333333), ([3 * SECOND], 2428571)):
         reads = [500 * MS, 4 * SECOND]
@@ -87,7 +93,7 @@ def check_shares_between_moments(_: str) -> None:
 
 
 def check_weights_are_ticks_of_the_timer(_: str) -> None:
-    """Whether what a processor does in less than a tick, 4 ms, has no weight."""
+    """What a processor does in less than a tick, 4 ms, has no weight."""
     lines = ["0 fork 1 / 0", "0 switch 0 1 idle", f"{SECOND} switch 0 0 iowait", f"{SECOND + 3 * MS} wake 1 0"]
     lines += [f"{SECOND + 3 * MS} switch 0 1 idle", f"{SECOND + 3 * MS} switch 0 0 sleep", f"{3 * SECOND} group /a"]
     for end, wanted in ((0, 0), (MS, 3000)):
@@ -97,8 +103,10 @@ def check_weights_are_ticks_of_the_timer(_: str) -> None:
 
 
 def check_sums_of_32_bits(_: str) -> None:
-    """Whether the machine's loss is told. From 4 s to 11 s, 7 s, the group waits for IO on processor 0: 7,000,000,000 ns are
-    2,705,032,704 in 32 bits, and between samplings at 4 s and at 8 s none is lost."""
+    """The machine's loss is reported. From 4 s to 11 s, 7 s, the group waits for IO on processor 0:
+    7,000,000,000 ns are 2,705,032,704 in 32 bits, and with samplings at 4 s and at 8 s none is
+    lost.
+    """
     file = File("/a", "io")
     for averages, told, right in (([], 2705032, 7000000), ([8 * SECOND], 7000000, 7000000)):
         growth = growth_in(SPREAD, [4 * SECOND, 11 * SECOND], averages, {file: [0, told]})[file]
@@ -110,14 +118,18 @@ def check_sums_of_32_bits(_: str) -> None:
 
 
 def check_a_group_of_two_lives(_: str) -> None:
-    """Whether a group that was made between two readings counts from its making, though another of its path was there before."""
+    """A group created between two readings counts from its creation, though another group had its
+    path before.
+    """
     lines = ["0 group /a", f"{SECOND} rmgroup /a", f"{3 * SECOND} group /a", f"{3 * SECOND} fork 1 /a 0", f"{7 * SECOND} end"]
     found = growth_in("\n".join(lines), [500 * MS, 5 * SECOND], [], {File("/a", "cpu"): [900, 2000000]})
     must_be("the growth", found[File("/a", "cpu")], Growth(File("/a", "cpu"), *[(2000000, 2000000)] * 3))
 
 
 def check_readings_with_a_file_too_few(_: str) -> None:
-    """Whether a reading in which a file was gone is still told file by file, by the addresses of the one before."""
+    """A reading in which a file was missing is still assigned file by file, by the addresses of the
+    previous reading.
+    """
     reads = [SECOND, 3 * SECOND, 5 * SECOND]
     readings = readings_of(reads, {})
     del readings[1][File("/a", "memory")]
@@ -131,7 +143,9 @@ def check_readings_with_a_file_too_few(_: str) -> None:
 
 
 def check_groups_whose_moments_are_not_told(_: str) -> None:
-    """Whether a group of which no address was learned, since no reading showed as many files as it has, is fitted."""
+    """A group without a known address, because no reading showed as many files as it has, is
+    fitted.
+    """
     reads = [SECOND, 3 * SECOND, 5 * SECOND]
     source = probed(reads, [2 * SECOND, 4 * SECOND])
     whole, cut = Moments(source, readings_of(reads, {})), readings_of(reads, {})

@@ -1,23 +1,27 @@
-"""Checks of threads that are moved between groups alone, and of processes that are moved with all their threads."""
+"""Checks of single threads that are moved between groups, and of processes that are moved with all
+their threads.
+"""
 from __future__ import annotations
 
 import re
 
 from recorded import accepted, change, compared, converted, digest_of, digests, hide, must, must_be, recording, stored
 
-# The groups of the recording whose tasks are threads of one process; and what is said where the probe is missing.
+# The recording's groups whose tasks are threads of one process; and the message if the probe is
+# missing.
 THREADED = "/thr"
 GUESSED = "psitrace: mended: first thread of a process moved, the others taken to go with it: "
 
 
 def rows_of(printed: bytes, group: str) -> list[str]:
-    """The rows of a comparison for this group and those below it."""
+    """The rows of a comparison for this group and its descendants."""
     return [line for line in printed.decode().splitlines() if re.match(rf"\| {group}[ /]", line)]
 
 
 def check_threaded_groups(program: str) -> None:
-    """Whether threads that were moved alone count where they were moved to, by the probe; and without it more than a third of a
-    group's time is wrong, and the summary says that they are guessed."""
+    """With the probe, single threads count in the group that they were moved to; without it more
+    than a third of a group's time is wrong, and the summary says that their groups are guessed.
+    """
     with recording("threads") as folder:
         done = converted(folder)
         must_be("the sha256", digest_of(done.output), digests()["threads"])
@@ -33,8 +37,10 @@ def check_threaded_groups(program: str) -> None:
 
 
 def check_what_types_tell(_: str) -> None:
-    """A process of five threads is moved 48 times, to either of two groups in turn. Whether nothing is guessed where the snapshot
-    tells that the groups are plain ones, in which processes are, and half of it where one of them isn't."""
+    """A process of five threads is moved 48 times, alternately to two groups. Nothing is guessed if
+    the snapshot says that both are plain groups, which contain processes, and half of it is guessed
+    if one isn't.
+    """
     with recording("cg-2") as folder:
         must(f"{GUESSED}48\n" in converted(folder).said, "types aren't known")
         plain = b"type /system.slice/web.service domain\ntype /system.slice/db.service "

@@ -1,4 +1,6 @@
-"""Checks of when wakeups are counted: what the probe tells, where the converter puts them, and between what the totals lie."""
+"""Checks of when wakeups are counted: what the probe shows, the converter's times, and bounds on
+the totals.
+"""
 from __future__ import annotations
 
 import re
@@ -12,11 +14,11 @@ sys.path.insert(0, TOOLS)
 from psiconvert.wakeups import Counting, bounds_of, counted_at, lag_bounds, put_at, with_wakeups  # noqa: E402
 from psiread.events import Event, ReadyProbe, Switch, Wakeup  # noqa: E402
 
-# The part of the stored recording that was kept, s.
+# The part of the stored recording that is used, in s.
 PART = ("--to", "20")
 US = 1000
-# Task 8 is counted at 100 us, and its wakeup is written at 160; then it runs, and is counted anew where it goes elsewhere. Task 9 was
-# counted long before a wakeup that isn't that one's.
+# Task 8 is counted at 100 us, and its wakeup is written at 160; then it runs, and is counted again
+# when it moves. Task 9 was counted long before a wakeup, so that count belongs to another one.
 EVENTS: list[Event] = [
     ReadyProbe(100 * US, 0, 7, 8), Wakeup(160 * US, 0, 7, 8, 0), ReadyProbe(170 * US, 0, 7, 8), Switch(180 * US, 0, 7, 7, "S", 8),
     Wakeup(190 * US, 1, 3, 8, 0), ReadyProbe(200 * US, 1, 3, 9), Wakeup(60_000 * US, 1, 3, 9, 1),
@@ -24,7 +26,9 @@ EVENTS: list[Event] = [
 
 
 def check_what_the_probe_tells(_: str) -> None:
-    """Whether just that wakeup is paired with a probe which is its own, and stands where it is wanted, in the order of time."""
+    """Only a wakeup with its own probe event is paired, and it gets the wanted time, in the order
+    of time.
+    """
     must_be("what is counted", counted_at(EVENTS), {1: 100 * US})
     for counting, moment in ((Counting.PROBE, 100), (Counting.MIDDLE, 130), (Counting.EVENT, 160)):
         events = put_at(EVENTS, counted_at(EVENTS), counting)
@@ -34,8 +38,9 @@ def check_what_the_probe_tells(_: str) -> None:
 
 
 def check_bounds_of_a_trace(_: str) -> None:
-    """Whether a wakeup of a trace is put as early and as late as it may have been, wherever it stands, and none before its task
-    slept."""
+    """A wakeup of a trace gets its earliest and its latest possible time, wherever it is, and none
+    before its task slept.
+    """
     for place in (100, 130, 160):
         lines = ["0 fork 8 / 0", "50000 switch 0 8 idle", "90000 switch 0 0 sleep", f"{place * US} wake 8 0", "170000 end"]
         for is_first, moment in ((True, 100), (False, 160)):
@@ -49,14 +54,15 @@ def check_bounds_of_a_trace(_: str) -> None:
 
 
 def totals_of(printed: bytes) -> list[tuple[str, int, int]]:
-    """Of each total of a table: its group, the machine's growth and the trace's, us."""
+    """For each total of a table: its group, the machine's growth and the trace's, in us."""
     rows = re.findall(r"^\| (/\S*) +\| \S+ +\| +(\d+) \| +(\d+) \|[^|]*\| +(\d+) \| +(\d+) \|", printed.decode(), re.MULTILINE)
     return [(row[0], int(row[place]), int(row[place + 1])) for row in rows for place in (1, 3)]
 
 
 def check_the_bracket(program: str) -> None:
-    """Whether each total of the machine lies between those of wakeups at their events and when psi counted them; and those of the
-    middle are within the limits by themselves."""
+    """Each total of the machine lies between that with wakeups at their events and that with
+    wakeups when psi counted them; the middle totals are within the limits themselves.
+    """
     with recording("wakeups") as folder:
         done = converted(folder, *PART)
         must_be("the sha256", digest_of(done.output), digests()["wakeups"])
@@ -75,7 +81,7 @@ def check_the_bracket(program: str) -> None:
 
 
 def check_a_recording_without_the_probe(_: str) -> None:
-    """Whether nothing is said that it doesn't tell."""
+    """Nothing is printed that only the probe could show."""
     with recording("wakeups") as folder:
         hide(folder, b"pch")
         done = converted(folder, *PART)
