@@ -1,4 +1,4 @@
-"""Checks of charts that have what would have been beside what was."""
+"""Checks of charts that compare a supposed run with the recorded one."""
 from __future__ import annotations
 
 import functools
@@ -19,7 +19,7 @@ SHADED = "after the first kill: others as recorded"
 
 @functools.lru_cache(maxsize=None)
 def supposed(program: str) -> bytes:
-    """What a replay of the story prints without the tasks of who would be killed in it."""
+    """The output of a replay of the story without the tasks of its victim."""
     (kill,) = kills_of(story(program).decode())
     with open(os.path.join(TOP, "examples", "runaway.trace"), encoding="ascii") as file:
         left = without(trace_of(file.read()), kill)
@@ -27,7 +27,7 @@ def supposed(program: str) -> bytes:
 
 
 def drawn_beside(printed: bytes, recorded: bytes, *words: str) -> Drawn:
-    """The chart of what was printed beside what was recorded."""
+    """The chart of this output with the recorded one for comparison."""
     with tempfile.NamedTemporaryFile() as file:
         file.write(recorded)
         file.flush()
@@ -35,7 +35,7 @@ def drawn_beside(printed: bytes, recorded: bytes, *words: str) -> Drawn:
 
 
 def compare_recorded(drawn: Drawn, printed: Printed, group: str, number: int) -> None:
-    """Whether the thin lines of the group of this number have all reports of what was recorded."""
+    """The thin lines of the group with this number contain all recorded reports."""
     for resource in RESOURCES:
         panel, share = drawn.panel(resource, number), drawn.share_scale(resource, number)
         for level in LEVELS:
@@ -46,7 +46,7 @@ def compare_recorded(drawn: Drawn, printed: Printed, group: str, number: int) ->
 
 
 def must_be_shaded(drawn: Drawn, moment: int) -> None:
-    """Whether each panel is shaded from this moment (ns) on, and nothing else is."""
+    """Each panel is shaded from this time (ns) on, and nowhere else."""
     shades = list(drawn.one("g", "shade").iter(f"{SVG}rect"))
     panels = drawn.panels()
     must_be("shades, how many", len(shades), len(panels))
@@ -72,7 +72,9 @@ def check_beside_what_was(program: str) -> None:
 
 
 def check_scales_reach_up_to_both(program: str) -> None:
-    """Whether what was fits on the axis where it is higher than what would have been, and the other way round."""
+    """The recorded values fit on the axis if they are higher than the supposed ones, and vice
+    versa.
+    """
     for printed, recorded in ((supposed(program), story(program)), (story(program), supposed(program))):
         drawn = drawn_beside(printed, recorded, "--group=/batch")
         for resource in RESOURCES:
@@ -83,7 +85,9 @@ def check_scales_reach_up_to_both(program: str) -> None:
 
 
 def check_a_part_beside_what_was(program: str) -> None:
-    """Whether the shade begins at the first kill, at the chart's start after it, and nowhere before it."""
+    """The shade begins at the first kill, or at the chart's start if that is later, and nowhere
+    before it.
+    """
     words = ["--group=/batch", "--resource=memory"]
     behind = drawn_beside(supposed(program), story(program), *words, "--from=200")
     must_be_shaded(behind, 200 * 10**9)

@@ -1,4 +1,4 @@
-"""What a chart has, and whether that is what was printed."""
+"""Reads a chart, and checks that it shows what was printed."""
 from __future__ import annotations
 
 import os
@@ -23,7 +23,7 @@ LEFT, RIGHT = 112, 936
 
 
 def piped(words: Sequence[str], chart_words: Sequence[str] = (), given: bytes = b"") -> bytes:
-    """What the chart of this replay is, drawn through a pipe."""
+    """The chart of this replay, drawn through a pipe."""
     with subprocess.Popen(words, cwd=TOP, stdin=subprocess.PIPE, stdout=subprocess.PIPE) as first:
         assert first.stdin and first.stdout
         with subprocess.Popen([CHART, *chart_words], cwd=TOP, stdin=first.stdout, stdout=subprocess.PIPE) as second:
@@ -41,7 +41,7 @@ def drawn_of(printed: bytes, *words: str) -> bytes:
 
 
 def scale_of(marks: Sequence[tuple[float, float]]) -> Scale:
-    """Where a number stands, by the first and the last of an axis."""
+    """The position of a number, from the first and the last mark of an axis."""
     (first, first_place), (last, last_place) = marks[0], marks[-1]
     must(first != last, "an axis has two numbers")
     scale = (last_place - first_place) / (last - first)
@@ -51,14 +51,14 @@ def scale_of(marks: Sequence[tuple[float, float]]) -> Scale:
 
 
 def number_at(element: Element, name: str) -> float:
-    """The number that an attribute has."""
+    """The number in an attribute."""
     value = element.get(name)
     must(value is not None, f"{element.tag} has {name}")
     return float(value or 0)
 
 
 def inner(element: Element, tag: str) -> Element:
-    """The first part of this tag right below an element."""
+    """The first child of an element with this tag."""
     found = element.find(SVG + tag)
     if found is None:
         raise Wrong(f"{element.get('class')} has no {tag}")
@@ -66,7 +66,9 @@ def inner(element: Element, tag: str) -> Element:
 
 
 class Drawn:
-    """A chart. `x` tells where a moment in ns stands, where the axis has time since the start of the trace."""
+    """A chart. `x` gives the position of a time in ns, if the axis shows time since the start of
+    the trace.
+    """
 
     def __init__(self, drawn: bytes) -> None:
         self.text = drawn.decode()
@@ -106,11 +108,11 @@ class Drawn:
         return [self.texts(panel)[0] for panel in self.panels()]
 
     def panel(self, resource: str, number: int = 0) -> Element:
-        """The panel of the resource for the group of this number."""
+        """The panel of the resource for the group with this number."""
         return self.all("g", f"panel {resource}")[number]
 
     def numbers(self, panel: Element) -> list[tuple[str, float]]:
-        """What stands at a panel's axis, and where."""
+        """The texts at a panel's axis, and their positions."""
         return [(it.text or "", number_at(it, "y")) for it in self.one("g", "share", panel).iter(f"{SVG}text")]
 
     def share_scale(self, resource: str, number: int = 0) -> Scale:
@@ -124,7 +126,7 @@ class Drawn:
         return scale_of(marks)
 
     def lines(self, panel: Element, classes: str) -> list[list[tuple[float, float]]]:
-        """The points of each line of a series. One that stands twice is a report alone."""
+        """The points of each line of a series. A doubled point is a single report."""
         found = []
         for line in self.one("g", f"series {classes}", panel).iter(f"{SVG}polyline"):
             points = [(float(x), float(y)) for x, y in (it.split(",") for it in (line.get("points") or "").split(" "))]
@@ -136,25 +138,25 @@ class Drawn:
         return [(float(x), float(y)) for x, y in re.findall(r"M([0-9.]+) ([0-9.]+)v6", paths)]
 
     def marks(self, kind: str) -> list[Element]:
-        """The upright lines for kills, or for ends of groups."""
+        """The vertical lines for kills, or for removals of groups."""
         return self.all("g", kind, self.one("g", "marks"))
 
     def places(self, kind: str) -> list[float]:
-        """Where these lines stand."""
+        """The positions of these lines."""
         for mark in self.marks(kind):
             must_be("a line is upright", inner(mark, "line").get("x1"), inner(mark, "line").get("x2"))
         return [number_at(inner(mark, "line"), "x1") for mark in self.marks(kind)]
 
     def mark_texts(self, kind: str) -> list[list[str]]:
-        """What stands beside each of these lines: a text or none."""
+        """The text beside each of these lines, if it has one."""
         return [self.texts(mark) for mark in self.marks(kind)]
 
     def hints(self, kind: str) -> list[list[str]]:
-        """What is told of each where a pointer rests on it."""
+        """The tooltip of each of these lines."""
         return [(inner(mark, "title").text or "").split("\n") for mark in self.marks(kind)]
 
     def rules(self, panel: Element) -> Iterator[tuple[str, float, str]]:
-        """The thresholds of a panel: the look, the height and what is told of each."""
+        """The thresholds of a panel: the class, the height and the text of each."""
         for group in self.all("g", "rule", panel):
             line = inner(group, "polyline")
             (left, y), (right, other) = (it.split(",") for it in (line.get("points") or "").split(" "))
@@ -163,9 +165,11 @@ class Drawn:
 
 
 def spans_of(drawn: Drawn) -> list[tuple[float, float, float, str]]:
-    """From where to where each text beside an upright line goes, and at which height.
+    """The left end, the right end and the height of each text beside a vertical line.
 
-    The letters of usual fonts of one width are up to 0.61 of their size wide, which is 11 pixels here."""
+    The letters of usual monospaced fonts are up to 0.61 of their size wide, which is 11 pixels
+    here.
+    """
     spans = []
     for text in drawn.all("text", "path"):
         words = text.text or ""
@@ -176,7 +180,7 @@ def spans_of(drawn: Drawn) -> list[tuple[float, float, float, str]]:
 
 
 def compare_paths(drawn: Drawn) -> None:
-    """Whether no text of an upright line runs into another one, and no such line into a text."""
+    """No text of a vertical line overlaps another one, and no such line crosses a text."""
     lines = [inner(it, "line") for kind in ("kill", "gone") for it in drawn.marks(kind)]
     tops = [(number_at(it, "x1"), number_at(it, "y1")) for it in lines]
     spans = spans_of(drawn)
@@ -188,7 +192,9 @@ def compare_paths(drawn: Drawn) -> None:
 
 
 def compare_panel(drawn: Drawn, printed: Printed, group: str, resource: str, number: int, start: float, end: float) -> None:
-    """Whether each report and event from start to end stands where it was printed, and nothing else does."""
+    """Each report and event from start to end is drawn at its printed time and value, and nothing
+    else is.
+    """
     panel, share = drawn.panel(resource, number), drawn.share_scale(resource, number)
     for level in LEVELS:
         for average in AVERAGES:
@@ -211,7 +217,9 @@ def compare(
     start: float = 0,
     end: float = float("inf"),
 ) -> None:
-    """Whether each report, event and kill from start to end stands where it was printed, and nothing else does."""
+    """Each report, event and kill from start to end is drawn at its printed time and value, and
+    nothing else is.
+    """
     for resource in resources:
         must_be(f"panels of {resource}", len(drawn.all("g", f"panel {resource}")), len(groups))
         for number, group in enumerate(groups):

@@ -1,4 +1,6 @@
-"""Checks of what a chart takes from beside the replay: names and thresholds of rules, memory of groups, and interrupts."""
+"""Checks of what a chart shows in addition to the replay: names and thresholds of rules, memory of
+groups, and interrupts.
+"""
 from __future__ import annotations
 
 import json
@@ -17,7 +19,7 @@ SECOND = 10**9
 UNITS = {"bytes": 1, "KiB": 2**10, "MiB": 2**20, "GiB": 2**30, "TiB": 2**40}
 NAME = "batch work is short of memory"
 
-# Groups with and without samples; one is removed, and made again without a sample.
+# Groups with and without samples; one is removed, and created again without a sample.
 MEMORY_TRACE = """psitrace 1 cpus=1
 0 host 8589934592 0 0
 0 group /a
@@ -34,7 +36,7 @@ MEMORY_TRACE = """psitrace 1 cpus=1
 
 
 def pressure(cgroup: str, threshold: Any, **others: Any) -> dict[str, Any]:
-    """A detector of pressure; `rises` in place of another name."""
+    """A detector of pressure; `rises` replaces the name."""
     name = "pressure_rising_beyond" if others.pop("rises", False) else "pressure_above"
     return {"name": name, "args": {"cgroup": cgroup, "resource": "memory", "threshold": threshold, "duration": 20, **others}}
 
@@ -51,7 +53,7 @@ def rules_of(*detectors: dict[str, Any], name: str = "R") -> dict[str, Any]:
 
 
 def drawn_with(printed: bytes, rules: dict[str, Any], *words: str) -> Drawn:
-    """The chart with a rules file of this content."""
+    """The chart drawn with this rules file."""
     with tempfile.NamedTemporaryFile("w", suffix=".json") as file:
         json.dump(rules, file)
         file.flush()
@@ -64,7 +66,7 @@ def without_kill(program: str) -> bytes:
 
 
 def must_have_rules(drawn: Drawn, number: int, wanted: Sequence[tuple[str, float, str]]) -> None:
-    """Whether the memory panel of a group has these thresholds: looks, percents, texts."""
+    """The memory panel of a group has these thresholds: classes, percentages, texts."""
     found = list(drawn.rules(drawn.panel("memory", number)))
     must_be("thresholds", [(look, text) for look, _, text in found], [(look, text) for look, _, text in wanted])
     share = drawn.share_scale("memory", number)
@@ -86,7 +88,7 @@ def check_names_of_rulesets(program: str) -> None:
 
 
 def check_names_of_several_rulesets(program: str) -> None:
-    """The title has how many there are, and each kill its own as long as there is room."""
+    """The title has their number, and each kill its own name as long as there is room."""
     lines = [b"kill %d000000000 ruleset=%d action=0 /batch/import\n" % (100 + 50 * it, it) for it in range(2)]
     printed = b"".join(lines) + without_kill(program).replace(b"kills=1", b"kills=2")
     rules = {"rulesets": rules_of(name="one")["rulesets"] + rules_of(name="other")["rulesets"]}
@@ -97,7 +99,7 @@ def check_names_of_several_rulesets(program: str) -> None:
 
 
 def check_names_that_a_picture_cannot_have(program: str) -> None:
-    """A name with signs of control, of XML, and beyond the room that there is."""
+    """A name with control characters, with XML markup, and too long for the available room."""
     name = 'a\x00b\x1b<&"\ufffe' + "long " * 60
     rules = rules_of(pressure("*", "40"), name=name)
     drawn = drawn_with(story(program), rules, "--group=/batch")
@@ -108,7 +110,9 @@ def check_names_that_a_picture_cannot_have(program: str) -> None:
 
 
 def check_thresholds(program: str) -> None:
-    """They stand in the panels of the groups and the resource that a detector looks at, and nowhere else."""
+    """They are in the panels of the groups and the resource that a detector looks at, and nowhere
+    else.
+    """
     detectors = (
         pressure("/web,batch/*", "90"), pressure("b*tch", 35, rises=True), pressure("b*x,b,batch/*m*rt", "7"),
         pressure("*/*", "50", resource="io"), pressure("/batch/import/x,/", "12", duration="0"),
@@ -129,7 +133,7 @@ def check_thresholds(program: str) -> None:
 
 
 def check_thresholds_that_are_near(program: str) -> None:
-    """Of one threshold twice the texts stand together, and of near ones no text stands on another."""
+    """Two equal thresholds share a label, and labels of near thresholds don't overlap."""
     detectors = [pressure("batch", str(it)) for it in (40, 40, 41, 42, 43, 44)]
     rules = rules_of(*detectors)
     rules["rulesets"] += rules_of(pressure("batch", 40), name="S")["rulesets"]
@@ -158,7 +162,7 @@ def boxes_of(panel: Element) -> list[tuple[str, float, float, float, float]]:
 
 
 def check_labels_cover_nothing(program: str) -> None:
-    """A threshold's label is inside its panel, which the title is above, and no curve goes through it."""
+    """A threshold's label is inside its panel, below the title, and no curve crosses it."""
     shown = 0
     for limit in range(0, 101, 20):
         for group in ("/batch", "/batch/import", "/web"):
@@ -190,13 +194,13 @@ def drawn_memory(program: str, *words: str, trace: str = MEMORY_TRACE) -> Drawn:
 
 
 def byte_marks(drawn: Drawn, number: int = 0) -> list[tuple[float, float]]:
-    """The bytes that stand at the axis of a group's memory, and where."""
+    """The bytes at the axis of a group's memory, and their positions."""
     numbers = [(text.partition(" "), place) for text, place in drawn.numbers(drawn.panel("use", number))]
     return [(float(count) * UNITS[unit], place) for (count, _, unit), place in numbers]
 
 
 def steps_of(drawn: Drawn, what: str, number: int = 0) -> list[Steps]:
-    """Where a group's memory goes: seconds and bytes, by the numbers of its axis."""
+    """A group's memory line: seconds and bytes, by the numbers of its axes."""
     panel = drawn.panel("use", number)
     scale = scale_of(byte_marks(drawn, number))
     place, size = scale(0), scale(1) - scale(0)
@@ -215,7 +219,8 @@ def check_memory_of_groups(program: str) -> None:
     drawn = drawn_memory(program, "--group=/a", "--group=/b")
     again: Steps = [(12, 0), (20, 0)]
     must_be_steps("memory", steps_of(drawn, "memory"), [[(1, 1), (4, 1), (4, 3), (4, 2), (8, 2)], again])
-    # In a pixel's column what lies between the least and the greatest isn't drawn: here 1 MiB of swap.
+    # In a pixel's column only the least and the greatest value are drawn: here 1 MiB of swap is
+    # left out.
     must_be_steps("swap", steps_of(drawn, "swap"), [[(1, 0), (4, 0), (4, 0.5), (8, 0.5)], again])
     must_be("a group without a sample", drawn.texts(drawn.panel("use", 1))[-1], "no sample of its memory in this time")
     must("swap" in drawn.texts(drawn.panel("use")), "the legend has swap where there is some")
@@ -227,7 +232,7 @@ def check_memory_of_groups(program: str) -> None:
 
 
 def check_thresholds_of_memory(program: str) -> None:
-    """A percentage is one of the last host's memory, and a size is what it says."""
+    """A percentage is relative to the last host sample's memory, and a size is absolute."""
     detectors = [memory("a", it) for it in ("1.5G", "50%", "0.5g", "4", "3000000K")] + [memory("b", "1G")]
     with tempfile.NamedTemporaryFile("w", suffix=".json") as file:
         json.dump(rules_of(*detectors), file)
@@ -242,7 +247,9 @@ def check_thresholds_of_memory(program: str) -> None:
 
 
 def check_many_samples(program: str) -> None:
-    """A trace with a sample each millisecond has a short line, which reaches as far up and down in each pixel's column."""
+    """The line of a trace with a sample each millisecond is short, and has the extremes of each
+    pixel's column.
+    """
     sizes = [(it * 7919) % 4096 * 2**20 for it in range(20000)]
     samples = "".join(f"{it * 10**6} mem / {size} 0 0\n" for it, size in enumerate(sizes))
     drawn = drawn_memory(program, trace=f"psitrace 1 cpus=1\n{samples}20000000000 end\n")
@@ -256,7 +263,7 @@ def check_many_samples(program: str) -> None:
 
 
 def check_interrupts_of_a_replay(program: str) -> None:
-    """The last panel has what a replay of version 2 reports of each group's interrupts."""
+    """The last panel shows what a replay of version 2 reports of each group's interrupts."""
     given = ["replay", "examples/kernel/42-v2-irq.trace", "--report-s=2"]
     printed = Printed(run([program, *given]))
     for group in ("/", "/a"):
@@ -272,7 +279,9 @@ def check_interrupts_of_a_replay(program: str) -> None:
 
 
 def check_interrupts(_: str) -> None:
-    """A panel more, where reports of a drawn group have interrupts: lines of `full` alone."""
+    """If reports of a drawn group have interrupts, there is another panel, with lines of `full`
+    only.
+    """
     file = "full avg10=9.05 avg60=1.63 avg300=0.34 total=1000000\n"
     none = "avg10=0.00 avg60=0.00 avg300=0.00 total=0\n"
     others = "".join(f"report 2000000000 / {it}\nsome {none}full {none}" for it in ("io", "memory", "cpu"))

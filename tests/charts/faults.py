@@ -1,4 +1,4 @@
-"""Checks that what can't be drawn is reported, with what to do about it."""
+"""What can't be drawn is reported, with what to do about it."""
 from __future__ import annotations
 
 import functools
@@ -17,7 +17,7 @@ chart_fault = functools.partial(fault_of, CHART)
 
 
 def must_say(said: str, *parts: str) -> None:
-    """Whether a fault is told as one, and has these parts."""
+    """A fault is reported as one, and its message has these parts."""
     must(said.startswith("chart: ") and said.endswith("\n"), f"{said!r} is told by the chart")
     for part in parts:
         must(part in said, f"{said!r} has {part!r}")
@@ -42,7 +42,8 @@ def check_unknown_lines(program: str) -> None:
     ]  # fmt: skip
     for place, instead in edits:
         text = lines[:place] + instead + lines[place + 1 :]
-        # The first line that can't stand where it does: the edited one, the one that took its place, or the one after it.
+        # The first line that is misplaced: the edited one, the one that took its place, or the one
+        # after it.
         number = place + (2 if len(instead) == 2 else 1)
         shown = text[number - 1].decode("latin-1")
         told = repr(shown[:60].rstrip("\n")) + (".." if len(shown) > 60 else "")
@@ -105,7 +106,9 @@ def check_rules_that_cannot_be_read(program: str) -> None:
 
 
 def check_rules_of_another_replay(program: str) -> None:
-    """A kill that the rules can't do: they aren't those of the replay, and the kill gets no label of theirs."""
+    """If a kill is impossible by the rules, they aren't those of the replay, and the kill gets no
+    label of theirs.
+    """
     printed = story(program)
     kill = {"name": "kill_by_memory_size_or_growth", "args": {"cgroup": "web,*", "post_action_delay": "0"}}
     for recursive in ("false", "true"):
@@ -123,7 +126,7 @@ def check_rules_of_another_replay(program: str) -> None:
 
 
 def check_a_summary_of_another_trace(program: str) -> None:
-    """Its time of day would be wrong: the trace has another length."""
+    """Its time of day would be wrong, since the trace has another length."""
     printed = story(program)
     for length, is_same in (("300.000", True), ("300.001", True), ("20.093", False), ("3000.000", False)):
         with tempfile.NamedTemporaryFile("w") as file:
@@ -143,7 +146,7 @@ def check_a_summary_of_another_trace(program: str) -> None:
 
 
 def check_inputs_of_another_kind(program: str) -> None:
-    """What the input is instead, and what to do with it."""
+    """The message says what the input is, and what to do with it."""
     printed = story(program)
     with open(os.path.join(TOP, "examples", "runaway.trace"), "rb") as file:
         trace = file.read()
@@ -175,7 +178,7 @@ def check_traces_that_cannot_be_read(program: str) -> None:
     other = "examples/one-wait.trace ends at 2000000000 ns, and the replay at 300000000000 ns"
     must_be("another trace", said, f"chart: {other}: give the trace of this replay\n")
     with tempfile.NamedTemporaryFile("wb") as file:
-        # It is refused long before its end, while the chart still hands lines over.
+        # It is rejected long before its end, while the chart is still passing lines on.
         file.write(b"psitrace 1 cpus=1\n0 mem / 1 1\n" + b"x mem / y\n0 mem\n0 rmgroup\n" * 100000)
         file.flush()
         said = chart_fault(printed, f"--trace={file.name}")

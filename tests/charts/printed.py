@@ -1,4 +1,4 @@
-"""What psi_oomd printed, read by its words alone."""
+"""Psi_oomd's output, parsed by its words alone."""
 from __future__ import annotations
 
 import collections
@@ -9,7 +9,9 @@ AVERAGES = ("avg10", "avg60", "avg300")
 
 
 class Printed:
-    """Shares in percent by group, resource, level and average; events by group, resource and level; kills. Moments in ns."""
+    """Shares in percent by group, resource, level and average; events by group, resource and level;
+    kills. Times in ns.
+    """
 
     def __init__(self, printed: bytes) -> None:
         self.shares: dict[tuple[str, str, str, str], list[tuple[int, float]]] = collections.defaultdict(list)

@@ -1,4 +1,4 @@
-"""Checks that charts have what was printed, each thing in its place."""
+"""Charts show what was printed, each thing in its place."""
 from __future__ import annotations
 
 import collections
@@ -71,7 +71,7 @@ def check_several_groups(program: str) -> None:
     must_be("the names of panels", drawn.panel_names(), named)
     for resource in RESOURCES:
         scales = {tuple(text for text, _ in drawn.numbers(it)) for it in drawn.all("g", f"panel {resource}")}
-        # That of a panel in which nothing is goes from 0 to 1 %.
+        # The axis of a panel without pressure goes from 0 to 1 %.
         must_be(f"scales of {resource}, how many", len(scales - {("0 %", "1 %")}), 1)
     four = Drawn(drawn_of(story(program), "--group=/", "--group=/web", "--group=/batch", "--group=/batch/index"))
     must_be("the title of four groups", four.title, "Pressure of 4 groups, 5 min, 1 would-be kill")
@@ -144,7 +144,7 @@ def check_axes_say_of_what(program: str) -> None:
 
 
 def day() -> bytes:
-    """What a replay of a day could print, with a report every ten seconds."""
+    """Possible output of a replay of a day, with a report every ten seconds."""
     draw = random.Random(1)
     lines = []
     for moment in range(10**10, 864 * 10**11 + 1, 10**10):
@@ -166,7 +166,7 @@ def columns_of(drawn: Drawn, moments: list[int]) -> set[int]:
 
 
 def ends_of_columns(points: list[tuple[float, float]]) -> dict[int, tuple[float, float]]:
-    """The least and the greatest height of each pixel's column."""
+    """The least and the greatest height in each pixel's column."""
     heights = collections.defaultdict(list)
     for x, y in points:
         heights[int(round(x, 2))].append(round(y, 2))
@@ -174,7 +174,8 @@ def ends_of_columns(points: list[tuple[float, float]]) -> dict[int, tuple[float,
 
 
 def compare_columns(printed: Printed, drawn: Drawn, resource: str, classes: str) -> None:
-    """Whether a line has the least and the greatest share of each pixel's column, and no third point in it."""
+    """A line has the least and the greatest share of each pixel's column, and no third point in it.
+    """
     level, average = classes.split(" ")
     share = drawn.share_scale(resource)
     reports = [(drawn.x(moment), share(it)) for moment, it in printed.shares["/", resource, level, average]]
@@ -206,7 +207,8 @@ def check_a_day(_: str) -> None:
     must(0 < named < len(columns), "some kills have room for their paths, and not all")
     compare_paths(drawn)
     bare = [kill for kill in drawn.marks("kill") if not drawn.texts(kill)]
-    # What rests without a text is told in a hint of two kills, or of four with how many more there are.
+    # Kills without a text are in the tooltip of two kills, or of four with the number of further
+    # ones.
     hints = [(inner(kill, "title").text or "").split("\n") for kill in bare]
     unnamed = sum(4 + int(it[4].split(" ")[1]) if len(it) > 4 else len(it) for it in hints)
     must(f">{unnamed} upright lines without a path, " in drawn.text, f"it is told that {unnamed} kills have no path")
@@ -227,8 +229,10 @@ def check_it_stands_alone(program: str) -> None:
 
 
 def check_what_takes_no_room(program: str) -> None:
-    """A panel without pressure is low, and the legend leaves out what isn't drawn: here there is one wait for IO, and no more. An
-    average that only climbs from 0 is thin, with a word: in 2 s all do, of which each is 0 elsewhere."""
+    """A panel without pressure is low, and the legend leaves out what isn't drawn: here there is
+    only one wait for IO. An average that only rises from 0 is thin, and a note says so: within 2 s
+    all that aren't 0 do.
+    """
     drawn = Drawn(drawn_of(run([program, "replay", "examples/one-wait.trace", "--tick-ms", "500", "--report-s", "1"])))
     heights = []
     for resource in RESOURCES:

@@ -1,4 +1,4 @@
-"""Checks of the axis of time, of the clock on the wall, and of how long a title says that a trace is."""
+"""Checks of the time axis, of wall-clock times, and of the trace's length in the title."""
 from __future__ import annotations
 
 import datetime
@@ -14,20 +14,20 @@ SECOND = 10**9
 REPORT = "report {} / io\n" + "".join(f"{level} avg10=1.00 avg60=0.00 avg300=0.50 total=0\n" for level in LEVELS)
 KILL = "kill {} ruleset=0 action=0 /a\n"
 
-# A length in ms, the unit and the step of its axis, and what the title says.
+# A length in ms, the unit and the step of its axis, and the title's text.
 LENGTHS = (
     (1, "seconds", 0.0001, "0.001 s"), (700, "seconds", 0.1, "0.7 s"), (2000, "seconds", 0.2, "2 s"),
     (45000, "seconds", 5, "45 s"), (61500, "seconds", 10, "1 min 2 s"), (900000, "minutes", 2, "15 min"),
     (7260000, "minutes", 20, "2 h 1 min"), (86400000, "hours", 3, "1 d"), (3456000000, "days", 5, "40 d"),
     (60000000000, "days", 100, "694 d 11 h"),
 )  # fmt: skip
-# A length in ns, and what the title says.
+# A length in ns, and the title's text.
 ROUNDED = (
     (1, "0.000000001 s"), (123456, "0.000123 s"), (12345678901, "12.3 s"), (59949999999, "59.9 s"),
     (59950000000, "1 min"), (299999123456, "5 min"), (3599500000000, "1 h"), (7230000000000, "2 h 1 min"),
     (86399999999999, "1 d"), (100000000000001, "1 d 4 h"),
 )  # fmt: skip
-# When the trace began, its length in s, the marks of the axis, and what stands below them.
+# When the trace began, its length in s, the marks of the axis, and the text below them.
 WALLS = (
     ("2026-11-28T13:58:12Z", 300, ["13:58:30", "13:59:00", "13:59:30", "14:00:00", "14:00:30", "14:01:00", "14:01:30",
      "14:02:00", "14:02:30", "14:03:00"], "time of day, 28 November 2026, UTC"),
@@ -43,14 +43,16 @@ WALLS = (
 
 
 def short_replay(length: int) -> bytes:
-    """What a replay of so many ns could print: two reports and a kill."""
+    """Possible output of a replay of `length` ns: two reports and a kill."""
     half = length // 2
     lines = REPORT.format(half) + KILL.format(half) + (REPORT.format(length) if length > half else "")
     return f"{lines}end {length} ticks=2 events=0 kills=1\n".encode()
 
 
 def check_time_axes(_: str) -> None:
-    """Whether traces of all lengths have a few round steps of time, and what a title says of the length."""
+    """The axis has a few round steps of time for any length of trace, and the title gives the
+    length.
+    """
     for length, unit, step, told in LENGTHS:
         text, whole = short_replay(length * MS), length * MS
         drawn = Drawn(drawn_of(text, "--resource", "io"))
@@ -77,7 +79,7 @@ def check_the_clock_on_the_wall(_: str) -> None:
 
 
 def check_marks_stand_where_the_clock_says(program: str) -> None:
-    """Each mark of the story's axis is at the moment that a clock would have shown, and the kill where it was."""
+    """Each mark of the story's axis is at its wall-clock time, and the kill at its own."""
     start = "2026-11-28T13:58:12.5Z"
     drawn = Drawn(drawn_of(story(program), "--group=/batch", "--start", start))
     began = datetime.datetime.fromisoformat(start.replace("Z", "+00:00"))

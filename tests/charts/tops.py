@@ -1,4 +1,6 @@
-"""Checks of the groups that stalled most, of when a recording begins, and of patterns that match nothing."""
+"""Checks of the groups that stalled most, of a recording's start time, and of patterns that match
+nothing.
+"""
 from __future__ import annotations
 
 import contextlib
@@ -13,7 +15,8 @@ from .drawn import CHART, Drawn, drawn_of
 from .faults import chart_fault
 
 STORY = "runaway.trace"
-# Totals of some and full in us; a group that was made again counts with the one before; `/a` has a group below.
+# Totals of some and full in us; a group that was created again counts with the previous one; `/a`
+# has a child.
 PRINTED = b"".join(
     b"report %d000000000 %s %s\nsome avg10=0.00 avg60=0.00 avg300=0.00 total=%d\nfull avg10=0.00 avg60=0.00 avg300=0.00 total=%d\n" % row
     for row in (
@@ -30,7 +33,9 @@ io some  io full  memory some  memory full  cpu some  cpu full  group
 
 
 def check_the_top(_: str) -> None:
-    """Whether groups without groups below stand by how long all of them waited, for all their lives."""
+    """Groups without children are sorted by their full stall time, summed over all groups with the
+    path.
+    """
     tool = f"{TOP}/tools/top"
     must_be("the table", run([tool], PRINTED).decode(), TABLE)
     must_be("the first two", run([tool, "2"], PRINTED).decode(), "".join(TABLE.splitlines(keepends=True)[:3]))
@@ -40,7 +45,7 @@ def check_the_top(_: str) -> None:
 
 
 def check_a_chart_of_the_top(program: str) -> None:
-    """Whether a chart has just these groups, the one that stalled most first."""
+    """A chart has exactly these groups, the one that stalled most first."""
     drawn = Drawn(drawn_of(story(program), "--top", "2", "--resource", "memory"))
     must_be("panels", drawn.panel_names(), ["memory pressure of /batch/import", "memory pressure of /batch/index"])
     must("not with --group" in chart_fault(story(program), "--top=2", "--group=/"), "both are refused")
@@ -48,7 +53,7 @@ def check_a_chart_of_the_top(program: str) -> None:
 
 @contextlib.contextmanager
 def summary(text: str) -> Iterator[str]:
-    """A file with what psitrace said, by its name."""
+    """A file with psitrace's messages, by its name."""
     with tempfile.NamedTemporaryFile() as file:
         file.write(text.encode())
         file.flush()
@@ -56,7 +61,9 @@ def summary(text: str) -> Iterator[str]:
 
 
 def check_what_the_summary_tells(program: str) -> None:
-    """Whether the time of day, and where a recording begins, are those of the summary, and seconds where it has no time of day."""
+    """The time of day and the recording's start are the summary's; without a time of day the axis
+    has seconds.
+    """
     whole = "psitrace: 0 is 2026-11-30 03:01:36.000 UTC\npsitrace: the recording begins at 100.000 s: what is before is made up\n"
     with summary(whole) as file:
         text = Drawn(drawn_of(story(program), "--summary", file)).text
@@ -72,7 +79,7 @@ def check_what_the_summary_tells(program: str) -> None:
 
 
 def check_patterns_that_match_nothing(program: str) -> None:
-    """Whether they are told, and the chart is drawn."""
+    """They are reported, and the chart is still drawn."""
     unmatched = b"chart: note: no group of the replay matches 'system.slice/*' of ruleset 'a service"
     for rules, said in (("services", unmatched), ("runaway", b"")):
         done = subprocess.run([CHART, f"--rules={TOP}/examples/{rules}.json"], input=run([program, "replay", f"{TOP}/examples/{STORY}"]),
