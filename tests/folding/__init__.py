@@ -1,1 +1,1 @@
-"""Folded traces and recordings, against what they were folded from: the checks of tests/fold."""
+"""Folded traces and recordings, compared with the originals: the checks of tests/fold."""

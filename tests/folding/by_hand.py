@@ -1,4 +1,4 @@
-"""Checks of windows whose times are known by hand, and of how many joint states come of one."""
+"""Checks of windows whose times are known by hand, and of the number of joint states."""
 from __future__ import annotations
 
 import random
@@ -10,12 +10,13 @@ from psifold import processor
 from traces import MS, Maker
 
 SECOND = 1000 * MS
-# Two tasks share a processor, and each runs for a ms while the other is ready: 500 times in a second.
+# Two tasks share a processor, and each runs for 1 ms while the other is ready: 500 times in a
+# second.
 IN_TURNS = "psitrace 1 cpus=1\n0 fork 1 / 0\n0 fork 2 / 0\n0 switch 0 1 idle\n" + "".join(
     f"{moment * MS} switch 0 {2 if moment % 2 else 1} preempt\n" for moment in range(1, 1000)
 ) + "1000000000 end\n"
-# A task of a group runs for 200 ms, while one of another is ready; then it waits for 300, of which that one runs for 100. Then the
-# first group is gone.
+# A task of a group runs for 200 ms, while a task of another group is ready; then it waits for 300
+# ms, and the other task runs for 100 of them. Then the first group is removed.
 GOES = """psitrace 1 cpus=1
 0 group /a
 0 group /b
@@ -37,8 +38,9 @@ STALL_OF_GOES = "stall cpu=0 / 300000000 200000000 0 0 200000000 0 500000000\nst
 
 
 def check_windows_by_hand(program: str) -> None:
-    """Whether what must come of two windows does: one joint state of a thousand turns; and times, samples and a removal in their
-    places."""
+    """Two windows give what they must: one joint state for a thousand turns; and times, samples and
+    a removal in their places.
+    """
     other, fold = folded(IN_TURNS, SECOND)
     must_be("joint states, before and after", (fold.counts.had, fold.counts.kept), (1, 1))
     must_be("the times of turns", printed(program, other, "stall"), b"stall cpu=0 / 0 0 0 0 1000000000 0 1000000000\n")
@@ -54,7 +56,7 @@ def check_windows_by_hand(program: str) -> None:
 
 
 def check_long_quiet(program: str) -> None:
-    """Whether windows without events cost nothing, and what goes on through them counts."""
+    """Windows without events cost nothing, and states that continue through them count."""
     trace = "psitrace 1 cpus=2\n0 fork 1 / 0\n0 switch 0 1 idle\n0 switch 0 0 iowait\n90000000000000 end\n"
     other, _ = folded(trace, SECOND)
     must(len(other.splitlines()) <= 6, other)
@@ -62,7 +64,9 @@ def check_long_quiet(program: str) -> None:
 
 
 def check_as_many_groups_as_there_may_be(program: str) -> None:
-    """Whether 1,024 groups, in chains whose sums all depend on one another, are folded into no more joint states than there are."""
+    """1,024 groups, in chains whose sums all depend on one another, are folded into no more joint
+    states than there are.
+    """
     paths = [f"/{one}" + "/x" * below for one in range(33) for below in range(31)]
     lines = [f"0 group {path}" for path in paths]
     lines += [f"0 fork {number} {paths[number * 31 - 1]} {number % 4}" for number in range(1, 34)]
@@ -81,7 +85,9 @@ def check_as_many_groups_as_there_may_be(program: str) -> None:
 
 
 def check_how_many_joint_states_there_are(_: str) -> None:
-    """Whether each window of a processor has at most one joint state more than it has sums, and what rounding leaves stays small."""
+    """Each window of a processor has at most one joint state more than it has sums, and the
+    remainders of rounding stay small.
+    """
     few_of, most = processor.few_of, 0
 
     def counted(spent: dict[int, int], sums: Any, left: Any) -> Any:
@@ -102,7 +108,7 @@ def check_how_many_joint_states_there_are(_: str) -> None:
 
 
 class Busy(Maker):
-    """Makes traces of two processors on which thousands of short things happen within a window."""
+    """Makes traces of two processors with thousands of short events within a window."""
 
     TURNS = (2500, 2500)
     FIRST = {**Maker.FIRST, "fork": 4, "switch": 30, "wake": 20, "group": 1, "rmgroup": 0, "side": 0, "move": 0}

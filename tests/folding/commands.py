@@ -1,4 +1,6 @@
-"""Checks of the tools that fold: slices of a recording, pages that are compressed, words and faults, and the limit of events."""
+"""Checks of the tools that fold: slices of a recording, compressed pages, arguments and faults, and
+the limit of events.
+"""
 from __future__ import annotations
 
 import gzip
@@ -21,9 +23,10 @@ EXAMPLES = os.path.join(TOP, "examples")
 
 
 def check_slices(program: str) -> None:
-    """Whether a recording that is read in many slices, and folded in another process, gives the trace that it gives in one; also one
-    whose wakeups are put where psi counted them, which may be in the slice before, and of which the whole trace's summary says the
-    same."""
+    """A recording that is read in many slices, and folded in another process, gives the same trace
+    as in one slice; also if its wakeups are put when psi counted them, which may be in the previous
+    slice, and the whole trace's summary says the same.
+    """
     for name in ("cg-2", "wakeups"):
         with recording(name) as folder:
             whole, plain = tool("psitrace", folder, "--fold=1"), tool("psitrace", folder)
@@ -41,7 +44,9 @@ def check_slices(program: str) -> None:
 
 
 def check_pages_that_are_none(_: str) -> None:
-    """Whether what is no page is told of its processor, where one process surveys them all and where several do."""
+    """A malformed page is reported with its processor, whether one process surveys all processors
+    or several do.
+    """
     with recording("exec-2") as folder:
         change(folder, "cpu1.raw", lambda pages: pages[:8192] + b"\xff" * 4096 + pages[8192:])
         before = command.LARGE
@@ -55,7 +60,7 @@ def check_pages_that_are_none(_: str) -> None:
 
 
 def here(words: list[str]) -> tuple[int, bytes, str]:
-    """Runs psitrace in this process: its status, what it wrote, and what it said."""
+    """Runs psitrace in this process: its status, its output, and its messages."""
     said = StringIO()
     with tempfile.NamedTemporaryFile() as file, redirect_stderr(said):
         status = command.main([*words, "-o", file.name])
@@ -63,8 +68,9 @@ def here(words: list[str]) -> tuple[int, bytes, str]:
 
 
 def check_pages_that_are_compressed(_: str) -> None:
-    """Whether a recording whose pages were compressed as they came gives the trace that it gives, folded and not; and one whose
-    recorder was killed while they were."""
+    """A recording whose pages were compressed while recording gives the same trace, folded or not;
+    and so does a recording whose recorder was killed during that.
+    """
     before = folder.PART_BYTES
     try:
         folder.PART_BYTES = 1 << 18
@@ -98,7 +104,9 @@ def check_pages_that_are_compressed(_: str) -> None:
 
 
 def check_words_and_faults(_: str) -> None:
-    """Whether faulty words, what is no trace, and an output that can't be written have their statuses and texts."""
+    """Usage errors, inputs that aren't traces, and outputs that can't be written have their
+    statuses and texts.
+    """
     good = text_of(os.path.join(EXAMPLES, "one-wait.trace")).encode()
     for words, given, status, told in (
         (("-", "--window=1"), good, 0, "a replay at ticks of 1 s, or of a multiple, prints what it prints of the trace"),
@@ -127,14 +135,15 @@ def check_words_and_faults(_: str) -> None:
 
 
 def check_the_limit(_: str) -> None:
-    """Whether no more events are written than a trace may have: the trace then ends with its last window that has room."""
+    """A trace gets no more events than are allowed: it ends with the last window that fits."""
     for large in (command.LARGE, 0):
         lines = limited(large)
         must(600 < len(lines) <= 901 and re.fullmatch(rb"[1-9][0-9]?000000000 end", lines[-1]), f"{len(lines)} lines, and {lines[-1]!r}")
 
 
 def limited(large: int) -> list[bytes]:
-    """The lines of a trace that ends at a limit, where a recording of so many bytes is large."""
+    """The lines of a trace that ends at a limit, if a recording of `large` bytes counts as large.
+    """
     before = folded.MOST_EVENTS, command.LARGE
     try:
         folded.MOST_EVENTS, command.LARGE = 900, large

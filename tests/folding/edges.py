@@ -1,4 +1,6 @@
-"""Checks of what holds at a window's edges, of what `fold` says about that, and of limits: tasks, length, and lines that are wrong."""
+"""Checks of the edges of windows, of what `fold` says about them, and of limits: tasks, length, and
+wrong lines.
+"""
 from __future__ import annotations
 
 import json
@@ -13,7 +15,8 @@ from recorded import PAGE, accepted, change, count_bytes, recording, tool
 from traces import MS
 
 SECOND = 1000 * MS
-# Both groups have memory. /b gets its task 500 ms after the tick at 2 s, and in each joint state of the second window has one.
+# Both groups have memory. /b gets its task 500 ms after the tick at 2 s, and has one in each joint
+# state of the second window.
 LATE = """psitrace 1 cpus=1
 0 group /a
 0 group /b
@@ -37,7 +40,8 @@ LATE = """psitrace 1 cpus=1
 2500000000 fork 2 /b 0
 4000000000 end
 """
-# The whole second window is in one joint state, in which both tasks are ready: one came 1 ns after the edge.
+# The whole second window is one joint state in which both tasks are ready: one came 1 ns after the
+# edge.
 SOON = """psitrace 1 cpus=1
 0 group /b
 0 fork 1 / 0
@@ -54,8 +58,9 @@ LARGEST = {
 
 
 def check_no_task_before_its_window(program: str) -> None:
-    """Whether a group without a task at a tick has none there in the folded trace: the kills, whose largest group is /b, and all other
-    lines are the same."""
+    """A group without a task at a tick has none there in the folded trace: the kills, whose largest
+    group is /b, and all other lines are the same.
+    """
     with tempfile.NamedTemporaryFile("w", suffix=".json") as file:
         json.dump({"rulesets": [LARGEST]}, file)
         file.flush()
@@ -71,7 +76,9 @@ def check_no_task_before_its_window(program: str) -> None:
 
 
 def check_processors_that_fall_silent(_: str) -> None:
-    """Whether psitrace folds a recording, of whose processors some fall silent early, as fold does its trace: as a whole, and a part."""
+    """Psitrace folds a recording in which some processors fall silent early as fold does its trace:
+    whole, and in part.
+    """
     for name, pages in (("threads", (1, 2, 4)), ("threads", (30, 60, 1)), ("cg-2", (2,))):
         with recording(name) as folder:
             for processor, count in enumerate(pages, 1):
@@ -84,7 +91,7 @@ def check_processors_that_fall_silent(_: str) -> None:
                 must(tool("fold", "-", "--window=1", given=plain).output == made, f"{name} {pages} {words}: both tools give the same")
 
 
-# A task of /v goes at 3 s to /w, and in the other trace to the group below.
+# A task of /v moves at 3 s to /w, or in the other trace to the child of /v.
 MOVES = """psitrace 1 cpus=1
 0 group /v
 0 group /v/x
@@ -98,12 +105,13 @@ MOVES = """psitrace 1 cpus=1
 
 
 def check_when_whatif_is_exact(program: str) -> None:
-    """Whether the last line says so only where no task of a victim moves out of it or within it after a kill."""
+    """The last line says so only if no task of a victim moves out of it or within it after a kill.
+    """
     for path in ("/w", "/v/x"):
         trace = MOVES.format(path)
         _, made = folded(trace, 2 * SECOND, [Victim("/v", True)])
         changes = made.outcome().changes
-        # One below a victim may be killed by itself.
+        # A descendant of a victim may be killed by itself.
         wanted = (int(path == "/v/x"), 1, 3 * SECOND)
         must_be(f"tasks that came to /v, or moved, and when, with {path}", (changes.came, changes.moved, changes.last), wanted)
         done = tool("fold", "-", "--window=2", "--victims=v,v/*", given=trace.encode())
@@ -113,7 +121,9 @@ def check_when_whatif_is_exact(program: str) -> None:
 
 
 def check_limits_of_folding(program: str) -> None:
-    """Whether more tasks than a trace may have, and a folded trace that is longer, are told by their status."""
+    """Too many tasks for a trace, and a folded trace that is longer than the original, are reported
+    by their status.
+    """
     before = fold.MOST_TASKS
     try:
         fold.MOST_TASKS = 3
@@ -133,7 +143,9 @@ def check_limits_of_folding(program: str) -> None:
 
 
 def check_lines_that_are_wrong(_: str) -> None:
-    """Whether lines that psi_oomd refuses are told with their number, those that fold doesn't change too."""
+    """Lines that psi_oomd rejects are reported with their number, also those that fold doesn't
+    change.
+    """
     good = LATE.splitlines()
     for number, line, told in (
         (4, "0 mem /a 10 0 aaa", "malformed"), (4, "0 mem /a 10 0", "malformed"), (4, "0 mem /q 10 0 0", "can't have it"),
@@ -152,7 +164,7 @@ def check_lines_that_are_wrong(_: str) -> None:
 
 
 def check_files_that_are_no_trace(_: str) -> None:
-    """Whether it is said what they are."""
+    """The message says what they are."""
     for data, told in (
         (b"\x1f\x8b\x08\0", "gunzip"), (b"\xfd7zXZ\0", "by xz"), (b"\x17\x08Dtracing", "trace-cmd"), (b"", "empty"),
         (LATE.replace("\n", "\r\n").encode(), "carriage returns"), (b"report 2000000000 / io\n", "replay printed"),
@@ -169,7 +181,7 @@ def check_files_that_are_no_trace(_: str) -> None:
 
 
 def check_bytes_that_are_no_page(_: str) -> None:
-    """Whether bytes at the end that are no whole page are told by --fold, too."""
+    """Trailing bytes that aren't a whole page are reported with --fold, too."""
     with recording("exec-2") as folder:
         change(folder, "cpu1.raw", lambda it: it + b"abc")
         count_bytes(folder)

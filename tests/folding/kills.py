@@ -1,5 +1,6 @@
-"""Compares the kills of replays of folded traces with those of the traces themselves, by brute force: over random traces and recordings,
-with random rules."""
+"""Compares the kills of replays of folded traces with those of the originals by brute force: over
+random traces and recordings, with random rules.
+"""
 from __future__ import annotations
 
 import json
@@ -20,13 +21,15 @@ from traces import MS, Maker
 
 from .replays import FOLDERS, TEXTS, both_of, names_of
 
-# How many random traces the gate compares, and with how many random rules each.
+# The number of random traces that the gate compares, and of random rules for each.
 TRACES, RULES = 40, 3
 SECOND = 1000 * MS
 
 
 class Found(NamedTuple):
-    """How many replays were compared, how many kill lines they printed, and each that differs: what it is of, and both lines."""
+    """The number of compared replays, the number of their kill lines, and each difference: its
+    replay, and both lines.
+    """
 
     replays: int
     kills: int
@@ -51,7 +54,9 @@ def kills_of(program: str, trace: str, rules: str, tick: int) -> list[str]:
 
 
 def compare(program: str, what: str, traces: tuple[str, str], rules: list[Any], ticks: Iterator[int] | list[int]) -> Found:
-    """Compares the kills of a trace and of the folded one, by these rules and at these ticks (ns)."""
+    """Compares the kills of a trace and of the folded one, with these rules and at these ticks
+    (ns).
+    """
     replays, kills, differing = 0, 0, []
     with tempfile.NamedTemporaryFile("w", suffix=".json") as file:
         json.dump({"rulesets": rules}, file)
@@ -66,13 +71,15 @@ def compare(program: str, what: str, traces: tuple[str, str], rules: list[Any], 
 
 
 def total(parts: Iterator[Found]) -> Found:
-    """All of them together."""
+    """The sums of all parts."""
     found = list(parts)
     return Found(sum(it.replays for it in found), sum(it.kills for it in found), [line for it in found for line in it.differing])
 
 
 def random_traces(program: str, numbers: range, count: int) -> Iterator[Found]:
-    """Compares random traces of these numbers, each with `count` random rules, at its window and at two windows."""
+    """Compares random traces with these numbers, each with `count` random rules, at its window and
+    at two windows.
+    """
     makers: tuple[Callable[[int, int], Maker], ...] = (whatif().Load, Maker, Settled)
     for number in numbers:
         draw = random.Random(number)
@@ -89,7 +96,7 @@ def random_traces(program: str, numbers: range, count: int) -> Iterator[Found]:
 
 
 def patterns_of(trace: str, draw: random.Random) -> str:
-    """Patterns of some of a trace's groups."""
+    """Patterns that match some of a trace's groups."""
     groups = [line.split(" ")[2] for line in trace.splitlines() if " group " in line] or ["/"]
     some = draw.sample(groups, min(len(groups), draw.randint(1, 3)))
     return draw.choice(("*", "*/*", "*,*/*", "*/*,*/*/*", ",".join(some), some[0].rpartition("/")[0].lstrip("/") + "/*" if "/" in some[0][1:] else "*"))
@@ -128,7 +135,9 @@ def stored() -> list[str]:
 
 
 def check_kills_by_random_rules(program: str) -> None:
-    """Whether random rules kill the same groups at the same ticks, in random traces and in a recording whose groups come and go."""
+    """Random rules kill the same groups at the same ticks, in random traces and in a recording
+    whose groups are created and removed.
+    """
     found = total(random_traces(program, range(TRACES), RULES))
     must_be("kill lines that differ", found.differing, [])
     must(found.kills > TRACES, f"there are kills: {found.kills}")

@@ -1,4 +1,6 @@
-"""Checks that a folded trace gives what the trace gives: of stored recordings, the examples, the kernel's cases and generated traces."""
+"""A folded trace replays like the original: for stored recordings, the examples, the kernel's cases
+and generated traces.
+"""
 from __future__ import annotations
 
 import contextlib
@@ -20,19 +22,19 @@ from psifold.victims import victims_in
 from recorded import STORED, accepted, recording, text, tool
 from traces import MS, RUNAWAY, Maker
 
-# How many traces are generated; whoever runs the test may say another number.
+# The number of generated traces; the test's arguments may give another one.
 TRACES, WHATIFS = 300, 30
 SECOND = 1000 * MS
 EXAMPLES = os.path.join(TOP, "examples")
 FOLDERS, TEXTS = ".tar.xz", ".ftrace.gz"
-# Recordings of which events were lost: the longest stretch without loss is folded.
+# Recordings with lost events: the longest interval without loss is folded.
 LOSSY = ("mixlost", "lost-2cpu")
 TRIGGERS = ("--trigger=/ io some 100000 1000000", "--trigger=/ memory full 50000 500000", "--trigger=/ cpu some 200000 2000000")
 GROUPS = "*,*/*,*/*/*"
 
 
 def ruleset(resource: str, action: str, args: dict[str, str]) -> dict[str, object]:
-    """Whatever group stalls for the resource at all, the action is taken."""
+    """A ruleset that acts on any group that stalls for the resource at all."""
     stalls = {"name": "pressure_above", "args": {"cgroup": "/," + GROUPS, "resource": resource, "threshold": "0", "duration": "1"}}
     taken = {"name": action, "args": {"cgroup": GROUPS, **args}}
     return {"name": resource, "post_action_delay": "3", "detectors": [["stalls", stalls]], "actions": [taken]}
@@ -47,7 +49,7 @@ RULESETS = (
 
 @contextlib.contextmanager
 def watching() -> Iterator[tuple[str, ...]]:
-    """The words for rules that kill where something stalls."""
+    """The arguments for rules that kill whenever something stalls."""
     with tempfile.NamedTemporaryFile("w", suffix=".json") as file:
         json.dump({"rulesets": RULESETS}, file)
         file.flush()
@@ -55,7 +57,7 @@ def watching() -> Iterator[tuple[str, ...]]:
 
 
 def names_of(suffix: str) -> list[str]:
-    """The stored recordings of a kind."""
+    """The stored recordings with this suffix."""
     return sorted(name[: -len(suffix)] for name in os.listdir(STORED) if name.endswith(suffix))
 
 
@@ -73,8 +75,9 @@ def both_of(name: str) -> tuple[bytes, bytes]:
 
 
 def check_recordings(program: str) -> None:
-    """Whether psitrace folds each stored recording as fold does its trace, and both give what the trace gives: with triggers and with
-    rules."""
+    """Psitrace folds each stored recording as fold does its trace, and both replay like the trace,
+    with triggers and with rules.
+    """
     signals = kills = 0
     for name in names_of(FOLDERS) + names_of(TEXTS):
         plain, made = both_of(name)
@@ -90,7 +93,9 @@ def check_recordings(program: str) -> None:
 
 
 def check_examples_and_kernel_cases(program: str) -> None:
-    """Whether each gives what it gave, at the tick of its options or of two seconds; the runaway's with its rules, too."""
+    """Each folded trace replays like the original, at the tick of its options or of two seconds;
+    the runaway's with its rules, too.
+    """
     for name in [*files_of(EXAMPLES), *files_of(os.path.join(EXAMPLES, "kernel"))]:
         options = text_of(name.replace(".trace", ".opts")) if os.path.exists(name.replace(".trace", ".opts")) else ""
         found = re.search(r"--tick-ms[= ]([0-9]+)", options)
@@ -103,13 +108,15 @@ def check_examples_and_kernel_cases(program: str) -> None:
 
 
 def is_near_whole(fold: Fold) -> bool:
-    """Whether rounding left something of some sum, so that a total might stand at the other side of a whole us."""
+    """Whether a sum has a remainder of rounding, so that a total might round to another whole us.
+    """
     return any(fold.check.behind.values())
 
 
 def check_generated_traces(program: str) -> None:
-    """Whether so many generated traces give what they gave, with rules. Where rounding left nothing the times up to the end are the
-    same, too."""
+    """Generated traces replay alike with rules. If rounding left no remainder, the times up to the
+    end are equal, too.
+    """
     for number in range(TRACES):
         version = 1 + number % 2
         maker = Wide(number, version) if number % 25 == 0 else Maker(number, version)
@@ -121,7 +128,7 @@ def check_generated_traces(program: str) -> None:
 
 
 def check_kills_that_happen(program: str) -> None:
-    """Whether `whatif` prints the same where those who may be killed are named, by the actions of the rules."""
+    """`whatif` prints the same if the possible victims are named, by the actions of the rules."""
     loader = SourceFileLoader("whatif", os.path.join(TOP, "tests", "whatif"))
     spec = spec_from_loader("whatif", loader)
     assert spec

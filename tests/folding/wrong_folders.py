@@ -1,4 +1,6 @@
-"""Checks that what plays each window before it is written sees wrong ones: folders that are wrong in one way each."""
+"""The check that plays each window before it is written detects wrong folders: each is wrong in one
+way.
+"""
 from __future__ import annotations
 
 import re
@@ -17,7 +19,7 @@ SECOND = 1000 * MS
 
 
 def wrong_lines(change: Callable[[list[Line]], list[Line]]) -> Callable[[Any], Any]:
-    """A folder whose lines of states are changed so."""
+    """A folder whose lines of states are changed by `change`."""
 
     def wrap(write: Any) -> Any:
         return lambda self, *given: change(write(self, *given))
@@ -26,7 +28,7 @@ def wrong_lines(change: Callable[[list[Line]], list[Line]]) -> Callable[[Any], A
 
 
 def without_first(verb: str) -> Callable[[list[Line]], list[Line]]:
-    """Leaves the first line out that has this verb."""
+    """Leaves out the first line with this verb."""
 
     def change(lines: list[Line]) -> list[Line]:
         place = next((place for place, (_, words) in enumerate(lines) if words.startswith(verb)), None)
@@ -36,18 +38,18 @@ def without_first(verb: str) -> Callable[[list[Line]], list[Line]]:
 
 
 def us_later(lines: list[Line]) -> list[Line]:
-    """Puts the lines of the second half of the moments a us later."""
+    """Makes the lines of the second half of the times 1 us later."""
     middle = lines[len(lines) // 2][0] if lines else 0
     return [(moment + 1000 if moment >= middle and moment % SECOND else moment, words) for moment, words in lines]
 
 
 def elsewhere(lines: list[Line]) -> list[Line]:
-    """Puts what is of processor 0 on processor 1."""
+    """Moves what is on processor 0 to processor 1."""
     return [(moment, re.sub(r"^(switch|irq) 0 ", r"\1 1 ", re.sub(r"^((?:wake|fork) .*) 0$", r"\1 1", words))) for moment, words in lines]
 
 
 def state_lost(few: Any) -> Any:
-    """Folds without the shortest joint state, whose time the longest gets."""
+    """Folds without the shortest joint state; the longest gets its time."""
 
     def change(*given: Any) -> Any:
         found = few(*given)
@@ -60,13 +62,13 @@ def state_lost(few: Any) -> Any:
 
 
 def other_kind(joint_state: Any) -> Any:
-    """Takes who waits for IO for one that is ready."""
+    """Treats tasks that wait for IO as ready."""
     swap = {Kind.WAITING: Kind.READY}
     return lambda self, state: frozenset(Element(it.path, swap.get(it.kind, it.kind)) for it in joint_state(self, state))
 
 
 def early(write: Any) -> Any:
-    """Begins with any joint state, and writes the first lines of a window 1 ns before its time."""
+    """Begins with any joint state, and writes the first lines of a window 1 ns early."""
 
     def change(self: Any, start: int, durations: Any, interrupts: Any = (), present: Any = None) -> list[Line]:
         lines: list[Line] = write(self, start, durations, interrupts)
@@ -120,7 +122,7 @@ WRONGED = """psitrace 2 cpus=2
 
 
 def moved(lines_of: Any) -> Any:
-    """Samples stand at the end of their window's lines, a second later."""
+    """Puts samples at the end of their window's lines, a second later."""
 
     def change(*given: Any) -> list[str]:
         lines: list[str] = lines_of(*given)
@@ -131,12 +133,14 @@ def moved(lines_of: Any) -> Any:
 
 
 def lost(lines_of: Any) -> Any:
-    """There are no samples."""
+    """Drops the samples."""
     return lambda *given: [line for line in lines_of(*given) if " mem " not in line]
 
 
 def check_wrong_folders(program: str) -> None:
-    """Whether a folder that is wrong in one way is found out before its window is written, and a right one isn't."""
+    """A folder that is wrong in one way is detected before its window is written, and a correct one
+    isn't.
+    """
     must_replay_alike("a right folder", program, WRONGED, folded(WRONGED, SECOND)[0], SECOND)
     for what, place, name, wrong in WRONG:
         right = getattr(place, name)
