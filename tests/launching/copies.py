@@ -1,4 +1,4 @@
-"""Copies of the launcher, with what stands for rt and for the programs."""
+"""Copies of the launcher, with stubs for rt and for the programs."""
 from __future__ import annotations
 
 import os
@@ -9,18 +9,18 @@ from collections.abc import Iterator
 
 from checks import TOP, must, must_be
 
-# Each program, and the page of docs/ that shows its words.
+# Each program, and the page of docs/ that shows its arguments.
 PAGES = {"psi_oomd": "COMMANDS.md", "psi_observe": "OBSERVERS.md"}
 PROGRAMS = tuple(PAGES)
 TOOLS = (
     *("awk", "cat", "chmod", "cp", "date", "dirname", "find", "git", "grep", "head", "mkdir", "mkfifo", "mktemp", "mv", "nproc", "readlink"),
     *("rm", "sed", "sh", "sha256sum", "sleep", "sort", "tail", "touch", "wc", "xargs"),
 )
-# What stands for the program tells its words, one a line, and ends by a status of its own.
+# The program's stub prints its arguments, one a line, and exits with status 7.
 PROGRAM = "#!/bin/sh\nprintf '<%s>\\n' \"$@\"\nexit 7\n"
-# What stands for rt: `rt try` writes where it is and its words, with each file in place of where it lies, and then SAID, and ends
-# by STATUS; `rt ci` writes the files that it finds to SEEN, makes a program of MADE, and ends likewise; `rt version` writes KIT; and
-# all else fails.
+# The stub of rt: `rt try` writes its folder and its arguments, with each file's content in place of
+# its path, then SAID, and exits with STATUS; `rt ci` writes the files that it finds to SEEN, makes
+# a program from MADE, and exits likewise; `rt version` writes KIT; anything else fails.
 RT = """#!/bin/sh
 case $1 in
 try)
@@ -51,14 +51,16 @@ ENDED = "interpreter: no-answer: it lacks something\nchecked: ended status={0}\n
 TOO_LONG = "the program did not end within the time limit"
 WARNED = "nothing is proved by this run: rt builds the program without a proof, which takes a minute or two"
 FIRST_BUILD = r"\((?:20 to 40 minutes the first time on four processors|40 to 80 minutes the first time on \d processors)\)"
-# How far a build is, as each of its lines ends.
+# The progress of a build, at the end of each of its lines.
 PROGRESS = r" \(\d+ of about \d+ minutes\)"
 AVOIDED = "; ./{0} --try runs it unproved in a minute or two, and {1}=FILE names a built one"
 BUILDS = "what is proved is built by ./{0} without --try"
 
 
 class Copy:
-    """The launcher of a program in a folder of its own, with a path of its own: git only where it is asked for, and never rt."""
+    """The launcher of a program in its own folder, with its own PATH: git only if requested, and
+    never rt.
+    """
 
     def __init__(self, room: str, name: str, has_git: bool = True) -> None:
         self.name = name
@@ -75,14 +77,18 @@ class Copy:
                 os.symlink(found, os.path.join(self.path, tool))
 
     def run(self, *words: str, place: str = "/", given: str = "", **more: str) -> tuple[int, str, str]:
-        """The status, and what stands on the two streams; in this folder, with this input and these variables."""
+        """The status and both streams of a run; in this folder, with this input and these
+        variables.
+        """
         words = (os.path.join(self.top, self.name), *words)
         environment = {"PATH": self.path, **more}
         done = subprocess.run(words, cwd=place, env=environment, input=given, capture_output=True, text=True)
         return done.returncode, done.stdout, done.stderr
 
     def give_rt(self) -> str:
-        """Puts what stands for rt on the path, and a crate where the launcher looks for one. Gives back a folder to run in."""
+        """Puts the stub of rt into PATH, and a crate at the launcher's path for it. Returns a
+        folder to run in.
+        """
         with open(os.path.join(self.path, "rt"), "w", encoding="utf-8") as file:
             file.write(RT)
         os.chmod(os.path.join(self.path, "rt"), 0o755)
@@ -92,7 +98,9 @@ class Copy:
         return place
 
     def give_sources(self) -> str:
-        """Puts what stands for rt on the path, and three crates of which one isn't of the program. Gives back a folder for its work."""
+        """Puts the stub of rt into PATH, and three crates, one of which the program doesn't use.
+        Returns a folder for its work.
+        """
         place, main = self.give_rt(), f"{self.name}_main"
         texts = {"HANDLES": "", "crates.txt": f"# of what\nlow:\nother: low\n{main}: low # itself\n", f"crates/{main}/args": "1\n"}
         for name in ("low/src/lib.rt", "low/must-fail/wrong.edit", "other/src/lib.rt", f"{main}/src/main.rt"):
@@ -104,7 +112,7 @@ class Copy:
         return place
 
     def other(self, room: str) -> str:
-        """A program like that of `give_program`, elsewhere."""
+        """A program like that of `give_program`, at another path."""
         place = os.path.join(room, f"a {self.name}")
         with open(place, "w", encoding="utf-8") as file:
             file.write(PROGRAM)
@@ -112,7 +120,9 @@ class Copy:
         return place
 
     def trial(self, *words: str, **more: str) -> tuple[list[str], list[str]]:
-        """What `rt try` is given for these words: the files that are handed over with what is in them, and the program's words."""
+        """What `rt try` gets for these arguments: the files with their contents, and the program's
+        arguments.
+        """
         status, said, error = self.run("--try", *words, SAID="own words\n" + ENDED.format(3), STATUS="3", **more)
         told = "".join(f"{self.name}: {line}\n" for line in (WARNED, BUILDS.format(self.name)))
         must_be(f"--try {words}", (status, error), (3, f"{told}own words\n"))
@@ -123,12 +133,14 @@ class Copy:
         return [line[1:-1] for line in lines[2:end:2]], [line[1:-1] for line in lines[end + 1 :]]
 
     def git(self, *words: str) -> str:
-        """What git says in this folder, as an author of its own."""
+        """The output of git in this folder, with an author of its own."""
         author = [word for name in ("user.name=a", "user.email=a@example.org") for word in ("-c", name)]
         return subprocess.run(["git", *author, *words], cwd=self.top, check=True, capture_output=True, text=True).stdout.strip()
 
     def give_program(self, more: str = ":") -> None:
-        """Puts a program where the launcher looks for one, newer than its sources. It does `more` before it ends."""
+        """Puts a program at the launcher's path for it, newer than its sources. It runs `more`
+        before it ends.
+        """
         with open(os.path.join(self.top, "crates.txt"), "w", encoding="utf-8") as file:
             file.write(f"{self.name}_main:\n")
         os.makedirs(os.path.dirname(self.program()), exist_ok=True)
@@ -138,12 +150,12 @@ class Copy:
         os.utime(os.path.join(self.top, "crates.txt"), (0, 0))
 
     def program(self) -> str:
-        """Where the launcher looks for the program."""
+        """The launcher's path for the program."""
         return os.path.join(self.top, "crates", f"{self.name}_main", "out", f"{self.name}_main")
 
 
 def must_match(what: str, lines: list[str], patterns: list[str]) -> None:
-    """Each line is as its pattern says."""
+    """Each line matches its pattern."""
     is_right = len(lines) == len(patterns) and all(re.fullmatch(pattern, line) for pattern, line in zip(patterns, lines))
     must(is_right, f"{what}: {lines}, not {patterns}")
 
@@ -154,7 +166,7 @@ def copies(room: str, has_git: bool = True) -> Iterator[Copy]:
         yield Copy(room, name, has_git)
 
 
-# Right words of each program, on standard input.
+# Valid arguments of each program, with standard input.
 RIGHT = {"psi_oomd": ("check", "-"), "psi_observe": ("-", "1", "/")}
-# All words of `gen` but one.
+# All arguments of `gen` but one.
 GEN = "--seed 1 --cpus 1 --groups 1".split()

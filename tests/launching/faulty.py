@@ -1,4 +1,4 @@
-"""Checks of faulty words and of files that are no trace: they are answered at once."""
+"""Usage errors, and files that aren't traces, are reported at once."""
 from __future__ import annotations
 
 import os
@@ -6,7 +6,8 @@ import os
 from checks import must_be
 from launching.copies import GEN, Copy
 
-# Faulty words of psi_oomd in a folder with a trace `t` and a folder `d`, the program's status, and what is said of them.
+# Faulty arguments of psi_oomd in a folder with a trace `t` and a folder `d`, the program's status,
+# and the message.
 FAULTY = (
     ((), 1, "which command? ./psi_oomd --help has all of them"),
     (("repaly", "t"), 1, "unknown command repaly: did you mean replay?"),
@@ -42,7 +43,7 @@ FAULTLESS = (
 
 
 def make_files(place: str) -> None:
-    """A trace, a folder and a recording."""
+    """Writes a trace, a folder and a recording."""
     os.makedirs(os.path.join(place, "r"))
     os.makedirs(os.path.join(place, "d"))
     for name, text in (("t", "psitrace 2 cpus=1\n0 end\n"), ("r/meta", "recording 1\n")):
@@ -51,7 +52,9 @@ def make_files(place: str) -> None:
 
 
 def check_faulty_words(room: str) -> None:
-    """They are answered at once without a program, by its status; beside one its own answer comes first."""
+    """They are reported at once without a program, with its status; if there is a program, its own
+    message comes first.
+    """
     copy, place = Copy(room, "psi_oomd"), os.path.join(room, "files")
     make_files(place)
     for words, status, hint in FAULTY:
@@ -70,7 +73,7 @@ def check_faulty_words(room: str) -> None:
     must_be("no such file", other.run("none", "1", "/", place=place), (4, "", missing))
 
 
-# What is no trace, and what is said of it.
+# Files that aren't traces, and the messages about them.
 NO_TRACES = {
     "t.gz": (b"\x1f\x8b\x08\0\0\0", "compressed by gzip: gunzip -c t.gz > FILE"),
     "t.xz": (b"\xfd7zXZ\0\0", "compressed by xz: xz -dc t.xz > FILE"),
@@ -87,7 +90,9 @@ NO_TRACES = {
 
 
 def check_what_is_no_trace(room: str) -> None:
-    """Once the program has refused it, it is said what it is; before it is built nothing is said."""
+    """Once the program has rejected a file, the launcher says what it is; before the program is
+    built it says nothing.
+    """
     copy, place = Copy(room, "psi_oomd"), os.path.join(room, "files")
     os.makedirs(place)
     for name, (data, _) in NO_TRACES.items():

@@ -1,4 +1,4 @@
-"""Checks of --try: what a trial is handed, and what is kept of it."""
+"""Checks of --try: what a trial gets, and what is stored from it."""
 from __future__ import annotations
 
 import os
@@ -10,7 +10,9 @@ from launching.faulty import make_files
 
 
 def check_what_a_trial_is_handed(room: str) -> None:
-    """Files that the program would read, and nothing else that happens to be a file."""
+    """A trial gets the files that the program would read, and no other argument that happens to be
+    a file.
+    """
     copy = Copy(room, "psi_oomd")
     place = copy.give_rt()
     for name in ("t", "r", "5", "a b=c", "-x"):
@@ -69,7 +71,8 @@ def check_a_trial_without_an_answer(room: str) -> None:
         must_be("--try --version", copy.run("--try", "--version")[0], 0)
 
 
-# What stands for the program that a trial links: it does on faulty words, and on a trace, as psi_oomd does.
+# The stub of the program that a trial links: for usage errors and for a trace it behaves like
+# psi_oomd.
 LINKED = """#!/bin/sh
 case $# in 0) echo 'usage: psi_oomd stall or check' >&2; exit 1 ;; esac
 [ "$1 $2" != 'check -' ] || exit 0
@@ -79,12 +82,14 @@ exit 7
 
 
 def run_kept(copy: Copy, cache: str, *words: str, **more: str) -> tuple[int, str, str]:
-    """A trial with a cache of its own."""
+    """A trial with its own cache."""
     return copy.run("--try", *words, XDG_CACHE_HOME=cache, **more)
 
 
 def check_a_trial_that_is_kept(room: str) -> None:
-    """What rt links for a trial is kept by the sums of the sources, and is run without rt from then on."""
+    """The program that rt links for a trial is stored under the sums of the sources, and later runs
+    need no rt.
+    """
     copy = Copy(room, "psi_oomd")
     place, cache, linked = copy.give_sources(), os.path.join(room, "cache"), os.path.join(room, "linked")
     os.makedirs(os.path.join(copy.top, "examples"))
