@@ -1,4 +1,6 @@
-"""A strict reader of OpenMetrics text, for what tools/openmetrics writes of it: counters with timestamps."""
+"""A strict parser of OpenMetrics text, for the part that tools/openmetrics writes: counters with
+timestamps.
+"""
 from __future__ import annotations
 
 import re
@@ -20,7 +22,8 @@ ESCAPES = {r"\\": "\\", r"\"": '"', r"\n": "\n"}
 
 
 class Family:
-    """What is told of a family, and the points of its metrics: moments in s since 1970, and values."""
+    """The metadata of a family, and the points of its metrics: times in s since 1970, and values.
+    """
 
     def __init__(self, name: str) -> None:
         self.name = name
@@ -42,7 +45,7 @@ def unescaped(found: re.Match[str]) -> str:
 
 
 def labels_of(text: Optional[str]) -> Labels:
-    """The labels between braces. No name may stand twice."""
+    """The labels between braces. No name may be repeated."""
     found = re.findall(rf"({NAME})={TEXT}", text or "")
     must_be(f"names of {text}, how many", len({name for name, _ in found}), len(found))
     return frozenset((name, ESCAPED.sub(unescaped, value)) for name, value in found)
@@ -56,7 +59,7 @@ def sample_of(line: str) -> Sample:
 
 
 class Exposition:
-    """The families of a text, by name. What isn't allowed to stand there is told."""
+    """The families of a text, by name. Violations of the format are reported."""
 
     def __init__(self, text: str) -> None:
         self.families: dict[str, Family] = {}
@@ -72,7 +75,7 @@ class Exposition:
                 self.take_sample(sample_of(line))
 
     def take_about(self, what: str, name: str, text: str) -> None:
-        """Takes what is told of a family, which must stand together, and before its samples."""
+        """Adds a family's metadata, which must be together, and before its samples."""
         if not self.open or self.open.name != name:
             must(name not in self.families, f"the family {name} stands together")
             self.open = self.families[name] = Family(name)
@@ -83,7 +86,9 @@ class Exposition:
         must(what != "UNIT" or name.endswith(f"_{text}"), f"the name {name} ends with its unit")
 
     def take_sample(self, sample: Sample) -> None:
-        """Takes a point: those of a metric stand together, in the order of time, and a counter isn't below zero."""
+        """Adds a point: those of a metric are together, in the order of time, and a counter isn't
+        below zero.
+        """
         family = self.open
         if not family:
             raise Wrong("a sample stands before all families")

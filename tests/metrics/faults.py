@@ -1,4 +1,4 @@
-"""Checks that what can't be written as metrics is reported, with what to do about it."""
+"""What can't be written as metrics is reported, with what to do about it."""
 from __future__ import annotations
 
 import functools

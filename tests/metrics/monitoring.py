@@ -1,4 +1,6 @@
-"""Checks by programs of the field, where they are installed: promtool's view of the text, and a Prometheus that has it."""
+"""Checks with standard programs, if installed: promtool's check of the text, and a Prometheus that
+loads it.
+"""
 from __future__ import annotations
 
 import contextlib
@@ -26,7 +28,7 @@ PATIENCE = 60
 
 
 def is_there(program: str, what: str) -> bool:
-    """Whether a program is installed. Where it isn't, what is skipped is told."""
+    """Whether a program is installed; if not, prints what is skipped."""
     if shutil.which(program):
         return True
     print(f"{program} isn't installed ({PACKAGE}): {what} is skipped")
@@ -34,7 +36,7 @@ def is_there(program: str, what: str) -> bool:
 
 
 def check_promtool_finds_nothing(program: str) -> None:
-    """`promtool check metrics` reads the older text alone."""
+    """`promtool check metrics` reads only the older text."""
     if not is_there("promtool", "its view of the metrics"):
         return
     text = run([OPENMETRICS, "--start", START, "--format=prometheus", "--rules=examples/runaway.json"], story(program))
@@ -49,7 +51,7 @@ def free_port() -> int:
 
 
 def answer_of(url: str) -> Any:
-    """What a server answers, or nothing where there is none yet."""
+    """A server's answer, or None if there is none yet."""
     try:
         with urllib.request.urlopen(url, timeout=PATIENCE) as answer:
             return json.load(answer) if "/api/" in url else answer.read()
@@ -59,7 +61,7 @@ def answer_of(url: str) -> Any:
 
 @contextlib.contextmanager
 def prometheus(data: str) -> Iterator[str]:
-    """The address of a Prometheus that has this folder of data, and collects nothing."""
+    """The address of a Prometheus with this data folder that collects nothing."""
     with open(f"{data}/empty.yml", "wb"):
         pass
     address = f"127.0.0.1:{free_port()}"
@@ -83,7 +85,7 @@ def tail_of(data: str) -> str:
 
 
 def asked(address: str, query: str, moment: Decimal) -> Any:
-    """What a query finds at a moment."""
+    """The result of a query at a time."""
     words = urllib.parse.urlencode({"query": query, "time": str(moment)})
     answer = answer_of(f"{address}/api/v1/query?{words}")
     must(bool(answer) and answer["status"] == "success", f"{query} is answered: {answer}")
@@ -91,7 +93,7 @@ def asked(address: str, query: str, moment: Decimal) -> Any:
 
 
 def compare(address: str, name: str, wanted: Exposition, end: Decimal) -> None:
-    """Whether Prometheus has each point of the family, to a ms, and no other one."""
+    """Prometheus has each point of the family, to a ms, and no other."""
     metrics = wanted.families[name].metrics
     found = asked(address, f"{name}_total[1h]", end + 1)
     must_be(f"metrics of {name}", len(found), len(metrics))
@@ -105,7 +107,7 @@ def compare(address: str, name: str, wanted: Exposition, end: Decimal) -> None:
 
 
 def loaded(text: bytes, data: str) -> Exposition:
-    """Makes blocks of the text in the folder, and gives what is in it."""
+    """Makes blocks of the text in the folder, and returns the parsed text."""
     with open(f"{data}/text", "wb") as file:
         file.write(text)
     os.mkdir(f"{data}/blocks")

@@ -1,4 +1,4 @@
-"""Checks that metrics have what was printed: each total, kill and signal, at its moment."""
+"""Metrics contain what was printed: each total, kill and signal, at its time."""
 from __future__ import annotations
 
 import collections
@@ -34,7 +34,7 @@ def metrics_of(printed: bytes, *words: str) -> Exposition:
 
 
 def totals_of(printed: bytes) -> dict[tuple[str, str, str], list[Point]]:
-    """The totals that were printed, in s, by group, resource and level."""
+    """The printed totals, in s, by group, resource and level."""
     totals = collections.defaultdict(list)
     head: list[str] = []
     for words in (line.split(" ") for line in printed.decode().splitlines()):
@@ -47,13 +47,13 @@ def totals_of(printed: bytes) -> dict[tuple[str, str, str], list[Point]]:
 
 
 def moments_of(printed: bytes, verb: str, *words: str) -> list[Decimal]:
-    """The moments of lines of this verb that have these words."""
+    """The times of lines with this verb and these words."""
     lines = [line.split(" ") for line in printed.decode().splitlines() if line.startswith(f"{verb} ")]
     return [EPOCH + Decimal(line[1]) / 10**9 for line in lines if set(words) <= set(line)]
 
 
 def compare_totals(printed: bytes, metrics: Exposition, **labels: str) -> None:
-    """Whether each total stands under the names that it has elsewhere, and no other pressure does."""
+    """Each total is under the names that other tools use, and no other pressure is."""
     wanted: dict[str, int] = collections.defaultdict(int)
     for (path, resource, level), points in totals_of(printed).items():
         name = f"pressure_{resource}_{WORDS[level]}_seconds_total"
@@ -67,7 +67,9 @@ def compare_totals(printed: bytes, metrics: Exposition, **labels: str) -> None:
 
 
 def must_count(points: list[Point], moments: list[Decimal], rounds: list[Decimal]) -> None:
-    """Whether a counter has a point at the start, at each of these moments and at each round, and counts what was by then."""
+    """A counter has a point at the start, at each of these times and at each round, with the count
+    up to then.
+    """
     at = sorted({EPOCH, *moments, *rounds})
     must_be("a counter", points, [(moment, Decimal(sum(it <= moment for it in moments))) for moment in at])
 
@@ -82,7 +84,7 @@ def check_totals_of_the_story(program: str) -> None:
 
 
 def check_the_names_are_those_of_the_field(program: str) -> None:
-    """As `prometheus-node-exporter --collector.pressure` and cAdvisor print them."""
+    """The names are those of `prometheus-node-exporter --collector.pressure` and cAdvisor."""
     names = set(metrics_of(story(program)).families)
     node = {"node_pressure_cpu_waiting_seconds"}
     node |= {f"node_pressure_{it}_{word}_seconds" for it in ("io", "memory") for word in ("waiting", "stalled")}
@@ -116,7 +118,9 @@ def check_names_of_rulesets(program: str) -> None:
 
 
 def check_labels(program: str) -> None:
-    """Labels for all metrics, with what has to be escaped, and a path with a backslash that ends and comes again."""
+    """Labels for all metrics, with characters that need escapes, and a path with a backslash that
+    is removed and created again.
+    """
     words = [program, "replay", "-", "--report-s", "1"]
     printed = run(words, ODD_TRACE.encode())
     value = r'a "b" \n'
@@ -160,7 +164,9 @@ def check_interrupts_of_a_replay(program: str) -> None:
 
 
 def check_points_that_are_near(_: str) -> None:
-    """Of two points within 2 ms the later one stays: Prometheus cuts moments to ms, and refuses two of one ms."""
+    """Of two points within 2 ms the later one stays: Prometheus truncates times to ms, and rejects
+    two points in one ms.
+    """
     file = "".join(f"{level} avg10=0.00 avg60=0.00 avg300=0.00 total={{0}}\n" for level in WORDS)
     lines = [
         "event 1000000 trigger=0 / io some 500000 500000\n",
@@ -177,7 +183,9 @@ def check_points_that_are_near(_: str) -> None:
 
 
 def check_the_older_text(program: str) -> None:
-    """It has the same points, with names and timestamps as Prometheus had them before."""
+    """The older text has the same points, with the names and timestamps that Prometheus used
+    before.
+    """
     old = run([OPENMETRICS, "--start", START, "--format=prometheus"], story(program)).decode().splitlines()
     new = run([OPENMETRICS, "--start", START], story(program)).decode().splitlines()
     samples = [line.rsplit(" ", 1) for line in new if not line.startswith("#")]
