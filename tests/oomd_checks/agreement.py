@@ -1,4 +1,6 @@
-"""The emulation beside stored answers, and beside oomd itself: every kill is the same, except among equal ranks."""
+"""Compares the emulation with stored answers, and with oomd itself: every kill is the same, except
+among equal ranks.
+"""
 from __future__ import annotations
 
 import glob
@@ -32,7 +34,7 @@ def check_the_stored_answers(room: Room) -> None:
 
 
 def check_that_rules_differ_where_stored(room: Room) -> None:
-    """psi_oomd's own kills by the same files: 39 experiments differ."""
+    """psi_oomd's own kills with the same files: 39 experiments differ."""
     for it in FOUND:
         run = run_of(room, it)
         words = (run.trace, "--rules", run.config, "--tick-ms", "1000", "--interval-s", str(it.interval))
@@ -86,7 +88,7 @@ def some_rules() -> dict[str, str]:
 
 
 def must_agree_on(what: str, trace: str, config: str, warm: int = 0) -> int:
-    """Runs both at each interval. Returns how many kills there were."""
+    """Runs both at each interval. Returns the number of kills."""
     count = 0
     for interval in INTERVALS:
         run = Run(trace, config, (), interval, warm=warm)
@@ -138,7 +140,7 @@ def check_recordings(room: Room) -> None:
 
 
 def random_run(folder: str, seed: int) -> Run:
-    """A random case as files."""
+    """Writes the files of a random case."""
     draw = random.Random(seed)
     texts = (
         random_cases.Load(draw, draw.choice((15, 30, 60))).text(),
@@ -153,7 +155,7 @@ def random_run(folder: str, seed: int) -> Run:
 
 
 def random_share(share: int) -> None:
-    """Part of the random cases. Those of oomd run side by side."""
+    """A share of the random cases. Those of oomd run in parallel."""
     if not has_oomd():
         return
     kills = 0

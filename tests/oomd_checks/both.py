@@ -1,4 +1,4 @@
-"""What checks of tools/oomd have in common: the emulation and oomd itself on one trace."""
+"""Shared by checks of tools/oomd: the emulation and oomd itself on one trace."""
 from __future__ import annotations
 
 import functools
@@ -25,7 +25,7 @@ ABSENT = "oomd 0.5.0 isn't installed (Debian's package oomd): only the stored an
 
 @functools.lru_cache(maxsize=None)
 def has_oomd() -> bool:
-    """Whether the version whose algorithm is followed is installed."""
+    """Whether the version of oomd that the emulation follows is installed."""
     path = shutil.which("oomd")
     if not path or not shutil.which("cc"):
         return False
@@ -34,7 +34,7 @@ def has_oomd() -> bool:
 
 
 def alone(check: Callable[[Room], None]) -> Callable[[Room], None]:
-    """Runs a check in a process of its own: it replaces functions that checks beside it call."""
+    """Runs a check in its own process: it replaces functions that other checks call."""
 
     @functools.wraps(check)
     def run(room: Room) -> None:
@@ -52,7 +52,7 @@ def alone(check: Callable[[Room], None]) -> Callable[[Room], None]:
 
 @functools.lru_cache(maxsize=None)
 def sandbox() -> str:
-    """The sandbox in which oomd runs here; none in a container that allows neither."""
+    """The sandbox in which oomd runs here; none in a container that allows neither kind."""
     for kind in ("bwrap", "unshare"):
         if shutil.which(kind) and not binary.Sandbox(kind, "/tmp", "/usr/bin/true").fault():
             return kind
@@ -60,7 +60,7 @@ def sandbox() -> str:
 
 
 def run_of(room: Room, it: Experiment) -> Run:
-    """An experiment as files."""
+    """Writes the files of an experiment."""
     stem = f"{abs(hash(it.name)):x}"
     trace = room.file(f"{stem}.trace", it.story.text(it.end))
     config = room.file(f"{stem}.json", written(it.config))
@@ -87,7 +87,7 @@ def emulated(run: Run) -> Engine:
 
 
 def must_agree(what: str, it: Engine, kills: list[Kill]) -> None:
-    """Every kill is one that the emulation allows: the same, or one of equal rank."""
+    """Every kill is allowed by the emulation: the same, or one of equal rank."""
     for own, other in zip(it.decisions, kills):
         found = own.kill()
         same = (found.moment, found.ruleset, found.action) == (other.moment, other.ruleset, other.action)
@@ -109,5 +109,5 @@ def must_be_stored(what: str, it: Engine, wanted: str) -> None:
 
 
 def ran(run: Run, kind: str | None = None) -> binary.BinaryRun:
-    """oomd itself on a trace."""
+    """Runs oomd itself on a trace."""
     return binary.run_binary(Program(), run, "oomd", kind or sandbox())

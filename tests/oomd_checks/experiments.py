@@ -1,5 +1,6 @@
-"""Fifty-eight small experiments, each about one rule of oomd, with the kills that Debian's oomd 0.5.0
-made when it was run on them, and those of psi_oomd with the same file and ticks of a second."""
+"""Fifty-eight small experiments, each about one rule of oomd, with the kills of Debian's oomd
+0.5.0, and those of psi_oomd with the same file and ticks of a second.
+"""
 from __future__ import annotations
 
 from dataclasses import dataclass
@@ -22,9 +23,10 @@ CRASH = "crash"
 
 @dataclass(frozen=True)
 class Experiment:
-    """A trace of some seconds and a configuration. `oomd` and `rules` are the kills of the two, as
-    `4s:/a`, with `r1a0` after it unless ruleset and action are 0; `refused` if psi_oomd refuses the
-    file."""
+    """A trace of some seconds and a configuration. `oomd` and `rules` are the kills of both
+    programs, such as `4s:/a`, followed by `r1a0` unless ruleset and action are 0; `refused` if
+    psi_oomd rejects the file.
+    """
 
     name: str
     story: Story
@@ -43,7 +45,7 @@ FOUND: list[Experiment] = []
 
 def add(name: str, story: Story, end: float, config: Config, oomd: str, rules: str | None = None,
         **more: object) -> None:  # fmt: skip
-    """Adds an experiment. psi_oomd's kills are left out if they are oomd's."""
+    """Adds an experiment. Without `rules`, psi_oomd's kills are oomd's."""
     wanted = oomd if rules is None else rules
     FOUND.append(Experiment(name, story, end, config, oomd, wanted, **more))  # type: ignore[arg-type]
 
@@ -71,7 +73,7 @@ def one(group: str = "/a", host: str = "0 0 0") -> Story:
 
 
 def several(*sizes: tuple[str, int, int], host: str = "0 0 0") -> Story:
-    """Groups with a task each, their memory and their swap in bytes."""
+    """Groups with one task each, and their memory and swap in bytes."""
     story = Story(*(path for path, _, _ in sizes), host=host)
     for path, memory, swap in sizes:
         story.task(path).mem(0, path, memory, swap)

@@ -1,4 +1,4 @@
-"""What tools/oomd prints, and its options."""
+"""Checks of the output and the options of tools/oomd."""
 from __future__ import annotations
 
 import json
@@ -22,13 +22,13 @@ OOMD = "tools/oomd"
 
 
 def put(room: Room, story: Story, end: float, config: object) -> tuple[str, str, str]:
-    """A trace and a configuration as files, and the words that name them."""
+    """Writes a trace and a configuration, and returns the arguments that name them."""
     trace = room.file("t.trace", story.text(end))
     return trace, "--config", room.file("c.json", json.dumps(config))
 
 
 def kills(room: Room, *words: str) -> list[tuple[int, str]]:
-    """The kills as JSON has them: seconds and victims."""
+    """The kills in the JSON output: seconds and victims."""
     done = room.run(OOMD, *words, "--interval-s", "1", "--json")
     must_be(f"the status, where standard error was {done.error!r}", done.status, 0)
     found = json.loads(done.output)["decisions"]
@@ -50,7 +50,9 @@ oomd 0.5.0: 2 looks, one each 1 s
 
 
 def check_the_story(room: Room) -> None:
-    """oomd's own interval is 5 s, so it kills at 150 s; psi_oomd does with ticks of a second, and at 146 s without."""
+    """oomd's own interval is 5 s, so it kills at 150 s; so does psi_oomd with ticks of a second,
+    but without them it kills at 146 s.
+    """
     done = room.run(OOMD, RUNAWAY, "--config", RUNAWAY_RULES, "--compare", RUNAWAY_RULES)
     lines = done.output.splitlines()
     must_be("the kill", lines[0], "150 s  would kill /batch/import")
@@ -105,13 +107,13 @@ def check_standard_input(room: Room) -> None:
 
 
 def check_given_numbers(room: Room) -> None:
-    """Protected memory is shared among siblings, as the kernel does it."""
+    """Protected memory is divided among siblings as in the kernel."""
     story = Story("/s", "/s/a", "/s/b").task("/s/a").task("/s/b")
     story.mem(0, "/s", 100 * MIB).mem(0, "/s/a", 60 * MIB).mem(0, "/s/b", 40 * MIB)
     words = put(room, story, 1, rules(ALWAYS, plugin(GROWTH, "s/*", size_threshold=0)))
     low = [f"--given=/s{it}/memory.low={size * MIB}" for it, size in (("", 30), ("/a", 60), ("/b", 0))]
     must_be("the largest", kills(room, *words), [(1, "/s/a")])
-    # 30 MiB of its 60 are protected, since its parent has no more: 30 are left, and /s/b has 40.
+    # 30 MiB of its 60 are protected, since its parent has no more: 30 remain, and /s/b has 40.
     must_be("with protection", kills(room, *words, *low), [(1, "/s/b")])
     must_be("without the parent's", kills(room, *words, *low[1:]), [(1, "/s/a")])
     dying = rules([plugin("nr_dying_descendants", "s", count=3, lte="false")], plugin(GROWTH, "s/*"))
@@ -122,14 +124,16 @@ def check_given_numbers(room: Room) -> None:
 
 
 def check_warm(room: Room) -> None:
-    """What already holds at the start kills before it, and growth has a past."""
+    """A condition that holds at the start kills before it, and growth has a past."""
     words = put(room, Story("/a").task("/a").mem(0, "/a", 5), 2, rules(ALWAYS, plugin(GROWTH, "a", post_action_delay=2)))
     must_be("without a past", kills(room, *words), [(1, "/a")])
     must_be("with one", kills(room, *words, "--warm", "3"), [(-2, "/a"), (0, "/a"), (2, "/a")])
 
 
 def check_drop_ins(room: Room) -> None:
-    """A drop-in is a further ruleset that runs first; the base goes on unless it says otherwise."""
+    """A drop-in is a separate ruleset that runs first; the base ruleset stays active unless it has
+    `disable-on-drop-in`.
+    """
     story = Story("/a", "/b").task("/a").task("/b").mem(0, "/a", 5).mem(0, "/b", 5)
     part = room.file("part.json", written({"rulesets": [{"name": "r", "actions": [plugin(GROWTH, "b")]}]}))
     for switches, wanted in (
@@ -150,7 +154,7 @@ def check_drop_ins(room: Room) -> None:
 
 
 def check_left_out_plugins(room: Room) -> None:
-    """What a trace can't answer for is named, with what it may change."""
+    """Plugins that a trace can't serve are named, with what they might change."""
     actions = [plugin("kill_by_io_cost", "*"), plugin("systemd_restart", service="x"), plugin(GROWTH, "a")]
     config = rules([plugin("senpai", "a"), *ALWAYS, plugin("dump_cgroup_overview", "a")], *actions)
     done = room.run(OOMD, *put(room, Story("/a").task("/a").mem(0, "/a", 5), 2, config), "--interval-s", "1")
@@ -161,7 +165,9 @@ def check_left_out_plugins(room: Room) -> None:
 
 
 def check_plugins_in_any_place(room: Room) -> None:
-    """A detector among the actions ends the chain if it is false, and `stop` ends it always; both begin the pause."""
+    """A detector among the actions ends the chain if it is false, and `stop` always does; both
+    begin the pause.
+    """
     story = Story("/a").task("/a").mem(0, "/a", 5)
     go, end = plugin("exists", "a"), plugin("exists", "nope")
     kill = plugin(GROWTH, "a", post_action_delay=1)
@@ -202,7 +208,7 @@ def check_oomd_itself(room: Room) -> None:
 
 
 def check_a_page(room: Room) -> None:
-    """tools/report shows the kills, and refuses what tools/oomd refuses."""
+    """tools/report shows the kills, and rejects what tools/oomd rejects."""
     done = room.run("tools/report", RUNAWAY, "--oomd", RUNAWAY_RULES, "-o", "page.html")
     must_be("the status, where standard error was " + done.error, done.status, 0)
     with open(f"{room.path}/page.html", encoding="utf-8") as file:

@@ -12,7 +12,7 @@ KINDS = ("sleep", "run", "stall", "iowait")
 
 
 class Load:
-    """A machine that changes each half second. A task has a processor of its own."""
+    """A machine that changes each half second. Each task has its own processor."""
 
     def __init__(self, draw: random.Random, length: int) -> None:
         self.draw, self.length, self.now = draw, length, 0
@@ -33,7 +33,7 @@ class Load:
         self.lines.append(f"{self.now} {text}")
 
     def make(self) -> None:
-        """A group more, below the root or another."""
+        """Creates a group, below the root or another group."""
         above = self.draw.choice(["", "", *(it for it in self.groups if it.count("/") < 3)])
         path = f"{above}/{self.draw.choice(NAMES)}"
         if path not in self.groups:
@@ -42,7 +42,7 @@ class Load:
             self.put(f"group {path}")
 
     def remove(self) -> None:
-        """A group less, if one has neither tasks nor groups."""
+        """Removes a group, if there is one without tasks and children."""
         used = {*self.homes.values(), *(it.rpartition("/")[0] for it in self.groups)}
         free = [it for it in self.groups if it not in used]
         if free:
@@ -58,7 +58,7 @@ class Load:
         self.put(f"switch {task - 1} 0 sleep")
 
     def turn(self, task: int, state: str) -> None:
-        """Brings a task into another state."""
+        """Changes the state of a task."""
         before, processor = self.states[task], task - 1
         if before == state:
             return
@@ -74,7 +74,7 @@ class Load:
         self.states[task] = state
 
     def sample(self, path: str) -> None:
-        """A sample that may grow, shrink, swap and scan."""
+        """Writes a sample that may grow, shrink, swap and scan."""
         size = self.sizes[path]
         factor = self.draw.choice((0.5, 0.9, 1.0, 1.0, 1.05, 1.3, 2.0))
         size[0] = int(size[0] * factor) + self.draw.choice((0, 0, 4096, MIB, 20 * MIB))
@@ -169,7 +169,7 @@ def some_action(draw: random.Random) -> Config:
 
 
 def some_config(draw: random.Random) -> Config:
-    """One to three rulesets, which may have one name."""
+    """One to three rulesets, perhaps with the same name."""
     found = []
     for number in range(draw.choice((1, 1, 2, 3))):
         groups = [

@@ -1,4 +1,5 @@
-"""How a configuration is read: refusals in oomd's words, numbers as C++ reads them, patterns as glob(3) takes them."""
+"""How a configuration is read: errors in oomd's words, numbers as in C++, patterns as in glob(3).
+"""
 from __future__ import annotations
 
 import ctypes
@@ -39,7 +40,7 @@ def see(name: str, **args: object) -> Any:
 
 PRESSURE = {"cgroup": "a", "resource": "io", "threshold": 1, "duration": 1}
 MEMORY = {"cgroup": "a", "threshold": "1G", "duration": 1}
-# A configuration, and words of oomd's reason to refuse it; none if it takes it.
+# A configuration, and words of the reason why oomd rejects it; None if oomd accepts it.
 CONFIGURATIONS: tuple[tuple[Any, str | None], ...] = (
     ({}, None), ({"rulesets": {}}, None), ({"rulesets": []}, None), (None, None),
     ([], ABORTS), ({"rulesets": [3]}, ABORTS), ({"rulesets": [None]}, "Ruleset is missing name"),
@@ -97,7 +98,7 @@ CONFIGURATIONS: tuple[tuple[Any, str | None], ...] = (
     (act("kill_by_pressure", cgroup="a"), 'Required arg "resource"'),
     (act("kill_by_pg_scan", cgroup="a", recursive="True", debug=0), None),
 )  # fmt: skip
-# Texts that aren't all JSON, and whether oomd takes them.
+# Texts, not all of them JSON, and whether oomd accepts them.
 TEXTS = (
     ("// a comment\n{}", True), ("{/* another */}", True), ('{"rulesets":[],}', True), ("{} more", True),
     ("", False), ("{", False), ("{'a':1}", False), ('{"a":NaN}', False),
@@ -105,7 +106,7 @@ TEXTS = (
 
 
 def reason(data: bytes) -> str | None:
-    """Why oomd's algorithm refuses a configuration."""
+    """Why the emulation of oomd rejects a configuration, or None."""
     try:
         engine(configuration("c.json", data), [], Machine(Extras(), Host(GIB, GIB, 0)), 0)
     except Refused as refused:
@@ -120,7 +121,7 @@ def check_each_configuration(_: Room) -> None:
 
 
 def check_places(_: Room) -> None:
-    """A refusal has the file, the ruleset, the group and the plugin."""
+    """An error names the file, the ruleset, the group and the plugin."""
     found = reason(json.dumps(see("exists")).encode()) or ""
     must(found.startswith("c.json: ruleset 0 'r', group 0 'g', item 0 'exists': oomd refuses this: "), found)
     found = reason(json.dumps(act(SWAP)).encode()) or ""
@@ -133,7 +134,7 @@ def check_texts(_: Room) -> None:
 
 
 def check_configurations_by_oomd(room: Room) -> None:
-    """oomd itself takes and refuses the same, with the same words."""
+    """oomd itself accepts and rejects the same configurations, with the same words."""
     if not has_oomd():
         return
     path = os.path.join(room.path, "c.json")
@@ -187,7 +188,7 @@ def fails(read: Any, text: str) -> bool:
 
 
 class Glob(ctypes.Structure):
-    """glob_t of <glob.h>."""
+    """The struct glob_t of <glob.h>."""
 
     _fields_ = [
         ("pathc", ctypes.c_size_t), ("pathv", ctypes.POINTER(ctypes.c_char_p)), ("offs", ctypes.c_size_t),
@@ -199,7 +200,7 @@ GLOB_ERR, GLOB_NOSORT, GLOB_BRACE, GLOB_ONLYDIR = 1, 4, 1 << 10, 1 << 13
 
 
 def by_glob(folder: str, pattern: str) -> list[str]:
-    """The folders that glob(3) itself finds, called as oomd calls it."""
+    """The folders that glob(3) itself finds, called as oomd does."""
     libc, found = ctypes.CDLL(None), Glob()
     names: set[str] = set()
     for one in filter(None, pattern.split(",")):
@@ -208,7 +209,7 @@ def by_glob(folder: str, pattern: str) -> list[str]:
         if libc.glob(path.encode(), flags, None, ctypes.byref(found)) == 0:
             names |= {os.fsdecode(found.pathv[at] or b"") for at in range(found.pathc)}
             libc.globfree(ctypes.byref(found))
-    # oomd takes `.` and `..` for groups of these names, which no trace has.
+    # oomd treats `.` and `..` as groups of these names, which no trace has.
     paths = [it[len(folder) :] or "/" for it in names if os.path.isdir(it)]
     return sorted(it for it in paths if not {".", ".."} & set(it.split("/")))
 

@@ -1,4 +1,4 @@
-"""Bad input: what the tool says, with status 2."""
+"""Bad input: the tool's messages, with status 2."""
 from __future__ import annotations
 
 import os
@@ -20,14 +20,14 @@ NOT_RUN = 2
 
 
 def must_refuse(what: str, done: Done, *words: str) -> None:
-    """Nothing is printed, the status is 2, and each of the words is said."""
+    """Nothing is printed, the status is 2, and the message contains each of the words."""
     must_be(f"{what}: status and output, where standard error was {done.error!r}", (done.status, done.output), (NOT_RUN, ""))
     for word in words:
         must(word in done.error, f"{what}: {word!r} isn't in {done.error!r}")
 
 
 def files(room: Room) -> tuple[str, str]:
-    """A trace and a configuration."""
+    """Writes a trace and a configuration."""
     story = Story("/a").task("/a").mem(0, "/a", 5)
     config = written(rules(ALWAYS, plugin(GROWTH, "a", post_action_delay=60)))
     return room.file("t.trace", story.text(4)), room.file("c.json", config)
@@ -44,7 +44,7 @@ def check_refused_configurations(room: Room) -> None:
 
 
 def check_refused_traces(room: Room) -> None:
-    """psi_oomd's own line."""
+    """The message is psi_oomd's own line."""
     _, config = files(room)
     line = room.run("psi_oomd", "check", REFUSED).error.strip()
     must(line, "psi_oomd refuses it")
@@ -69,7 +69,7 @@ def check_bad_words(room: Room) -> None:
 
 @both.alone
 def check_programs_that_arent_oomd(room: Room) -> None:
-    """No file, a program that says something else, one that is static, one that never ends."""
+    """A missing file, a program with other output, a static one, and one that never ends."""
     trace, config = files(room)
     spin = room.file("spin", "#!/bin/sh\nwhile :; do :; done\n", 0o755)
     words = [OOMD, trace, "--config", config, "--sandbox", both.sandbox(), "--binary"]
@@ -89,7 +89,7 @@ def check_programs_that_arent_oomd(room: Room) -> None:
 
 
 def static(room: Room) -> str:
-    """A program that is linked statically."""
+    """The path of a statically linked program."""
     source, made = os.path.join(room.path, room.file("s.c", "int main(void){return 0;}")), os.path.join(room.path, "static")
     done = subprocess.run(["cc", "-static", "-o", made, source], capture_output=True)
     return made if done.returncode == 0 else "/usr/bin/true"
@@ -119,7 +119,7 @@ def fault_of(call: object) -> str:
 
 @both.alone
 def check_without_a_sandbox(_: Room) -> None:
-    """It isn't run in none unless that is asked for."""
+    """oomd runs without a sandbox only if that is requested."""
     with mock.patch("shutil.which", lambda name: None):
         said = fault_of(lambda: sandbox(None, "/tmp", "/usr/bin/true"))
     must_be("what it says", said.count("isn't installed"), 2)
@@ -130,7 +130,7 @@ def check_without_a_sandbox(_: Room) -> None:
 
 
 def check_oomds_own_refusal(room: Room) -> None:
-    """oomd's words, if it refuses what the emulation refuses too."""
+    """oomd's message, if it rejects what the emulation rejects too."""
     if not both.has_oomd():
         return
     trace, _ = files(room)
@@ -141,7 +141,7 @@ def check_oomds_own_refusal(room: Room) -> None:
 
 
 def check_a_crash(room: Room) -> None:
-    """Both say when, and the tool goes on to its end."""
+    """Both report the time of the crash, and the tool continues to its end."""
     trace, _ = files(room)
     bad = room.file("bad.json", written(rules(ALWAYS, plugin(GROWTH, "a", growing_size_percentile=100))))
     done = room.run(OOMD, trace, "--config", bad, "--interval-s", "1")
@@ -154,7 +154,7 @@ def check_a_crash(room: Room) -> None:
 
 
 def check_nothing_is_left(room: Room) -> None:
-    """No folder stays, and no file but the log that was asked for."""
+    """No folder remains, and no file but the requested log."""
     files(room)
     before = set(os.listdir(room.path))
     temporary = os.path.join(room.path, "tmp")

@@ -1,4 +1,4 @@
-"""What tools/rules has for oomd: expect --by oomd, notes of lint, to-oomd and from-oomd."""
+"""What tools/rules does for oomd: expect --by oomd, notes of lint, to-oomd and from-oomd."""
 from __future__ import annotations
 
 import json
@@ -26,7 +26,9 @@ FULL = {"always_continue": "false", "cgroup": "a", "post_action_delay": "15", "r
 
 
 def check_expect(room: Room) -> None:
-    """At oomd's own interval the kill is at 150 s, and at 146 s if it looks each second or psi_oomd's defaults count."""
+    """At oomd's own interval the kill is at 150 s, and at 146 s if it looks each second or uses
+    psi_oomd's defaults.
+    """
     wants = {at: room.file(f"{at}.txt", f"first /batch/import from {at} to {at}\n") for at in (146, 150)}
     for at, words in (
         (150, ("--by", "oomd")),
@@ -43,7 +45,7 @@ def check_expect(room: Room) -> None:
 
 
 def check_expect_of_an_own_file(room: Room) -> None:
-    """A file that psi_oomd refuses, and the standard input as trace."""
+    """A file that psi_oomd rejects, and standard input as the trace."""
     config = room.file("c.json", "// a comment\n" + open(RUNAWAY_RULES, encoding="utf-8").read())
     want = room.file("w.txt", "kill /batch/import by batch work is short of memory\nat most 1 kill\n")
     with open(RUNAWAY, encoding="utf-8") as file:
@@ -66,7 +68,7 @@ def check_words_of_expect(room: Room) -> None:
 
 
 def noted(config: Any) -> list[str]:
-    """What lint notes of what oomd does otherwise."""
+    """Lint's notes on where oomd behaves differently."""
     return [it.told() for it in oomd_notes.notes(config)]
 
 
@@ -109,7 +111,8 @@ def check_notes_of_ticks(room: Room) -> None:
 
 
 def check_examples_go_both_ways(room: Room) -> None:
-    """Rules that are made a configuration and rules again are the same rules, and oomd takes the configuration."""
+    """Rules converted to a configuration and back are the same, and oomd accepts the configuration.
+    """
     for name in EXAMPLES:
         file = os.path.join(TOP, "examples", f"{name}.json")
         made = room.run(RULES, "to-oomd", file)
@@ -122,7 +125,7 @@ def check_examples_go_both_ways(room: Room) -> None:
 
 
 def must_be_taken(room: Room, what: str, text: str) -> None:
-    """oomd itself takes a configuration, if it is installed."""
+    """oomd itself accepts a configuration, if it is installed."""
     if not has_oomd():
         return
     path = os.path.join(room.path, room.file("taken.json", text))
@@ -133,7 +136,7 @@ def must_be_taken(room: Room, what: str, text: str) -> None:
 
 
 def converted(room: Room, command: str, config: Any) -> tuple[Any, int]:
-    """What a command makes of a file, and its status."""
+    """A command's output for a file, and its status."""
     if command == "from-oomd":
         nearest = Nearest(configuration("in.json", json.dumps(config).encode()))
         return nearest.data, int(any(is_lost for _, is_lost in nearest.told))
@@ -205,7 +208,7 @@ def check_plugins_that_rules_lack(room: Room) -> None:
 
 
 def check_refused_files(room: Room) -> None:
-    """Each command refuses what its program refuses."""
+    """Each command rejects what its program rejects."""
     bad = room.file("bad.json", written(rules(ALWAYS, plugin(GROWTH, "a", other=1))))
     done = room.run(RULES, "from-oomd", bad)
     must(done.status == 2 and not done.output and "bad.json: ruleset 0 'r', action 0" in done.error, f"{done}")
@@ -215,7 +218,9 @@ def check_refused_files(room: Room) -> None:
 
 
 def check_random_files(room: Room) -> None:
-    """Whatever oomd takes becomes rules that psi_oomd takes, and whatever becomes of those oomd takes again."""
+    """What oomd accepts becomes rules that psi_oomd accepts, and oomd accepts their conversion
+    back.
+    """
     for seed in range(20):
         config = random_cases.some_config(random.Random(f"rules{seed}"))
         made, _ = converted(room, "from-oomd", config)

@@ -1,4 +1,4 @@
-"""That nothing real is touched, even by a configuration without `dry` next to a real process."""
+"""Nothing real is touched, even by a configuration without `dry` next to a real process."""
 from __future__ import annotations
 
 import json
@@ -25,7 +25,7 @@ RESTART = "systemd_restart"
 
 
 def sandboxes() -> list[str]:
-    """Those that work here."""
+    """The sandboxes that work here."""
     return [
         it
         for it in SANDBOXES
@@ -34,7 +34,7 @@ def sandboxes() -> list[str]:
 
 
 def check_that_kills_become_dry(_: Room) -> None:
-    """Every plugin that isn't known as harmless gets `dry`, in each place."""
+    """Every plugin that isn't known to be harmless gets `dry`, in each place."""
     for name in (GROWTH, RESTART, "own_plugin", "kill_by_io_cost"):
         made = dry.make_dry({"name": name, "args": {"cgroup": "a", "dry": "false"}})
         must_be(f"dry of {name}", made["args"], {"cgroup": "a", "dry": "true"})
@@ -94,7 +94,7 @@ def without_dry(room: Room, action: str, pid: int, kind: str) -> str:
 
 @alone
 def check_that_nobody_is_killed(room: Room) -> None:
-    """In each sandbox that works here."""
+    """No process is killed in any sandbox that works here."""
     for kind in sandboxes() if has_oomd() else ():
         with real_process() as child:
             said = without_dry(room, GROWTH, child.pid, kind)
@@ -114,7 +114,7 @@ def check_that_nothing_is_restarted(room: Room) -> None:
 
 
 def check_that_the_folder_alone_is_written(room: Room) -> None:
-    """What a program that isn't oomd could reach in each sandbox."""
+    """What another program than oomd could reach in each sandbox."""
     for kind in sandboxes():
         if kind == "none":
             continue
@@ -133,7 +133,7 @@ def check_that_the_folder_alone_is_written(room: Room) -> None:
 
 
 def check_that_a_copy_is_what_runs(room: Room) -> None:
-    """The user's file isn't changed, and a kill in a detector's place is dry too."""
+    """The user's file isn't changed, and a kill in a detector's place gets `dry` too."""
     text = json.dumps(rules([plugin(GROWTH, "a")], plugin(GROWTH, "a")))
     name = room.file("c.json", text)
     copy = json.loads(dry.copy(read_configuration(os.path.join(room.path, name))))

@@ -1,4 +1,4 @@
-"""Small traces and configurations, made by hand."""
+"""Small traces and configurations, written by hand."""
 from __future__ import annotations
 
 import json
@@ -13,7 +13,7 @@ Config = dict[str, Any]
 
 
 class Story:
-    """A trace whose lines may be added in any order. Each task has a processor of its own."""
+    """A trace whose lines may be added in any order. Each task has its own processor."""
 
     def __init__(self, *groups: str, host: str = "0 0 0") -> None:
         self.lines: list[tuple[int, int, str]] = []
@@ -23,19 +23,19 @@ class Story:
             self.put(0, f"group {group}")
 
     def put(self, at: float, text: str) -> Story:
-        """A line at a time in seconds."""
+        """Adds a line at a time in seconds."""
         self.lines.append((int(at * SECOND), len(self.lines), text))
         return self
 
     def task(self, group: str, at: float = 0) -> Story:
-        """A task that sleeps."""
+        """Adds a sleeping task."""
         processor, self.tasks = self.tasks, self.tasks + 1
         self.put(at, f"fork {self.tasks} {group} {processor}")
         self.put(at, f"switch {processor} {self.tasks} idle")
         return self.put(at, f"switch {processor} 0 sleep")
 
     def stalls(self, group: str, begin: float, end: float, share: float = 1.0) -> Story:
-        """A task that waits for memory for this share of each two seconds."""
+        """Adds a task that waits for memory for this share of each two seconds."""
         self.task(group)
         task, processor, at = self.tasks, self.tasks - 1, begin
         while at < end:
@@ -56,7 +56,7 @@ class Story:
 
 
 def plugin(name: str, cgroup: str | None = None, **args: object) -> Config:
-    """A plugin, with its arguments as texts."""
+    """A plugin, with its arguments as strings."""
     found = {} if cgroup is None else {"cgroup": cgroup}
     return {"name": name, "args": {**found, **{key: str(it) for key, it in args.items()}}}
 
