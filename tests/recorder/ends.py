@@ -1,4 +1,4 @@
-"""Cases of how a recording ends, and of what is left behind."""
+"""Cases of how a recording ends, and what remains."""
 from __future__ import annotations
 
 import contextlib

@@ -14,7 +14,7 @@ UNTIL = ("--ring", "--until", "memory full 100000 1000000")
 
 
 def fire(top: str) -> None:
-    """Pressure is signalled."""
+    """Signals pressure."""
     with open(f"{top}/trigger", "wb", buffering=0) as trigger:
         trigger.write(b"x")
 
@@ -52,7 +52,9 @@ def test_ring_that_is_stopped(top: str) -> None:
 
 
 def test_ring_where_the_buffers_begin(top: str) -> None:
-    """Processor 1 was overwritten up to a moment after the first snapshot, so a later one has to be taken."""
+    """Processor 1's events were overwritten until just after the first snapshot, so a later
+    snapshot must be taken.
+    """
     folder.make_machine(top)
     run = Run(top, *UNTIL)
     instance = run.instance()
@@ -81,7 +83,7 @@ def test_ring_that_was_too_small(top: str) -> None:
 
 
 def test_ring_that_was_not_overwritten(top: str) -> None:
-    """An idle processor's oldest event says nothing where none was overwritten."""
+    """If nothing was overwritten, an idle processor's oldest event means nothing."""
     start = time.monotonic()
     folder.make_machine(top, oldest=f"{start + 60:.6f}")
     run = Run(top, *UNTIL, "--seconds", "1").ended(0)

@@ -1,7 +1,8 @@
-"""Makes a folder of plain files that stands for a machine, for `tools/record --root`, and says what is in it.
+"""Makes a folder of plain files that imitates a machine, for `tools/record --root`, and lists its
+contents.
 
-The machine has two processors, a page of events on each, three threads and the groups /, /system.slice,
-/system.slice/web.service and one with a blank in its name.
+The machine has two processors, a page of events on each, three threads and the groups /,
+/system.slice, /system.slice/web.service and a group with a space in its name.
 """
 from __future__ import annotations
 
@@ -52,23 +53,25 @@ THREADS = (
     (101, 101, "R", 1, "web) S 9 (x", "/system.slice/web.service"),
     (102, 101, "D", 0, "two\nlines", "/system.slice/web.service"),
 )
-# Where in_iowait and pid stand in this machine's task_struct, in bits, and how a probe fetches them.
+# The bit offsets of in_iowait and pid in this machine's task_struct, and how a probe fetches them.
 WAIT_BIT, PID_BIT = 9544, 10112
 FETCHED = "pid=+1264($arg1):s32 io=+1192($arg1):b1@8/32"
-# The kernel's functions whose parameters are counted before a probe is set on them.
+# The kernel's functions that get probes; the number of their parameters is checked first.
 FUNCTIONS = {"cgroup_attach_task": 3, "psi_show": 3, "psi_avgs_work": 1, "psi_task_change": 3}
 
 
 def write(path: str, text: str | bytes) -> None:
-    """A file, with the folders above it."""
+    """Writes a file, and creates the folders above it."""
     os.makedirs(os.path.dirname(path), exist_ok=True)
     with open(path, "wb") as file:
         file.write(text if isinstance(text, bytes) else text.encode())
 
 
 def kernel_types(wait_name: str = "in_iowait", functions: dict[str, int] = FUNCTIONS) -> bytes:
-    """The kernel's types as Documentation/bpf/btf.rst spells them: a structure that only has the name's number somewhere, one
-    of the same name without the members, and the right one; then functions with so many parameters, each before its prototype."""
+    """The kernel's types in the format of Documentation/bpf/btf.rst: a structure that only has the
+    name's number somewhere, a structure with the right name but without the members, and the right
+    one; then functions with these numbers of parameters, each before its prototype.
+    """
     names, text = {}, b"\0"
     for name in ("int", "task_struct", "other", "pid", wait_name, *functions):
         names[name] = len(text)
@@ -87,7 +90,7 @@ def kernel_types(wait_name: str = "in_iowait", functions: dict[str, int] = FUNCT
 
 
 def make_pages(top: str, processor: int, pages: bytes) -> None:
-    """Many pages stand outside, so that a new instance has no copy of them."""
+    """Keeps many pages outside, so that a new instance has no copy of them."""
     buffer = f"{top}/tracing/per_cpu/cpu{processor}/trace_pipe_raw"
     if len(pages) < MANY_BYTES:
         write(buffer, pages)
@@ -97,7 +100,7 @@ def make_pages(top: str, processor: int, pages: bytes) -> None:
 
 
 def make_tracing(top: str, overrun: int, oldest: str, pages: int) -> None:
-    """The files of tracefs."""
+    """Writes the files of tracefs."""
     tracing = f"{top}/tracing"
     os.makedirs(f"{tracing}/instances")
     for file, text in (("kprobe_events", "p:other/probe do_exit\n"), ("tracing_on", "1\n"), ("trace_clock", "[local] mono\n")):
@@ -112,13 +115,13 @@ def make_tracing(top: str, overrun: int, oldest: str, pages: int) -> None:
     for processor in range(2):
         write(f"{tracing}/per_cpu/cpu{processor}/stats", STATS.format(overrun=overrun if processor else 0, oldest=oldest))
         make_pages(top, processor, bytes([processor + 1]) * (PAGE_BYTES * pages))
-    # What is written into the marker has to outlive the instance.
+    # The text written to the marker must outlive the instance.
     write(f"{top}.markers", "")
     os.symlink(f"{top}.markers", f"{tracing}/trace_marker")
 
 
 def make_groups(top: str) -> None:
-    """The control groups."""
+    """Writes the control groups."""
     for group in GROUPS:
         threads = "".join(f"{it[0]}\n" for it in THREADS if it[5] == group)
         write(f"{top}/cgroup{group}/cgroup.threads", threads)
@@ -134,7 +137,7 @@ def make_groups(top: str) -> None:
 
 
 def make_processes(top: str) -> None:
-    """The files of /proc."""
+    """Writes the files of /proc."""
     for number, process, state, processor, name, _ in THREADS:
         fields = [str(it) for it in range(4, 39)]
         write(f"{top}/proc/{number}/stat", f"{number} ({name}) {state} {' '.join(fields)} {processor} 0 0\n")
@@ -146,7 +149,9 @@ def make_processes(top: str) -> None:
 
 
 def make_machine(top: str, overrun: int = 0, oldest: str = "1.000000", pages: int = 1) -> None:
-    """A whole machine in this folder; each processor has so many pages of events, and the second has lost some."""
+    """Writes a whole machine into this folder; each processor has `pages` pages of events, and the
+    second has lost some.
+    """
     make_tracing(top, overrun, oldest, pages)
     make_groups(top)
     make_processes(top)
@@ -155,7 +160,7 @@ def make_machine(top: str, overrun: int = 0, oldest: str = "1.000000", pages: in
 
 
 def listing(top: str) -> dict[str, tuple[int, str | bytes | None]]:
-    """All that is in the folder: of each path what it is, with its contents."""
+    """The contents of the folder: the mode of each path, and what it contains."""
     found: dict[str, tuple[int, str | bytes | None]] = {}
     for folder, folders, files in os.walk(top):
         for name in folders + files:

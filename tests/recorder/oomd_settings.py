@@ -1,4 +1,4 @@
-"""Cases of what a recording has of systemd-oomd's settings."""
+"""Cases of systemd-oomd's settings in a recording."""
 from __future__ import annotations
 
 import os
@@ -9,7 +9,7 @@ from recorder.runs import Run, must, must_be
 
 WEB = "/system.slice/web.service"
 SHOWN = "Id=web.service\nControlGroup=/system.slice/web.service\nManagedOOMSwap=auto\nManagedOOMMemoryPressure=kill\n"
-# What is told of the words that it is run by, and what it says.
+# A stub of systemctl: it logs its arguments, and prints this.
 SYSTEMCTL = f"""#!/bin/sh
 echo "$@" >>"$(readlink -f "$0").words"
 case "$1" in
@@ -39,7 +39,7 @@ LEFT = {
 
 
 def make_booted(top: str) -> None:
-    """A machine on which systemd runs."""
+    """Makes a machine on which systemd runs."""
     folder.make_machine(top)
     for name, text in {**STORED, DATABASE: SECRET, **LEFT}.items():
         folder.write(f"{top}/{name}", text)

@@ -1,4 +1,4 @@
-"""A run of tools/record beside a folder of its own, and what is asked of it."""
+"""A run of tools/record with its own folder as the machine, and the checks of it."""
 from __future__ import annotations
 
 import contextlib
@@ -17,15 +17,16 @@ RECORD = os.path.join(os.environ.get("RECORD_TOOLS", os.path.join(TOP, "tools"))
 # ---------------------------------------------------------------- runs
 
 
-# Who runs the tests under nohup hands down that a hangup is ignored, and a recorder keeps to that; the case of nohup has its own.
+# Under nohup, tests would inherit that a hangup is ignored, and a recorder keeps that; nohup has
+# its own case.
 signal.signal(signal.SIGHUP, signal.SIG_DFL)
 
-# The recorders that were started, by the folder of the recording.
+# The recorders that were started, by folder of the recording.
 STARTED: dict[str, subprocess.Popen[str]] = {}
 
 
 def end_all(scratch: str) -> None:
-    """A case that fails leaves its recorders to this: those whose recordings are below this folder."""
+    """Ends the recorders of a failed case: those whose recordings are below this folder."""
     for out in [it for it in STARTED if it.startswith(f"{scratch}/")]:
         child = STARTED.pop(out)
         if child.poll() is None:
@@ -34,7 +35,7 @@ def end_all(scratch: str) -> None:
 
 
 class Run:
-    """A recorder beside a folder of its own, and what became of both."""
+    """A recorder with its own folder as the machine, and the results of both."""
 
     def __init__(self, top: str, *words: str, name: str = "out", prefix: tuple[str, ...] = ()) -> None:
         self.top, self.out, self.before, self.said = top, f"{top}.{name}", folder.listing(top), ""
@@ -44,7 +45,9 @@ class Run:
         STARTED[self.out] = self.child
 
     def ended(self, status: int, is_same: bool = True) -> Run:
-        """Waits for the end and this status; the folder must be as before, unless the case itself has changed it."""
+        """Waits for the end with this status; the folder must be unchanged, unless the case itself
+        has changed it.
+        """
         try:
             printed, self.said = self.child.communicate(timeout=20)
         except subprocess.TimeoutExpired:
@@ -59,24 +62,24 @@ class Run:
         return self
 
     def says(self, *words: str) -> Run:
-        """Standard error has these words."""
+        """Standard error contains these words."""
         for word in words:
             must(word in self.said, f"standard error says {word!r}: {self.said!r}")
         return self
 
     def file(self, name: str) -> bytes:
-        """A file of the recording."""
+        """The content of a file of the recording."""
         with open(f"{self.out}/{name}", "rb") as file:
             return file.read()
 
     def values(self, key: str) -> list[str]:
-        """The values that a key of `meta` has."""
+        """The values of a key of `meta`."""
         lines = self.file("meta").decode().splitlines()
         must(lines[0] == "recording 2" and lines[-1].startswith("end "), f"the first and the last line of meta: {lines}")
         return [it.partition(" ")[2] for it in lines if it.partition(" ")[0] == key]
 
     def instance(self) -> str:
-        """The folder of its instance, as soon as it records."""
+        """The folder of its tracing instance, as soon as it records."""
         waited = time.monotonic() + 30
         while time.monotonic() < waited and self.child.poll() is None:
             for name in os.listdir(f"{self.top}/tracing/instances"):
@@ -87,7 +90,7 @@ class Run:
 
 
 def read(path: str) -> str:
-    """A file, or nothing where there is none."""
+    """The text of a file; empty if it doesn't exist."""
     with contextlib.suppress(OSError), open(path, encoding="utf-8", errors="surrogateescape") as file:
         return file.read()
     return ""

@@ -1,4 +1,6 @@
-"""Cases of who can read a recording, of a folder that somebody swaps meanwhile, and of how many recordings a service makes."""
+"""Cases of who may read a recording, of a folder that is swapped while recording, and of how many
+recordings a service makes.
+"""
 from __future__ import annotations
 
 import contextlib
@@ -21,7 +23,7 @@ DAY = 86400
 
 
 def module(name: str) -> Any:
-    """A module of the recorder that is tested."""
+    """A module of the recorder under test."""
     tools = os.path.dirname(RECORD)
     if tools not in sys.path:
         sys.path.insert(0, tools)
@@ -29,7 +31,7 @@ def module(name: str) -> Any:
 
 
 def modes(top: str) -> set[str]:
-    """The modes of everything below a folder, and its own."""
+    """The modes of a folder and of everything below it."""
     found = [top, *(f"{at}/{it}" for at, folders, files in os.walk(top) for it in folders + files)]
     return {stat.filemode(os.lstat(it).st_mode) for it in found}
 
@@ -48,7 +50,7 @@ def test_only_its_owner_reads_it(top: str) -> None:
 
 
 def swapped(top: str, is_swapped: Callable[[str], None]) -> tuple[Any, str]:
-    """A recorder's folder that is moved away, with `is_swapped` run for its path. The folder, and where it is then."""
+    """A recorder's folder, moved to the returned path; `is_swapped` puts something at its old path."""
     os.makedirs(top)
     made = module("folder").Folder(f"{top}/out")
     os.rename(f"{top}/out", f"{top}/elsewhere")
@@ -85,7 +87,7 @@ def test_a_swapped_folder_is_not_written(top: str) -> None:
 
 
 def test_links_are_not_compressed(top: str) -> None:
-    """Neither is a link read, nor is one written."""
+    """No link is read or written."""
     folder.write(f"{top}/shadow", "secret\n")
     folder.write(f"{top}/victim", "to be kept\n")
     compressing = module("compressing")
@@ -109,7 +111,7 @@ def test_links_are_not_compressed(top: str) -> None:
 
 
 def left_of(top: str, number: int, start: str) -> list[str]:
-    """Puts an instance and a probe of a recorder there, which are its process number's and start time's."""
+    """Creates an instance and a probe of a recorder with this process number and start time."""
     name = f"psirec{number}_{start}"
     os.mkdir(f"{top}/tracing/instances/{name}")
     with open(f"{top}/tracing/kprobe_events", "a", encoding="ascii") as events:
@@ -119,7 +121,7 @@ def left_of(top: str, number: int, start: str) -> list[str]:
 
 
 def test_a_number_that_is_used_again(top: str) -> None:
-    """A killed recorder's number is another process's by now, or its own process isn't waited for."""
+    """A killed recorder's number is now another process's, or its parent hasn't waited for it."""
     folder.make_machine(top)
     before = folder.listing(top)
     fields = (*range(4, 22), 777, *range(23, 39))
@@ -145,7 +147,7 @@ def test_a_ring_without_markers(top: str) -> None:
 
 
 def test_a_ring_whose_markers_end(top: str) -> None:
-    """The first marker is written, and no other: what there is then is kept."""
+    """Only the first marker is written: what was recorded up to then is kept."""
     folder.make_machine(top)
     reader, terminal = os.openpty()
     os.unlink(f"{top}.markers")
@@ -168,14 +170,14 @@ def test_a_ring_whose_markers_end(top: str) -> None:
 
 
 def run_has_begun(reader: int) -> bool:
-    """Whether a marker came."""
+    """Whether a marker was written."""
     with contextlib.suppress(BlockingIOError):
         return bool(os.read(reader, 1 << 16))
     return False
 
 
 def make_recordings(top: str, ages: tuple[float, ...]) -> None:
-    """Recordings of these ages (s) beside the one that is to come."""
+    """Makes recordings of these ages (s) beside the next one."""
     os.makedirs(f"{top}.state")
     for number, age in enumerate(ages):
         folder.write(f"{top}.state/{number}/meta", "recording 1\n")
@@ -184,7 +186,7 @@ def make_recordings(top: str, ages: tuple[float, ...]) -> None:
 
 
 def limited(top: str, limit: int) -> tuple[subprocess.Popen[str], str]:
-    """A recorder that may make so many recordings a day."""
+    """A recorder that may make `limit` recordings a day."""
     out = f"{top}.state/new"
     words = [RECORD, "--root", top, out, "--seconds", "0.2", "--daily-limit", str(limit)]
     STARTED[out] = subprocess.Popen(words, stdout=subprocess.DEVNULL, stderr=subprocess.PIPE, text=True)
@@ -192,7 +194,7 @@ def limited(top: str, limit: int) -> tuple[subprocess.Popen[str], str]:
 
 
 def ended(child: subprocess.Popen[str]) -> str:
-    """What it says until its end."""
+    """Its messages up to its end."""
     try:
         return child.communicate(timeout=20)[1]
     except subprocess.TimeoutExpired:
@@ -200,7 +202,8 @@ def ended(child: subprocess.Popen[str]) -> str:
 
 
 def test_recordings_of_a_day(top: str) -> None:
-    """It waits until the fifth youngest is a day old, and then records, as often as that happens."""
+    """It waits until the fifth youngest recording is a day old, and then records, again and again.
+    """
     folder.make_machine(top)
     make_recordings(top, (9 * DAY, DAY - 8, 50, 40, 30, 20, -9 * DAY))
     start = time.monotonic()

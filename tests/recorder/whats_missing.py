@@ -1,4 +1,4 @@
-"""Cases in which nothing is recorded, since something is missing or the words are wrong."""
+"""Cases in which nothing is recorded, because something is missing or the arguments are wrong."""
 from __future__ import annotations
 
 import os

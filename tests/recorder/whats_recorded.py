@@ -1,4 +1,4 @@
-"""Cases of what a recording has."""
+"""Cases of the contents of a recording."""
 from __future__ import annotations
 
 import os
@@ -134,13 +134,15 @@ def test_accounting_changes(top: str) -> None:
 
 
 def changes_of_accounting(top: str) -> list[str]:
-    """What markers tell of `cgroup.pressure`."""
+    """The changes of `cgroup.pressure` in the markers."""
     return re.findall(r"accounting (\S+ (?:on|off))", read(f"{top}.markers"))
 
 
 def test_an_unaccounted_group_that_comes_again(top: str) -> None:
-    """One that is made anew is accounted until it is switched off itself, though no sample may have seen that. The files are
-    changed at once, by a rename, so that each sample finds the one folder or the other."""
+    """A group that is created again is accounted until it is switched off itself, though perhaps no
+    sample saw that. The files change at once, by a rename, so that each sample finds one folder or
+    the other.
+    """
     folder.make_machine(top)
     run = Run(top, "--seconds", "2.5", "--memory-s", "0.1")
     run.instance()
@@ -156,7 +158,9 @@ def test_an_unaccounted_group_that_comes_again(top: str) -> None:
 
 
 def test_accounting_without_its_file(top: str) -> None:
-    """A group that goes away while it is looked at isn't told to be accounted; and before Linux 6.1 nothing is told at all."""
+    """A group that disappears while it is read isn't reported as accounted; and before Linux 6.1
+    nothing is reported.
+    """
     folder.make_machine(top)
     run = Run(top, "--seconds", "1", "--memory-s", "0.1")
     run.instance()
@@ -170,7 +174,9 @@ def test_accounting_without_its_file(top: str) -> None:
 
 
 def test_a_busy_processor(top: str) -> None:
-    """Each turn takes 64 KiB, which is much for a buffer of that size, so the 8 MB take 2.5 s and not 30."""
+    """Each turn takes 64 KiB, which is a lot for a buffer of that size, so the 8 MB take 2.5 s
+    instead of 30.
+    """
     folder.make_machine(top, pages=2000)
     run = Run(top, "--buffer-kb", "64")
     run.instance()

@@ -1,4 +1,6 @@
-"""Wrong recorders: each edit of tools/psirecord makes one, and a case of tests/record must tell it from the right one."""
+"""Wrong recorders: each edit of tools/psirecord makes one, and a case of tests/record must detect
+it.
+"""
 from __future__ import annotations
 
 import concurrent.futures
@@ -10,7 +12,7 @@ import tempfile
 
 Edit = tuple[str, str, str, str]
 
-# Which file, what stands there, what a wrong recorder has instead, and the case that must fail.
+# The file, its text, the wrong recorder's text, and the case that must fail.
 EDITS: tuple[Edit, ...] = (
     ("command.py", "    if missing:", "    if False:", "nothing_is_there"),
     ("machine.py", 'elif os.path.exists(f"{self.groups}/cgroup.events"):', "elif False:", "in_a_container"),
@@ -106,7 +108,7 @@ EDITS: tuple[Edit, ...] = (
 
 
 def edited(top: str, edit: Edit) -> str | None:
-    """The file with this edit; nothing where what is to be edited doesn't stand there once."""
+    """The file with this edit, or None if the text isn't in it exactly once."""
     with open(f"{top}/tools/psirecord/{edit[0]}", encoding="utf-8") as file:
         text = file.read()
     return text.replace(edit[1], edit[2]) if text.count(edit[1]) == 1 else None
@@ -125,7 +127,7 @@ def is_found(top: str, edit: Edit) -> bool:
 
 
 def main(top: str, cases: list[str]) -> int:
-    """Each edit in turn; the status."""
+    """Tries each edit, and returns the exit status."""
     stale = [edit for edit in EDITS if edit[3] not in cases or edited(top, edit) is None]
     tried = [edit for edit in EDITS if edit not in stale]
     with concurrent.futures.ThreadPoolExecutor(2) as pool:
