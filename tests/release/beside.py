@@ -1,4 +1,6 @@
-"""What the checks before a release take from beside them: the program that tests run, modules of tests/, made traces of bench/."""
+"""What the checks before a release import from elsewhere: the program that tests run, modules of
+tests/, generated traces of bench/.
+"""
 from __future__ import annotations
 
 import os
