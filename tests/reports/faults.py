@@ -1,4 +1,4 @@
-"""Checks of words and faults: each has a status, and one line says what to do."""
+"""Checks of usage errors and faults: each has a status, and one line says what to do."""
 from __future__ import annotations
 
 import os
@@ -37,14 +37,15 @@ def check_faults(program: str) -> None:
 
 
 def check_a_write_that_fails(program: str) -> None:
-    """Where the page can't be written whole, there is none."""
+    """If the page can't be written completely, there is no page."""
     with tempfile.TemporaryDirectory() as folder:
         name = os.path.join(folder, "none", "page.html")
         must_be("what is said", fault(program, 6, TRACE, "-o", name), f"{name}.part: No such file or directory")
 
 
 def check_tools_that_stand_alone(program: str) -> None:
-    """Where there is no launcher above the tools a page comes, by the program that the variable names."""
+    """Without a launcher above the tools, a page is made with the program that the variable names.
+    """
     with tempfile.TemporaryDirectory() as folder:
         shutil.copytree(os.path.join(TOP, "tools"), os.path.join(folder, "tools"))
         done = run_words([os.path.join(folder, "tools", "report"), TRACE], program=program)
@@ -62,8 +63,9 @@ def check_a_trace_without_ticks(program: str) -> None:
 
 
 def check_a_recording(program: str) -> None:
-    """What compare and psitrace say of a recording is on its page, and that another trace of it is another one. A trace that can't be
-    of it is refused."""
+    """The page has the messages of compare and psitrace about a recording, and says so if the trace
+    is another one. A trace that can't belong to the recording is rejected.
+    """
     with recording("exec-2") as folder, tempfile.TemporaryDirectory() as room:
         name = os.path.join(room, "exec-2.trace")
         trace = tool("psitrace", folder, program=program)

@@ -1,4 +1,4 @@
-"""What the checks of pages share: pages of the story and of others, and what stands in them."""
+"""Shared by checks of pages: pages of the story and of others, and their contents."""
 from __future__ import annotations
 
 import functools
@@ -15,7 +15,7 @@ from checking import TOP
 from must import must, must_be
 
 REPORT = "tools/report"
-# What differs from run to run, and from build to build: the time, the commit and the sum of the program.
+# What differs from run to run, and from build to build: the time, the commit and the program's sum.
 CHANGING = re.compile(r'(<(?:time|code) class="(?:made|commit|program)">)[^<]*')
 VOID = {"meta", "input", "br"}
 
@@ -28,7 +28,8 @@ class Node:
         self.children: list[Node | str] = []
 
     def find(self, tag: str, **wanted: str) -> list[Node]:
-        """All elements of this name below it that have these attributes (a class among others)."""
+        """All descendants with this name and these attributes (one class among several suffices).
+        """
         found = []
         for it in self.children:
             if isinstance(it, Node):
@@ -74,7 +75,7 @@ def run(program: str, *words: str, folder: str = TOP) -> subprocess.CompletedPro
 
 
 def page_of(program: str, *words: str, folder: str = TOP) -> bytes:
-    """A page that must come."""
+    """A page; the run must succeed."""
     done = run(program, *words, folder=folder)
     must_be(f"the status of report {words}, which said {done.stderr!r}", done.returncode, 0)
     return done.stdout
@@ -82,7 +83,7 @@ def page_of(program: str, *words: str, folder: str = TOP) -> bytes:
 
 @functools.lru_cache(maxsize=None)
 def story(program: str) -> bytes:
-    """The page of the story, as README has it."""
+    """The page of the story, made as in README."""
     with tempfile.TemporaryDirectory() as folder:
         os.symlink(os.path.join(TOP, "examples"), os.path.join(folder, "examples"))
         page_of(program, "examples/runaway.trace", "--rules", "examples/runaway.json", "-o", "runaway.html", folder=folder)
@@ -91,7 +92,7 @@ def story(program: str) -> bytes:
 
 
 def data_of(page: Node) -> dict[str, Any]:
-    """What the script reads."""
+    """The data for the script."""
     (found,) = page.find("script", id="data")
     told: dict[str, Any] = json.loads(found.text())
     must(told["panels"], "there are panels")

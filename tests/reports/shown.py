@@ -1,4 +1,6 @@
-"""Checks in a browser: what a reader sees, by pointer, by keys, without a script, in the dark and on paper."""
+"""Checks in a browser: what a reader sees with a pointer, with keys, without scripts, in dark mode
+and on paper.
+"""
 from __future__ import annotations
 
 import base64
@@ -23,7 +25,7 @@ PICTURE = 'document.querySelector("figure[data-panel]:not([hidden]) svg")'
 BOX = f"""(() => {{ {PICTURE}.scrollIntoView({{block: "center"}});
   const box = {PICTURE}.getBoundingClientRect(); return [box.x, box.y, box.width, box.height]; }})()"""
 REACHED = "input, button, summary, a[href], figure:not([hidden]) > .scroll > svg[tabindex], .wide"
-# These aren't reached: they are in what is closed or hidden.
+# Not reachable: inside closed or hidden elements.
 CLOSED = "details .wide, figure[hidden] summary"
 VALUES = 'document.querySelector("figure[data-panel]:not([hidden]) .values").textContent'
 SHOWN = '[...document.querySelectorAll("figure[data-panel]")].filter((it) => it.offsetHeight > 0).length'
@@ -32,7 +34,9 @@ TIME = 'document.getElementById("time").textContent'
 
 @contextmanager
 def shown(program: str) -> Iterator[Page]:
-    """The page of the story in a browser, where one is installed; it must have nothing to complain of, and ask for nothing else."""
+    """The page of the story in a browser, if one is installed; the console must stay empty, and
+    nothing else may be fetched.
+    """
     path = browser_path()
     assert path
     with tempfile.TemporaryDirectory() as folder, opened_browser(path) as page:
@@ -54,13 +58,13 @@ def is_skipped() -> bool:
 
 
 def place_of(page: Page, seconds: float) -> tuple[float, float]:
-    """Where a moment of the first picture stands in the window, when all of the 300 s is shown."""
+    """The position in the window of a time (s) in the first picture, if it shows all 300 s."""
     x, y, width, height = page.value(BOX)
     return x + (112 + seconds / 300 * (936 - 112)) * width / 960, y + height * 0.6
 
 
 def values_of(program: str, seconds: int) -> str:
-    """What stands below the first picture at a moment, by what psi_oomd prints."""
+    """The values below the first picture at a time (s), from psi_oomd's output."""
     printed = Printed(run([program, "replay", "examples/runaway.trace", "--report-s", "2"]))
     looks = [(level, average) for level in ("some", "full") for average in ("avg10", "avg60", "avg300")]
     cells = [f"{' '.join(look)} {dict(printed.shares['/batch', 'memory', *look])[seconds * SECOND]:.2f} %" for look in looks]
@@ -68,7 +72,9 @@ def values_of(program: str, seconds: int) -> str:
 
 
 def check_pointer_and_zoom(program: str) -> None:
-    """The pointer shows the values of the last report; a drag shows a part of the time, and Escape all of it."""
+    """The pointer shows the values of the latest report; a drag zooms into a part of the time, and
+    Escape shows all of it.
+    """
     if is_skipped():
         return
     with shown(program) as page:
@@ -93,7 +99,8 @@ def check_pointer_and_zoom(program: str) -> None:
 
 
 def check_pictures_are_redrawn_alike(program: str) -> None:
-    """Where all of the time is shown, the script draws the lines where the charts' modules drew them."""
+    """If all of the time is shown, the script draws the lines exactly as the charts' modules did.
+    """
     if is_skipped():
         return
     still = [it.attributes["points"] for it in read(story(program)).find("figure", class_="more")[0].find("polyline")]
@@ -110,7 +117,7 @@ def check_pictures_are_redrawn_alike(program: str) -> None:
 
 
 def check_groups_and_resources(program: str) -> None:
-    """A click on a box shows a group or hides it."""
+    """A click on a checkbox shows or hides a group."""
     if is_skipped():
         return
     figures = [it.attributes for it in read(story(program)).find("figure") if "data-panel" in it.attributes]
@@ -127,7 +134,9 @@ def check_groups_and_resources(program: str) -> None:
 
 
 def check_keys_alone(program: str) -> None:
-    """The tabulator comes to every box, picture, link and table; a picture has keys for moments and for zoom."""
+    """The Tab key reaches every checkbox, picture, link and table; a picture has keys for times and
+    for zoom.
+    """
     if is_skipped():
         return
     with shown(program) as page:
@@ -153,7 +162,7 @@ def check_keys_alone(program: str) -> None:
 
 
 def check_without_a_script(program: str) -> None:
-    """All pictures stand still, and nothing is offered that does nothing."""
+    """All pictures are static, and no control is shown that does nothing."""
     if is_skipped():
         return
     count = len(data_of(read(story(program)))["panels"])
@@ -167,7 +176,9 @@ def check_without_a_script(program: str) -> None:
 
 
 def check_looks(program: str) -> None:
-    """Light and dark by the reader's setting, nothing beyond the sides of a narrow screen, and two pages of paper."""
+    """Light and dark by the reader's setting, no overflow on a narrow screen, and two pages of
+    paper.
+    """
     if is_skipped():
         return
     with shown(program) as page:
@@ -200,7 +211,7 @@ def check_a_phone(program: str) -> None:
 
 
 def check_one_label_for_each_kill(program: str) -> None:
-    """The first picture has them; upright lines go through all."""
+    """The first picture has them; vertical lines cross all pictures."""
     figures = [it for it in read(story(program)).find("figure") if "data-panel" in it.attributes]
     labels = [len([text for mark in it.find("g", class_="kill") for text in mark.find("text")]) for it in figures]
     lines = [len([line for mark in it.find("g", class_="kill") for line in mark.find("line")]) for it in figures]
@@ -209,7 +220,7 @@ def check_one_label_for_each_kill(program: str) -> None:
 
 
 def check_by_the_browsers_own_words(program: str) -> None:
-    """`--dump-dom` has the page as the script leaves it, and `--screenshot` a picture."""
+    """`--dump-dom` prints the page after the script ran, and `--screenshot` makes a picture."""
     path = browser_path()
     if is_skipped():
         return
@@ -226,7 +237,7 @@ def check_by_the_browsers_own_words(program: str) -> None:
 
 
 def check_by_tidy(program: str) -> None:
-    """tidy has nothing to say."""
+    """tidy reports nothing."""
     if not shutil.which("tidy"):
         print("tidy isn't installed: its view of the page is skipped")
         return

@@ -1,4 +1,4 @@
-"""Checks of what a page says: its numbers are those of psi_oomd, and of the tools."""
+"""Checks of what a page says: its numbers are those of psi_oomd and of the tools."""
 from __future__ import annotations
 
 import json
@@ -28,12 +28,12 @@ def lead_of(page: Node) -> str:
 
 
 def rows_of(section: Node) -> list[list[str]]:
-    """The rows of its tables."""
+    """The rows of a section's tables."""
     return [[cell.text() for cell in row.find("th") + row.find("td")] for row in section.find("tr")]
 
 
 def check_the_first_sentence(program: str) -> None:
-    """Its numbers are looked up in what the commands print."""
+    """Its numbers are those that the commands print."""
     page = read(story(program))
     was = Printed(run([program, "replay", "examples/runaway.trace", "--rules", "examples/runaway.json", "--report-s", "2"]))
     other = Printed(run([program, "whatif", "examples/runaway.trace", "--rules", "examples/runaway.json", "--report-s", "2"]))
@@ -52,7 +52,9 @@ def check_the_first_sentence(program: str) -> None:
 
 
 def check_the_commands(program: str) -> None:
-    """Each number of a command on the page is that of one below, and these run and print what the page has."""
+    """Each number with a command on the page refers to a command below, and these run and print
+    what the page has.
+    """
     page = read(story(program))
     (made,) = page.find("section", id="made")
     commands = {it.attributes["id"]: it.find("code")[0].text() for it in made.find("li")}
@@ -72,7 +74,7 @@ def check_the_commands(program: str) -> None:
 
 
 def check_values_for_the_script(program: str) -> None:
-    """What a pointer shows is what the replay printed, and events and kills stand where they were."""
+    """The pointer shows what the replay printed, and events and kills are at their times."""
     page = read(story(program))
     printed = Printed(run([program, "replay", "examples/runaway.trace", "--rules", "examples/runaway.json", "--report-s", "1"]))
     data, figures = data_of(page), page.find("figure")
@@ -95,7 +97,7 @@ def check_values_for_the_script(program: str) -> None:
 
 
 def check_thinned_values(program: str) -> None:
-    """Of a long series a part is left, in which each stretch has its highest value still, and gaps are gaps still."""
+    """A long series is thinned: each interval keeps its highest value, and gaps remain gaps."""
     del program
     draw, series, number = random.Random(3), Series(), 0
     for tick in range(1, 40_001):
@@ -120,7 +122,9 @@ def check_thinned_values(program: str) -> None:
 
 
 def check_detectors(program: str) -> None:
-    """When detectors were true: of the stories of the plugins as docs/RULES.md says it, of the import by what was printed."""
+    """When detectors were true: for the plugins' stories as in docs/RULES.md, for the import from
+    the output.
+    """
     before, os.environ["PSI_OOMD"] = os.environ.get("PSI_OOMD", ""), program
     try:
         runs = Runs()
@@ -144,7 +148,9 @@ def check_detectors(program: str) -> None:
 
 
 def check_how_near(program: str) -> None:
-    """The highest of what a detector looks at, and how long it held, stand in words; so does a ruleset that never fires."""
+    """The page states the highest value that a detector looks at, and how long it held; also for a
+    ruleset that never fires.
+    """
     printed = Printed(run([program, "replay", "examples/runaway.trace", "--report-s", "1"]))
     shares = printed.shares["/batch", "memory", "full", "avg10"]
     evaluated = [(share, moment // SECOND) for moment, share in shares if moment // SECOND % 10 in (0, 6)]
@@ -164,7 +170,7 @@ def check_how_near(program: str) -> None:
 
 
 def check_names_are_shown(program: str) -> None:
-    """A name that looks like an element is a text, and so is one of a file."""
+    """A name that looks like an element is shown as text, and so is a file's."""
     with tempfile.TemporaryDirectory() as folder:
         with open(os.path.join(TOP, "examples", "runaway.json"), encoding="utf-8") as file:
             text = file.read().replace("batch work is short of memory", "<script>alert(1)</script>").replace("stalled and", "</p><b>")
@@ -203,7 +209,7 @@ def check_an_hour(program: str) -> None:
 
 
 def check_stored_pages(program: str) -> None:
-    """Those of the examples are what the command makes now."""
+    """The stored pages of the examples equal what the command makes now."""
     with open(os.path.join(TOP, "examples", "runaway.html"), "rb") as file:
         must(same(file.read()) == same(story(program)), "examples/runaway.html is what its command makes: make it anew")
     with tempfile.TemporaryDirectory() as folder:

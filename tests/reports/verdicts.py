@@ -21,7 +21,7 @@ from .told import lead_of
 SECOND = 10**9
 RUNAWAY = os.path.join(TOP, "examples", "runaway.trace")
 
-# A task of the root waits for IO all the time, and the one group is empty.
+# A task of the root always waits for IO, and the only group is empty.
 ROOT = "psitrace 1 cpus=1\n0 group /idle\n0 fork 1 / 0\n0 switch 0 1 idle\n0 switch 0 0 iowait\n60000000000 end\n"
 # Half of the time goes to interrupts, and nothing else happens.
 INTERRUPTS = "psitrace 2 cpus=1\n0 group /a\n0 fork 1 /a 0\n0 switch 0 1 idle\n" + "".join(
@@ -30,14 +30,16 @@ INTERRUPTS = "psitrace 2 cpus=1\n0 group /a\n0 fork 1 /a 0\n0 switch 0 1 idle\n"
 
 
 def stalled(task: int, start: int, end: int) -> list[tuple[int, str]]:
-    """A task that stalls for memory on the processor before its number, from a second to another, and sleeps meanwhile and after."""
+    """A task that stalls for memory on processor `task` - 1 from `start` to `end` (s), and sleeps
+    during the stall and after it.
+    """
     cpu = task - 1
     begin = [(0, f"switch {cpu} {task} idle"), (start, f"stall {task}"), (start, f"switch {cpu} 0 sleep")]
     return begin + [(end, it) for it in (f"wake {task} {cpu}", f"switch {cpu} {task} idle", f"unstall {task}", f"switch {cpu} 0 sleep")]
 
 
 def two_stalls(end: int, other: int = 14, first: int = 10, host: str = "host 1000000 0 0") -> str:
-    """A trace in which /a/b stalls from 2 s to the first time, and /x from 2 s to the other one."""
+    """A trace in which /a/b stalls from 2 s to `first`, and /x from 2 s to `other` (s)."""
     made = [(0, host)] if host else []
     made += [(0, it) for it in ("group /a", "group /a/b", "group /x", "fork 1 /a/b 0", "fork 2 /x 1")]
     events = sorted([*stalled(1, 2, first), *stalled(2, 2, other)], key=lambda it: it[0])
@@ -61,7 +63,7 @@ def ruleset(name: str, cgroup: str, *detectors: dict[str, Any]) -> dict[str, Any
 
 
 def page(program: str, trace: str, rulesets: Optional[list[dict[str, Any]]] = None, *words: str) -> Node:
-    """The page of a trace, given as a text or by its path, and of rules."""
+    """The page of a trace, passed as text or as a path, with rules."""
     with tempfile.TemporaryDirectory() as folder:
         if trace.startswith("psitrace"):
             with open(os.path.join(folder, "a.trace"), "w", encoding="ascii") as file:
@@ -81,12 +83,12 @@ def title_of(found: Node) -> str:
 
 
 def highest(program: str, trace: str, *key: str) -> float:
-    """The highest share that is printed, in percent."""
+    """The highest printed share, in percent."""
     return max(it for _, it in Printed(run([program, "replay", "-", "--report-s", "1"], trace.encode())).shares[key])  # type: ignore[index]
 
 
 def check_the_root_alone(program: str) -> None:
-    """Where no group stalled and the root did, the page says so."""
+    """If only the root stalled, and no group, the page says so."""
     found = page(program, ROOT)
     most = highest(program, ROOT, "/", "io", "some", "avg10")
     must(most > 99, f"the root waits: {most}")
@@ -95,14 +97,16 @@ def check_the_root_alone(program: str) -> None:
 
 
 def check_interrupts_alone(program: str) -> None:
-    """Interrupts are a stall too, if nothing else is."""
+    """Interrupts count as a stall if there is no other."""
     found = page(program, INTERRUPTS)
     must(lead_of(found).startswith("The machine was held up by interrupts, at its worst from "), lead_of(found))
     must_be("the title", title_of(found), "Incident: interrupt pressure of /")
 
 
 def check_the_nearest_ruleset(program: str) -> None:
-    """It is the one closest to a threshold. That a group exists is no matter of near."""
+    """The nearest ruleset is the one closest to a threshold. A detector for a group's existence
+    doesn't count.
+    """
     full = Printed(run([program, "replay", "examples/runaway.trace", "--report-s", "1"])).shares["/batch", "memory", "full", "avg10"]
     share, at = max(((share, moment) for moment, share in full if moment // SECOND % 10 in (0, 6)), key=lambda it: (it[0], -it[1]))
     far = ruleset("far", "web", detector("exists", cgroup="web"), pressure("web", "10"))
@@ -118,7 +122,9 @@ def check_the_nearest_ruleset(program: str) -> None:
 
 
 def check_a_kill_after_the_stall(program: str) -> None:
-    """It would have changed nothing, and the page says that instead of the same number twice."""
+    """The kill would have changed nothing, and the page says that instead of printing the same
+    number twice.
+    """
     found = page(program, OVER, [ruleset("late", "a/*", pressure("a", "5", "10"))])
     must("would have killed /a/b at 16 s, which says little before 30 s; the kill would have changed nothing: the stall was over." in
          lead_of(found), lead_of(found))  # fmt: skip
@@ -127,7 +133,7 @@ def check_a_kill_after_the_stall(program: str) -> None:
 
 
 def check_the_worst_group(program: str) -> None:
-    """The title and the first sentence name it, though the rules watch another one."""
+    """The title and the first sentence name the worst group, though the rules watch another one."""
     found = page(program, OVER, [ruleset("late", "a/*", pressure("a", "5", "10"))])
     must_be("the title", title_of(found), "Incident: memory pressure of /x and /a")
     shares = [highest(program, OVER, path, "memory", "some", "avg10") for path in ("/x", "/a")]
@@ -140,7 +146,7 @@ def check_the_worst_group(program: str) -> None:
 
 
 def check_short_traces(program: str) -> None:
-    """The first sentence says what averages can't."""
+    """The first sentence says what the averages can't show."""
     little, less = "averages mean little before 30 s, those over 60 and 300 s before 3 min", "averages over 60 and 300 s mean little before 3 min"
     for end, wanted in ((20, little), (29, little), (30, less), (179, less), (180, "")):
         first = re.split(r"(?<=\.) ", lead_of(page(program, two_stalls(end))))[0]
@@ -156,7 +162,7 @@ def check_a_machine_without_swap(program: str) -> None:
 
 
 def check_control_characters(program: str) -> None:
-    """No name puts one on the page."""
+    """No name brings a control character onto the page."""
     rules = [ruleset("a\0b\x1b[31mred\x7f", "a/*", pressure("a", "5", "10"))]
     rules[0]["detectors"][0][0] = "g\0\x1b[2J"
     text = page(program, OVER, rules).text()
@@ -175,7 +181,7 @@ def check_rules_on_other_groups(program: str) -> None:
 
 
 def check_words_that_name_nothing(program: str) -> None:
-    """A group that isn't there, a folder for the page, and each file by what it is to be."""
+    """A missing group, a folder as the page, and each file by its purpose."""
     for word, told in (("batch", "/batch, .."), ("/bathc", "/batch, .."), ("/nosuch", "")):
         said = fault(program, 11, RUNAWAY, "--group", word)
         must(said.startswith(f"no group {word} in the replay, which has {told}"), said)
@@ -197,7 +203,7 @@ def check_words_that_name_nothing(program: str) -> None:
 
 
 def trust_text(compared: str, said: str) -> str:
-    """The page's part on a recording of which the tools say this."""
+    """The page's part on a recording, for these messages of compare and psitrace."""
     run_ = SimpleNamespace(number=1, text=lambda: compared, said=said)
     element = ElementTree.Element("body")
     recording(element, SimpleNamespace(recorded=SimpleNamespace(compared=run_, summary=run_, is_same=True)))  # type: ignore[arg-type]
@@ -208,7 +214,9 @@ def trust_text(compared: str, said: str) -> str:
 
 
 def check_repairs_and_causes(program: str) -> None:
-    """Harmless repairs are no reason for distrust, and the cause of totals beyond their limits is beside them."""
+    """Harmless repairs cause no distrust, and totals beyond their limits have their cause beside
+    them.
+    """
     del program
     verdict, cause = "3 of 9 totals from 0.5 s on are beyond (!) their limits: 2.5 %", "3 of cpu are too small: the kernel counts"
     rows = "\n".join(f"| {it} | io |" for it in ("group", "-", "/", "/a"))
