@@ -1,4 +1,4 @@
-"""Checks of what files say, and how systemd merges them."""
+"""Checks of settings in files, and of how systemd merges them."""
 from __future__ import annotations
 
 import os
@@ -10,7 +10,9 @@ from systemd_oomd.traces import OOMD, SLICE, A, B, UNITS, WATCHED, Leaf, Trace, 
 
 
 def check_which_file_counts(room: Room) -> None:
-    """Each folder of files gives s.slice a limit: 40 percent, which kills at 36 s, or none other than 60, which kills at 40 s."""
+    """Each folder of files gives s.slice a limit: 40 percent, which kills at 36 s, or only the
+    default of 60, which kills at 40 s.
+    """
     low, high = "[Slice]\nManagedOOMMemoryPressureLimit=40%\n", "[Slice]\nManagedOOMMemoryPressureLimit=60%\n"
     kill = WATCHED[f"{UNITS}/s.slice"]
     lib, run = "usr/lib/systemd/system", "run/systemd/system"
@@ -56,7 +58,9 @@ def check_which_unit_a_group_is(room: Room) -> None:
 
 
 def check_oomd_conf(room: Room) -> None:
-    """Its drop-in files come after it, by name, and /etc before /run before /usr. From 256 on it may stand below /usr itself."""
+    """Its drop-in files come after it, by name, and /etc before /run before /usr. From systemd 256
+    on it may also be in /usr.
+    """
     head = "[OOM]\nDefaultMemoryPressureLimit="
     cases = {
         "a drop-in file counts": ({"etc/systemd/oomd.conf": head + "60%", "usr/lib/systemd/oomd.conf.d/a.conf": head + "40%"}, 36),
@@ -73,7 +77,7 @@ def check_oomd_conf(room: Room) -> None:
 
 
 def check_what_systemd_said(room: Room) -> None:
-    """`systemctl show` counts before files; a limit there is a part of 4294967295."""
+    """`systemctl show` has priority over files; a limit there is a fraction of 4294967295."""
     shown = f"Id=s.slice\nControlGroup={SLICE}\nManagedOOMSwap=auto\nManagedOOMMemoryPressure=kill\n"
     half = shown + "ManagedOOMMemoryPressureLimit=2147483648\n"
     own = half + "ManagedOOMMemoryPressureDurationUSec="
@@ -86,7 +90,7 @@ def check_what_systemd_said(room: Room) -> None:
 
 
 def check_bad_settings(room: Room) -> None:
-    """Each is told with its file and line, and nothing else is printed."""
+    """Each is reported with its file and line, and nothing else is printed."""
     unit, conf = f"{UNITS}/s.slice", "etc/systemd/oomd.conf"
     share = "it has to be a percentage such as 60%, from 0% to 100%, with at most two decimals"
     length = "it has to be a time of at least 1 s, such as 20s or 1min 30s"
@@ -119,7 +123,7 @@ def check_bad_settings(room: Room) -> None:
 
 
 def fault_of(room: Room, folder: str) -> str:
-    """What is wrong in a folder of settings."""
+    """The message about a faulty folder of settings."""
     try:
         settings = Settings(os.path.join(room.path, folder))
         settings.watched(SLICE)
@@ -138,7 +142,7 @@ def check_a_trace_without_samples(room: Room) -> None:
 
 
 def check_an_empty_preference(room: Room) -> None:
-    """systemd ignores it, and what was set before stays."""
+    """systemd ignores it, and the previous setting stays."""
     note = f"settings/{UNITS}/b.service.d/y.conf line 2: ManagedOOMPreference is empty: systemd ignores that, and keeps what was set before"
     avoid, empty = ({f"{UNITS}/b.service.d/{it}.conf": f"[Service]\nManagedOOMPreference={value}\n"} for it, value in (("x", "avoid"), ("y", "")))
     must_be("b is avoided", decisions(room, stalled(), {**WATCHED, **avoid, **empty}, said=note), [(40, A)])
@@ -146,7 +150,7 @@ def check_an_empty_preference(room: Room) -> None:
 
 
 def check_misspelt_settings(room: Room) -> None:
-    """What systemd passes over is told, and passed over."""
+    """A setting that systemd ignores is reported and ignored."""
     put(room, {**WATCHED, "etc/systemd/oomd.conf": "[OOM]\nSwapUsedLimt=1%\n[Oom]\nSwapUsedLimit=1%\n"})
     put(room, {f"{UNITS}/s.slice.d/a.conf": "[Slice]\nManagedOOMMemoryPresure=auto\n"})
     done = told(room, stalled())

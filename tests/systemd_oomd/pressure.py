@@ -6,7 +6,9 @@ from systemd_oomd.traces import OOMD, SECOND, SLICE, A, B, C, UNITS, WATCHED, NO
 
 
 def check_defaults(room: Room) -> None:
-    """Above 60 percent from 10 s on, for 30 s: the one with the most reclaim, whoever waits."""
+    """Above 60 percent from 10 s on, for 30 s: the victim is the group with the most reclaim,
+    whichever one waits.
+    """
     must_be("the kill", decisions(room, stalled(), WATCHED), [(40, B)])
     note = "no group of the trace is watched: no unit of the settings with `kill` is one of its groups"
     auto = {f"{UNITS}/s.slice": "[Slice]\nManagedOOMMemoryPressure=auto\n"}
@@ -42,7 +44,7 @@ def check_a_duration_without_break(room: Room) -> None:
 
 
 def check_reclaim(room: Room) -> None:
-    """Without reclaim for 30 s nobody is killed."""
+    """Without reclaim for 30 s nothing is killed."""
     quiet = stalled(90, a=Leaf(3000, 0, 0, ((0, 90),)), b=Leaf(), c=Leaf())
     must_be("nothing was scanned", decisions(room, quiet, WATCHED), [(40, None)])
     quiet.extra = [(20, f"mem {C} 1000 0 7"), *((at, f"mem {C} 1000 0 7") for at in range(21, 90))]
@@ -52,7 +54,7 @@ def check_reclaim(room: Room) -> None:
 
 
 def check_the_pause(room: Room) -> None:
-    """After a kill for memory pressure nobody is killed for 15 s, whoever waits then."""
+    """After a kill for memory pressure nothing is killed for 15 s, whichever group waits then."""
     leaves = {A: Leaf(1000, 0, 10, ((0, 80),)), "/t.slice/d.service": Leaf(1000, 0, 10, ((2, 80),))}
     watched = {f"{UNITS}/{it}.slice": WATCHED[f"{UNITS}/s.slice"] for it in "st"}
     found = decisions(room, Trace(69, leaves), watched)
@@ -77,7 +79,7 @@ def check_wishes(room: Room) -> None:
 
 
 def check_whose_wishes_count(room: Room) -> None:
-    """Those of a group that root owns, or who owns the watched group."""
+    """A preference counts if its group is owned by root, or by the watched group's owner."""
     for watched, of_group, victim in ((0, 1000, B), (1000, 1000, A), (0, 0, A), (1000, 0, A), (1000, 1001, B)):
         lines = [f"{SLICE} uid={watched} oom_group=0 avoid=0 omit=0", f"{B} uid={of_group} oom_group=0 avoid=1 omit=0"]
         groups = "\n".join([*lines, f"{A} {NO_OWNER}", f"{C} {NO_OWNER}", ""])
@@ -91,7 +93,7 @@ def check_whose_wishes_count(room: Room) -> None:
 
 
 def check_who_is_a_candidate(room: Room) -> None:
-    """Groups without others below them, and those that end as a whole."""
+    """Candidates are groups without children, and those that are killed as a whole."""
     inner = f"{SLICE}/pod.service"
     leaves = {A: Leaf(1000, 0, 9, ((0, 45),)), f"{inner}/x": Leaf(1000, 0, 6), f"{inner}/y": Leaf(1000, 0, 6)}
     trace = Trace(45, leaves)
@@ -106,8 +108,10 @@ def check_who_is_a_candidate(room: Room) -> None:
 
 
 def check_a_group_that_becomes_a_leaf(room: Room) -> None:
-    """B loses the last group below it between the looks at 5 and 6 s: all that it ever scanned counts at 6 s, and the rise from 7 s on.
-    Both stall from 0 s, so the average is above the limit at 2 s, and the kill would be 4 s later."""
+    """B loses its last child between the looks at 5 and 6 s: all its scans ever count at 6 s, and
+    the increase from 7 s on. Both stall from 0 s, so the average is above the limit at 2 s, and the
+    kill would be 4 s later.
+    """
     files = {f"{UNITS}/s.slice": f"{WATCHED[f'{UNITS}/s.slice']}ManagedOOMMemoryPressureLimit=0.1%\nManagedOOMMemoryPressureDurationSec=4s\n"}
     for gone, scans, victim in ((5.5, 9, B), (4.5, 9, A), (4.5, 20, B)):
         trace = Trace(8, {A: Leaf(1000, 0, 10, ((0, 8),)), B: Leaf(1000, 0, scans, ((0, 8),))})
@@ -117,14 +121,15 @@ def check_a_group_that_becomes_a_leaf(room: Room) -> None:
 
 
 def check_where_nothing_runs(room: Room) -> None:
-    """A group without a task is chosen as others are; then nobody is killed, and it rests."""
+    """A group without a task is chosen like others; then nothing is killed, and the pause begins.
+    """
     trace = stalled(69)
     trace.extra = [(0, f"group {SLICE}/d.service"), *((at, f"mem {SLICE}/d.service 5000 0 {99 * at}") for at in range(69))]
     must_be("nobody", decisions(room, trace, WATCHED), [(40, None), (55, None)])
 
 
 def check_accounts(room: Room) -> None:
-    """A group whose account is off has no file of pressure: it is neither watched nor killed."""
+    """A group whose account is off has no pressure file: it is neither watched nor killed."""
     off = stalled()
     off.extra = [(1, f"pressure {B} off")]
     must_be("b can't be read", decisions(room, off, WATCHED), [(40, A)])
@@ -133,14 +138,14 @@ def check_accounts(room: Room) -> None:
 
 
 def check_the_root(room: Room) -> None:
-    """systemd-oomd doesn't see the root's scans, so memory pressure of -.slice kills nobody."""
+    """systemd-oomd doesn't see the root's scans, so memory pressure of -.slice kills nothing."""
     note = "/ is watched for memory pressure, by which systemd-oomd never kills: it doesn't look at the root's scans"
     files = {f"{UNITS}/-.slice": "[Slice]\nManagedOOMMemoryPressure=kill\n"}
     must_be("nobody", decisions(room, stalled(), files, said=note), [(40, None)])
 
 
 def check_samples_that_are_far_apart(room: Room) -> None:
-    """A second without a new sample keeps the scans of the one before."""
+    """A second without a new sample keeps the previous scans."""
     trace = Trace(45, {A: Leaf(stalls=((0, 45),)), B: Leaf(9000)})
     apart = [line for line in trace.text().splitlines() if " mem " not in line]
     groups = ((A, 1, 9), (B, 9, 3))

@@ -1,4 +1,4 @@
-"""Checks of the rule of swap, and of both by another reading."""
+"""Checks of the rule of swap, and of both rules against a plain version."""
 from __future__ import annotations
 
 import os
@@ -12,7 +12,9 @@ from systemd_oomd.traces import SECOND, A, B, UNITS, SWAPPED, Leaf, Trace, put, 
 
 
 def check_swap(room: Room) -> None:
-    """More than 90 percent of memory and of swap are used: the candidate with the most swap, at the next multiple of 0.15 s."""
+    """If more than 90 percent of memory and of swap are used, the candidate with the most swap is
+    killed at the next multiple of 0.15 s.
+    """
     put(room, SWAPPED)
     for memory, free, victim in ((901, 99, B), (900, 99, None), (901, 100, None), (999, 0, B)):
         found = decisions(room, swap_trace(memory, free, (A, 300), (B, 500)), {})
@@ -32,7 +34,9 @@ def check_who_has_swap(room: Room) -> None:
 
 
 def check_swap_that_stays_used(room: Room) -> None:
-    """A look without a new sample finds nothing new; those that kill the same group again are counted."""
+    """A look without a new sample finds nothing new; looks that kill the same group again are
+    counted.
+    """
     put(room, SWAPPED)
     leaves = {A: Leaf(100, 300), B: Leaf(100, 500)}
     full = [(at, line) for at in range(6) for line in ("host 1000 1000 0", "mem / 999 0 0")]
@@ -55,7 +59,9 @@ def check_no_swap(room: Room) -> None:
 
 
 def check_a_plain_reading(room: Room) -> None:
-    """Of random traces another program, which reads the whole trace anew at each look, says the same."""
+    """For random traces a plain version, which reads the whole trace again at each look, gives the
+    same result.
+    """
     kill = "[Slice]\nManagedOOMSwap=kill\nManagedOOMMemoryPressure=kill\nManagedOOMMemoryPressureLimit=10%\n"
     put(room, {f"{UNITS}/slice.d/a.conf": f"{kill}ManagedOOMMemoryPressureDurationSec=2s\n"})
     settings, program = os.path.join(room.path, "settings"), Program()

@@ -1,4 +1,4 @@
-"""Checks of what is printed, and of tools/rules."""
+"""Checks of the output, and of tools/rules."""
 from __future__ import annotations
 
 import json
@@ -50,7 +50,7 @@ def check_many_others(room: Room) -> None:
 
 
 def check_the_story(room: Room) -> None:
-    """By 50 percent for 20 s: psi_oomd's own rules that say the same kill at the same moments."""
+    """With 50 percent for 20 s: psi_oomd's equivalent rules kill at the same times."""
     kills = [moment for moment, _, _, _ in room.kills(RUNAWAY, "--rules", room.file("r.json", story_rules()), *EACH_SECOND)]
     found = json.loads(room.run(OOMD, RUNAWAY, "--settings", STORY, "--json").output)
     must_be("the moments", [it["moment_ns"] for it in found["decisions"]], kills)
@@ -59,7 +59,8 @@ def check_the_story(room: Room) -> None:
 
 
 def story_rules() -> str:
-    """Rules that rest for 15 s, and kill the largest group of those that are watched in the story."""
+    """Rules with a delay of 15 s that kill the largest of the groups that are watched in the story.
+    """
     detectors = [
         {"name": "pressure_above", "args": {"cgroup": "batch", "resource": "memory", "threshold": "50", "duration": "20"}},
         {"name": "memory_reclaim", "args": {"cgroup": "batch/*", "duration": "30"}},
@@ -109,7 +110,7 @@ def check_expectations(room: Room) -> None:
 
 
 def check_rules_of_settings(room: Room) -> None:
-    """psi_oomd takes them, and kills whom systemd-oomd would have killed."""
+    """psi_oomd accepts them, and kills the groups that systemd-oomd would have killed."""
     done = room.run(RULES, "from-systemd", STORY)
     must_be("nothing is lost", (done.status, done.error), (0, ""))
     kills = room.kills(RUNAWAY, "--rules", room.file("r.json", done.output), *EACH_SECOND)

@@ -1,8 +1,9 @@
-"""Traces made by hand, settings, and what comes of both.
+"""Traces written by hand, settings, and the decisions for both.
 
-A task that does nothing but wait for memory makes its group stalled in full, so after n seconds avg10 is 100 (1 - e^(-n/10)), at each
-even second, since averages move every 2 s: above 40 percent from 6 s on, above 50 from 8 s, above 60 from 10 s, above 80 from 18 s.
-Most runs are made in this process, which saves the starts of many.
+A task that only waits for memory makes its group fully stalled, so after n seconds avg10 is 100 (1
+- e^(-n/10)), at each even second, since averages are updated every 2 s: above 40 percent from 6 s
+on, above 50 from 8 s, above 60 from 10 s, above 80 from 18 s. Most runs take place in this process,
+which saves starting many others.
 """
 from __future__ import annotations
 
@@ -29,7 +30,9 @@ Decisions = list[tuple[float, str | None]]
 
 @dataclass
 class Leaf:
-    """A group with a task: bytes of memory and swap, pages that it scans in a second, and from when to when (s) it waits for memory."""
+    """A group with a task: bytes of memory and swap, pages that it scans per second, and the
+    interval (s) in which it waits for memory.
+    """
 
     memory: int = 1000
     swap: int = 0
@@ -39,8 +42,9 @@ class Leaf:
 
 @dataclass
 class Trace:
-    """A trace of so many seconds. Each leaf has a processor of its own, on which its task waits for memory or sleeps; memory is
-    sampled each second, as tools/record does it."""
+    """A trace of some seconds. Each leaf has its own processor, on which its task waits for memory
+    or sleeps; memory is sampled each second, as tools/record does.
+    """
 
     seconds: int
     leaves: dict[str, Leaf]
@@ -69,7 +73,7 @@ class Trace:
 
 
 def put(room: Room, files: dict[str, str], folder: str = "settings") -> None:
-    """A folder of settings."""
+    """Writes a folder of settings."""
     os.makedirs(os.path.join(room.path, folder), exist_ok=True)
     for name, text in files.items():
         os.makedirs(os.path.dirname(os.path.join(room.path, folder, name)), exist_ok=True)
@@ -82,7 +86,7 @@ def told(room: Room, trace: Trace, *words: str) -> Done:
 
 
 def decided(room: Room, trace: Trace, folder: str, version: int | None = None) -> tuple[Decisions, list[str]]:
-    """The moments (s) and victims by a folder of settings, and what is said besides."""
+    """The times (s) and victims for a folder of settings, and the messages."""
     file = os.path.join(room.path, room.file(f"{folder}.trace", trace.text()))
     settings = Settings(os.path.join(room.path, folder), version)
     program = Program()
@@ -93,7 +97,7 @@ def decided(room: Room, trace: Trace, folder: str, version: int | None = None) -
 
 
 def decisions(room: Room, trace: Trace, files: dict[str, str], version: int | None = None, said: str = "") -> Decisions:
-    """The moments (s) and victims, where nothing else is said."""
+    """The times (s) and victims; there must be no other message than `said`."""
     put(room, files)
     found, notes = decided(room, trace, "settings", version)
     must_be("what is said", "\n".join(notes), said)
@@ -101,13 +105,17 @@ def decisions(room: Room, trace: Trace, files: dict[str, str], version: int | No
 
 
 def stalled(seconds: int = 45, **more: Leaf) -> Trace:
-    """One of three services waits for memory all the time, scans less than the next and more than the last."""
+    """One of three services always waits for memory, and scans less than the second and more than
+    the third.
+    """
     leaves = {"a": Leaf(3000, 0, 10, ((0, seconds),)), "b": Leaf(1000, 0, 20), "c": Leaf(9000, 0, 5), **more}
     return Trace(seconds, {f"{SLICE}/{name}.service": leaf for name, leaf in leaves.items()})
 
 
 def swap_trace(memory: int, free: int, *leaves: tuple[str, int]) -> Trace:
-    """A machine with 1000 bytes of memory and of swap; at 2.1 s so many are used and free."""
+    """A machine with 1000 bytes of memory and of swap; at 2.1 s `memory` bytes are used and `free`
+    bytes of swap are free.
+    """
     extra = [(0.0, "host 1000 1000 1000"), (0.0, "mem / 100 0 0"), (2.1, f"host 1000 1000 {free}"), (2.1, f"mem / {memory} 0 0")]
     tops = {path[: path.index("/", 1)] for path, _ in leaves}
     extra += [(0.0, f"mem {top} 200 {sum(swap for path, swap in leaves if path.startswith(top))} 0") for top in sorted(tops)]
