@@ -292,9 +292,7 @@ class Maker:
         return "\n".join([*self.lines, f"{self.now} end\n"])
 
     def pass_time(self) -> None:
-        """In half of the turns no time passes; some events come exactly at a tick, and some
-        intervals have no event.
-        """
+        """Half of the turns take no time; some events are at a tick, some intervals are empty."""
         way = self.draw.random()
         if way > 0.95:
             self.now += self.draw.randrange(4 * self.tick)
