@@ -101,8 +101,7 @@ def rules_path(room: str) -> str:
 
 
 def quiet_trace(ticks: int) -> str:
-    """A trace of two processors with events only at its beginning, and then none for `ticks` ticks.
-    """
+    """A trace of two processors with events only at its beginning, and then none for `ticks` ticks."""
     lines = ["psitrace 1 cpus=2"]
     for cpu in (0, 1):
         lines += [f"0 fork {cpu + 1} / {cpu}", f"0 switch {cpu} {cpu + 1} idle"]

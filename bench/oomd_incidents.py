@@ -149,8 +149,7 @@ def plugin(name: str, **args: object) -> Rules:
 
 
 def debian(draw: random.Random) -> list[Rules]:
-    """Debian's own rules file without its first ruleset, for these groups, with random thresholds.
-    """
+    """Debian's own rules file without its first ruleset, for these groups, with random thresholds."""
     share = draw.choice((1, 0.5, 0.25))
     groups = [
         [name, plugin("pressure_above", cgroup=slice_, resource="memory", threshold=int(limit * share), duration=int(length * share)),

@@ -39,14 +39,12 @@ class Done:
         return json.loads(read.stdout)
 
     def without_notes(self) -> "Done":
-        """The run without the notes of lint. Notes on oomd's differences are tested by tests/oomd.
-        """
+        """The run without the notes of lint. Notes on oomd's differences are tested by tests/oomd."""
         kept = [it for it in self.output.splitlines(True) if ": note: " not in it]
         return Done(self.status, "".join(kept), self.error)
 
     def must_print(self, what: str, status: int, output: str) -> None:
-        """Compares the status and the output; if they differ, the failure shows standard error too.
-        """
+        """Compares the status and the output; if they differ, the failure shows standard error too."""
         must_be(f"{what}, where standard error was {self.error!r}", (self.status, self.output), (status, output))
 
 

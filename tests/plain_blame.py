@@ -68,8 +68,7 @@ def add_stretch(plain: Plain, machine: Machine, victims: set[int], length: int) 
 
 
 def walk(trace: str, start: int, to: int, victim: str) -> Plain:
-    """The sums from `start` to `to` (ns). The victim is all groups with this path, and those below.
-    """
+    """The sums from `start` to `to` (ns). The victim is all groups with this path, and those below."""
     header, *lines = trace.splitlines()
     machine = Machine(int(header.partition("cpus=")[2]))
     plain = Plain(

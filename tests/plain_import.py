@@ -117,8 +117,7 @@ def task_and_cpu(tail: bytes, key: bytes) -> tuple[int, int]:
 
 
 def read_line(line: bytes) -> tuple[int, Seen] | None:
-    """The event of a line, with its time; None for a line without an event, or that begins with #.
-    """
+    """The event of a line, with its time; None for a line without an event, or that begins with #."""
     mark = None if line.startswith(b"#") else MARK.search(line)
     if mark is None:
         return None

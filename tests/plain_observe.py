@@ -49,8 +49,7 @@ class Observed:
         self.texts: dict[tuple[int | None, int, int], str] = {}
 
     def all_due(self) -> Iterator[Due]:
-        """For each tick at which the path is live, a sample on each processor, from processor 0 on.
-        """
+        """For each tick at which the path is live, a sample on each processor, from processor 0 on."""
         before = [0] * len(self.clocks.changes)
         for tick in self.clocks.ticks:
             for cpu, (least, most) in enumerate(zip(before, tick.counts) if tick.group is not None else ()):

@@ -170,8 +170,7 @@ def depth_of(value: Any) -> int:
 
 
 def json_of(data: bytes) -> Any:
-    """The JSON value of a file, with tokens for numbers; if a key is repeated, the last one counts.
-    """
+    """The JSON value of a file, with tokens for numbers; if a key is repeated, the last one counts."""
     try:
         value = json.loads(data.decode("utf-8"), parse_int=float_token, parse_float=float_token, parse_constant=refuse)
         for text in texts_in(value):

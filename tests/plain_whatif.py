@@ -86,8 +86,7 @@ def exit_of(machine: Machine, pid: str, moment: int) -> list[Event]:
 
 
 def left_of(machine: Machine, dead: set[str], event: Event) -> list[Event]:
-    """What remains of an event if these tasks are dead. `machine` is the trace's before the event.
-    """
+    """What remains of an event if these tasks are dead. `machine` is the trace's before the event."""
     if event.verb in OF_A_TASK:
         return [] if event.fields[0] in dead else [event]
     if event.verb != "switch":

@@ -224,8 +224,7 @@ def text_of(name: str) -> str:
 
 
 def fixed_runs() -> list[Run]:
-    """The traces above, and some of the examples, each with a path that is, was or never is live.
-    """
+    """The traces above, and some of the examples, each with a path that is, was or never is live."""
     return [
         Run("one-wait", text_of("one-wait.trace"), "/", 2000, 10),
         Run("one-wait-in-ticks", text_of("one-wait.trace"), "/", 300, 1),
@@ -264,8 +263,7 @@ def fixed_runs() -> list[Run]:
 
 
 class Maker:
-    """Makes a valid random trace: in each turn time passes, or not, and a possible event happens.
-    """
+    """Makes a valid random trace: in each turn time passes, or not, and a possible event happens."""
 
     PATHS = ("/a", "/a/b", "/a/b/c", "/d", "/d/e")
     # The least and the largest number of turns.
@@ -352,8 +350,7 @@ class Maker:
         return [("group", path) for path in self.some(it for it in self.PATHS if it not in live and parent_of(it) in live)]
 
     def some_rmgroup(self) -> list[Event]:
-        """A group without children is removed, and perhaps created again at once, after its tasks.
-        """
+        """A group without children is removed, and perhaps created again at once, after its tasks."""
         live = self.machine.live
         parents = {parent_of(path) for path in live if path != "/"}
         for path in self.some(it for it in live if it != "/" and it not in parents):
@@ -388,8 +385,7 @@ class Maker:
 
 
 def random_run(number: int, version: int = 1, kind: type[Maker] = Maker) -> Run:
-    """A random trace of this version by this kind of maker; the same number gives the same trace.
-    """
+    """A random trace of this version by this kind of maker; the same number gives the same trace."""
     maker = kind(number, version)
     trace = maker.trace()
     # Mostly with the ticks that it was made for.

@@ -174,8 +174,7 @@ def ends_of_columns(points: list[tuple[float, float]]) -> dict[int, tuple[float,
 
 
 def compare_columns(printed: Printed, drawn: Drawn, resource: str, classes: str) -> None:
-    """A line has the least and the greatest share of each pixel's column, and no third point in it.
-    """
+    """A line has the least and the greatest share of each pixel's column, and no third point in it."""
     level, average = classes.split(" ")
     share = drawn.share_scale(resource)
     reports = [(drawn.x(moment), share(it)) for moment, it in printed.shares["/", resource, level, average]]

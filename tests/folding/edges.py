@@ -105,8 +105,7 @@ MOVES = """psitrace 1 cpus=1
 
 
 def check_when_whatif_is_exact(program: str) -> None:
-    """The last line says so only if no task of a victim moves out of it or within it after a kill.
-    """
+    """The last line says so only if no task of a victim moves out of it or within it after a kill."""
     for path in ("/w", "/v/x"):
         trace = MOVES.format(path)
         _, made = folded(trace, 2 * SECOND, [Victim("/v", True)])

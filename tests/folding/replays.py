@@ -108,8 +108,7 @@ def check_examples_and_kernel_cases(program: str) -> None:
 
 
 def is_near_whole(fold: Fold) -> bool:
-    """Whether a sum has a remainder of rounding, so that a total might round to another whole us.
-    """
+    """Whether a sum has a remainder of rounding, so that a total might round to another whole us."""
     return any(fold.check.behind.values())
 
 

@@ -22,8 +22,7 @@ ESCAPES = {r"\\": "\\", r"\"": '"', r"\n": "\n"}
 
 
 class Family:
-    """The metadata of a family, and the points of its metrics: times in s since 1970, and values.
-    """
+    """The metadata of a family, and the points of its metrics: times in s since 1970, and values."""
 
     def __init__(self, name: str) -> None:
         self.name = name

@@ -111,8 +111,7 @@ def check_notes_of_ticks(room: Room) -> None:
 
 
 def check_examples_go_both_ways(room: Room) -> None:
-    """Rules converted to a configuration and back are the same, and oomd accepts the configuration.
-    """
+    """Rules converted to a configuration and back are the same, and oomd accepts the configuration."""
     for name in EXAMPLES:
         file = os.path.join(TOP, "examples", f"{name}.json")
         made = room.run(RULES, "to-oomd", file)

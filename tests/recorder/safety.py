@@ -202,8 +202,7 @@ def ended(child: subprocess.Popen[str]) -> str:
 
 
 def test_recordings_of_a_day(top: str) -> None:
-    """It waits until the fifth youngest recording is a day old, and then records, again and again.
-    """
+    """It waits until the fifth youngest recording is a day old, and then records, again and again."""
     folder.make_machine(top)
     make_recordings(top, (9 * DAY, DAY - 8, 50, 40, 30, 20, -9 * DAY))
     start = time.monotonic()

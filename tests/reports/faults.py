@@ -44,8 +44,7 @@ def check_a_write_that_fails(program: str) -> None:
 
 
 def check_tools_that_stand_alone(program: str) -> None:
-    """Without a launcher above the tools, a page is made with the program that the variable names.
-    """
+    """Without a launcher above the tools, a page is made with the program that the variable names."""
     with tempfile.TemporaryDirectory() as folder:
         shutil.copytree(os.path.join(TOP, "tools"), os.path.join(folder, "tools"))
         done = run_words([os.path.join(folder, "tools", "report"), TRACE], program=program)

@@ -28,8 +28,7 @@ class Node:
         self.children: list[Node | str] = []
 
     def find(self, tag: str, **wanted: str) -> list[Node]:
-        """All descendants with this name and these attributes (one class among several suffices).
-        """
+        """All descendants with this name and these attributes (one class among several suffices)."""
         found = []
         for it in self.children:
             if isinstance(it, Node):

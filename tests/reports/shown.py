@@ -99,8 +99,7 @@ def check_pointer_and_zoom(program: str) -> None:
 
 
 def check_pictures_are_redrawn_alike(program: str) -> None:
-    """If all of the time is shown, the script draws the lines exactly as the charts' modules did.
-    """
+    """If all of the time is shown, the script draws the lines exactly as the charts' modules did."""
     if is_skipped():
         return
     still = [it.attributes["points"] for it in read(story(program)).find("figure", class_="more")[0].find("polyline")]

@@ -121,8 +121,7 @@ def check_a_group_that_becomes_a_leaf(room: Room) -> None:
 
 
 def check_where_nothing_runs(room: Room) -> None:
-    """A group without a task is chosen like others; then nothing is killed, and the pause begins.
-    """
+    """A group without a task is chosen like others; then nothing is killed, and the pause begins."""
     trace = stalled(69)
     trace.extra = [(0, f"group {SLICE}/d.service"), *((at, f"mem {SLICE}/d.service 5000 0 {99 * at}") for at in range(69))]
     must_be("nobody", decisions(room, trace, WATCHED), [(40, None), (55, None)])

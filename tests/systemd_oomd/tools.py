@@ -59,8 +59,7 @@ def check_the_story(room: Room) -> None:
 
 
 def story_rules() -> str:
-    """Rules with a delay of 15 s that kill the largest of the groups that are watched in the story.
-    """
+    """Rules with a delay of 15 s that kill the largest of the groups that are watched in the story."""
     detectors = [
         {"name": "pressure_above", "args": {"cgroup": "batch", "resource": "memory", "threshold": "50", "duration": "20"}},
         {"name": "memory_reclaim", "args": {"cgroup": "batch/*", "duration": "30"}},
