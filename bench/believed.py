@@ -256,7 +256,7 @@ def believed() -> frozenset[Item]:
 
 
 def unreached(path: pathlib.Path) -> list[str]:
-    """The definitions of a file that none of those contracts rests on."""
+    """The definitions of a file that no such contract rests on."""
     names = {item.name for item in believed() if item.path == path}
     return [name for name in module_at(path).bodies if name not in names]
 

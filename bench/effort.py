@@ -219,7 +219,7 @@ def words_of(given: list[str]) -> tuple[list[str], bool, list[Run]]:
 
 
 def programs_of(named: list[str], runs: list[Run]) -> dict[str, str]:
-    """The programs of these runs by name, and psi_oomd, which generates what they read."""
+    """The programs of the runs by name, and psi_oomd, which generates what they read."""
     others = {run.program for run in runs} - {"psi_oomd"}
     return {"psi_oomd": program_of(named)[0], **{name: program_of([], name)[0] for name in others}}
 

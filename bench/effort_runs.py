@@ -135,7 +135,7 @@ def write_trace(program: str, trace: Trace, size: int, path: str) -> None:
 
 
 def write_inputs(program: str, runs: list[Run], room: str) -> None:
-    """Writes the inputs of these runs."""
+    """Writes the inputs of the runs."""
     with open(rules_path(room), "w", encoding="utf-8") as file:
         file.write(rules())
     for trace, size in sorted({(run.trace.value, size) for run in runs for size in run.sizes}):

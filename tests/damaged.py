@@ -249,7 +249,7 @@ def convert(program: str, number: int) -> tuple[int, bool]:
 
 
 def damages(program: str, numbers: Iterator[int] | range, tell: Callable[[str], None]) -> int:
-    """Converts damaged recordings of these numbers, and returns how many fail."""
+    """Converts damaged recordings with these numbers, and returns how many fail."""
     found: Counter[tuple[int, bool]] = Counter()
     wrong = 0
     for number in numbers:

@@ -126,7 +126,7 @@ class World:
         return int(cpu) < self.machine.cpus
 
     def is_at(self, pid: str, *at: str) -> bool:
-        """Whether the task exists and is in one of these states."""
+        """Whether the task exists and has one of these states."""
         return pid in self.machine.tasks and self.machine.tasks[pid].at in at
 
     def is_stalled(self, pid: str) -> bool:

@@ -123,7 +123,7 @@ BETWEEN = """psitrace 1 cpus=1
 1500000000 wake 1 0
 2000000000 end
 """
-# At most of these events no count differs, and each is a change.
+# No count differs at most events here, and each is a change.
 NOTHING_DIFFERS = """psitrace 1 cpus=2
 0 switch 0 0 idle
 0 fork 1 / 0

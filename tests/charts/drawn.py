@@ -142,17 +142,17 @@ class Drawn:
         return self.all("g", kind, self.one("g", "marks"))
 
     def places(self, kind: str) -> list[float]:
-        """The positions of these lines."""
+        """The positions of the lines."""
         for mark in self.marks(kind):
             must_be("a line is upright", inner(mark, "line").get("x1"), inner(mark, "line").get("x2"))
         return [number_at(inner(mark, "line"), "x1") for mark in self.marks(kind)]
 
     def mark_texts(self, kind: str) -> list[list[str]]:
-        """The text beside each of these lines, if it has one."""
+        """The text beside each of the lines, if it has one."""
         return [self.texts(mark) for mark in self.marks(kind)]
 
     def hints(self, kind: str) -> list[list[str]]:
-        """The tooltip of each of these lines."""
+        """The tooltip of each of the lines."""
         return [(inner(mark, "title").text or "").split("\n") for mark in self.marks(kind)]
 
     def rules(self, panel: Element) -> Iterator[tuple[str, float, str]]:

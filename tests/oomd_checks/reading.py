@@ -209,7 +209,7 @@ def by_glob(folder: str, pattern: str) -> list[str]:
         if libc.glob(path.encode(), flags, None, ctypes.byref(found)) == 0:
             names |= {os.fsdecode(found.pathv[at] or b"") for at in range(found.pathc)}
             libc.globfree(ctypes.byref(found))
-    # oomd treats `.` and `..` as groups of these names, which no trace has.
+    # oomd treats `.` and `..` as groups with these names, which no trace has.
     paths = [it[len(folder) :] or "/" for it in names if os.path.isdir(it)]
     return sorted(it for it in paths if not {".", ".."} & set(it.split("/")))
 

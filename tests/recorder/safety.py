@@ -177,7 +177,7 @@ def run_has_begun(reader: int) -> bool:
 
 
 def make_recordings(top: str, ages: tuple[float, ...]) -> None:
-    """Makes recordings of these ages (s) beside the next one."""
+    """Makes recordings with these ages (s) beside the next one."""
     os.makedirs(f"{top}.state")
     for number, age in enumerate(ages):
         folder.write(f"{top}.state/{number}/meta", "recording 1\n")
