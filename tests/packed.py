@@ -20,6 +20,8 @@ from must import must, must_be
 
 SECONDS = 1_700_000_000
 PYTHON = "/usr/bin/python3"
+DOCUMENTS = "share/doc/psi-oomd"
+COMPLETIONS = "share/bash-completion/completions"
 
 
 @dataclass(frozen=True)
@@ -121,3 +123,36 @@ def control_of(made: Made) -> dict[str, bytes]:
 
 def data_of(made: Made) -> bytes:
     return lzma.decompress(parts_of(made.first[".deb"])["data.tar.xz"])
+
+
+def commands_of_definition() -> list[str]:
+    """The commands in the usage line, from its definition."""
+    with open(os.path.join(TOP, "crates", "run_spec", "specs", "Status.antt"), encoding="utf-8") as file:
+        found = re.search(r'"usage: psi_oomd (.*)\\n"', file.read())
+    must(found and found[1].count(" or ") > 3, f"the definition has its list: {found}")
+    return found[1].split(" or ") if found else []
+
+
+def offered_by_bash(made: Made, *words: str) -> list[str]:
+    """Bash's completions of the last word, in the folder of the examples."""
+    script = '. "$0"; COMP_WORDS=("$@"); COMP_CWORD=$(($# - 1)); _psi_oomd "$1"; printf "%s\\n" "${COMPREPLY[@]}"'
+    file, folder = made.path(COMPLETIONS, words[0]), made.path(DOCUMENTS, "examples")
+    done = subprocess.run(["bash", "-c", script, file, *words], cwd=folder, capture_output=True, encoding="utf-8")
+    must_be(f"what bash says of {words}", (done.returncode, done.stderr), (0, ""))
+    return done.stdout.split()
+
+
+def offered_by_zsh(made: Made, *words: str) -> list[str]:
+    """Zsh's completions of the last word: replacements of its own functions print what
+    matches the word.
+    """
+    script = """offer() { local -a found; found=(${(M)@:#${word}*}); print -rl -- $found; (( $#found )) }
+    compadd() { shift; offer "$@" }
+    _files() { offer *(N) }
+    compset() { word=${word#*=} }
+    words=("${@[2,-1]}"); CURRENT=$#words; word=$words[-1]; source "$1" """
+    file, folder = made.path("share/zsh/vendor-completions/_psi_oomd"), made.path(DOCUMENTS, "examples")
+    call = ["zsh", "-fc", f"complete_it() {{ {script} }}; complete_it \"$@\"", "zsh", file, *words]
+    done = subprocess.run(call, cwd=folder, capture_output=True, encoding="utf-8")
+    must_be(f"what zsh says of {words}", done.stderr, "")
+    return done.stdout.split()

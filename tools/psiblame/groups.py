@@ -1,4 +1,4 @@
-"""The groups of a trace, each by a number of its own: one that is removed and made again is another group."""
+"""The groups of a trace, each by a number of its own: a group that is removed and made again is another group."""
 from __future__ import annotations
 
 from typing import Iterator, Optional
@@ -79,7 +79,7 @@ class Groups:
         return group.path if self.lives[group.path] == 1 else f"{group.path}#{group.life}"
 
     def named(self, word: str) -> list[Group]:
-        """The groups of this path, or the one that PATH#N names. One that never lived is a fault."""
+        """The groups of this path, or the group that PATH#N names. A group that never existed is a fault."""
         path, _, life = word.partition("#")
         found = [it for it in self.all if it.path == path and (not life or str(it.life) == life)]
         if not found:

@@ -32,12 +32,12 @@ def round_steps() -> Iterator[int]:
 
 
 def share_step(most: int) -> int:
-    """The least round step, in hundredths of a percent, of which five reach `most`."""
+    """The least round step, in hundredths of a percent, such that five steps reach `most`."""
     return next(step for step in round_steps() if 5 * step >= most)
 
 
 def byte_step(most: int) -> int:
-    """The least round number of bytes, KiB, MiB and so on, of which five reach `most`."""
+    """The least round number of bytes, KiB, MiB and so on such that five of them reach `most`."""
     counts = (1, 2, 5, 10, 20, 50, 100, 200, 500)
     steps = (count * int(1024**size) for size in itertools.count() for count in counts)
     return next(step for step in steps if 5 * step >= most)

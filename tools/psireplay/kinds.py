@@ -1,4 +1,4 @@
-"""Recognises files of another kind than the one that is expected, so that a message can say what a file is and what to do."""
+"""Recognises files of an unexpected kind, so that a message can say what a file is and what to do."""
 from __future__ import annotations
 
 import os

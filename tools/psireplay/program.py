@@ -1,4 +1,4 @@
-"""The program that tools and tests run: the one that the variable PSI_OOMD names, or else the launcher above the tools' folder. So
+"""The program that tools and tests run: the program in PSI_OOMD, or else the launcher above the tools' folder. So
 it is in a checkout, where the launcher builds it, and where it is installed, with the program that is there."""
 from __future__ import annotations
 

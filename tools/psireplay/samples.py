@@ -27,7 +27,7 @@ class Samples:
     """The samples of these groups, by path and by life, and the machine's memory in bytes as it was last reported."""
 
     def __init__(self, name: str, groups: list[str], end: int) -> None:
-        """Reads a trace, which must be one that ends at this moment in ns."""
+        """Reads a trace, which must end at this time (ns)."""
         self.lives: dict[str, list[Life]] = {path: [Life()] for path in groups}
         self.host: Optional[int] = None
         trace = CheckedTrace(name)

@@ -55,7 +55,7 @@ class Given(NamedTuple):
 
 
 class Recorded(NamedTuple):
-    """What is known of the recording of which the trace was made. `is_same` says whether psitrace makes this very trace of it."""
+    """What is known about the recording that the trace was made from. `is_same` says whether psitrace makes exactly this trace."""
 
     compared: Done
     summary: Done

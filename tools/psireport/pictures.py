@@ -131,7 +131,7 @@ def picture(wanted: Wanted, has_labels: bool) -> Picture:
 
 
 def of_group(replay: Replay, path: str) -> Replay:
-    """The same replay, of which one group is drawn."""
+    """The same replay, with one group drawn."""
     found = Replay([path])
     found.series, found.events, found.kills, found.rounds, found.end = (
         replay.series, replay.events, replay.kills, replay.rounds, replay.end,

@@ -50,7 +50,7 @@ class After(NamedTuple):
 
 
 def watched(rules: Rules, kill: Kill, peaks: Peaks) -> Optional[Subject]:
-    """What the ruleset that kills looks at: of the groups and resources of its detectors of pressure the one that stalled most. Where
+    """What the ruleset that kills looks at: of the groups and resources of its detectors of pressure the group that stalled most. Where
     that is the victim, or below it, nothing of it would be left: then it is the group above the victim."""
     found = [
         (peaks.highest(path, detector.args["resource"], "full").share, path, detector.args["resource"])

@@ -19,7 +19,7 @@ LEADING = re.compile(r"\s*\+?([0-9]+)")
 
 @dataclass(frozen=True)
 class Repair:
-    """A text that psi_oomd takes, in place of one that only oomd takes; why; and whether the meaning becomes another."""
+    """A text that psi_oomd accepts, in place of a text that only oomd accepts; the reason; and whether the meaning changes."""
 
     text: str
     why: str

@@ -106,7 +106,7 @@ class Nearest:
         return {"name": use.name, "args": made}
 
     def argument(self, place: str, plugin: str, name: str, text: str, value: Any) -> str | None:
-        """An argument as psi_oomd reads it; None for one that means nothing there."""
+        """An argument as psi_oomd reads it; None if it has no meaning there."""
         is_size = name == "threshold" and plugin in ("memory_above", "kill_by_swap_usage")
         for is_it, write in self.writers(name, is_size):
             if is_it:

@@ -60,7 +60,7 @@ class Mender:
         self.findings.append(Finding(place, kind, what, change, is_lost))
 
     def keys(self, place: str, at: dict[str, Any], known: tuple[str, ...], of_oomd: tuple[str, ...] = ()) -> None:
-        """Keys that nobody knows and that are like one that is missing."""
+        """Unknown keys that resemble a missing key."""
         for key in [key for key in at if key not in known + of_oomd]:
             meant = alike(key, [it for it in known if it not in at])
             if meant:

@@ -87,7 +87,7 @@ def processors() -> int:
 
 
 class Program:
-    """The psi_oomd beside the tools, or the one that the variable PSI_OOMD names."""
+    """The psi_oomd beside the tools, or the program in the variable PSI_OOMD."""
 
     def __init__(self) -> None:
         self.path = named_program()

@@ -67,7 +67,7 @@ class Traces:
         return self.joined(trace, lambda name: program.replay(name, file, self.pace, threads))
 
     def replays(self, program: Program, rules: list[RulesAt]) -> list[list[list[Kill] | Fault]]:
-        """For each of these rules files the kills of each trace, or why it couldn't be replayed."""
+        """For each rules file, the kills of each trace, or why it couldn't be replayed."""
         pairs = [(file, trace) for file in rules for trace in self.names]
         calls = [functools.partial(self.replay, program, trace, file) for file, trace in pairs]
         found = side_by_side(calls, self.jobs or processors())

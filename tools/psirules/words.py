@@ -58,7 +58,7 @@ def add_replay(command: argparse.ArgumentParser) -> None:
 
 
 def add_expect(command: argparse.ArgumentParser) -> None:
-    """What is wanted, of which traces, and by whom kills are."""
+    """What is wanted, for which traces, and which program kills."""
     command.add_argument("want", metavar="WANT", help="the file with what is wanted")
     command.add_argument("traces", metavar="TRACE", nargs="+", help="a trace")
     command.add_argument("--rules", metavar="FILE", help="the rules file")

@@ -243,7 +243,7 @@ class Conversion:
         return events
 
     def task_of(self, key: Key) -> Task:
-        """A task that sleeps: one that was put back, or a new one."""
+        """A sleeping task: a task that was put back, or a new task."""
         free = self.free.get(key)
         if free:
             return free.pop()

@@ -87,7 +87,7 @@ def interval_of(gaps: Counter[int]) -> int:
 
 
 def must_be_usable(data: Data) -> None:
-    """Data of which no trace can be made is a fault."""
+    """Data that can't become a trace is a fault."""
     names = ", ".join(data.inputs.files)
     if not data.every:
         raise Fault(f"{names}: no group has two samples")

@@ -260,7 +260,7 @@ class Lives:
         return f"{self.places(reading.place)}: {reading.path} {' '.join(LEVELS[level])}"
 
     def begin(self, reading: Reading, before: Optional[Life]) -> Life:
-        """A new life, of which this is the first reading."""
+        """A new life, which begins with this reading."""
         tick = max(0, -(-(reading.time - self.every) // TICK))
         if before is not None and before.gone is not None:
             tick = max(tick, before.gone)

@@ -42,7 +42,7 @@ class Stopped(Exception):
 
 
 def text_of(path: str) -> str:
-    """A file's text; of one that isn't there, or has gone, none."""
+    """A file's text; empty if the file doesn't exist or has disappeared."""
     try:
         with open(path, encoding="utf-8", errors="replace") as file:
             return file.read()
@@ -165,7 +165,7 @@ class Words(argparse.ArgumentParser):
     """Reads the words, and ends with a status of the tool's own if they are wrong."""
 
     def error(self, message: str) -> NoReturn:
-        self.exit(WRONG, f"sample: {message}\n")
+        self.exit(WRONG, f"{self.prog}: {message}\n{self.format_usage()}")
 
 
 def parser() -> Words:

@@ -47,7 +47,7 @@ class Metrics:
         self.unknown: Counter[str] = Counter()
 
     def column(self, name: str, labels: dict[str, str]) -> Optional[Column]:
-        """Where the values of a series go, if it is one of those that are read."""
+        """Where the values of a series go, if the series is read."""
         field = PRESSURE.get(name, SIZES.get(name))
         if field is None:
             if len(self.unknown) < 1000:
@@ -130,7 +130,7 @@ class Lined(Protocol):
 
 
 class Text:
-    """A text of which a part is in memory."""
+    """A text that is only partly in memory."""
 
     def __init__(self, file: TextIO, lined: Lined) -> None:
         self.file, self.lined, self.text, self.at = file, lined, "", 0

@@ -1,4 +1,4 @@
-"""Rows in the order of time, of which memory holds a bounded part: others are in a temporary file."""
+"""Rows in order of time. Memory holds a bounded part; the others are in a temporary file."""
 from __future__ import annotations
 
 import bisect
