@@ -153,7 +153,7 @@ def check_lines_that_are_wrong(_: str) -> None:
         (4, "0 trigger / io most 500000 500000", "malformed"), (2, "0 group a", "can't be made"), (2, "0 group /a/", "can't be made"),
         (3, "0 group /a//b", "can't be made"), (6, "0 fork 0 /a 0", "a task's number"), (6, "0 fork 4294967296 /a 0", "a task's number"),
         (6, "0 fork 1 /a -1", "can't have it"), (6, "0 fork 1 /a 1", "can't have it"), (8, "0 switch -1 1 idle", "can't have it"),
-        (21, f"{'9' * 5000} fork 2 /b 0", "can't have it"), (21, "99999999999999999999 fork 2 /b 0", "its time is beyond"),
+        (21, f"{'9' * 5000} fork 2 /b 0", "its time is beyond"), (21, "99999999999999999999 fork 2 /b 0", "its time is beyond"),
         (21, "2500000000 fork 2 /\u00e4 0", "aren't ASCII"),
     ):  # fmt: skip
         wrong = [*good[: number - 1], line, *good[number:]]
