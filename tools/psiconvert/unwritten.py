@@ -9,7 +9,7 @@ less than its successor, which often runs for many ms before anything is written
 """
 from __future__ import annotations
 
-from collections.abc import Iterator, Sequence
+from collections.abc import Iterable, Iterator, Sequence
 from operator import itemgetter
 
 from psiread.events import Event, Exec, FirstWakeup, Gap, Migration, Switch, Wakeup

@@ -3,8 +3,9 @@ from __future__ import annotations
 
 from psiconvert.lead_in import averages_in
 from psiread.events import Marker
+from psiread.files import text_of
 from psiread.pressure import SAMPLE, reading_markers
-from psiread.recording import read_recording, text_of
+from psiread.recording import read_recording
 from psiread.source import Faulty, Source, Unreadable
 from psirec.layout import MARK, PRESSURE, RESOURCES, escaped_path
 from psireplay.command import Fault
