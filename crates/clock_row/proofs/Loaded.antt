@@ -67,14 +67,14 @@ clocks_next loaded more i clock clocks stays inside new old slot below = dite (�
     (λ e. subst (λ (z : ℕ). ClockWasLoaded more z (get_or (set clocks i clock) z zero_clock)) (sym e) (subst (ClockWasLoaded more i) (sym (get_or-set_same clocks i clock zero_clock inside)) new))
     (λ other. subst (ClockWasLoaded more slot) (sym (get_or-set_other clocks i slot clock zero_clock other)) (λ body agrees are. old slot (omega arith) body (stays body agrees) are))
 
--- ---- what stood together
+-- ---- words loaded together
 
 -- the words of a slot that were loaded together are its clock
 pub sample_words : (plan : PlanView) (slot k : ℕ) (loaded : List (ℕ × ℕ)) (words : List ℕ) → slot < length plan.parents → StoodTogether plan k loaded → WereLoaded loaded (9 * slot) 9 words → length words ≡ 9 → AreClock plan slot k words
 sample_words plan slot k loaded words below stood were wide = let all = stood.1.wide in
     subst (AreClock plan slot k) (sym (slot_was loaded slot words stood.0 were wide (omega (arith, all, below)) stood.2)) (stood.1.each slot below)
 
--- a clock with the words of one that represents a slot represents it too
+-- a clock whose words are the clock of a slot is that slot's clock
 pub same_words : (plan : PlanView) (slot k : ℕ) (words : List ℕ) (clock : ClockView) → AreClock plan slot k words → words_of clock ≡ words → IsClock clock plan slot k
 same_words plan slot k words clock are is = subst (λ (c : ClockView). IsClock c plan slot k) (sym (words_tell_clock clock are.0 (is ∙ are.1))) are.2
 

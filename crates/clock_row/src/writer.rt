@@ -149,8 +149,8 @@ impl<'a> ClockWriter<'a> {
         })
     }
 
-    /// Tells a reader of the row how many changes were made: the reader has then seen at least that
-    /// many. Does not allocate, and always returns Ok.
+    /// Notifies a reader of the row of the number of changes made, so that it has seen at least
+    /// that many. Does not allocate, and always returns Ok.
     pub fn meet(&mut self, reader: &mut ClockReader) -> Result<(), NoMemory>
         requires { reader.old.row ≡ self.old.row }
         ensures ok { result ≡ Ok tt }

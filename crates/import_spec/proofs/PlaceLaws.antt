@@ -6,7 +6,7 @@ use Rattle.import_spec.specs.Laws.{IsFirstPlace, IsLastPlace, NonePasses, FindsF
 
 -- ---- no place
 
--- what holds at no place of the bytes behind the first one
+-- a test that passes at no place in the rest of the bytes passes at none of the following places
 none_behind : (test : List ℕ → Bool) (byte : ℕ) (bytes : List ℕ) (low high : ℕ) → NonePasses test bytes low high → NonePasses test (byte ∷ bytes) (low + 1) (high + 1)
 none_behind test byte bytes low high none zero above below = absurd (omega (arith, above))
 none_behind test byte bytes low high none (suc k) above below = none k (omega (arith, above)) (omega (arith, below))

@@ -28,7 +28,7 @@ use Rattle.import_spec.specs.Marked.{read_line}
 abbrev pub made : Pid → Cpu → Act
 made pid cpu = act.Fork pid (codes "/") cpu
 
--- a wakeup creates a task that doesn't exist, and wakes one that sleeps
+-- a wakeup creates its task if it doesn't exist, and wakes it if it sleeps
 abbrev pub wakeup_acts : Pid → Cpu → Option Task → List Act
 wakeup_acts pid cpu None = made pid cpu ∷ []
 wakeup_acts pid cpu (Some task) = if is_active task.mode then [] else act.Wake pid cpu ∷ []

@@ -46,7 +46,7 @@ abbrev pub ends_or : Reached → ℕ → Option ImportCause → Result (List Eve
 ends_or reached number None = Ok (end_at reached ∷ [])
 ends_or reached number (Some why) = Err (import_refused number why)
 
--- events in front of later ones
+-- events, and the later events after them
 abbrev pub events_followed : List Event → Result (List Event) Refused → Result (List Event) Refused
 events_followed front (Ok events) = Ok (front ++ events)
 events_followed front (Err refusal) = Err refusal

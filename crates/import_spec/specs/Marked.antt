@@ -51,7 +51,7 @@ marked_of line = if begins_with (codes "#") line then None else do
   found ← mark_of (drop at line)
   Some (record { kind = found.kind; head = take at line; tail = drop (at + length found.text) line })
 
--- ---- what a marked line tells
+-- ---- the meaning of a marked line
 
 -- a switch on a processor, from its tail: two parts, split at the last arrow
 unfoldable pub switch_in : ℕ → List ℕ → Option Seen

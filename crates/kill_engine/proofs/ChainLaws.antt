@@ -36,7 +36,7 @@ pub passes : (lives : List GroupLife) (number : ℕ) (actions : List Action) (no
     behind lives number actions now past (act + 1) ≡ behind lives number actions now past act
 passes lives number actions now past act action below here none = rw (turn_next lives number actions now past act action below here, sym none) refl
 
--- Behind the last action there is none.
+-- no kill comes after the last action
 none_behind : (lives : List GroupLife) (number : ℕ) (actions : List Action) (now : Reading) (past : List Reading) (act : ℕ) → length actions ≤ act → behind lives number actions now past act ≡ []
 none_behind lives number actions now past act over = ap (λ rest. chain lives number act rest now past) (drop_all act actions over)
 

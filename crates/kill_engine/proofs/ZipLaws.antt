@@ -64,7 +64,7 @@ all_end R test xs ys i hold whole zips ends is =
     let bare : (hold && true) ≡ whole = subst (λ rest. (hold && list_all test rest) ≡ whole) none is in
     sym (and_true hold) ∙ bare
 
--- one more of several tests, one of which has to pass
+-- one more test of a disjunction
 pub any_more : {A B : Type 0} (R : A → B → Type 0) (test : B → Bool) (xs : List A) (ys : List B) (i : ℕ) (d : A) (found answer whole : Bool) →
     AllZip R xs ys → i < length xs → ((y : B) → R (get_or xs i d) y → answer ≡ test y) →
     (found || list_any test (drop i ys)) ≡ whole → ((found || answer) || list_any test (drop (i + 1) ys)) ≡ whole

@@ -184,8 +184,8 @@ has_grown_more lives past first second =
     nat_lt (growth_by past second first) (growth_by past first second)
     || (growth_by past first second == growth_by past second first && is_larger lives first second)
 
--- the second choice: among the largest groups with the best preference, the growing one that has
--- grown most
+-- the second choice: the growing group that has grown most, among the largest groups with the best
+-- preference
 abbrev pub growing_choice : List GroupLife → ℕ → ℕ → List Reading → List GroupReading → Option GroupReading
 growing_choice lives percentile ratio past groups =
     unbeaten (has_grown_more lives past)

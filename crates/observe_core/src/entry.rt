@@ -1,4 +1,4 @@
-//! The top call.
+//! The public call of `psi_observe`, with all that is promised about it.
 ghost use Rattle.std.specs.Prelude.{◌≡◌, ◌⊎◌, ◌≢◌, ◌↔◌, ◌+◌, ◌≤◌, ◌<◌, ℕ, List, Some, None, Ok, Err, map, string_bytes};
 ghost use Rattle.std.specs.Io.KnownBytes.{Appends, Keeps};
 ghost use Rattle.psi_base.specs.Memory.{no_memory};
@@ -23,13 +23,13 @@ use std::alloc::Global;
 use std::sync::Wait;
 use std::thread::Threads;
 
-/// Observes what these words ask for, the command line without the program's name: a trace is
-/// replayed, while observers, each in a thread of its own where one can be started, sample the
-/// clocks of the group with a path and read the board of ticks. The output goes to `out`, and one
-/// line that tells of the status to `note`; of `Done` nothing is told. A fault of `note` changes no
-/// status. The threads of the replay tell the gate of each change that they have made; an observer
-/// calls it before each sample, with its number, and once the sample's entry was added to the
-/// journal.
+/// Observes the trace and the path of these words, the command line without the program's name. The
+/// trace is replayed while observers sample the clocks of the group with this path and read the
+/// board of ticks, each in its own thread if one can be started. Writes the output to `out`, and
+/// the message of the status to `note`: one line, or nothing for `Done`. A failed write to `note`
+/// doesn't change the status. The threads of the replay call `gate` after each change that they
+/// made. An observer calls it with its number before each sample, and after the sample's entry was
+/// added to the journal.
 pub fn observe<R: Threads + Wait + Sync, S: Shelf, K: Sink, N: Sink, G: Gate>(
     rt: &R,
     alloc: Global,
@@ -39,14 +39,14 @@ pub fn observe<R: Threads + Wait + Sync, S: Shelf, K: Sink, N: Sink, G: Gate>(
     note: &mut N,
     gate: &G,
 ) -> ObserveStatus
-    // Files stay as they are.
+    // Files are unchanged.
     ensures kept { S.holds shelf.new ≡ S.holds shelf.old }
 
-    // Usage comes exactly where the words aren't a name, a number from 1 to 8 and a path.
+    // The result is Usage exactly if the words aren't a name, a number from 1 to 8 and a path.
     ensures usage { (result ≡ ObserveStatus.Usage)
         ↔ (request_of (map string_bytes words.now) ≡ None) }
 
-    // What each status says of the trace and of the output, and which counts of failures rose.
+    // What each status says about the trace and the output, and which failure counts increased.
     ensures runs { (request : Request) →
         request_of (map string_bytes words.now) ≡ Some request →
         Observes request (S.holds shelf.old)
@@ -54,8 +54,8 @@ pub fn observe<R: Threads + Wait + Sync, S: Shelf, K: Sink, N: Sink, G: Gate>(
         (run_counts (S.faults shelf.new) (S.absent shelf.new) (K.faults out.new))
         (K.has out.old) (K.has out.new) result }
 
-    // Where it is done, the output grew by exactly a text that so many observers of the path may
-    // print of the trace.
+    // If the run is done, exactly a text was appended to the output that this number of observers
+    // of the path may print for the trace.
     ensures observed { (request : Request) (bytes : List ℕ) →
         request_of (map string_bytes words.now) ≡ Some request →
         told (S.holds shelf.old) request.trace ≡ Some bytes →
@@ -65,8 +65,8 @@ pub fn observe<R: Threads + Wait + Sync, S: Shelf, K: Sink, N: Sink, G: Gate>(
         × IsObservedText trace (pace_on request.path) request.path request.observers text
         × Appends (K.has out.old) (K.has out.new) text) }
 
-    // An accepted trace with no more than a million samples gives the whole output, unless a count
-    // of faults rose or memory was wanting.
+    // An accepted trace with at most a million samples gives the whole output, unless a read or
+    // write failed or memory ran out.
     ensures complete { (request : Request) (bytes : List ℕ) (trace : Trace) →
         request_of (map string_bytes words.now) ≡ Some request →
         told (S.holds shelf.old) request.trace ≡ Some bytes →
@@ -75,8 +75,7 @@ pub fn observe<R: Threads + Wait + Sync, S: Shelf, K: Sink, N: Sink, G: Gate>(
         (Rose (K.faults out.old) (K.faults out.new) → ⊥) →
         (result ≡ ObserveStatus.Done) ⊎ (result ≡ ObserveStatus.NoMemory no_memory) }
 
-    // Behind an accepted trace more samples are too many, unless a fault of reading rose or memory
-    // was wanting.
+    // More samples of an accepted trace are too many, unless a read failed or memory ran out.
     ensures many { (request : Request) (bytes : List ℕ) (trace : Trace) →
         request_of (map string_bytes words.now) ≡ Some request →
         told (S.holds shelf.old) request.trace ≡ Some bytes →
@@ -85,8 +84,8 @@ pub fn observe<R: Threads + Wait + Sync, S: Shelf, K: Sink, N: Sink, G: Gate>(
         (result ≡ ObserveStatus.TooManySamples (samples_asked request trace))
         ⊎ (result ≡ ObserveStatus.NoMemory no_memory) }
 
-    // A refused trace gives its first refused line with its cause, unless a fault of reading rose
-    // or memory was wanting.
+    // A rejected trace gives its first rejected line with the cause, unless a read failed or memory
+    // ran out.
     ensures refuses { (request : Request) (bytes : List ℕ) (refusal : Refusal) →
         request_of (map string_bytes words.now) ≡ Some request →
         told (S.holds shelf.old) request.trace ≡ Some bytes →
@@ -95,30 +94,30 @@ pub fn observe<R: Threads + Wait + Sync, S: Shelf, K: Sink, N: Sink, G: Gate>(
         (result ≡ ObserveStatus.Trace refusal.line refusal.cause)
         ⊎ (result ≡ ObserveStatus.NoMemory no_memory) }
 
-    // Each count of failures rose exactly where the status tells of its failure.
+    // A failure count increased exactly if the status reports that failure.
     ensures counts { ObserverFailuresAreCounted
         (run_counts (S.faults shelf.old) (S.absent shelf.old) (K.faults out.old))
         (run_counts (S.faults shelf.new) (S.absent shelf.new) (K.faults out.new)) result }
 
-    // However large the trace's file is, no more bytes are read than this, and none where the words
-    // ask for nothing.
+    // Whatever the size of the trace's file, at most this many bytes are read; none if the words
+    // aren't a request.
     ensures reads { S.given shelf.new ≤ S.given shelf.old + most_of_trace }
     ensures unread { request_of (map string_bytes words.now) ≡ None →
         S.given shelf.new ≡ S.given shelf.old }
 
-    // Reading stops at the first refused line of the trace. Where that is the answer, no more was
-    // read than what is held behind the lines before it. A failed read is the answer only where
-    // that line wasn't read in whole.
+    // Reading stops at the first rejected line of the trace. If that line is the result, at most
+    // the lines before it and the buffered bytes were read. A failed read is the result only if
+    // that line was incomplete.
     ensures stops { (request : Request) →
         request_of (map string_bytes words.now) ≡ Some request →
         StopsObserving request (S.holds shelf.old) (S.given shelf.old) (S.given shelf.new)
         result }
 
-    // Nothing is written but by Done and WriteFault.
+    // Only Done and WriteFault write to the output.
     ensures quiet { result ≢ ObserveStatus.Done → result ≢ ObserveStatus.WriteFault →
         Keeps (K.has out.old) (K.has out.new) }
 
-    // The note tells of the status, in whole where its count didn't rise.
+    // The message of the status was written to `note`: all of it, or a prefix if a write failed.
     ensures note { (Rose (N.faults note.old) (N.faults note.new) → ⊥) →
         Appends (N.has note.old) (N.has note.new)
         (observe_status_text (request_of (map string_bytes words.now)) result) }

@@ -1,4 +1,4 @@
-//! What is asked for is observed, and written.
+//! Runs a request: reads its trace, observes it and writes the samples.
 ghost use Rattle.std.specs.Prelude.{◌≡◌, ◌+◌, ◌*◌, ◌/◌, ◌≤◌, ◌<◌, [], length};
 ghost use Rattle.outside.specs.Outside.{HasCause};
 ghost use Rattle.outside.specs.Calls.{PutsAll};
@@ -30,7 +30,7 @@ use trace_file::{TraceFault, read_plans};
 /// The length of a tick (ns).
 const TICK: Ns = 2_000_000_000;
 
-/// The most samples that are taken.
+/// The maximum number of samples.
 const MOST_SAMPLES: u64 = 1_000_000;
 
 // The status of a trace that can't be read.
@@ -48,8 +48,8 @@ fn fault_status(fault: TraceFault) -> ObserveStatus
     }
 }
 
-// How many samples so many observers of a trace take at most: one at each tick, of each observer,
-// on each processor.
+// The maximum number of samples that `observers` observers of a trace take: one per tick, observer
+// and processor.
 fn samples_asked(plans: &Plans, observers: u32) -> u64
     requires early { plans.now.finish ≤ last_moment }
     requires few { length plans.now.plans ≤ 64 }
@@ -59,7 +59,7 @@ fn samples_asked(plans: &Plans, observers: u32) -> u64
     plans.finish() / TICK * u64::from(observers) * u64::from(plans.cpus())
 }
 
-// Sends all lines on in large pieces.
+// Writes all lines in large pieces.
 fn send<K: Sink>(
     pending: &mut Pending,
     entries: &[Entry<'_>],
@@ -80,7 +80,7 @@ fn send<K: Sink>(
     }
 }
 
-// Writes what was observed.
+// Writes the samples and the observers' last states.
 fn write<K: Sink>(
     pending: &mut Pending,
     observed: &Observed<'_>,
@@ -99,8 +99,8 @@ fn write<K: Sink>(
     }
 }
 
-// Observes a trace of a version that was taken apart, and writes what was observed. Where there
-// would be too many samples, or memory is wanting, nothing is written.
+// Observes a trace of this version through its plans, and writes the samples. Writes nothing if
+// there would be too many samples or memory runs out.
 fn write_observed<R: Threads + Wait + Sync, K: Sink, G: Gate>(
     rt: &R,
     alloc: Global,
@@ -131,7 +131,7 @@ fn write_observed<R: Threads + Wait + Sync, K: Sink, G: Gate>(
     }
 }
 
-/// Observes what is asked for.
+/// Runs a request.
 pub(crate) fn run_request<R: Threads + Wait + Sync, S: Shelf, K: Sink, G: Gate>(
     rt: &R,
     alloc: Global,

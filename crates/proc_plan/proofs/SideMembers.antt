@@ -60,7 +60,7 @@ sample_goings slot at groups _ = refl
 same_group : (old new slot : ℕ) → (old == new) ≡ true → one (old == slot) ≡ one (new == slot)
 same_group old new slot is = ⊎_elim (λ same. ap (λ n. one (n == slot)) same.1) (λ other. absurd (cc (is, other.0))) (eqb_tells old new)
 
--- a passage has the side of a task that leaves and of one that joins
+-- a passage has a side for the group that its task leaves and a side for the group that it joins
 passage_tells : (at slot : ℕ) (old new : Option Slot) → comings slot (passage at old new) + one (is_group slot old) ≡ goings slot (passage at old new) + one (is_group slot new)
 passage_tells at slot None None = refl
 passage_tells at slot None (Some new) = omega arith

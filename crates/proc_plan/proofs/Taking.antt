@@ -50,7 +50,7 @@ pub legal_push : (limits : Limits) (w : World) (events : List Event) (event : Ev
 legal_push limits w [] event legal allowed = (allowed, tt)
 legal_push limits w (first ∷ events) event legal allowed = (legal.0, legal_push limits (after_event w first) events event legal.1 allowed)
 
--- events followed by one that can be spelled can be spelled
+-- events can be spelled if all of them, and one more event after them, can be
 pub fit_push : (events : List Event) (event : Event) → AllFit events → Fits event → AllFit (events ++ event ∷ [])
 fit_push [] event all fits = (fits, tt)
 fit_push (first ∷ events) event all fits = (all.0, fit_push events event all.1 fits)

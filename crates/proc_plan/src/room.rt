@@ -124,8 +124,8 @@ pub(crate) fn reserve_task(
     reserve_two(changes, act.cpu(), task)
 }
 
-// Makes room for the changes of an act on each processor that it touches: the one that it names and
-// that of the task that it changes, or all processors if it switches a group's accounting.
+// Makes room for the changes of an act on each processor that it affects: the processor that it
+// names and its task's, or all processors if it switches a group's accounting.
 #[inline(always)]
 fn reserve_changes(changes: &mut [Changes], act: &Act, task: Option<Task>) -> Result<(), NoMemory>
     ensures same { lists_of changes.new ≡ lists_of changes.old }

@@ -114,8 +114,8 @@ fn passage(at: Ns, old: Option<Slot>, new: Option<Slot>) -> (Option<Side>, Optio
     }
 }
 
-// The sides of an event in order, at most two. `task` is the one that its act changes, before the
-// act, and `slot` is the slot of the group that it names.
+// The sides of an event in order, at most two. `task` is the task of its act, before the act, and
+// `slot` is the slot of the group that the act names.
 #[inline(always)]
 fn sides_by(event: &Event, task: Option<Task>, slot: Slot) -> (Option<Side>, Option<Side>)
     requires { ActFits event.now.act }
@@ -138,8 +138,8 @@ fn sides_by(event: &Event, task: Option<Task>, slot: Slot) -> (Option<Side>, Opt
     }
 }
 
-/// The trigger and the sides of an event. `task` is the one that its act changes, before the act,
-/// and `slot` is the slot of the group that it names.
+/// The trigger and the sides of an event. `task` is the task of its act, before the act, and `slot`
+/// is the slot of the group that the act names.
 #[inline(always)]
 pub(crate) fn told_by(event: &Event, task: Option<Task>, slot: Slot) -> Told
     requires { ActFits event.now.act }

@@ -18,7 +18,7 @@ pub struct Counts {
 /// The change that an event makes on a processor: counts subtracted from the chain of a slot,
 /// counts added to the chain of a slot, and afterwards the slot of the processor's running task and
 /// whether that task is in a stall. If interrupts took the processor, no counts change, and the
-/// running task is the one that they interrupted, if any. If a group's accounting is switched,
+/// running task is the interrupted task, if any. If a group's accounting is switched,
 /// every processor has that as a change, no counts change, and the same task runs.
 #[derive(Clone, Copy, Debug, PartialEq, Eq)]
 pub struct Change {

@@ -57,7 +57,7 @@ four_more bytes count number four are inside is =
     let value : (((number * 10 + is.a) * 10 + is.b) * 10 + is.c) * 10 + is.d ≡ number * 10000 + four = omega (arith, is.value) in
     subst (λ n. AreDigits bytes n (count + 4)) value all
 
--- ---- digits of which there are so many
+-- ---- numbers with a given number of digits
 
 pow_more : (count : ℕ) → 10 ^ (count + 1) ≡ 10 ^ count * 10
 pow_more count = let next : count + 1 ≡ suc count = omega arith in ap (λ n. 10 ^ n) next ∙ pow-suc 10 count

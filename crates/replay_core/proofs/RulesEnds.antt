@@ -27,7 +27,7 @@ use Rattle.dropin_rules.specs.declared.fault.DropFault.{DropFault}
 use Rattle.dropin_rules.specs.RulesText.{rules_text}
 use Rattle.replay_core.proofs.RunEnds.{one_told, same_rules, fault_first, no_fault, no_missed, no_drop_fault, no_missed_drop_in, of_read, faults}
 
--- ---- refused drop-in files
+-- ---- rejected drop-in files
 
 -- the bytes of a drop-in file are known
 over_told : (command : Command) (files : Option Files) (drop_in : List ℕ) → IsTold command DropInFile files drop_in → DropInTold command files (Some drop_in)
@@ -52,7 +52,7 @@ no_rules_fault command files had has bytes drop_in found fault ends known is =
 not_missed : (command : Command) (files : Option Files) (which : Which) (had has : Option (List ℕ)) (bytes : List ℕ) → IsTold command which files bytes → Ends command files had has (status.NoFile which) → ⊥
 not_missed command files which had has bytes known ends = one_told files known.0 ends.2.0 bytes (file_of command which) known.1 ends.2.1 known.2 ends.2.2
 
--- a refused drop-in file tells of its first fault, where no read failed and memory was there
+-- a rejected drop-in file gives its first error, if no read failed and memory didn't run out
 pub drop_faults : (command : Command) (files : Option Files) (before now : RunCounts) (had has : Option (List ℕ)) (result : Status) → Runs command files before now had has result
     → (bytes drop_in : List ℕ) (fault : DropFault) → IsTold command RulesFile files bytes → IsTold command DropInFile files drop_in → rules_from bytes (Some drop_in) ≡ Err (status.DropIn fault)
     → (Rose before.shelf.faults now.shelf.faults → ⊥) → (result ≡ status.DropIn fault) ⊎ (result ≡ status.NoMemory no_memory)

@@ -280,8 +280,8 @@ completes command files before now had has (status.NoFile RulesFile) runs rules 
 completes command files before now had has (status.NoFile TraceFile) runs rules bytes trace given tells is reads writes = absurd (no_trace command files bytes had has tells runs.ends)
 completes command files before now had has (status.NoFile ImportFile) runs rules bytes trace given tells is reads writes = absurd (no_import command files bytes had has tells runs.ends)
 
--- a refused file tells of its refusal, where the rules are accepted, no read failed and memory was
--- there
+-- a rejected file gives its first rejected line, if the rules are accepted, no read failed and
+-- memory didn't run out
 pub refuses : (command : Command) (files : Option Files) (before now : RunCounts) (had has : Option (List ℕ)) (result : Status) → Runs command files before now had has result
     → (rules : List Rule) (bytes : List ℕ) (why : Status) → RulesTold command files rules → IsTold command (source_of command) files bytes → taken_of command bytes ≡ Err why
     → (Rose before.shelf.faults now.shelf.faults → ⊥) → (result ≡ why) ⊎ (result ≡ status.NoMemory no_memory)
@@ -324,7 +324,7 @@ none_taken command files taken name bytes fault takes there named tells is =
     let bad = fault_first bytes over.0 fault is in
     cc (good, bad)
 
--- nor as what a drop-in file is put over
+-- nor as the rulesets to which a drop-in file is applied
 no_base : (command : Command) (files : Option Files) (base : Rules) (name bytes : List ℕ) (fault : RulesFault) → TakesBase command files base → rules_name command ≡ Some name → told files name ≡ Some bytes → rules_of bytes ≡ Err fault → ⊥
 no_base command files base name bytes fault takes named tells is = let good = takes bytes (name, named, tells) in cc (good, is)
 
@@ -335,7 +335,7 @@ found_fault command files had has name bytes found fault ends named tells is =
     let other = ends.2.2 bytes (subst (λ n. told files n ≡ Some bytes) (sym same) tells) in
     cc (is, other)
 
--- refused rules tell of their first fault, where no read failed and memory was there
+-- a rejected rules file gives its first error, if no read failed and memory didn't run out
 pub faults : (command : Command) (files : Option Files) (before now : RunCounts) (had has : Option (List ℕ)) (result : Status) → Runs command files before now had has result
     → (name bytes : List ℕ) (fault : RulesFault) → rules_name command ≡ Some name → told files name ≡ Some bytes → rules_of bytes ≡ Err fault
     → (Rose before.shelf.faults now.shelf.faults → ⊥) → (result ≡ status.Rules fault) ⊎ (result ≡ status.NoMemory no_memory)

@@ -43,7 +43,7 @@ kept_accepted options version cpus_kept cpus kept events limits_now w counted ac
   accepted = subst (λ n. IsAccepted (limits_of (of_ms options.tick_ms) n) kept) (sym so.cpus_are) (subst (IsAccepted (limits_of (of_ms options.tick_ms) cpus)) (sym so.kept_are) accepted);
 }
 
--- and what was written of it is of the trace that was read
+-- and the output written for it is an output for the trace that was read
 pub kept_written : (version cpus_kept cpus : ℕ) (kept events : List Event) (limits limits_now : Limits) (w : World) (pace : Pace) (rules : List Rule) (before now : ℕ) (had has : Option (List ℕ)) (result : Status) → limits.cpus ≡ cpus
     → HasKept cpus_kept kept limits_now w limits events → WritesLast (trace_from version cpus_kept kept) pace rules before now had has result
     → WritesLast (trace_from version cpus events) pace rules before now had has result

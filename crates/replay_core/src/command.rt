@@ -1,4 +1,4 @@
-//! The commands, each over its files.
+//! Runs each command on its files.
 ghost use Rattle.std.specs.Prelude.{◌≡◌, ◌+◌, ◌≤◌, None, IfSome, IsUtf8};
 ghost use Rattle.outside.specs.Outside.{StaysOver};
 ghost use Rattle.run_spec.specs.MostRead.{most_read};
@@ -23,10 +23,10 @@ use std::thread::Threads;
 use task_table::Table;
 use trace_file::{TraceFault, play_trace};
 
-/// How many ns a millisecond has.
+/// The number of ns in a millisecond.
 pub(crate) const MILLISECOND: Ns = 1_000_000;
 
-/// The length of a tick (ns) of `stall`, which bounds the moments of its trace.
+/// The length of a tick (ns) of `stall`, which limits the times of its trace.
 const TICK: Ns = 2000 * MILLISECOND;
 
 /// The status of a trace that can't be read.
@@ -46,7 +46,7 @@ pub(crate) fn fault_status(fault: TraceFault) -> Status
     }
 }
 
-// Runs `stall` over a trace.
+// Runs `stall` on a trace.
 fn run_stall<R: Threads + Sync, S: Shelf, K: Sink>(
     rt: &R,
     alloc: Global,
@@ -70,7 +70,7 @@ fn run_stall<R: Threads + Sync, S: Shelf, K: Sink>(
     }
 }
 
-// Runs `check` over a trace, with this length of a tick (ms).
+// Runs `check` on a trace, with this length of a tick (ms).
 fn run_check<S: Shelf, K: Sink>(
     alloc: Global,
     name: &str,
@@ -97,8 +97,7 @@ fn run_check<S: Shelf, K: Sink>(
     }
 }
 
-// Runs `replay` over a trace, with the rules of its rules file and of the drop-in file over it, if
-// it names them.
+// Runs `replay` on a trace, with the rules of its rules file and drop-in file, if it names them.
 fn run_replay<R: Threads + Sync, S: Shelf, K: Sink, G: Gate>(
     rt: &R,
     alloc: Global,
@@ -140,7 +139,7 @@ fn run_replay<R: Threads + Sync, S: Shelf, K: Sink, G: Gate>(
     }
 }
 
-/// Runs a command over its files.
+/// Runs a command on its files.
 pub(crate) fn run_command<R: Threads + Sync, S: Shelf, K: Sink, G: Gate>(
     rt: &R,
     alloc: Global,

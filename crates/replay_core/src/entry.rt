@@ -1,4 +1,4 @@
-//! The top call.
+//! The public call of `psi_oomd`, with all that is promised about it.
 ghost use Rattle.std.specs.Prelude.{◌≡◌, ◌⊎◌, ◌≢◌, ◌+◌, ◌≤◌, ◌++◌, ℕ, List, Option, Some, None, Ok, Err, codes, map, string_bytes};
 ghost use Rattle.std.specs.Io.KnownBytes.{Appends, Keeps};
 ghost use Rattle.psi_base.specs.Memory.{no_memory};
@@ -35,7 +35,7 @@ use run_spec::{Command, Status};
 use std::alloc::Global;
 use std::thread::Threads;
 
-// Runs a command, and sends its output on in large pieces.
+// Runs a command, and writes its output in large pieces.
 fn run_buffered<R: Threads + Sync, S: Shelf, K: Sink, G: Gate>(
     rt: &R,
     alloc: Global,
@@ -69,10 +69,10 @@ fn run_buffered<R: Threads + Sync, S: Shelf, K: Sink, G: Gate>(
     }
 }
 
-/// Runs the command of these words, the command line without the program's name. The output goes to
-/// `out`, and one line that tells of the status to `note`; of `Done` nothing is told. A fault of
-/// `note` changes no status. The threads of a replay tell the gate of each change that they have
-/// made.
+/// Runs the command of these words, the command line without the program's name. Writes the output
+/// to `out`, and the message of the status to `note`: one line, or nothing for `Done`. A failed
+/// write to `note` doesn't change the status. The threads of a replay call `gate` after each change
+/// that they made.
 pub fn run<R: Threads + Sync, S: Shelf, K: Sink, N: Sink, G: Gate>(
     rt: &R,
     alloc: Global,
@@ -82,16 +82,17 @@ pub fn run<R: Threads + Sync, S: Shelf, K: Sink, N: Sink, G: Gate>(
     note: &mut N,
     gate: &G,
 ) -> Status
-    // Files stay as they are.
+    // Files are unchanged.
     ensures kept { S.holds shelf.new ≡ S.holds shelf.old }
 
-    // Usage comes exactly where the words aren't those of a command.
+    // The result is Usage only if the words aren't a command. Such words give Usage unless memory
+    // runs out.
     ensures usage { result ≡ Status.Usage → command_of (map string_bytes words.now) ≡ None }
     ensures unknown { command_of (map string_bytes words.now) ≡ None →
         (result ≡ Status.Usage) ⊎ (result ≡ Status.NoMemory no_memory) }
 
-    // What each status says of the command's files and of the output, and which counts of failures
-    // rose.
+    // What each status says about the command's files and the output, and which failure counts
+    // increased.
     ensures runs { (command : Command) →
         command_of (map string_bytes words.now) ≡ Some command →
         Runs command (S.holds shelf.old)
@@ -99,10 +100,10 @@ pub fn run<R: Threads + Sync, S: Shelf, K: Sink, N: Sink, G: Gate>(
         (run_counts (S.faults shelf.new) (S.absent shelf.new) (K.faults out.new))
         (K.has out.old) (K.has out.new) result }
 
-    // The headline: where a replay is done, the output grew by exactly a text that the definitions
-    // give for its trace and its rules, those of its rules file with the drop-in file over it. With
-    // `--live` each live line may be of any number of its processor's changes, from that of the
-    // tick before to that of its own.
+    // The headline: if a replay is done, exactly a text was appended to the output that the
+    // definitions give for its trace and its rules, which are those of its rules file with the
+    // drop-in file applied. With `--live` each live line may have the clocks after any number of
+    // its processor's changes, from their number at the previous tick to their number at its own.
     ensures headline { (name bytes : List ℕ) (options : Options) (rules : List Rule) →
         command_of (map string_bytes words.now) ≡ Some (Command.Replay name options) →
         IsTold (Command.Replay name options) TraceFile (S.holds shelf.old) bytes →
@@ -112,7 +113,7 @@ pub fn run<R: Threads + Sync, S: Shelf, K: Sink, N: Sink, G: Gate>(
         × ((text : List ℕ) × IsReplayText trace (pace_of options) rules text
         × Appends (K.has out.old) (K.has out.new) text) }
 
-    // Without `--live` there is one such text.
+    // Without `--live` there is exactly one such text.
     ensures alone { (name bytes : List ℕ) (options : Options) (rules : List Rule) →
         command_of (map string_bytes words.now) ≡ Some (Command.Replay name options) →
         options.live ≡ None →
@@ -123,7 +124,7 @@ pub fn run<R: Threads + Sync, S: Shelf, K: Sink, N: Sink, G: Gate>(
         × Appends (K.has out.old) (K.has out.new)
         (replay_text trace (pace_of options) (with_rules rules)) }
 
-    // The import: where it is done, the output grew by exactly the text of the trace that the
+    // If `import` is done, exactly the text of the trace was appended to the output that the
     // definition gives for the bytes.
     ensures imported { (name bytes : List ℕ) (cpus : ℕ) →
         command_of (map string_bytes words.now) ≡ Some (Command.Import name cpus) →
@@ -132,15 +133,14 @@ pub fn run<R: Threads + Sync, S: Shelf, K: Sink, N: Sink, G: Gate>(
         (events : List Event) × (import_of cpus bytes ≡ Ok events)
         × Appends (K.has out.old) (K.has out.new) (text_of (import_trace cpus events)) }
 
-    // The rules: where `rules` is done, the output grew by exactly the text of the rules, and a
-    // newline.
+    // If `rules` is done, exactly the text of the rules and a newline were appended to the output.
     ensures printed { (name : List ℕ) (drop_in : Option (List ℕ)) (rules : List Rule) →
         command_of (map string_bytes words.now) ≡ Some (Command.Rules name drop_in) →
         RulesTold (Command.Rules name drop_in) (S.holds shelf.old) rules →
         result ≡ Status.Done →
         Appends (K.has out.old) (K.has out.new) (rules_text rules ++ codes "\n") }
 
-    // Accepted rules are printed, unless a count of faults rose or memory was wanting.
+    // Accepted rules are printed, unless a read or write failed or memory ran out.
     ensures prints { (name : List ℕ) (drop_in : Option (List ℕ)) (rules : List Rule) →
         command_of (map string_bytes words.now) ≡ Some (Command.Rules name drop_in) →
         RulesTold (Command.Rules name drop_in) (S.holds shelf.old) rules →
@@ -148,9 +148,9 @@ pub fn run<R: Threads + Sync, S: Shelf, K: Sink, N: Sink, G: Gate>(
         (Rose (K.faults out.old) (K.faults out.new) → ⊥) →
         (result ≡ Status.Done) ⊎ (result ≡ Status.NoMemory no_memory) }
 
-    // What a kill would have done: where it is done, the output grew by exactly the text that the
-    // definitions give for the last trace, which is left when the victims of the kills were taken
-    // out of the trace, one after the other.
+    // If `whatif` is done, exactly the text was appended to the output that the definitions give
+    // for the last trace: what is left after the victims of the kills were removed from the trace,
+    // one after another.
     ensures supposed { (name bytes : List ℕ) (options : Options) (rules : List Rule) →
         command_of (map string_bytes words.now) ≡ Some (Command.Whatif name options) →
         IsTold (Command.Whatif name options) TraceFile (S.holds shelf.old) bytes →
@@ -162,7 +162,7 @@ pub fn run<R: Threads + Sync, S: Shelf, K: Sink, N: Sink, G: Gate>(
         × Appends (K.has out.old) (K.has out.new)
         (replay_text last (pace_of options) (with_rules rules)) }
 
-    // It is too large only where a round left so many events, and then nothing is written.
+    // The result is TooLarge only if a round left that number of events. Then nothing is written.
     ensures outgrown { (name bytes : List ℕ) (options : Options) (rules : List Rule)
         (events : ℕ) →
         command_of (map string_bytes words.now) ≡ Some (Command.Whatif name options) →
@@ -174,9 +174,9 @@ pub fn run<R: Threads + Sync, S: Shelf, K: Sink, N: Sink, G: Gate>(
         × (last_trace trace (pace_of options) rules ≡ Err events)
         × Keeps (K.has out.old) (K.has out.new) }
 
-    // An accepted file, with accepted rules, ends the run as it is to end: with the whole output,
-    // or, where a round of `whatif` leaves too many events, as too large; unless a count of faults
-    // rose or memory was wanting.
+    // If the file and the rules are accepted, the run ends as specified, with the whole output, or
+    // as TooLarge if a round of `whatif` leaves too many events; unless a read or write failed or
+    // memory ran out.
     ensures complete { (command : Command) (rules : List Rule) (bytes : List ℕ)
         (trace : Trace) →
         command_of (map string_bytes words.now) ≡ Some command →
@@ -187,16 +187,16 @@ pub fn run<R: Threads + Sync, S: Shelf, K: Sink, N: Sink, G: Gate>(
         (Rose (K.faults out.old) (K.faults out.new) → ⊥) →
         (result ≡ outcome_of command trace rules) ⊎ (result ≡ Status.NoMemory no_memory) }
 
-    // A refused rules file gives its first fault with its place, unless a fault of reading rose or
-    // memory was wanting.
+    // A rejected rules file gives its first error with its place, unless a read failed or memory
+    // ran out.
     ensures faulty { (command : Command) (name bytes : List ℕ) (fault : RulesFault) →
         command_of (map string_bytes words.now) ≡ Some command → rules_name command ≡ Some name →
         told (S.holds shelf.old) name ≡ Some bytes → rules_of bytes ≡ Err fault →
         (Rose (S.faults shelf.old) (S.faults shelf.new) → ⊥) →
         (result ≡ Status.Rules fault) ⊎ (result ≡ Status.NoMemory no_memory) }
 
-    // A refused drop-in file over accepted rules gives its first fault with its place, unless a
-    // fault of reading rose or memory was wanting.
+    // A rejected drop-in file for accepted rules gives its first error with its place, unless a
+    // read failed or memory ran out.
     ensures dropped { (command : Command) (bytes drop_in : List ℕ) (fault : DropFault) →
         command_of (map string_bytes words.now) ≡ Some command →
         IsTold command RulesFile (S.holds shelf.old) bytes →
@@ -205,8 +205,8 @@ pub fn run<R: Threads + Sync, S: Shelf, K: Sink, N: Sink, G: Gate>(
         (Rose (S.faults shelf.old) (S.faults shelf.new) → ⊥) →
         (result ≡ Status.DropIn fault) ⊎ (result ≡ Status.NoMemory no_memory) }
 
-    // Behind accepted rules a refused file gives the status of its first refused line with its
-    // cause, unless a fault of reading rose or memory was wanting.
+    // After accepted rules, a rejected file gives the status of its first rejected line with the
+    // cause, unless a read failed or memory ran out.
     ensures refuses { (command : Command) (rules : List Rule) (bytes : List ℕ)
         (why : Status) →
         command_of (map string_bytes words.now) ≡ Some command →
@@ -216,40 +216,40 @@ pub fn run<R: Threads + Sync, S: Shelf, K: Sink, N: Sink, G: Gate>(
         (Rose (S.faults shelf.old) (S.faults shelf.new) → ⊥) →
         (result ≡ why) ⊎ (result ≡ Status.NoMemory no_memory) }
 
-    // A command that reads no file ends with its whole output, unless a count of failed writes rose
-    // or memory was wanting.
+    // A command that reads no file ends with its whole output, unless a write failed or memory ran
+    // out.
     ensures made { (command : Command) →
         command_of (map string_bytes words.now) ≡ Some command →
         (ReadsFiles command → ⊥) →
         (Rose (K.faults out.old) (K.faults out.new) → ⊥) →
         (result ≡ Status.Done) ⊎ (result ≡ Status.NoMemory no_memory) }
 
-    // Each count of failures rose exactly where the status tells of its failure.
+    // A failure count increased exactly if the status reports that failure.
     ensures counts { FailuresAreCounted
         (run_counts (S.faults shelf.old) (S.absent shelf.old) (K.faults out.old))
         (run_counts (S.faults shelf.new) (S.absent shelf.new) (K.faults out.new)) result }
 
-    // However large its files are, and whatever it answers, a command reads no more bytes than
-    // this, and other words read none.
+    // Whatever the size of its files and the result, a command reads at most this many bytes. Words
+    // that aren't a command read none.
     ensures reads { (command : Command) →
         command_of (map string_bytes words.now) ≡ Some command →
         S.given shelf.new ≤ S.given shelf.old + most_read command }
     ensures unread { command_of (map string_bytes words.now) ≡ None →
         S.given shelf.new ≡ S.given shelf.old }
 
-    // Reading stops at the first refused line of a trace, or of a text of ftrace. Where that is the
-    // answer, no more was read than files of rules and what is held behind the lines before it. A
-    // failed read is the answer only where that line wasn't read in whole.
+    // Reading stops at the first rejected line of a trace or of an ftrace text. If that line is the
+    // result, at most the files of rules, the lines before it and the buffered bytes were read. A
+    // failed read is the result only if that line was incomplete.
     ensures stops { (command : Command) →
         command_of (map string_bytes words.now) ≡ Some command →
         StopsAtRefusal command (S.holds shelf.old) (S.given shelf.old) (S.given shelf.new)
         result }
 
-    // Nothing is written but by Done and WriteFault.
+    // Only Done and WriteFault write to the output.
     ensures quiet { result ≢ Status.Done → result ≢ Status.WriteFault →
         Keeps (K.has out.old) (K.has out.new) }
 
-    // The note tells of the status, in whole where its count didn't rise.
+    // The message of the status was written to `note`: all of it, or a prefix if a write failed.
     ensures note { (Rose (N.faults note.old) (N.faults note.new) → ⊥) →
         Appends (N.has note.old) (N.has note.new)
         (status_text (command_of (map string_bytes words.now)) result) }

@@ -1,4 +1,4 @@
-//! `whatif`: the output of what is left of a trace without the victims of its kills.
+//! `whatif`: replays what is left of a trace without the victims of its kills.
 ghost use Rattle.std.specs.Prelude.{◌≡◌, ◌+◌, ◌≤◌, IfSome, IsSome, IsUtf8};
 ghost use Rattle.outside.specs.Outside.{StaysOver};
 ghost use Rattle.psi_spec.specs.Header.{IsVersion};
@@ -22,7 +22,7 @@ use std::thread::Threads;
 use trace_file::{Keeper, play_trace};
 use whatif_rounds::{TooLarge, last_plans};
 
-// The status of a trace of which no last one is left.
+// The status if the rounds leave no last trace.
 fn rounds_status(fault: Fault<TooLarge>) -> Status
     ensures { IsStatusOfRounds fault result }
 {
@@ -34,8 +34,8 @@ fn rounds_status(fault: Fault<TooLarge>) -> Status
     }
 }
 
-// Takes the victims of its kills out of a trace of a version, with these events, and writes the
-// output of what is left. All rounds are made before anything is written.
+// Removes the victims of its kills from a trace with this version and these events, and writes the
+// output of the remaining trace. All rounds run before anything is written.
 fn write_whatif<R: Threads + Sync, K: Sink, G: Gate>(
     rt: &R,
     alloc: Global,
@@ -61,8 +61,7 @@ fn write_whatif<R: Threads + Sync, K: Sink, G: Gate>(
     }
 }
 
-/// Runs `whatif` over a trace, with the rules of its rules file and of the drop-in file over it, if
-/// it names one.
+/// Runs `whatif` on a trace, with the rules of its rules file and drop-in file, if it names one.
 pub(crate) fn run_whatif<R: Threads + Sync, S: Shelf, K: Sink, G: Gate>(
     rt: &R,
     alloc: Global,

@@ -59,7 +59,7 @@ impl<'a> Replay<'a> {
         self.crew.reader(cpu)
     }
 
-    /// Tells a reader of a processor's row how many changes were made: the reader has then seen at
+    /// Notifies a reader of a processor's row of the number of changes made, so that it has seen at
     /// least that many. Does not allocate.
     pub fn meet(&mut self, cpu: Cpu, reader: &mut ClockReader)
         requires replay { IsSomeReplay self.old }

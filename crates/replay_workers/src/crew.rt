@@ -275,7 +275,7 @@ impl<'a> Crew<'a> {
         batch.lanes[cpu.0 as usize / workers].reader()
     }
 
-    /// Tells a reader of a processor's row how many changes were made: the reader has then seen at
+    /// Notifies a reader of a processor's row of the number of changes made, so that it has seen at
     /// least that many. Does not allocate, and always returns Ok.
     pub fn meet(&mut self, cpu: Cpu, reader: &mut ClockReader) -> Result<(), NoMemory>
         requires cpu { cpu.0 < length self.old.plans.plans }

@@ -128,8 +128,8 @@ impl<'a> Lane<'a> {
         writer.reader()
     }
 
-    /// Tells a reader of the processor's row how many changes were made. Does not allocate, and
-    /// always returns Ok.
+    /// Notifies a reader of the processor's row of the number of changes made. Does not allocate,
+    /// and always returns Ok.
     pub(crate) fn meet(&mut self, reader: &mut ClockReader) -> Result<(), NoMemory>
         requires { Some reader.old.row ≡ self.old.row }
         ensures ok { result ≡ Ok tt }
@@ -172,7 +172,8 @@ impl<'a> Lane<'a> {
         Watcher::make(alloc, self.cpu, writer, asked)
     }
 
-    /// Tells the processor's watcher how many changes were made, and a slot's clock after them.
+    /// Notifies the processor's watcher of the number of changes made, and of a slot's clock after
+    /// them.
     pub(crate) fn meet_watcher(&mut self, watcher: &mut Watcher, slot: Slot)
         requires row { Some watcher.old.row ≡ self.old.row }
         requires plan { watcher.old.knows.plan ≡ self.old.on.plan }

@@ -5,7 +5,7 @@
 //! one interval, or for as many as fit into 64 MB, each worker in a thread of its own applies the
 //! changes of its lanes up to each tick and stores the times of every group there. The caller then
 //! takes the table of times for each tick with `fill`. Starting a thread costs about as much as a
-//! busy tick, so many intervals are done at once.
+//! busy tick, so threads apply several intervals at once.
 //!
 //! If a group is watched (`--live`, psi_observe) the crew advances one interval at a time, and one
 //! more thread samples the rows of clock_row meanwhile.

@@ -152,7 +152,8 @@ impl Watcher {
         };
     }
 
-    /// Tells the writer how many changes it has seen: at most those that the writer made.
+    /// Reports to the writer the number of changes that it has seen: at most those that the writer
+    /// made.
     pub(crate) fn settle(&mut self, writer: &mut ClockWriter<'_>)
         requires { self.old.row ≡ writer.old.row }
         ensures same { self.new ≡ self.old }

@@ -73,7 +73,7 @@ pub enum DetectorSpec {
 #[derive(Drop)]
 pub enum Action {
     /// `kill_by_memory_size_or_growth`: the largest group, if it has this share of the memory
-    /// (percent); otherwise, among the largest above the percentile, the one that grew most, if its
+    /// (percent); otherwise the group that grew most among the largest above the percentile, if its
     /// size is at least this ratio (thousandths) of the mean of its history; otherwise the largest.
     SizeOrGrowth {
         cgroup: Patterns,

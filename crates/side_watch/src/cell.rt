@@ -43,7 +43,7 @@ impl SideCell {
         }
     }
 
-    /// Counts a task that came into the group or below it, or one that left.
+    /// Counts a task that joined the group or a group below it (`came`), or left it.
     pub(crate) fn count(&mut self, came: bool)
         ensures { self.new ≡ counted came self.old }
     {

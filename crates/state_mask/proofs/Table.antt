@@ -36,7 +36,7 @@ both-each : (test : Bool → Bool) → both test ≡ true → (b : Bool) → tes
 both-each test is true = first (test true) (test false) is
 both-each test is false = second (test true) (test false) is
 
--- the mask at these signs has a state where they tell it, and lacks it where they don't
+-- the mask at these signs has a state exactly if the signs give it
 abbrev is_right_at : List ℕ → State → (waits stalls ready all_stalled on_cpu current_stalled beside : Bool) → Bool
 is_right_at masks state waits stalls ready all_stalled on_cpu current_stalled beside =
     same (mask_holds (slice_index_or masks (place_of waits stalls ready all_stalled on_cpu current_stalled beside) 0) state) (tells_by state waits stalls ready all_stalled on_cpu current_stalled beside)
@@ -74,7 +74,7 @@ each_right masks right state =
     picked all CpuFull = all.5
     picked all Nonidle = all.6
 
--- a table that is right everywhere has the states that its signs tell
+-- a table that is right everywhere has the states that its signs give
 right_tells : (masks : List ℕ) → are_right masks ≡ true → (state : State) (waits stalls ready all_stalled on_cpu current_stalled beside : Bool) →
     mask_holds (slice_index_or masks (place_of waits stalls ready all_stalled on_cpu current_stalled beside) 0) state ≡ tells_by state waits stalls ready all_stalled on_cpu current_stalled beside
 right_tells masks right state waits stalls ready all_stalled on_cpu current_stalled beside =
@@ -86,7 +86,7 @@ right_tells masks right state waits stalls ready all_stalled on_cpu current_stal
     let six = both-each (λ f. both (λ g. is_right_at masks state waits stalls ready all_stalled on_cpu f g)) five current_stalled in
     same-equal _ _ (both-each (λ g. is_right_at masks state waits stalls ready all_stalled on_cpu current_stalled g) six beside)
 
--- ---- the signs tell what the counts do
+-- ---- the signs give the same states as the counts
 
 no_more : (n : ℕ) → (n == 0) ≡ not (nat_lt 0 n)
 no_more n = grind (arith, nat_tests)

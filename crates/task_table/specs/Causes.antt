@@ -68,15 +68,14 @@ next_cause cpus cpu (Some pid) task =
 abbrev pub switch_cause : ℕ → ℕ → Option Pid → Option Task → How → Option (ℕ × Task) → Option Cause
 switch_cause cpus cpu next task how running = or_cause (next_cause cpus cpu next task) (how_cause how running)
 
--- the cause against a stall: an unknown task, one that isn't running, one that is already in a
--- stall
+-- the cause against a stall: the task is unknown, isn't running, or is already in a stall
 abbrev pub stall_cause : Option Task → Option Cause
 stall_cause task =
     if not (is_some task) then Some cause.UnknownTask else
     if is_some_and task (λ task. not (is_running task.mode)) then Some cause.NotRunning else
     if is_some_and task (λ task. task.stalled) then Some cause.InStall else None
 
--- the cause against the end of a stall: an unknown task, one that isn't running, one in no stall
+-- the cause against the end of a stall: the task is unknown, isn't running, or isn't in a stall
 abbrev pub unstall_cause : Option Task → Option Cause
 unstall_cause task =
     if not (is_some task) then Some cause.UnknownTask else

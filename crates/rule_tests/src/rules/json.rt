@@ -6,7 +6,7 @@ use std::process::Abort;
 const LARGEST: usize = 1_048_576;
 
 // Texts around `rulesets`. Space, escapes, and the last of equal keys; under an unknown key any
-// number except one that overflows a float; half a pair of surrogates; no comments, no trailing
+// number except those that overflow a float; half a pair of surrogates; no comments, no trailing
 // commas, nothing after the value.
 const TEXTS: &str = " \t\r{'rulesets':[]} \t\r~
 {'\\u0072ulesets':[]}~

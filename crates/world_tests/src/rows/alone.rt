@@ -38,7 +38,7 @@ fn waiting(seen: u64) -> Shown {
 }
 
 // Each reader samples the writer's own clock. A reader that was made after the changes has seen
-// them; one that was made before, without a `meet`, samples the same.
+// them; a reader made before them samples the same, even without a `meet`.
 #[test]
 fn one_slot_after_three_changes(rt: HostRuntime) {
     let plans = plans_of(&rt, rt.alloc(), 1, 2_000_000_000, &WAITS);

@@ -52,8 +52,8 @@ fn beside_a_task_alone(rt: &impl Abort, alloc: Global, plans: &Plans)
     is(rt, third, (250_000_000, want), "after the third change");
 }
 
-/// Interrupts while a task in a nested group runs, while one that moves to the root runs, and while
-/// the processor is idle.
+/// Interrupts while a task in a nested group runs, while a task runs that moves to the root, and
+/// while the processor is idle.
 const GROUPS: [&[u8]; 14] = [
     b"0 group /a",
     b"0 group /a/b",
