@@ -44,8 +44,8 @@ row_kept cpus slots flat slot cpu times other inside apart =
     let past : cpus ≤ slot * cpus + cpu - other * cpus = omega (arith, end) in
     rw (place, drop-set-add (other * cpus) flat (slot * cpus + cpu - other * cpus) times, take-set-le cpus (drop (other * cpus) flat) (slot * cpus + cpu - other * cpus) times past) refl)
     (λ above.
-    let front : slot * cpus + cpu < other * cpus = omega (arith, row_end slot other cpus above) in
-    rw (drop-set-lt (other * cpus) flat (slot * cpus + cpu) times front) refl)
+    let prefix : slot * cpus + cpu < other * cpus = omega (arith, row_end slot other cpus above) in
+    rw (drop-set-lt (other * cpus) flat (slot * cpus + cpu) times prefix) refl)
     case
 
 -- setting the times of a group on a processor sets them in its row alone
@@ -73,7 +73,7 @@ row_beside cpus slots flat row slot other long below wide within apart =
     let rest = drop (start + cpus) flat in
     let here = other * cpus in
     let end = row_end slot slots cpus below in
-    let front : length (take start flat) ≡ start = length-take-le start flat (omega (arith, long, end)) in
+    let prefix : length (take start flat) ≡ start = length-take-le start flat (omega (arith, long, end)) in
     let case : (other < slot) ⊎ (slot < other) = grind (arith, apart) in
     ⊎_elim
     (λ before.
@@ -81,13 +81,13 @@ row_beside cpus slots flat row slot other long below wide within apart =
     let more : here + (start - here) ≡ start = omega (arith, ends) in
     let cut : drop here (take start flat) ≡ take (start - here) (drop here flat) = ap (λ n. drop here (take n flat)) (sym more) ∙ drop-take here (start - here) flat in
     let room : cpus ≤ start - here = omega (arith, ends) in
-    let wide_left : cpus ≤ length (drop here (take start flat)) = simp (length-drop) (omega (arith, front, ends)) in
-    ap (take cpus) (drop-append-le here (take start flat) (row ++ rest) (omega (arith, front, ends)))
+    let wide_left : cpus ≤ length (drop here (take start flat)) = simp (length-drop) (omega (arith, prefix, ends)) in
+    ap (take cpus) (drop-append-le here (take start flat) (row ++ rest) (omega (arith, prefix, ends)))
     ∙ take-append-le cpus (drop here (take start flat)) (row ++ rest) wide_left
     ∙ ap (take cpus) cut ∙ take-take cpus (start - here) (drop here flat) room)
-    (λ behind.
-    let starts = row_end slot other cpus behind in
-    let both : length (take start flat ++ row) ≡ start + cpus = length-append (take start flat) row ∙ ap (λ n. n + length row) front ∙ ap (λ n. start + n) wide in
+    (λ suffix.
+    let starts = row_end slot other cpus suffix in
+    let both : length (take start flat ++ row) ≡ start + cpus = length-append (take start flat) row ∙ ap (λ n. n + length row) prefix ∙ ap (λ n. start + n) wide in
     let more : start + cpus + (here - (start + cpus)) ≡ here = omega (arith, starts) in
     let seam : drop (start + cpus) (take start flat ++ (row ++ rest)) ≡ rest = ap (drop (start + cpus)) (sym (append_assoc (take start flat) row rest)) ∙ drop_at (take start flat ++ row) rest (start + cpus) both in
     let split : drop here (take start flat ++ (row ++ rest)) ≡ drop (here - (start + cpus)) (drop (start + cpus) (take start flat ++ (row ++ rest))) = ap (λ n. drop n (take start flat ++ (row ++ rest))) (sym more) ∙ sym (drop-drop (here - (start + cpus)) (start + cpus) (take start flat ++ (row ++ rest))) in
@@ -104,13 +104,13 @@ rows_of-taken cpus slots flat row slot long below wide =
     let rows = rows_of cpus slots flat in
     let many : length rows ≡ slots = length-rows_of cpus slots flat in
     let end = row_end slot slots cpus below in
-    let front : length (take start flat) ≡ start = length-take-le start flat (omega (arith, long, end)) in
+    let prefix : length (take start flat) ≡ start = length-take-le start flat (omega (arith, long, end)) in
     let place : slot < length rows = omega (arith, below, many) in
     sym (fill_by_all (row_in cpus new) (set rows slot row) slots [] (length-set rows slot row ∙ many) (λ other within.
     let case : (other ≡ slot) ⊎ (other ≢ slot) = grind arith in
     ⊎_elim
     (λ same. rw same (get_or-set_same rows slot row [] place
-    ∙ sym (ap (take cpus) (drop_at (take start flat) (row ++ rest) start front) ∙ take_at row rest cpus wide)))
+    ∙ sym (ap (take cpus) (drop_at (take start flat) (row ++ rest) start prefix) ∙ take_at row rest cpus wide)))
     (λ apart.
     let kept : row_in cpus new other ≡ row_in cpus flat other = row_beside cpus slots flat row slot other long below wide within apart in
     get_or-set_other rows slot other row [] apart ∙ get_or-rows_of cpus slots flat other [] within ∙ sym kept)

@@ -45,7 +45,7 @@ pub fn share(deltas: &[Times]) -> Amounts
 pub fn share_since(now: &[Times], before: &[Times]) -> Amounts
     requires few { length now.now ≤ 64 }
     requires each { length before.now ≡ length now.now }
-    requires kept { NoneFell before.now now.now }
+    requires unchanged { NoneFell before.now now.now }
     requires short { All (AreTimesWithin longest_tick (longest_tick + longest_irq))
         (growths before.now now.now) }
     ensures { result ≡ model.shares (growths before.now now.now) }

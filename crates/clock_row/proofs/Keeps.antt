@@ -9,7 +9,7 @@ use Rattle.atomic_table.proofs.Lists.{at_longer, at_set, at_snoc, set_again, set
 use Rattle.plan_laws.specs.Plan.{PlanView}
 use Rattle.clock_row.specs.Words.{AreClockWords, StoodTogether}
 use Rattle.clock_row.specs.Row.{HoldsRule, IsWholeRow, Knows, KnowsLoaded, RowState, open_bit, sequence, writer_at_start}
-use Rattle.clock_row.specs.Steps.{BeginKeeps, CloseKeeps, EndKeeps, LoadKeeps, OpenKeeps, OwnKeeps, PutKeeps, ReaderTakesNote, SplitKeeps, StartHolds, WriterTakesNote, begun_by, change_opened, closed, count_shown, count_told, ended, ended_by, loaded_at, loaded_too, note_of, put_at, reader_of, try_begun, with_note}
+use Rattle.clock_row.specs.Steps.{BeginKeeps, CloseKeeps, EndKeeps, LoadKeeps, OpenKeeps, OwnKeeps, PutKeeps, ReaderTakesNote, SplitKeeps, StartHolds, WriterTakesNote, begun_by, change_opened, closed, count_shown, count_known, ended, ended_by, loaded_at, loaded_too, note_of, put_at, reader_of, try_begun, with_note}
 use Rattle.clock_row.specs.declared.view.WriterView.{WriterView}
 use Rattle.clock_row.specs.declared.view.ReaderView.{ReaderView}
 use Rattle.clock_row.specs.declared.view.Note.{Note}
@@ -83,16 +83,16 @@ reader_knows s r id v q is at = subst (Knows r.0 r.1 id) is (r.2.each id v at)
 
 -- a store of the writer
 writer_steps : (s : RowState) (id : ℕ) (w w' : WriterView) → IsWholeRow id w s → (i x : ℕ) (cs : List (ℕ × Unit {0})) → set (sequence w ∷ w.body) i x ≡ sequence w' ∷ w'.body → w'.plan ≡ w.plan
-    → sequence w ≤ sequence w' → (sequence w' % 2 ≡ 0 → sequence w < sequence w') → 2 * w'.told ≤ sequence w' → (w'.changing ≡ false → AreClockWords w'.plan w'.count w'.body)
+    → sequence w ≤ sequence w' → (sequence w' % 2 ≡ 0 → sequence w < sequence w') → 2 * w'.known ≤ sequence w' → (w'.changing ≡ false → AreClockWords w'.plan w'.count w'.body)
     → HoldsRule (stepped s i x id cs (Writer w') keeps)
-writer_steps s id w w' r i x cs words plan more grows told rest = (
+writer_steps s id w w' r i x cs words plan more grows reported rest = (
   id,
   w',
   record {
     here = set_there s.views id (Writer w) (Writer w') r.here;
     words = ap (λ ws. set ws i x) r.words ∙ words;
     each = views_stay (Knows id w') s.views id (Writer w') (refl, refl) (λ j v other e. others_know id w w' plan more grows j other v (r.each j v e));
-    told = told;
+    known = reported;
     at_rest = rest;
   },
 )
@@ -110,7 +110,7 @@ guest_steps s r i id cs v other knows = let row = r.2 in (
     here = set_else s.views id r.0 v (λ e. other (sym e)) ∙ row.here;
     words = set-get_or s.words i 0 ∙ row.words;
     each = views_stay (Knows r.0 r.1) s.views id v knows (λ j w _ e. row.each j w e);
-    told = row.told;
+    known = row.known;
     at_rest = row.at_rest;
   },
 )
@@ -118,7 +118,7 @@ guest_steps s r i id cs v other knows = let row = r.2 in (
 -- ---- 1 to 4: the writer
 
 pub open_keeps : OpenKeeps
-open_keeps slots id me w x is number still s r _ at _ = let row = mine s id me.0 w is r at in let zero_bit : open_bit w.changing ≡ 0 = ap open_bit still in let told = row.told in (
+open_keeps slots id me w x is number still s r _ at _ = let row = mine s id me.0 w is r at in let zero_bit : open_bit w.changing ≡ 0 = ap open_bit still in let reported = row.known in (
   Writer (change_opened w),
   keeps,
   tt,
@@ -131,12 +131,12 @@ put_keeps slots id me w p x is during s r _ at _ = let row = mine s id me.0 w is
   Writer (put_at ((p + 1) - 1) x w),
   keeps,
   tt,
-  writer_steps s id w (put_at ((p + 1) - 1) x w) row (p + 1) x me.1 (set_next (sequence w) x p w.body ∙ ap (λ (q : ℕ). sequence w ∷ set w.body q x) back) refl (le_refl (sequence w)) (λ even. absurd (omega arith)) row.told (λ e. absurd (cc)),
+  writer_steps s id w (put_at ((p + 1) - 1) x w) row (p + 1) x me.1 (set_next (sequence w) x p w.body ∙ ap (λ (q : ℕ). sequence w ∷ set w.body q x) back) refl (le_refl (sequence w)) (λ even. absurd (omega arith)) row.known (λ e. absurd (cc)),
   λ w' is'. cc,
 )
 
 pub close_keeps : CloseKeeps
-close_keeps slots id me w x is number during right s r _ at _ = let row = mine s id me.0 w is r at in let one_bit : open_bit w.changing ≡ 1 = ap open_bit during in let told = row.told in (
+close_keeps slots id me w x is number during right s r _ at _ = let row = mine s id me.0 w is r at in let one_bit : open_bit w.changing ≡ 1 = ap open_bit during in let reported = row.known in (
   Writer (closed w),
   keeps,
   tt,
@@ -150,7 +150,7 @@ own_keeps slots id i me s r _ at _ = (
   keeps,
   tt,
   subst HoldsRule (sym (unchanged s i id me.1 me.0 at)) r,
-  (refl, λ w is. let row = mine s id me.0 w is r at in (ap (λ ws. get_or ws i 0) row.words, row.told)),
+  (refl, λ w is. let row = mine s id me.0 w is r at in (ap (λ ws. get_or ws i 0) row.words, row.known)),
 )
 
 -- ---- 5 to 7: a reader
@@ -224,7 +224,7 @@ cuts id v right knows s r at = let row = r.2 in let same = set_again s.views id 
     words = row.words;
     each = λ j w e. ⊎_elim (λ (t : get_elem? (set s.views id v) j ≡ some w). row.each j w (sym (ap (λ vs. get_elem? vs j) same) ∙ t))
         (λ (t : right ≡ w). subst (Knows r.0 r.1 j) t (knows r.0 r.1 j (row.each id v at))) (at_snoc (set s.views id v) right w j e);
-    told = row.told;
+    known = row.known;
     at_rest = row.at_rest;
   },
 )
@@ -248,7 +248,7 @@ split_keeps id v = (cuts id v (reader_of v) (new_reader_knows v id), cuts id v (
 
 reader_meets : (id : ℕ) (q : ReaderView) (other : ℕ) (n : Note) → Joins HoldsRule id (Reader q) other (Noted n) (Reader (count_shown n.number q)) Spent
 reader_meets id q other n s r at apart there = let row = r.2 in let was : get_elem? s.views other ≡ some (Noted n) = sym (set_else s.views id other (Reader (count_shown n.number q)) apart) ∙ there in
-    let known = reader_knows s r id (Reader q) q refl at in let seen : 2 * q.seen ≤ sequence r.1 = known.1 in let told : 2 * n.number ≤ sequence r.1 = (row.each other (Noted n) was).1 in
+    let known = reader_knows s r id (Reader q) q refl at in let seen : 2 * q.seen ≤ sequence r.1 = known.1 in let reported : 2 * n.number ≤ sequence r.1 = (row.each other (Noted n) was).1 in
     let first : r.0 ≢ id = λ e. guest s r id (Reader q) q refl at (sym e) in let second : r.0 ≢ other = λ e. note_apart s r other n was (sym e) in
     let views : List View = set s.views id (Reader (count_shown n.number q)) in (
       r.0,
@@ -257,29 +257,29 @@ reader_meets id q other n s r at apart there = let row = r.2 in let was : get_el
         here = set_else views other r.0 Spent second ∙ (set_else s.views id r.0 (Reader (count_shown n.number q)) first ∙ row.here);
         words = row.words;
         each = views_stay (Knows r.0 r.1) views other Spent tt (λ j w _. views_stay (Knows r.0 r.1) s.views id (Reader (count_shown n.number q)) (known.0, omega arith, known.2) (λ i x _. row.each i x) j w);
-        told = row.told;
+        known = row.known;
         at_rest = row.at_rest;
       },
     )
 
-told_know : (seat : ℕ) (w : WriterView) (k other : ℕ) → other ≢ seat → (v : View) → Knows seat w other v → Knows seat (count_told k w) other v
-told_know seat w k other apart Spent known = tt
-told_know seat w k other apart (Noted n) known = known
-told_know seat w k other apart (Writer v) known = absurd (apart known.0)
-told_know seat w k other apart (Reader r) known = known
+known_know : (seat : ℕ) (w : WriterView) (k other : ℕ) → other ≢ seat → (v : View) → Knows seat w other v → Knows seat (count_known k w) other v
+known_know seat w k other apart Spent known = tt
+known_know seat w k other apart (Noted n) known = known
+known_know seat w k other apart (Writer v) known = absurd (apart known.0)
+known_know seat w k other apart (Reader r) known = known
 
-writer_settles : (id : ℕ) (w : WriterView) (other : ℕ) (n : Note) → Joins HoldsRule id (Writer w) other (Noted n) (Writer (count_told n.number w)) Spent
-writer_settles id w other n s r at apart there = let row = mine s id (Writer w) w refl r at in let was : get_elem? s.views other ≡ some (Noted n) = sym (set_else s.views id other (Writer (count_told n.number w)) apart) ∙ there in
-    let told : 2 * n.number ≤ sequence w = (row.each other (Noted n) was).1 in let before = row.told in
-    let views : List View = set s.views id (Writer (count_told n.number w)) in (
+writer_settles : (id : ℕ) (w : WriterView) (other : ℕ) (n : Note) → Joins HoldsRule id (Writer w) other (Noted n) (Writer (count_known n.number w)) Spent
+writer_settles id w other n s r at apart there = let row = mine s id (Writer w) w refl r at in let was : get_elem? s.views other ≡ some (Noted n) = sym (set_else s.views id other (Writer (count_known n.number w)) apart) ∙ there in
+    let reported : 2 * n.number ≤ sequence w = (row.each other (Noted n) was).1 in let before = row.known in
+    let views : List View = set s.views id (Writer (count_known n.number w)) in (
       id,
-      count_told n.number w,
+      count_known n.number w,
       record {
-        here = set_else views other id Spent (λ e. apart (sym e)) ∙ set_there s.views id (Writer w) (Writer (count_told n.number w)) at;
+        here = set_else views other id Spent (λ e. apart (sym e)) ∙ set_there s.views id (Writer w) (Writer (count_known n.number w)) at;
         words = row.words;
-        each = views_stay (Knows id (count_told n.number w)) views other Spent tt
-            (λ j v _. views_stay (Knows id (count_told n.number w)) s.views id (Writer (count_told n.number w)) (refl, refl) (λ i x away e. told_know id w n.number i away x (row.each i x e)) j v);
-        told = omega arith;
+        each = views_stay (Knows id (count_known n.number w)) views other Spent tt
+            (λ j v _. views_stay (Knows id (count_known n.number w)) s.views id (Writer (count_known n.number w)) (refl, refl) (λ i x away e. known_know id w n.number i away x (row.each i x e)) j v);
+        known = omega arith;
         at_rest = row.at_rest;
       },
     )
@@ -304,7 +304,7 @@ start_holds plan body right = (
     here = refl;
     words = refl;
     each = λ j v e. first_knows plan body j v e;
-    told = le_refl 0;
+    known = le_refl 0;
     at_rest = λ _. right;
   },
 )

@@ -4,7 +4,7 @@ use mathlib.Core.Logic.{dite}
 use native.Mathlib.Decide.{ℕ_discrete}
 use Rattle.psi_counts.specs.Clock.{AreWordsOfClock, ClockView, words_of, zero_clock}
 use Rattle.plan_laws.specs.Plan.{IsClock, PlanView}
-use Rattle.psi_counts.proofs.ClockLaws.{words_tell_clock}
+use Rattle.psi_counts.proofs.ClockLaws.{words_show_clock}
 use Rattle.clock_row.specs.Words.{Agrees, AreClock, ClockWasLoaded, ClocksWereLoaded, StaysLoaded, StoodTogether, WereLoaded, words_at}
 use Rattle.clock_row.specs.Steps.{begun_by, loaded_at, loaded_too, try_begun}
 use Rattle.clock_row.specs.Seats.{as_reader, loaded_in, with_attempt}
@@ -76,7 +76,7 @@ sample_words plan slot k loaded words below stood were wide = let all = stood.1.
 
 -- a clock whose words are the clock of a slot is that slot's clock
 pub same_words : (plan : PlanView) (slot k : ℕ) (words : List ℕ) (clock : ClockView) → AreClock plan slot k words → words_of clock ≡ words → IsClock clock plan slot k
-same_words plan slot k words clock are is = subst (λ (c : ClockView). IsClock c plan slot k) (sym (words_tell_clock clock are.0 (is ∙ are.1))) are.2
+same_words plan slot k words clock are is = subst (λ (c : ClockView). IsClock c plan slot k) (sym (words_show_clock clock are.0 (is ∙ are.1))) are.2
 
 pub all_sampled : (plan : PlanView) (k : ℕ) (loaded : List (ℕ × ℕ)) (clocks : List ClockView) → length clocks ≡ length plan.parents → StoodTogether plan k loaded → ClocksWereLoaded loaded (length clocks) clocks
     → (slot : ℕ) → slot < length plan.parents → IsClock (get_or clocks slot zero_clock) plan slot k

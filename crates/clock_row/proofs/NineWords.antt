@@ -27,23 +27,23 @@ put_elsewhere n from a xs before after p apart room = let same = p.wide in let w
 -- ---- a clock's words
 
 -- the mask follows the seven times
-mask_behind : (times : List ℕ) (mask start : ℕ) → length times ≡ 7 → get_or (times ++ mask ∷ start ∷ []) 7 0 ≡ mask
-mask_behind (a ∷ b ∷ c ∷ d ∷ e ∷ f ∷ g ∷ []) mask start seven = refl
-mask_behind [] mask start seven = absurd (omega (arith, seven))
-mask_behind (a ∷ []) mask start seven = absurd (omega (arith, seven))
-mask_behind (a ∷ b ∷ []) mask start seven = absurd (omega (arith, seven))
-mask_behind (a ∷ b ∷ c ∷ []) mask start seven = absurd (omega (arith, seven))
-mask_behind (a ∷ b ∷ c ∷ d ∷ []) mask start seven = absurd (omega (arith, seven))
-mask_behind (a ∷ b ∷ c ∷ d ∷ e ∷ []) mask start seven = absurd (omega (arith, seven))
-mask_behind (a ∷ b ∷ c ∷ d ∷ e ∷ f ∷ []) mask start seven = absurd (omega (arith, seven))
-mask_behind (a ∷ b ∷ c ∷ d ∷ e ∷ f ∷ g ∷ h ∷ more) mask start seven = absurd (omega (arith, seven))
+mask_after : (times : List ℕ) (mask start : ℕ) → length times ≡ 7 → get_or (times ++ mask ∷ start ∷ []) 7 0 ≡ mask
+mask_after (a ∷ b ∷ c ∷ d ∷ e ∷ f ∷ g ∷ []) mask start seven = refl
+mask_after [] mask start seven = absurd (omega (arith, seven))
+mask_after (a ∷ []) mask start seven = absurd (omega (arith, seven))
+mask_after (a ∷ b ∷ []) mask start seven = absurd (omega (arith, seven))
+mask_after (a ∷ b ∷ c ∷ []) mask start seven = absurd (omega (arith, seven))
+mask_after (a ∷ b ∷ c ∷ d ∷ []) mask start seven = absurd (omega (arith, seven))
+mask_after (a ∷ b ∷ c ∷ d ∷ e ∷ []) mask start seven = absurd (omega (arith, seven))
+mask_after (a ∷ b ∷ c ∷ d ∷ e ∷ f ∷ []) mask start seven = absurd (omega (arith, seven))
+mask_after (a ∷ b ∷ c ∷ d ∷ e ∷ f ∷ g ∷ h ∷ more) mask start seven = absurd (omega (arith, seven))
 
 -- so it does in the words of a slot
 mask_in : (body : List ℕ) (slot : ℕ) → mask_at body slot ≡ get_or (words_at body slot) 7 0
 mask_in body slot = sym (get_or-drop (9 * slot) body 7 0) ∙ sym (get_or-take 9 (drop (9 * slot) body) 7 0 (omega arith))
 
 pub mask_is : (body : List ℕ) (slot : ℕ) (clock : ClockView) → words_at body slot ≡ words_of clock → IsWholeClock clock → mask_at body slot ≡ clock.mask
-mask_is body slot clock are whole = mask_in body slot ∙ (ap (λ (words : List ℕ). get_or words 7 0) are ∙ mask_behind clock.times clock.mask clock.start whole.times)
+mask_is body slot clock are whole = mask_in body slot ∙ (ap (λ (words : List ℕ). get_or words 7 0) are ∙ mask_after clock.times clock.mask clock.start whole.times)
 
 -- the same words have the same mask
 pub masks_same : (one other : List ℕ) (slot : ℕ) → words_at one slot ≡ words_at other slot → mask_at one slot ≡ mask_at other slot
@@ -93,14 +93,14 @@ masked_whole words nine = whole_words (set words 7 (bit_and (get_or words 7 0) 1
 -- those of a clock have no others
 pub masked_same : (words : List ℕ) → AreWordsOfClock words → set words 7 (bit_and (get_or words 7 0) 127) ≡ words
 masked_same words are =
-    let mask : get_or words 7 0 ≡ are.0.mask = ap (λ (ws : List ℕ). get_or ws 7 0) are.1 ∙ mask_behind are.0.times are.0.mask are.0.start are.2.times in
+    let mask : get_or words 7 0 ≡ are.0.mask = ap (λ (ws : List ℕ). get_or ws 7 0) are.1 ∙ mask_after are.0.times are.0.mask are.0.start are.2.times in
     let small : get_or words 7 0 < 128 = omega (arith, mask, are.2.mask) in
     let bits = small_bits (get_or words 7 0) in
     let same : bit_and (get_or words 7 0) 127 ≡ get_or words 7 0 = omega (arith, bits, small) in
     ap (set words 7) same ∙ set-get_or words 7 0
 
 pub nine_words : (words : List ℕ) → AreWordsOfClock words → length words ≡ 9
-nine_words words are = let behind = length-append are.0.times (are.0.mask ∷ are.0.start ∷ []) in ap length are.1 ∙ omega (arith, behind, are.2.times)
+nine_words words are = let suffix = length-append are.0.times (are.0.mask ∷ are.0.start ∷ []) in ap length are.1 ∙ omega (arith, suffix, are.2.times)
 
 pub nine_of : (clock : ClockView) → IsWholeClock clock → length (words_of clock) ≡ 9
 nine_of clock whole = nine_words (words_of clock) (clock, refl, whole)

@@ -210,8 +210,8 @@ all_four P a b c d of_a of_b of_c of_d (suc (suc (suc (suc n)))) x inside = absu
 
 -- if P holds for a list's first element and for its rest, it holds for all
 all_more : (P : Option Slot → Type 0) (first : Option Slot) (rest : List (Option Slot)) → P first → All P rest → All P (first ∷ rest)
-all_more P first rest here behind zero x inside = here
-all_more P first rest here behind (suc i) x inside = behind i x (omega (arith, inside))
+all_more P first rest here suffix zero x inside = here
+all_more P first rest here suffix (suc i) x inside = suffix i x (omega (arith, inside))
 
 all_rest : (P : Option Slot → Type 0) (first : Option Slot) (rest : List (Option Slot)) → All P (first ∷ rest) → All P rest
 all_rest P first rest all i x inside = all (suc i) x (omega (arith, inside))

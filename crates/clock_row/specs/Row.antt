@@ -53,7 +53,7 @@ pub record IsWholeRow (seat : ℕ) (writer : WriterView) (row : RowState) : Type
   pub here : get_elem? row.views seat ≡ some (Writer writer)
   pub words : row.words ≡ sequence writer ∷ writer.body
   pub each : (other : ℕ) (view : View) → get_elem? row.views other ≡ some view → Knows seat writer other view
-  pub told : 2 * writer.told ≤ sequence writer
+  pub known : 2 * writer.known ≤ sequence writer
   pub at_rest : writer.changing ≡ false → AreClockWords writer.plan writer.count writer.body
 
 -- The invariant: it is a row with some writer.
@@ -62,7 +62,7 @@ HoldsRule row = (seat : ℕ) × (writer : WriterView) × IsWholeRow seat writer 
 
 -- the writer's view before the first change, with these words after the sequence number
 abbrev pub writer_at_start : PlanView → List ℕ → WriterView
-writer_at_start plan body = record { plan = plan; count = 0; body = body; changing = false; told = 0 }
+writer_at_start plan body = record { plan = plan; count = 0; body = body; changing = false; known = 0 }
 
 -- the first view of a row: the writer's, before the first change
 abbrev pub first_view : PlanView → View

@@ -62,7 +62,7 @@ abbrev pub Owns : RowStep → Sitter → ℕ → Sitter → Type 0
 Owns step before word after =
     (after.0 ≡ before.0)
     × ((writer : WriterView) → before.0 ≡ Writer writer
-    → (word ≡ slice_index (sequence writer ∷ writer.body) step.word) × (2 * writer.told ≤ sequence writer))
+    → (word ≡ slice_index (sequence writer ∷ writer.body) step.word) × (2 * writer.known ≤ sequence writer))
 
 -- ---- 5 to 7: a reader
 
@@ -152,13 +152,13 @@ abbrev pub count_shown : ℕ → ReaderView → ReaderView
 count_shown number reader = record reader { seen = max reader.seen number }
 
 -- a writer to whom at least this many changes were reported
-abbrev pub count_told : ℕ → WriterView → WriterView
-count_told number writer = record writer { told = max writer.told number }
+abbrev pub count_known : ℕ → WriterView → WriterView
+count_known number writer = record writer { known = max writer.known number }
 
 -- after it takes a note, a reader has seen the note's count, or the count was reported to the
 -- writer
 abbrev pub with_note : View → View → View
-with_note (Writer writer) note = Writer (count_told (number_noted note) writer)
+with_note (Writer writer) note = Writer (count_known (number_noted note) writer)
 with_note (Reader reader) note = Reader (count_shown (number_noted note) reader)
 with_note view note = view
 

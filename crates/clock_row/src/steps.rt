@@ -3,7 +3,7 @@ ghost use Rattle.std.specs.Prelude.{◌≡◌, ◌+◌, ◌*◌, ◌/◌, ◌^�
 ghost use Rattle.clock_row.specs.declared.view.View.TheVariants.{Reader, Writer};
 ghost use Rattle.clock_row.specs.Words.{AreClockWords, StoodTogether};
 ghost use Rattle.clock_row.specs.Row.{sequence};
-ghost use Rattle.clock_row.specs.Steps.{change_opened, closed, count_shown, count_told, ended, loaded_at, new_reader, number_noted, put_at, try_begun};
+ghost use Rattle.clock_row.specs.Steps.{change_opened, closed, count_shown, count_known, ended, loaded_at, new_reader, number_noted, put_at, try_begun};
 ghost use Rattle.clock_row.specs.Seats.{IsNote, IsReader, IsSameSeat, IsTrying, IsWriter, loaded_in, reader_on, writer_on};
 
 use crate::plays::{
@@ -74,7 +74,7 @@ pub(crate) fn own_number(board: &Board, seat: &mut RowSeat)
     requires writer { IsWriter seat.old }
     ensures seat { IsSameSeat seat.old seat.new }
     ensures view { seat.new.me.0 ≡ seat.old.me.0 }
-    ensures told { 2 * (writer_on seat.old).told ≤ sequence (writer_on seat.old) }
+    ensures known { 2 * (writer_on seat.old).known ≤ sequence (writer_on seat.old) }
 {
     board.shared.load::<Owning>(seat, 0);
 }
@@ -179,7 +179,7 @@ pub(crate) fn show_note(board: &Board, seat: &mut RowSeat, note: RowSeat)
 }
 
 /// The writer takes a note.
-pub(crate) fn tell_note(board: &Board, seat: &mut RowSeat, note: RowSeat)
+pub(crate) fn publish_note(board: &Board, seat: &mut RowSeat, note: RowSeat)
     requires board { seat.old.table_id ≡ board.now.shared.table_id }
     requires words { 0 < board.now.shared.table_id.words }
     requires row { note.table_id ≡ board.now.shared.table_id }
@@ -188,7 +188,7 @@ pub(crate) fn tell_note(board: &Board, seat: &mut RowSeat, note: RowSeat)
     requires writer { IsWriter seat.old }
     ensures seat { IsSameSeat seat.old seat.new }
     ensures view { seat.new.me.0 ≡
-        Writer (count_told (number_noted note.me.0) (writer_on seat.old)) }
+        Writer (count_known (number_noted note.me.0) (writer_on seat.old)) }
 {
     board.shared.join_seat::<TakenNote>(seat, note);
 }

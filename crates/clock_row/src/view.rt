@@ -16,7 +16,7 @@ pub struct WriterView {
     /// A change is open: words are being stored.
     pub changing: bool,
     /// The greatest number of changes that a reader reported to it.
-    pub told: u64,
+    pub known: u64,
 }
 
 /// A try to read words that were in the row together.

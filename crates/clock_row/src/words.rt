@@ -66,7 +66,7 @@ pub(crate) fn load_words(board: &Board, seat: &mut RowSeat, from: usize, first: 
     ensures view { HasLoaded seat.old seat.new }
     ensures trying { IsTrying first seat.new }
     ensures words { WereLoaded (loaded_in (reader_on seat.new).attempt) from 9 result }
-    ensures kept { StaysLoaded (loaded_in (reader_on seat.old).attempt)
+    ensures unchanged { StaysLoaded (loaded_in (reader_on seat.old).attempt)
         (loaded_in (reader_on seat.new).attempt) }
 {
     let mut words = [0; WORDS];

@@ -4,12 +4,12 @@ ghost use Rattle.atomic_table.specs.Seated.{TableId};
 ghost use Rattle.psi_counts.specs.Clock.{words_of};
 ghost use Rattle.plan_laws.specs.Plan.{IsClock, IsPlan, planned_irq};
 ghost use Rattle.clock_row.specs.Row.{writer_at_start};
-ghost use Rattle.clock_row.specs.Steps.{count_shown, count_told, new_reader};
+ghost use Rattle.clock_row.specs.Steps.{count_shown, count_known, new_reader};
 ghost use Rattle.clock_row.specs.Words.{AreClockWords, StayByMask, words_at};
 
 use crate::change::make_change;
 use crate::reader::ClockReader;
-use crate::steps::{note_count, note_seen, own_number, show_note, split_reader, tell_note};
+use crate::steps::{note_count, note_seen, own_number, publish_note, show_note, split_reader};
 use crate::view::{Board, RowSeat};
 use crate::words::{WORDS, own_words};
 use atomic_table::Table;
@@ -101,9 +101,9 @@ impl<'a> ProcClocks for ClockWriter<'a> {
         ensures plan { self.new.knows.plan ≡ self.old.knows.plan }
         ensures made { self.new.knows.count ≡ self.old.knows.count + 1 }
         ensures row { self.new.row ≡ self.old.row }
-        ensures told { self.new.knows.told ≡ self.old.knows.told }
+        ensures known { self.new.knows.known ≡ self.old.knows.known }
         ensures words { AreClockWords self.new.knows.plan self.new.knows.count self.new.knows.body }
-        ensures kept { StayByMask self.new.knows.plan self.old.knows.body self.new.knows.body }
+        ensures unchanged { StayByMask self.new.knows.plan self.old.knows.body self.new.knows.body }
     {
         make_change(&self.board, &mut self.seat, self.plan, &mut self.clocks);
     }
@@ -170,12 +170,12 @@ impl<'a> ClockWriter<'a> {
         requires { reader.old.row ≡ self.old.row }
         ensures ok { result ≡ Ok tt }
         ensures row { self.new.row ≡ self.old.row }
-        ensures told { self.new.knows ≡ count_told reader.old.knows.seen self.old.knows }
+        ensures known { self.new.knows ≡ count_known reader.old.knows.seen self.old.knows }
         ensures same { reader.new ≡ reader.old }
         ensures seen { reader.old.knows.seen ≤ self.old.knows.count }
     {
         let note = note_seen(&self.board, &mut reader.seat);
-        tell_note(&self.board, &mut self.seat, note);
+        publish_note(&self.board, &mut self.seat, note);
         own_number(&self.board, &mut self.seat);
         Ok(())
     }

@@ -104,7 +104,7 @@ impl Clock {
         requires { IsInTime self.old at }
         ensures mask { self.new.mask ≡ mask }
         ensures follows { ClockFollows self.old at self.new }
-        ensures kept { mask ≡ self.old.mask → self.new ≡ self.old }
+        ensures unchanged { mask ≡ self.old.mask → self.new ≡ self.old }
         ensures whole { IsWholeClock self.new }
     {
         if mask.bits() != self.mask.bits() {

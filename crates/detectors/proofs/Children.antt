@@ -18,8 +18,8 @@ use Rattle.kill_spec.specs.Readings.{path_of}
 use Rattle.kill_spec.specs.LegalReadings.{Ascend, IsGroupReading}
 use Rattle.kill_spec.specs.Victims.{names_slot}
 use Rattle.kill_spec.proofs.Foremost.{by_test}
-use Rattle.detectors.specs.Below.{AreAmong, AreHeld, HasPlaced, PlacesView, child_count}
-use Rattle.detectors.specs.Below.{group_at, groups_at, is_child, no_group}
+use Rattle.detectors.specs.Inner.{AreAmong, AreHeld, HasPlaced, PlacesView, child_count}
+use Rattle.detectors.specs.Inner.{group_at, groups_at, is_child, no_group}
 use Rattle.detectors.proofs.Order.{either, slots_differ, slots_in}
 
 -- ---- places
@@ -101,12 +101,12 @@ has_number : (test : Option ℕ → Bool) (at k : ℕ) (parents : List (Option �
 has_number test at k [] below passes = absurd (omega (arith, below))
 has_number test at zero (parent ∷ parents) below passes = rw passes (grind arith)
 has_number test at (suc k) (parent ∷ parents) below passes =
-    let behind : list_any (eqb (suc at + k)) (numbers_from test (suc at) parents) ≡ true =
+    let suffix : list_any (eqb (suc at + k)) (numbers_from test (suc at) parents) ≡ true =
     has_number test (suc at) k parents (omega (arith, below)) passes in
     let same : at + suc k ≡ suc at + k = omega arith in
     rw same (by_test _ (test parent)
-    (λ holds. rw (holds, behind) (or-true (eqb (suc at + k) at)))
-    (λ fails. rw fails behind))
+    (λ holds. rw (holds, suffix) (or-true (eqb (suc at + k) at)))
+    (λ fails. rw fails suffix))
 
 -- a slot among those of the children of a group has it as its parent
 child_in : (lives : List GroupLife) (slot s : ℕ) (groups : List GroupReading) →
@@ -120,7 +120,7 @@ child_in lives slot s (group ∷ groups) each is =
     (λ holds. ⊎_elim
     (λ here. let same = eqb-true s group.slot.0 here in
     (rw same (each 0 group (omega arith)).slot, rw same holds))
-    (λ behind. child_in lives slot s groups rest behind)
+    (λ suffix. child_in lives slot s groups rest suffix)
     (either (eqb s group.slot.0) (list_any (eqb s) (slots_in (filter (is_child lives slot) groups))) (rw holds at is)))
     (λ fails. child_in lives slot s groups rest (rw fails at is))
 

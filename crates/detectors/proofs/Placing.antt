@@ -11,7 +11,7 @@ use Rattle.kill_spec.specs.LegalReadings.{Ascend, IsGroupReading}
 use Rattle.kill_spec.specs.Victims.{names_slot}
 use Rattle.kill_spec.proofs.Foremost.{by_test}
 use Rattle.detectors.specs.Views.{ComesLast, IsReadingView, ReadingView}
-use Rattle.detectors.specs.Below.{AreHeld, ArePlaces, HasPlaced, PlacesView, child_count, group_at, is_child}
+use Rattle.detectors.specs.Inner.{AreHeld, ArePlaces, HasPlaced, PlacesView, child_count, group_at, is_child}
 use Rattle.detectors.proofs.Order.{at_most_slots, each_more}
 use Rattle.detectors.proofs.Children.{at_most_children, held_more, one_more}
 
@@ -107,9 +107,9 @@ fewer_pass test (group ∷ groups) =
     let rest = fewer_pass test groups in
     by_test _ (test group) (λ holds. rw holds (omega (arith, rest))) (λ fails. rw fails (omega (arith, rest)))
 
-pub few_held : (reading : ReadingView) (test : GroupReading → Bool) (room : ℕ) (held : PlacesView) →
+pub few_buffered : (reading : ReadingView) (test : GroupReading → Bool) (room : ℕ) (held : PlacesView) →
     IsReadingView reading → AreHeld test reading.seen.groups room held → length held.places ≤ 1024
-few_held reading test room held view is =
+few_buffered reading test room held view is =
     let lives = reading.lives in
     let groups = reading.seen.groups in
     omega (arith, held_count test groups room held is, fewer_pass test groups, at_most_slots lives groups view.within.each view.within.order, view.few)

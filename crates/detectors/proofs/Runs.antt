@@ -15,12 +15,12 @@ run_by None last true now by later = omega arith
 run_by (Some start) None true now by later = absurd by
 run_by (Some start) (Some last) true now by later = omega (arith, by, later)
 
-pub rose_by : (rose last : Option ℕ) (risen : Bool) (now : ℕ) → IsBy rose last → IsAfter last now →
-    IsBy (if risen then Some now else rose) (Some now)
-rose_by rose last true now by later = omega arith
-rose_by None last false now by later = tt
-rose_by (Some moment) None false now by later = absurd by
-rose_by (Some moment) (Some last) false now by later = omega (arith, by, later)
+pub increased_by : (increased last : Option ℕ) (risen : Bool) (now : ℕ) → IsBy increased last → IsAfter last now →
+    IsBy (if risen then Some now else increased) (Some now)
+increased_by increased last true now by later = omega arith
+increased_by None last false now by later = tt
+increased_by (Some moment) None false now by later = absurd by
+increased_by (Some moment) (Some last) false now by later = omega (arith, by, later)
 
 -- ---- tests
 
@@ -59,11 +59,11 @@ long_next (Some start) (Some last) true now duration at by later =
 -- ---- rises
 
 -- the time of the last rise after one more reading
-pub recent_next : (rose last : Option ℕ) (risen : Bool) (now duration at : ℕ) → IsBy rose last →
+pub recent_next : (increased last : Option ℕ) (risen : Bool) (now duration at : ℕ) → IsBy increased last →
     IsAfter last now →
-    ((nat_le (at - now) duration && risen) || is_recent rose duration at)
-    ≡ is_recent (if risen then Some now else rose) duration at
-recent_next rose last false now duration at by later = and_false (nat_le (at - now) duration) (is_recent rose duration at)
+    ((nat_le (at - now) duration && risen) || is_recent increased duration at)
+    ≡ is_recent (if risen then Some now else increased) duration at
+recent_next increased last false now duration at by later = and_false (nat_le (at - now) duration) (is_recent increased duration at)
 recent_next None last true now duration at by later = stronger (nat_le (at - now) duration) false (λ is. absurd cc)
 recent_next (Some moment) None true now duration at by later = absurd by
 recent_next (Some moment) (Some last) true now duration at by later =

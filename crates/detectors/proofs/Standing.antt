@@ -16,7 +16,7 @@ use Rattle.detectors.specs.Views.{DetectorView, IsAfter, IsBy, ReadingView}
 use Rattle.detectors.specs.Tables.{IsTaken, answer_by, answer_of, condition_among, found, has}
 use Rattle.detectors.specs.Tables.{detector_patterns, have_risen, is_recent, keeps_scans, matched_after}
 use Rattle.detectors.specs.Tables.{run_after, scan_in, scan_of, match_table, begun}
-use Rattle.detectors.specs.Stands.{IsMatchTable, StandsFor, condition_of, greatest_kept, newest_moment}
+use Rattle.detectors.specs.Stands.{IsMatchTable, Represents, condition_of, greatest_kept, newest_moment}
 use Rattle.detectors.specs.Stands.{last_scan}
 use Rattle.detectors.proofs.Runs.{long_next, recent_next}
 use Rattle.detectors.proofs.Finding.{AreWithin, condition_met, found_matches, found_some}
@@ -32,7 +32,7 @@ table_known lives spec [] matched is = refl
 table_known lives spec (reading ∷ past) matched is = is
 
 begun_table : (old : DetectorView) (lives : List GroupLife) (spec : DetectorSpec) (history : List Reading) →
-    StandsFor old lives spec history → (begun old lives).matched ≡ match_table lives (detector_patterns spec)
+    Represents old lives spec history → (begun old lives).matched ≡ match_table lives (detector_patterns spec)
 begun_table old lives spec history stands =
     rw (stands.last, stands.spec_is) (table_known lives spec history old.matched stands.matched)
 
@@ -52,22 +52,22 @@ counts_kept false scans history is each slot = absurd cc
 
 -- ---- rises
 
-rises_next : (keeps risen scanned : Bool) (rose last : Option ℕ) (within : Bool) (now duration at : ℕ) →
-    (keeps ≡ true → risen ≡ scanned) → IsBy rose last → IsAfter last now →
-    (if keeps then within else false) ≡ is_recent rose duration at →
+rises_next : (keeps risen scanned : Bool) (increased last : Option ℕ) (within : Bool) (now duration at : ℕ) →
+    (keeps ≡ true → risen ≡ scanned) → IsBy increased last → IsAfter last now →
+    (if keeps then within else false) ≡ is_recent increased duration at →
     (if keeps then (nat_le (at - now) duration && scanned) || within else false)
-    ≡ is_recent (if keeps && risen then Some now else rose) duration at
-rises_next true risen scanned rose last within now duration at same by later is =
-    rw (is, ← same refl) (recent_next rose last risen now duration at by later)
-rises_next false risen scanned rose last within now duration at same by later is = is
+    ≡ is_recent (if keeps && risen then Some now else increased) duration at
+rises_next true risen scanned increased last within now duration at same by later is =
+    rw (is, ← same refl) (recent_next increased last risen now duration at by later)
+rises_next false risen scanned increased last within now duration at same by later is = is
 
 -- ---- one reading more
 
-pub stands_next : (old : DetectorView) (reading : ReadingView) (new : DetectorView) (spec : DetectorSpec) (history : List Reading) →
-    IsBy old.run old.last → IsBy old.rose old.last → IsAfter old.last reading.seen.at →
+pub is_next_in : (old : DetectorView) (reading : ReadingView) (new : DetectorView) (spec : DetectorSpec) (history : List Reading) →
+    IsBy old.run old.last → IsBy old.increased old.last → IsAfter old.last reading.seen.at →
     AreWithin (length reading.lives) reading.seen.groups → IsTaken (begun old reading.lives) reading new →
-    StandsFor old reading.lives spec history → StandsFor new reading.lives spec (reading.seen ∷ history)
-stands_next old reading new spec history run_by rose_by later within taken stands =
+    Represents old reading.lives spec history → Represents new reading.lives spec (reading.seen ∷ history)
+is_next_in old reading new spec history run_by increased_by later within taken stands =
     let lives = reading.lives in
     let seen = reading.seen in
     let table : new.matched ≡ match_table lives (detector_patterns spec) = taken.matched ∙ begun_table old lives spec history stands in
@@ -87,20 +87,20 @@ stands_next old reading new spec history run_by rose_by later within taken stand
       scans = λ slot.
           taken.scans slot
           ∙ rw stands.spec_is (scans_next (keeps_scans spec) (scan_in old.scans slot) (scan_of (group_in seen slot)) (last_scan history slot) (stands.scans slot));
-      rose = λ duration at.
+      increased = λ duration at.
           let risen = have_risen old.scans (found (begun old lives).matched seen.groups) in
-          let rose : new.rose ≡ (if keeps_scans spec && risen then Some seen.at else old.rose) = taken.rose ∙ rw stands.spec_is refl in
+          let increased : new.increased ≡ (if keeps_scans spec && risen then Some seen.at else old.increased) = taken.increased ∙ rw stands.spec_is refl in
           let same : keeps_scans spec ≡ true → risen ≡ is_scanned lives (detector_patterns spec) seen history = λ keeps.
           rw (known, found_matches lives (detector_patterns spec) seen within)
           (risen_met old.scans history (matches lives (detector_patterns spec) seen) (counts_kept (keeps_scans spec) old.scans history keeps stands.scans)) in
-          rw rose (rises_next (keeps_scans spec) risen (is_scanned lives (detector_patterns spec) seen history) old.rose old.last
-          (is_scanned_within lives (detector_patterns spec) duration at history) seen.at duration at same rose_by later (stands.rose duration at));
+          rw increased (rises_next (keeps_scans spec) risen (is_scanned lives (detector_patterns spec) seen history) old.increased old.last
+          (is_scanned_within lives (detector_patterns spec) duration at history) seen.at duration at same increased_by later (stands.increased duration at));
     }
 
 -- ---- answers
 
 answered_by : (new : DetectorView) (lives : List GroupLife) (spec : DetectorSpec) (seen : Reading) (history : List Reading) (before : ℕ) →
-    AreWithin (length lives) seen.groups → StandsFor new lives spec (seen ∷ history) → before ≡ greatest_kept lives spec history →
+    AreWithin (length lives) seen.groups → Represents new lives spec (seen ∷ history) → before ≡ greatest_kept lives spec history →
     answer_by spec new before seen ≡ is_true lives spec seen history
 unfolding is_true
 answered_by new lives (detector.PressureAbove cgroup resource threshold duration_s) seen history before within stands is =
@@ -110,14 +110,14 @@ answered_by new lives (detector.PressureRisingBeyond cgroup resource threshold d
 answered_by new lives (detector.MemoryAbove cgroup threshold duration_s) seen history before within stands is =
     sym (stands.run (of_seconds duration_s) seen.at)
 answered_by new lives (detector.MemoryReclaim cgroup duration_s) seen history before within stands is =
-    sym (stands.rose (of_seconds duration_s) seen.at)
+    sym (stands.increased (of_seconds duration_s) seen.at)
 answered_by new lives (detector.SwapFree threshold_pct) seen history before within stands is = refl
 answered_by new lives (detector.Exists cgroup negate) seen history before within stands is =
     let some : list_any (has new.matched) seen.groups ≡ has_match lives cgroup seen = rw stands.matched (found_some lives cgroup seen within) in
     rw some refl
 
 pub answered : (new : DetectorView) (lives : List GroupLife) (spec : DetectorSpec) (seen : Reading) (history : List Reading) (before : ℕ) →
-    AreWithin (length lives) seen.groups → StandsFor new lives spec (seen ∷ history) → before ≡ greatest_kept lives spec history →
+    AreWithin (length lives) seen.groups → Represents new lives spec (seen ∷ history) → before ≡ greatest_kept lives spec history →
     answer_of new before seen ≡ is_true lives spec seen history
 answered new lives spec seen history before within stands is =
     ap (λ s. answer_by s new before seen) stands.spec_is ∙ answered_by new lives spec seen history before within stands is

@@ -1,4 +1,4 @@
 pub mod Views
-pub mod Below
+pub mod Inner
 pub mod Tables
 pub mod Stands

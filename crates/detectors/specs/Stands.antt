@@ -65,7 +65,7 @@ is_scanned_kept lives spec duration at history =
 -- the current run gives for each duration whether the condition has held. The detector has the
 -- greatest average of the matches and the scan counts at the newest reading. The time of the last
 -- rise gives for each duration whether pages were scanned within it.
-pub record StandsFor (detector : DetectorView) (lives : List GroupLife) (spec : DetectorSpec)
+pub record Represents (detector : DetectorView) (lives : List GroupLife) (spec : DetectorSpec)
     (history : List Reading) : Type 0 where
   pub spec_is : detector.spec ≡ spec
   pub last : detector.last ≡ newest_moment history
@@ -75,21 +75,21 @@ pub record StandsFor (detector : DetectorView) (lives : List GroupLife) (spec : 
       held_for (condition_of lives spec) duration at history ≡ is_long detector.run duration at
   pub greatest : detector.greatest ≡ greatest_kept lives spec history
   pub scans : (slot : ℕ) → scan_in detector.scans slot ≡ scan_kept spec history slot
-  pub rose : (duration at : ℕ) →
-      is_scanned_kept lives spec duration at history ≡ is_recent detector.rose duration at
+  pub increased : (duration at : ℕ) →
+      is_scanned_kept lives spec duration at history ≡ is_recent detector.increased duration at
 
 -- The answer of a detector at a reading: whether it is true there, after the earlier readings that
 -- it represents.
 abbrev pub Answers : DetectorView → ReadingView → Bool → Type 0
 Answers old reading answer = (spec : DetectorSpec) (history : List Reading) →
-    StandsFor old reading.lives spec history →
+    Represents old reading.lives spec history →
     answer ≡ is_true reading.lives spec reading.seen history
 
 -- A detector takes a reading: afterwards it represents this reading and those before it.
 abbrev pub DetectorTakes : DetectorView → ReadingView → DetectorView → Type 0
 DetectorTakes old reading new = (spec : DetectorSpec) (history : List Reading) →
-    StandsFor old reading.lives spec history →
-    StandsFor new reading.lives spec (reading.seen ∷ history)
+    Represents old reading.lives spec history →
+    Represents new reading.lives spec (reading.seen ∷ history)
 
 -- ---- the invariant of a detector
 
@@ -97,6 +97,6 @@ DetectorTakes old reading new = (spec : DetectorSpec) (history : List Reading) �
 -- 100 percent, and it has scan counts if it tests scans.
 pub record IsDetector (detector : DetectorView) : Type 0 where
   pub run : IsBy detector.run detector.last
-  pub rose : IsBy detector.rose detector.last
+  pub increased : IsBy detector.increased detector.last
   pub greatest : detector.greatest ≤ 204800
   pub scans : length detector.scans ≡ scan_slots detector.spec (slots_of detector)

@@ -124,8 +124,8 @@ scan_after spec scans groups slot =
 -- the time (ns) of the last rise after a reading at `now` (ns) with these matches
 abbrev pub last_rise :
     DetectorSpec → List (Option ℕ) → Option ℕ → List GroupReading → ℕ → Option ℕ
-last_rise spec scans rose groups now =
-    if keeps_scans spec && have_risen scans groups then Some now else rose
+last_rise spec scans increased groups now =
+    if keeps_scans spec && have_risen scans groups then Some now else increased
 
 -- ---- times
 
@@ -160,7 +160,7 @@ answer_by (detector.PressureRisingBeyond _ _ threshold duration_s ratio) kept be
 answer_by (detector.MemoryAbove cgroup threshold duration_s) kept before now =
     is_long kept.run (of_seconds duration_s) now.at
 answer_by (detector.MemoryReclaim cgroup duration_s) kept before now =
-    is_recent kept.rose (of_seconds duration_s) now.at
+    is_recent kept.increased (of_seconds duration_s) now.at
 answer_by (detector.SwapFree threshold_pct) kept before now = is_host_swap_short threshold_pct now.host
 answer_by (detector.Exists cgroup negate) kept before now =
     if negate
@@ -193,5 +193,5 @@ pub record IsTaken (old : DetectorView) (reading : ReadingView) (new : DetectorV
   pub greatest : new.greatest ≡ greatest_of old.spec (found old.matched reading.seen.groups)
   pub scans : (slot : ℕ) →
       scan_in new.scans slot ≡ scan_after old.spec old.scans reading.seen.groups slot
-  pub rose : new.rose ≡ last_rise old.spec old.scans old.rose
+  pub increased : new.increased ≡ last_rise old.spec old.scans old.increased
       (found old.matched reading.seen.groups) reading.seen.at

@@ -56,19 +56,19 @@ pub record DetectorView : Type 0 where
   pub run : Option ℕ
   pub greatest : ℕ
   pub scans : List (Option ℕ)
-  pub rose : Option ℕ
+  pub increased : Option ℕ
 
 -- a detector with these parts
 abbrev pub detector_with : DetectorSpec → Option ℕ → List Bool → Option ℕ → ℕ → List (Option ℕ) →
     Option ℕ → DetectorView
-detector_with spec last matched run greatest scans rose = record {
+detector_with spec last matched run greatest scans increased = record {
   spec = spec;
   last = last;
   matched = matched;
   run = run;
   greatest = greatest;
   scans = scans;
-  rose = rose;
+  increased = increased;
 }
 
 -- the number of groups of a detector

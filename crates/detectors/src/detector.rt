@@ -4,7 +4,7 @@ ghost use Rattle.psi_spec.specs.declared.machine.GroupLife.{GroupLife};
 ghost use Rattle.detectors.specs.Views.{IsAfter, slots_of};
 ghost use Rattle.detectors.specs.Tables.{IsTaken, answer_of, begun, scan_slots};
 ghost use Rattle.kill_spec.specs.LegalReadings.{IsReading};
-ghost use Rattle.detectors.specs.Stands.{Answers, DetectorTakes, StandsFor};
+ghost use Rattle.detectors.specs.Stands.{Answers, DetectorTakes, Represents};
 
 use crate::conditions::{find_matches, greatest_of, has_condition, has_match, is_swap_short};
 use crate::moments::{is_long, is_recent, of_seconds, run_after};
@@ -32,7 +32,7 @@ pub struct Detector {
     /// detector tests scans.
     scans: Vec<Option<u64>>,
     /// The last time at which the scan count of some match had risen (ns).
-    rose: Option<Ns>,
+    increased: Option<Ns>,
 }
 
 impl Model for Detector {
@@ -42,10 +42,10 @@ impl Model for Detector {
     ghost Value = { DetectorView };
 
     ghost view = { λ d. detector_with d.spec d.last d.matched.items
-        d.run d.greatest d.scans.items d.rose };
+        d.run d.greatest d.scans.items d.increased };
 
     ghost invariant = { λ d. IsDetector (detector_with d.spec d.last d.matched.items
-        d.run d.greatest d.scans.items d.rose) };
+        d.run d.greatest d.scans.items d.increased) };
 }
 
 /// The number of slots for which a detector stores scan counts.
@@ -63,7 +63,7 @@ impl Detector {
     /// everything at the start.
     pub fn new(alloc: Global, spec: &DetectorSpec, slots: u32) -> Result<Detector, NoMemory>
         ensures { IfOk result (λ detector. (lives : List GroupLife) → length lives ≡ slots →
-            StandsFor detector lives spec.now []) }
+            Represents detector lives spec.now []) }
     {
         Ok(Detector {
             spec: spec.copy(alloc)?,
@@ -72,7 +72,7 @@ impl Detector {
             run: None,
             greatest: 0,
             scans: vec![in alloc; None; scan_slots(spec, slots) as usize]?,
-            rose: None,
+            increased: None,
         })
     }
 
@@ -117,10 +117,10 @@ impl Detector {
         let holds = has_condition(&self.spec, &self.matched, &reading.host(), groups);
         self.run = run_after(self.run, holds, now);
         self.greatest = greatest_of(&self.spec, &self.matched, groups);
-        self.rose = take_rise(
+        self.increased = take_rise(
             &self.spec,
             &mut self.scans,
-            self.rose,
+            self.increased,
             &self.matched,
             groups,
             now,
@@ -154,7 +154,7 @@ impl Detector {
                 is_long(self.run, of_seconds(*duration_s), now)
             }
             DetectorSpec::MemoryReclaim { duration_s, .. } => {
-                is_recent(self.rose, of_seconds(*duration_s), now)
+                is_recent(self.increased, of_seconds(*duration_s), now)
             }
             DetectorSpec::SwapFree { threshold_pct } => {
                 is_swap_short(*threshold_pct, &reading.host())

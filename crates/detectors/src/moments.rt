@@ -28,10 +28,10 @@ pub(crate) fn run_after(run: Option<Ns>, holds: bool, now: Ns) -> Option<Ns>
 }
 
 /// The time of the last rise (ns), after the counts were compared at `now` (ns).
-pub(crate) fn rise_after(rose: Option<Ns>, has_risen: bool, now: Ns) -> Option<Ns>
-    ensures { result ≡ (if has_risen then Some now else rose) }
+pub(crate) fn rise_after(increased: Option<Ns>, has_risen: bool, now: Ns) -> Option<Ns>
+    ensures { result ≡ (if has_risen then Some now else increased) }
 {
-    if has_risen { Some(now) } else { rose }
+    if has_risen { Some(now) } else { increased }
 }
 
 /// Whether a run has lasted at least `duration` (ns) at `now`.

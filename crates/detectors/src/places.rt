@@ -2,7 +2,7 @@
 ghost use Rattle.std.specs.Prelude.{◌≡◌, ◌<◌, ◌≤◌, ℕ, [], IfOk, length, slice_index_or, true};
 ghost use Rattle.psi_spec.specs.Stall.{number_of_slot};
 ghost use Rattle.kill_spec.specs.Victims.{names_slot};
-ghost use Rattle.detectors.specs.Below.{AreBelow, HasPlaced, PlacesView, child_count, places_with};
+ghost use Rattle.detectors.specs.Inner.{AreBelow, HasPlaced, PlacesView, child_count, places_with};
 
 use psi_base::{NoMemory, Slot};
 use psi_spec::GroupLife;
@@ -17,7 +17,7 @@ pub(crate) struct Places {
 
 impl Model for Places {
     ghost use Rattle.std.specs.Prelude.{vec_capacity};
-    ghost use Rattle.detectors.specs.Below.{PlacesView, places_with};
+    ghost use Rattle.detectors.specs.Inner.{PlacesView, places_with};
 
     ghost Value = { PlacesView };
 

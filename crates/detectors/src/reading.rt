@@ -4,7 +4,7 @@ ghost use Rattle.psi_spec.specs.Groups.{path_at};
 ghost use Rattle.psi_spec.specs.World.{most_groups};
 ghost use Rattle.kill_spec.specs.Readings.{no_host};
 ghost use Rattle.kill_spec.specs.LegalReadings.{IsGroupReading, IsHostReading, IsReading};
-ghost use Rattle.detectors.specs.Below.{AreAmong, group_at, groups_at, is_child};
+ghost use Rattle.detectors.specs.Inner.{AreAmong, group_at, groups_at, is_child};
 ghost use Rattle.detectors.specs.Views.{ComesLast, reading_of, seen_at, with_group};
 
 use crate::copies::copy_lives;
@@ -33,7 +33,7 @@ pub struct Reading {
 
 impl Model for Reading {
     ghost use Rattle.std.specs.Prelude.{length, vec_capacity};
-    ghost use Rattle.detectors.specs.Below.{ArePlaces};
+    ghost use Rattle.detectors.specs.Inner.{ArePlaces};
     ghost use Rattle.detectors.specs.Views.{IsReadingView, IsRoom, ReadingView};
     ghost use Rattle.detectors.specs.Views.{reading_of, seen_at};
 

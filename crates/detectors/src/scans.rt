@@ -59,22 +59,22 @@ pub(crate) fn take_scans(scans: &mut [Option<u64>], groups: &[GroupReading])
 pub(crate) fn take_rise(
     spec: &DetectorSpec,
     scans: &mut [Option<u64>],
-    rose: Option<Ns>,
+    increased: Option<Ns>,
     matched: &[bool],
     groups: &[GroupReading],
     now: Ns,
 ) -> Option<Ns>
     requires scans { length scans.old ≡ scan_slots spec.now (length matched.now) }
     requires slots { All (λ (group : GroupReading). group.slot.0 < length matched.now) groups.now }
-    ensures rose { result ≡
-        last_rise spec.now scans.old rose (found matched.now groups.now) now }
+    ensures increased { result ≡
+        last_rise spec.now scans.old increased (found matched.now groups.now) now }
     ensures scans { (slot : ℕ) →
         scan_in scans.new slot ≡ scan_after spec.now scans.old groups.now slot }
 {
     let DetectorSpec::MemoryReclaim { .. } = spec else {
-        return rose;
+        return increased;
     };
     let has_risen = have_risen(scans, matched, groups);
     take_scans(scans, groups);
-    rise_after(rose, has_risen, now)
+    rise_after(increased, has_risen, now)
 }

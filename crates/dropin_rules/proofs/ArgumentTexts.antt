@@ -23,7 +23,7 @@ use Rattle.ruleset_json.specs.declared.fault.Place.{Place}
 use Rattle.ruleset_json.specs.declared.types.Size.{Size}
 use Rattle.ruleset_json.specs.declared.types.Size.TheVariants as bytes_or_percent
 use Rattle.ruleset_json.specs.Arguments.{argument_of, patterns, resource, number, ratio, size, truth, truth_text}
-use Rattle.ruleset_json.specs.Forms.{fraction_of, front, last, number_up_to, ratio_of, resource_of, size_of, thousandths_of, truth_of, unit_of}
+use Rattle.ruleset_json.specs.Forms.{fraction_of, prefix, last, number_up_to, ratio_of, resource_of, size_of, thousandths_of, truth_of, unit_of}
 use Rattle.ruleset_json.specs.Ranges.{IsRatio, IsSize, IsStallable}
 use Rattle.dropin_rules.specs.RulesText.{ratio_text, size_text}
 
@@ -107,8 +107,8 @@ ratio_again at n fits = rw (ratio_read n fits) refl
 last_end : (bytes : List ℕ) (byte : ℕ) → last (bytes ++ byte ∷ []) ≡ byte
 last_end bytes byte = grind (arith, common_steps)
 
-front_end : (bytes : List ℕ) (byte : ℕ) → front (bytes ++ byte ∷ []) ≡ bytes
-front_end bytes byte = grind (arith, common_steps)
+prefix_end : (bytes : List ℕ) (byte : ℕ) → prefix (bytes ++ byte ∷ []) ≡ bytes
+prefix_end bytes byte = grind (arith, common_steps)
 
 last_small : (n : ℕ) → n < 10 → last (decimal n) ≡ 48 + n % 10
 last_small n small = let same : n % 10 ≡ n = omega (arith, small) in rw (decimal_digit n small, same) refl
@@ -132,7 +132,7 @@ bytes_read n small =
 
 percent_read : (n : ℕ) → n ≤ 100 → size_of (decimal n ++ 37 ∷ []) ≡ Some (bytes_or_percent.Percent n)
 unfolding size_of
-percent_read n small = rw (last_end (decimal n) 37, front_end (decimal n) 37) (rw (number_read 100 n small (omega (arith, small))) refl)
+percent_read n small = rw (last_end (decimal n) 37, prefix_end (decimal n) 37) (rw (number_read 100 n small (omega (arith, small))) refl)
 
 size_read : (s : Size) → IsSize s → size_of (size_text s) ≡ Some s
 size_read (bytes_or_percent.Bytes n) fits = bytes_read n fits

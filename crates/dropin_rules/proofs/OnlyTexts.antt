@@ -56,8 +56,8 @@ mutual
   members_utf8 later no_members t = IsUtf8-are_ascii (125 ∷ []) refl
   members_utf8 later (member k d ms) t =
       let value = IsUtf8-append (compact_text d) (members_text true ms) (text_utf8 d t.1) (members_utf8 true ms t.2) in
-      let behind = IsUtf8-append (58 ∷ []) (compact_text d ++ members_text true ms) (IsUtf8-are_ascii (58 ∷ []) refl) value in
-      IsUtf8-append (comma_if later) (quoted k ++ 58 ∷ (compact_text d ++ members_text true ms)) (comma_utf8 later) (IsUtf8-append (quoted k) (58 ∷ (compact_text d ++ members_text true ms)) (IsUtf8-quoted k t.0) behind)
+      let suffix = IsUtf8-append (58 ∷ []) (compact_text d ++ members_text true ms) (IsUtf8-are_ascii (58 ∷ []) refl) value in
+      IsUtf8-append (comma_if later) (quoted k ++ 58 ∷ (compact_text d ++ members_text true ms)) (comma_utf8 later) (IsUtf8-append (quoted k) (58 ∷ (compact_text d ++ members_text true ms)) (IsUtf8-quoted k t.0) suffix)
 
 -- ---- the tree that is written
 

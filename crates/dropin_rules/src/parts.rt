@@ -1,6 +1,6 @@
 //! Applies the parts of a drop-in file to rules.
 ghost use Rattle.std.specs.Prelude.{◌≡◌, ◌≢◌, ◌<◌, ◌^◌, length, position, Ok, Err, MatchResult};
-ghost use Rattle.psi_base.specs.Gives.{Gives, lacks_memory};
+ghost use Rattle.psi_base.specs.Gives.{Gives, out_of_memory};
 ghost use Rattle.dropin_rules.specs.Joined.{is_named, parts_joined, part_joined};
 
 use crate::fault::{DropCause, DropFault};
@@ -48,7 +48,7 @@ fn put_part(rules: &mut RuleList, number: u32, part: Part) -> Result<(), DropFau
 pub fn join(base: Rules, parts: Vec<Part>) -> Result<Rules, Fault<DropFault>>
     requires { length parts.items < 2 ^ 32 }
     ensures exact { Gives result (parts_joined base parts.items) }
-    ensures memory { result ≢ Err lacks_memory }
+    ensures memory { result ≢ Err out_of_memory }
 {
     let Rules { mut rules } = base;
     let mut number = 0;

@@ -105,7 +105,7 @@ fn rules_value(alloc: Global, rules: &[Rule]) -> Result<Value, NoMemory>
 /// rules file with these rules. After `NoMemory` the bytes are unchanged.
 pub fn write_rules(rules: &Rules, to: &mut Vec<u8>) -> Result<(), NoMemory>
     ensures text { OnOk result (to.new.items ≡ to.old.items ++ rules_text rules.now.rules) }
-    ensures kept { OnErr result (to.new.items ≡ to.old.items) }
+    ensures unchanged { OnErr result (to.new.items ≡ to.old.items) }
     ensures again { OnOk result (length (rules_text rules.now.rules) ≤ 1048576
         → rules_of (rules_text rules.now.rules) ≡ Ok rules.now) }
 {

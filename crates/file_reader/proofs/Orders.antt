@@ -8,21 +8,21 @@ use Rattle.outside.specs.Reads.Progress.{Next}
 use Rattle.outside.specs.declared.shelf.ShelfFault.{ShelfFault}
 use Rattle.outside.specs.declared.shelf.ShelfFault.TheVariants as shelf
 use Rattle.outside.proofs.ReadOrder.{file_fails, file_unread}
-use Rattle.file_reader.specs.Front.{file_fault, shelf_fault, shelf_fault_in}
-use Rattle.file_reader.specs.declared.front.FileFault.{FileFault}
-use Rattle.file_reader.specs.declared.front.FileFault.TheVariants as fault
+use Rattle.file_reader.specs.Prefix.{file_fault, shelf_fault, shelf_fault_in}
+use Rattle.file_reader.specs.declared.prefix.FileFault.{FileFault}
+use Rattle.file_reader.specs.declared.prefix.FileFault.TheVariants as fault
 
 -- a read had a fault, which is the result
-pub front_fails : (name : List ℕ) (at place : ℕ) (before between now : List ReadCall) (why : ShelfFault) (found : FileFault) → ReadsFrom name (Next at) before between (Next place)
+pub prefix_fails : (name : List ℕ) (at place : ℕ) (before between now : List ReadCall) (why : ShelfFault) (found : FileFault) → ReadsFrom name (Next at) before between (Next place)
     → ReadsFrom name (Next place) between now (after_read place (Err why)) → found ≡ file_fault why → ReadsFile name at before now (shelf_fault found)
-front_fails name at place before between now shelf.NoFile found first then is =
+prefix_fails name at place before between now shelf.NoFile found first then is =
     subst (λ (f : FileFault). ReadsFile name at before now (shelf_fault f)) (sym is) (file_fails name at place before between now shelf.NoFile first then)
-front_fails name at place before between now shelf.Failed found first then is =
+prefix_fails name at place before between now shelf.Failed found first then is =
     subst (λ (f : FileFault). ReadsFile name at before now (shelf_fault f)) (sym is) (file_fails name at place before between now shelf.Failed first then)
 
 -- memory ran out, and nothing was read
-pub front_unread : {A : Type 0} → (name : List ℕ) (log : List ReadCall) (none : NoMemory) (result : Result A FileFault) → IsErr result → IsErrAnd result (λ e. e ≡ fault.NoMemory none) → ReadsFile name 0 log log (shelf_fault_in result)
-front_unread name log none (Ok value) failed same = cc
-front_unread name log none (Err found) failed same =
+pub prefix_unread : {A : Type 0} → (name : List ℕ) (log : List ReadCall) (none : NoMemory) (result : Result A FileFault) → IsErr result → IsErrAnd result (λ e. e ≡ fault.NoMemory none) → ReadsFile name 0 log log (shelf_fault_in result)
+prefix_unread name log none (Ok value) failed same = cc
+prefix_unread name log none (Err found) failed same =
     let is : found ≡ fault.NoMemory none = same in
     subst (λ (f : FileFault). ReadsFile name 0 log log (shelf_fault f)) (sym is) (file_unread name 0 log)

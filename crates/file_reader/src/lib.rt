@@ -3,6 +3,6 @@
 //! It is for small files such as rules; a trace is read line by line, with `psi_lines`.
 #![tactic(auto)]
 
-mod front;
+mod prefix;
 
-pub use front::{FileFault, read_front};
+pub use prefix::{FileFault, read_prefix};

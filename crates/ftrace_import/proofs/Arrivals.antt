@@ -12,7 +12,7 @@ use Rattle.psi_spec.specs.declared.machine.Mode.{Mode}
 use Rattle.psi_spec.specs.declared.machine.Mode.TheVariants.{Blocked, Ready, Running, Waiting}
 use Rattle.psi_spec.specs.declared.machine.Task.{Task}
 use Rattle.psi_spec.specs.Fields.{IsPid}
-use Rattle.psi_spec.specs.World.{Tasks, World, after_event, after_from, change, change_to, is_active, is_ready, is_ready_on, is_running, is_running_on, leave, new_task, put, readied, running_on, task_of, events_at}
+use Rattle.psi_spec.specs.World.{Tasks, World, after_event, after_from, change, change_to, is_active, is_ready, is_ready_on, is_running, is_running_on, leave, new_task, put, prepared_changes, running_on, task_of, events_at}
 use Rattle.psi_spec.proofs.TaskLaws.{get_put, itself}
 use Rattle.psi_counts.specs.Touch.{RunsOnce}
 use Rattle.psi_counts.proofs.TouchCounts.{running_found}
@@ -20,11 +20,11 @@ use Rattle.task_table.proofs.Runners.{only_runs, runs_there}
 use Rattle.import_spec.specs.Events.{arrival_acts, coming_acts, made}
 use Rattle.ftrace_import.proofs.Runs.{RunsAsBefore, rests, runs_put}
 use Rattle.ftrace_import.specs.Stands.{Stands}
-use Rattle.ftrace_import.proofs.Steps.{Goes, Step, event_at, goes_none, goes_one, goes_then, stands_later, step_make, step_migrate, step_switch, step_wake}
+use Rattle.ftrace_import.proofs.Steps.{Goes, Step, event_at, goes_none, goes_one, goes_then, later_in, step_make, step_migrate, step_switch, step_wake}
 
 -- room for fewer events
 pub less_room : (cpus at have room : ℕ) (w : World) → Stands cpus at have w → room ≤ have → Stands cpus at room w
-less_room cpus at have room w so few = let all = so.few in stands_later cpus at have at room w so (omega arith) so.early (omega (arith, few, all))
+less_room cpus at have room w so few = let all = so.few in later_in cpus at have at room w so (omega arith) so.early (omega (arith, few, all))
 
 -- acts go, who runs on the processor stays, and the task is ready there
 pub record Comes (cpus at room : ℕ) (cpu : Cpu) (pid : Pid) (w : World) (acts : List Act) : Type 0 where
@@ -78,13 +78,13 @@ comes_made cpus at room cpu pid w so is there none space =
 -- a task is woken
 pub comes_woken : (cpus at room : ℕ) (cpu : Cpu) (pid : Pid) (w : World) (task : Task) → Stands cpus at (room + 1) w → IsPid pid → cpu.0 < cpus → task_of w.tasks pid.0 ≡ Some task → is_active task.mode ≡ false → Comes cpus at room cpu pid w (act.Wake pid cpu ∷ [])
 comes_woken cpus at room cpu pid w task so is there live sleeps =
-    comes_by cpus at room cpu pid w (act.Wake pid cpu) (readied cpu.0 task) (step_wake cpus at room w pid cpu task so is there live sleeps) (changed_is w.tasks pid.0 (readied cpu.0) task live)
+    comes_by cpus at room cpu pid w (act.Wake pid cpu) (prepared_changes cpu.0 task) (step_wake cpus at room w pid cpu task so is there live sleeps) (changed_is w.tasks pid.0 (prepared_changes cpu.0) task live)
     (off_some (task_of w.tasks pid.0) task cpu.0 live (asleep_off task.mode sleeps)) refl refl
 
 -- a task that is ready goes there
 pub comes_moved : (cpus at room : ℕ) (cpu : Cpu) (pid : Pid) (w : World) (task : Task) → Stands cpus at (room + 1) w → IsPid pid → cpu.0 < cpus → task_of w.tasks pid.0 ≡ Some task → is_ready task.mode ≡ true → Comes cpus at room cpu pid w (act.Migrate pid cpu ∷ [])
 comes_moved cpus at room cpu pid w task so is there live ready =
-    comes_by cpus at room cpu pid w (act.Migrate pid cpu) (readied cpu.0 task) (step_migrate cpus at room w pid cpu task so is there live ready) (changed_is w.tasks pid.0 (readied cpu.0) task live)
+    comes_by cpus at room cpu pid w (act.Migrate pid cpu) (prepared_changes cpu.0 task) (step_migrate cpus at room w pid cpu task so is there live ready) (changed_is w.tasks pid.0 (prepared_changes cpu.0) task live)
     (off_some (task_of w.tasks pid.0) task cpu.0 live (ready_off task.mode ready)) refl refl
 
 -- a task that is ready there already

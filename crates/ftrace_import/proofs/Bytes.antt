@@ -25,8 +25,8 @@ begins_other (c ∷ cs) [] some other = refl
 begins_other (c ∷ cs) (x ∷ xs) some other = rw other refl
 
 -- the first byte of the rest
-pub front : (bytes : List ℕ) (at : ℕ) → get_or (drop at bytes) 0 0 ≡ get_or bytes at 0
-front bytes at = let same : at + 0 ≡ at = omega arith in get_or-drop at bytes 0 0 ∙ ap (λ n. get_or bytes n 0) same
+pub prefix : (bytes : List ℕ) (at : ℕ) → get_or (drop at bytes) 0 0 ≡ get_or bytes at 0
+prefix bytes at = let same : at + 0 ≡ at = omega arith in get_or-drop at bytes 0 0 ∙ ap (λ n. get_or bytes n 0) same
 
 -- ---- places
 
@@ -58,7 +58,7 @@ none_passed text bytes low high some inside off none k from under =
       | inl early ↦
           let size = length-take-le high bytes inside in
           let other = passed_by (get_or text 0 0) (get_or (take high bytes) k 0) (off k from (omega (arith, early, size))) in
-          let same = get_or-take high bytes k 0 early ∙ sym (front bytes k) in
+          let same = get_or-take high bytes k 0 early ∙ sym (prefix bytes k) in
           begins_other text (drop k bytes) some (ne_eqb (get_or text 0 0) (get_or (drop k bytes) 0 0) (λ first. other (same ∙ sym first)))
       | inr late ↦ none k late under
     ]
@@ -150,7 +150,7 @@ bracket_found bytes rest at below count is next inside none found fits =
     let left = ap length is ∙ length-drop below bytes in
     record {
       at = below;
-      behind = refl;
+      suffix = refl;
       last = last_found is_bracketed bytes at below next inside none (ap is_bracketed (sym is) ∙ both.0);
       digits = both.1 ∙ ap (λ bs. digit_count (drop 1 bs)) is ∙ ap digit_count (drop-drop 1 below bytes);
       inside = omega (arith, fits, left, inside, next);

@@ -14,7 +14,7 @@ use Rattle.import_spec.specs.declared.cause.ImportCause.{ImportCause}
 use Rattle.import_spec.specs.declared.seen.Seen.{Seen}
 use Rattle.import_spec.specs.declared.seen.Sighting.{Sighting}
 use Rattle.import_spec.specs.Marked.{read_line}
-use Rattle.import_spec.specs.Events.{GivenLine, Reached, acts_cause, acts_of, first_time, given_at, given_read, given_of, make_task, line_moment, needed_cpu, unreached}
+use Rattle.import_spec.specs.Events.{LineEvents, Reached, acts_cause, acts_of, first_time, line_events_at, events_read, events_of_line, make_task, line_moment, needed_cpu, unreached}
 use Rattle.import_spec.specs.Import.{end_at}
 use Rattle.ftrace_import.specs.declared.deeds.Kept.{Kept}
 use Rattle.ftrace_import.specs.declared.taking.Gathering.{Gathering}
@@ -22,9 +22,9 @@ use Rattle.ftrace_import.specs.Deeds.{act_by, acts_in, event_by, events_by}
 use Rattle.ftrace_import.specs.Gathers.{HasTaken, IsGathered, reached_in, whole_events}
 use Rattle.ftrace_import.specs.Stands.{Ends, IsSeen, IsUnderWay, Run, limits}
 use Rattle.ftrace_import.proofs.Keeping.{acts_new, kept_new}
-use Rattle.ftrace_import.proofs.Lines.{Gives, cause_at, given_behind, given_free, gives_at}
-use Rattle.ftrace_import.proofs.Steps.{stands_first}
-use Rattle.ftrace_import.proofs.Whole.{end_runs, ends_behind, run_on}
+use Rattle.ftrace_import.proofs.Lines.{Gives, cause_at, line_events_after, events_free, gives_at}
+use Rattle.ftrace_import.proofs.Steps.{first_in}
+use Rattle.ftrace_import.proofs.Whole.{end_runs, ends_after, run_on}
 
 -- ---- deeds one by one
 
@@ -60,37 +60,37 @@ world_end w kept at end = rw (drop_of_length-le kept end) refl
 pub gathered_none : (g : Gathering) → IsCpuCount g.cpus → g.table.limits ≡ limits g.cpus → reached_in g ≡ unreached → g.kept.items ≡ [] → IsGathered g
 gathered_none g counted limits_are fresh none = record {
   limits_are = limits_are;
-  under = subst (λ (r : Reached). IsUnderWay g.cpus r) (sym fresh) (stands_first g.cpus counted);
+  under = subst (λ (r : Reached). IsUnderWay g.cpus r) (sym fresh) (first_in g.cpus counted);
   run = subst (λ ks. Run g.cpus first_world (events_by ks)) (sym none) (record { fit = tt; known = tt; legal = tt });
   after_them = ap (λ (r : Reached). r.world) fresh ∙ sym (ap (λ ks. after_from first_world (events_by ks)) none);
 }
 
 -- after a line
-pub taken_given : (cpus : ℕ) (old new : Gathering) (given : GivenLine) → IsGathered old → new.cpus ≡ old.cpus → new.table.limits ≡ old.table.limits → events_by new.kept.items ≡ events_by old.kept.items ++ given.events → reached_in new ≡ given.reached
-    → Gives old.cpus (reached_in old) given → IsGathered new
-taken_given cpus old new given so same limits_same kept reached gives = record {
+pub taken_events : (cpus : ℕ) (old new : Gathering) (line_events : LineEvents) → IsGathered old → new.cpus ≡ old.cpus → new.table.limits ≡ old.table.limits → events_by new.kept.items ≡ events_by old.kept.items ++ line_events.events → reached_in new ≡ line_events.reached
+    → Gives old.cpus (reached_in old) line_events → IsGathered new
+taken_events cpus old new line_events so same limits_same kept reached gives = record {
   limits_are = limits_same ∙ so.limits_are ∙ ap limits (sym same);
   under = subst (λ n. IsUnderWay n (reached_in new)) (sym same) (subst (λ (r : Reached). IsUnderWay old.cpus r) (sym reached) gives.later);
   run = subst (λ n. Run n first_world (events_by new.kept.items)) (sym same) (subst (λ es. Run old.cpus first_world es) (sym kept)
-      (run_on old.cpus first_world (events_by old.kept.items) given.events so.run (subst (λ (w : World). Run old.cpus w given.events) so.after_them (record { fit = gives.fit; known = gives.known; legal = gives.legal }))));
+      (run_on old.cpus first_world (events_by old.kept.items) line_events.events so.run (subst (λ (w : World). Run old.cpus w line_events.events) so.after_them (record { fit = gives.fit; known = gives.known; legal = gives.legal }))));
   after_them =
-      ap (λ (r : Reached). r.world) reached ∙ gives.world ∙ ap (λ (w : World). after_from w given.events) so.after_them
-      ∙ sym (after_from-append first_world (events_by old.kept.items) given.events) ∙ ap (after_from first_world) (sym kept);
+      ap (λ (r : Reached). r.world) reached ∙ gives.world ∙ ap (λ (w : World). after_from w line_events.events) so.after_them
+      ∙ sym (after_from-append first_world (events_by old.kept.items) line_events.events) ∙ ap (after_from first_world) (sym kept);
 }
 
 -- ---- a line that is read
 
-pub take_told : (cpus : ℕ) (reached : Reached) (line : List ℕ) (sighting : Sighting) → Ok (Some sighting) ≡ read_line line → given_of cpus reached line ≡ given_at cpus reached sighting.at sighting.seen
-unfolding given_of
-take_told cpus reached line sighting is = ap (given_read cpus reached) (sym is)
+pub take_known : (cpus : ℕ) (reached : Reached) (line : List ℕ) (sighting : Sighting) → Ok (Some sighting) ≡ read_line line → events_of_line cpus reached line ≡ line_events_at cpus reached sighting.at sighting.seen
+unfolding events_of_line
+take_known cpus reached line sighting is = ap (events_read cpus reached) (sym is)
 
-pub take_none : (cpus : ℕ) (reached : Reached) (line : List ℕ) → Ok None ≡ read_line line → given_of cpus reached line ≡ Ok (record { events = []; reached = reached })
-unfolding given_of
-take_none cpus reached line is = ap (given_read cpus reached) (sym is)
+pub take_none : (cpus : ℕ) (reached : Reached) (line : List ℕ) → Ok None ≡ read_line line → events_of_line cpus reached line ≡ Ok (record { events = []; reached = reached })
+unfolding events_of_line
+take_none cpus reached line is = ap (events_read cpus reached) (sym is)
 
-pub take_bad : (cpus : ℕ) (reached : Reached) (line : List ℕ) (why : ImportCause) → Err why ≡ read_line line → given_of cpus reached line ≡ Err why
-unfolding given_of
-take_bad cpus reached line why is = ap (given_read cpus reached) (sym is)
+pub take_bad : (cpus : ℕ) (reached : Reached) (line : List ℕ) (why : ImportCause) → Err why ≡ read_line line → events_of_line cpus reached line ≡ Err why
+unfolding events_of_line
+take_bad cpus reached line why is = ap (events_read cpus reached) (sym is)
 
 -- ---- the contents of a line
 
@@ -104,11 +104,11 @@ pub record Sighted (old : Gathering) (at : ℕ) (what : Seen) (moment before : �
   pub kept : events_by new ≡ events_by old.kept.items ++ events_at moment (acts_of old.table.world.tasks what)
 
 pub sighted : (old : Gathering) (at : ℕ) (what : Seen) (first moment before : ℕ) (cpu : Cpu) (part new : List Kept) → first ≡ first_time (reached_in old) at → moment ≡ max old.moment (at - first) → cpu ≡ needed_cpu what → before ≡ length old.kept.items → part ≡ drop before new → events_by new ≡ events_by old.kept.items ++ events_at moment (acts_of old.table.world.tasks what) → Sighted old at what moment before cpu part new
-sighted old at what first moment before cpu part new begins moved needed count behind kept = record {
+sighted old at what first moment before cpu part new begins moved needed count suffix kept = record {
   moment_is = moved ∙ ap (λ f. max old.moment (at - f)) begins;
   cpu_is = needed;
   before_is = count;
-  part_is = behind;
+  part_is = suffix;
   kept = kept;
 }
 
@@ -116,8 +116,8 @@ sighted old at what first moment before cpu part new begins moved needed count b
 pub kept_longer : (old new : List Kept) (events : List Event) (before : ℕ) → before ≡ length old → events_by new ≡ events_by old ++ events → before ≤ length new
 kept_longer old new events before is kept =
     let all = sym (length-map new event_by) ∙ ap length kept ∙ length-append (events_by old) events in
-    let front = length-map old event_by in
-    omega (arith, all, front, is)
+    let prefix = length-map old event_by in
+    omega (arith, all, prefix, is)
 
 part_new : (old : Gathering) (at : ℕ) (what : Seen) (moment before : ℕ) (cpu : Cpu) (part new : List Kept) → Sighted old at what moment before cpu part new → part ≡ drop (length old.kept.items) new
 part_new old at what moment before cpu part new is = is.part_is ∙ ap (λ n. drop n new) is.before_is
@@ -135,8 +135,8 @@ cause_is old at what moment before cpu part new o is found =
     ap acts_in (part_new old at what moment before cpu part new is) ∙ acts_new old.kept.items new (line_moment (reached_in old) at) (acts_of old.table.world.tasks what) (kept_at old at what moment before cpu part new is) in
     sym (found ∙ rw (acts, is.moment_is, is.cpu_is) refl)
 
-pub gives_here : (old : Gathering) (at : ℕ) (what : Seen) → IsGathered old → IsSeen what → cause_at old.cpus (reached_in old) at what ≡ None → Gives old.cpus (reached_in old) (given_behind (reached_in old) at what)
-gives_here old at what so seen none = gives_at old.cpus (reached_in old) at what (given_behind (reached_in old) at what) so.under seen (given_free old.cpus (reached_in old) at what none)
+pub gives_here : (old : Gathering) (at : ℕ) (what : Seen) → IsGathered old → IsSeen what → cause_at old.cpus (reached_in old) at what ≡ None → Gives old.cpus (reached_in old) (line_events_after (reached_in old) at what)
+gives_here old at what so seen none = gives_at old.cpus (reached_in old) at what (line_events_after (reached_in old) at what) so.under seen (events_free old.cpus (reached_in old) at what none)
 
 pub sighted_plays : (old : Gathering) (at : ℕ) (what : Seen) (moment before : ℕ) (cpu : Cpu) (part new : List Kept) → Sighted old at what moment before cpu part new → IsGathered old → IsSeen what → cause_at old.cpus (reached_in old) at what ≡ None → AreLegal old.table.limits old.table.world (events_by part)
 sighted_plays old at what moment before cpu part new is so seen none =
@@ -144,19 +144,19 @@ sighted_plays old at what moment before cpu part new is so seen none =
     subst (λ (l : Limits). AreLegal l old.table.world (events_by part)) (sym so.limits_are) (subst (λ es. AreLegal (limits old.cpus) old.table.world es) (sym (part_events old at what moment before cpu part new is)) legal)
 
 pub sighted_taken : (old now : Gathering) (at : ℕ) (what : Seen) (moment before : ℕ) (cpu : Cpu) (part : List Kept) → Sighted old at what moment before cpu part now.kept.items → IsGathered old → IsSeen what → cause_at old.cpus (reached_in old) at what ≡ None
-    → now.cpus ≡ old.cpus → now.first ≡ Some (first_time (reached_in old) at) → now.moment ≡ moment → now.table.limits ≡ old.table.limits → now.table.world ≡ after_from old.table.world (events_by part) → HasTaken (given_at old.cpus (reached_in old) at what) old now
+    → now.cpus ≡ old.cpus → now.first ≡ Some (first_time (reached_in old) at) → now.moment ≡ moment → now.table.limits ≡ old.table.limits → now.table.world ≡ after_from old.table.world (events_by part) → HasTaken (line_events_at old.cpus (reached_in old) at what) old now
 sighted_taken old now at what moment before cpu part is so seen none cpus first last limits_same world =
     let gives = gives_here old at what so seen none in
     let there : now.table.world ≡ after_from old.table.world (events_at (line_moment (reached_in old) at) (acts_of old.table.world.tasks what)) = world ∙ ap (after_from old.table.world) (part_events old at what moment before cpu part now.kept.items is) in
-    let reached : reached_in now ≡ (given_behind (reached_in old) at what).reached = rw (first, last, is.moment_is, there) refl in
+    let reached : reached_in now ≡ (line_events_after (reached_in old) at what).reached = rw (first, last, is.moment_is, there) refl in
     let kept = kept_at old at what moment before cpu part now.kept.items is in
     record {
-      behind = given_behind (reached_in old) at what;
-      is = given_free old.cpus (reached_in old) at what none;
+      suffix = line_events_after (reached_in old) at what;
+      is = events_free old.cpus (reached_in old) at what none;
       kept = kept;
       reached = reached;
       cpus = cpus;
-      so = taken_given old.cpus old now (given_behind (reached_in old) at what) so cpus limits_same kept reached gives;
+      so = taken_events old.cpus old now (line_events_after (reached_in old) at what) so cpus limits_same kept reached gives;
     }
 
 -- ---- all lines
@@ -166,5 +166,5 @@ pub all_end : (cpus : ℕ) (g : Gathering) → IsGathered g → g.cpus ≡ cpus 
 all_end cpus g so is =
     subst (λ n. Ends n first_world (whole_events g)) is (record {
       run = run_on g.cpus first_world (events_by g.kept.items) (end_at (reached_in g) ∷ []) so.run (subst (λ (w : World). Run g.cpus w (end_at (reached_in g) ∷ [])) so.after_them (end_runs g.cpus (reached_in g) so.under));
-      ends = ends_behind (events_by g.kept.items) (end_at (reached_in g) ∷ []) ([], g.moment, refl);
+      ends = ends_after (events_by g.kept.items) (end_at (reached_in g) ∷ []) ([], g.moment, refl);
     })

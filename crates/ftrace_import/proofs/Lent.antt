@@ -21,14 +21,14 @@ end_lent (first ∷ kept) end (suc at) zero follows is = absurd (let no : ⊥ = 
 end_lent (first ∷ kept) end (suc at) (suc next) follows is = end_lent kept end at next (omega (arith, follows)) (omega (arith, is))
 
 -- if none remain, none remain after any of them
-none_behind : (events : List Event) (at : ℕ) → events ≡ [] → drop at events ≡ []
-none_behind [] zero none = refl
-none_behind [] (suc at) none = refl
-none_behind (event ∷ events) at none = absurd (let no : ⊥ = cc none in no)
+none_following : (events : List Event) (at : ℕ) → events ≡ [] → drop at events ≡ []
+none_following [] zero none = refl
+none_following [] (suc at) none = refl
+none_following (event ∷ events) at none = absurd (let no : ⊥ = cc none in no)
 
 -- nothing after the end
 pub none_lent : (kept : List Kept) (end : Event) (at : ℕ) → length kept < at → drop at (events_by kept ++ end ∷ []) ≡ []
-none_lent [] end zero behind = absurd (let no : ⊥ = omega (arith, behind) in no)
-none_lent [] end (suc at) behind = none_behind [] at refl
-none_lent (first ∷ kept) end zero behind = absurd (let no : ⊥ = omega (arith, behind) in no)
-none_lent (first ∷ kept) end (suc at) behind = none_lent kept end at (omega (arith, behind))
+none_lent [] end zero suffix = absurd (let no : ⊥ = omega (arith, suffix) in no)
+none_lent [] end (suc at) suffix = none_following [] at refl
+none_lent (first ∷ kept) end zero suffix = absurd (let no : ⊥ = omega (arith, suffix) in no)
+none_lent (first ∷ kept) end (suc at) suffix = none_lent kept end at (omega (arith, suffix))

@@ -23,10 +23,10 @@ use Rattle.import_spec.specs.declared.seen.Seen.{Seen}
 use Rattle.import_spec.specs.declared.seen.Seen.TheVariants as seen
 use Rattle.import_spec.specs.declared.seen.Sighting.{Sighting}
 use Rattle.import_spec.specs.Marked.{read_line}
-use Rattle.import_spec.specs.Events.{GivenLine, Reached, acts_cause, acts_of, first_time, given_at, given_read, given_of, given_or, make_task, migration_acts, line_moment, needed_cpu, switch_acts, wakeup_acts}
+use Rattle.import_spec.specs.Events.{LineEvents, Reached, acts_cause, acts_of, first_time, line_events_at, events_read, events_of_line, events_or, make_task, migration_acts, line_moment, needed_cpu, switch_acts, wakeup_acts}
 use Rattle.ftrace_import.specs.Laws.{runner}
 use Rattle.ftrace_import.specs.Stands.{IsSeen, IsUnderWay, Leaves, Stands, limits}
-use Rattle.ftrace_import.proofs.Steps.{Goes, goes_none, goes_one, stands_later, step_migrate}
+use Rattle.ftrace_import.proofs.Steps.{Goes, goes_none, goes_one, later_in, step_migrate}
 use Rattle.ftrace_import.proofs.Arrivals.{Comes, comes_made, comes_woken, less_room}
 use Rattle.ftrace_import.proofs.Turns.{Turned, turns}
 use Rattle.ftrace_import.proofs.Sights.{line_seen}
@@ -65,7 +65,7 @@ pass cpus w moment cpu acts is =
     }
 
 -- what was given is one thing
-ok_same : (x y : GivenLine) → (let r : Result GivenLine ImportCause = Ok x in r) ≡ Ok y → x ≡ y
+ok_same : (x y : LineEvents) → (let r : Result LineEvents ImportCause = Ok x in r) ≡ Ok y → x ≡ y
 ok_same x y is = cc is
 
 -- ---- a wakeup
@@ -120,74 +120,74 @@ goes cpus at w (seen.Wakeup pid cpu) so is pass = (wakes cpus at _ cpu pid w (ta
 goes cpus at w (seen.Migration pid cpu) so is pass = moves cpus at _ cpu pid w (task_of w.tasks pid.0) so (omega arith) is pass.there refl
 
 -- the import is at the time of a line, with room for its events
-stands_at : (cpus : ℕ) (reached : Reached) (at : ℕ) (cpu : Cpu) (acts : List Act) → IsUnderWay cpus reached → Pass cpus reached.world (line_moment reached at) cpu acts → Stands cpus (line_moment reached at) (length acts) reached.world
-stands_at cpus reached at cpu acts so pass = stands_later cpus reached.moment 0 (line_moment reached at) (length acts) reached.world so (omega arith) pass.early pass.few
+placed_at : (cpus : ℕ) (reached : Reached) (at : ℕ) (cpu : Cpu) (acts : List Act) → IsUnderWay cpus reached → Pass cpus reached.world (line_moment reached at) cpu acts → Stands cpus (line_moment reached at) (length acts) reached.world
+placed_at cpus reached at cpu acts so pass = later_in cpus reached.moment 0 (line_moment reached at) (length acts) reached.world so (omega arith) pass.early pass.few
 
 -- the events of a line can be spelled and are legal, and the import's invariant holds after it
-pub record Gives (cpus : ℕ) (reached : Reached) (given : GivenLine) : Type 0 where
-  pub fit : AllFit given.events
-  pub known : AreKnown (verbs_of One) given.events
-  pub legal : AreLegal (limits cpus) reached.world given.events
-  pub world : given.reached.world ≡ after_from reached.world given.events
-  pub later : IsUnderWay cpus given.reached
+pub record Gives (cpus : ℕ) (reached : Reached) (line_events : LineEvents) : Type 0 where
+  pub fit : AllFit line_events.events
+  pub known : AreKnown (verbs_of One) line_events.events
+  pub legal : AreLegal (limits cpus) reached.world line_events.events
+  pub world : line_events.reached.world ≡ after_from reached.world line_events.events
+  pub later : IsUnderWay cpus line_events.reached
 
-gives_or : (cpus : ℕ) (reached : Reached) (at : ℕ) (what : Seen) (given : GivenLine) → IsUnderWay cpus reached → IsSeen what → (o : Option ImportCause)
-    → acts_cause cpus reached.world (line_moment reached at) (needed_cpu what) (acts_of reached.world.tasks what) ≡ o → given_or reached at (line_moment reached at) (acts_of reached.world.tasks what) o ≡ Ok given → Gives cpus reached given
-gives_or cpus reached at what given so is (Some why) none found = absurd (cc found)
-gives_or cpus reached at what given so is None none found =
+gives_or : (cpus : ℕ) (reached : Reached) (at : ℕ) (what : Seen) (line_events : LineEvents) → IsUnderWay cpus reached → IsSeen what → (o : Option ImportCause)
+    → acts_cause cpus reached.world (line_moment reached at) (needed_cpu what) (acts_of reached.world.tasks what) ≡ o → events_or reached at (line_moment reached at) (acts_of reached.world.tasks what) o ≡ Ok line_events → Gives cpus reached line_events
+gives_or cpus reached at what line_events so is (Some why) none found = absurd (cc found)
+gives_or cpus reached at what line_events so is None none found =
     let passes = pass cpus reached.world (line_moment reached at) (needed_cpu what) (acts_of reached.world.tasks what) none in
-    let all = goes cpus (line_moment reached at) reached.world what (stands_at cpus reached at (needed_cpu what) (acts_of reached.world.tasks what) so passes) is passes in
-    subst (λ (g : GivenLine). Gives cpus reached g) (ok_same _ given found) (record { fit = all.fit; known = all.known; legal = all.legal; world = refl; later = all.later })
+    let all = goes cpus (line_moment reached at) reached.world what (placed_at cpus reached at (needed_cpu what) (acts_of reached.world.tasks what) so passes) is passes in
+    subst (λ (g : LineEvents). Gives cpus reached g) (ok_same _ line_events found) (record { fit = all.fit; known = all.known; legal = all.legal; world = refl; later = all.later })
 
-pub gives_at : (cpus : ℕ) (reached : Reached) (at : ℕ) (what : Seen) (given : GivenLine) → IsUnderWay cpus reached → IsSeen what → given_at cpus reached at what ≡ Ok given → Gives cpus reached given
-unfolding given_at
-gives_at cpus reached at what given so is found = gives_or cpus reached at what given so is _ refl found
+pub gives_at : (cpus : ℕ) (reached : Reached) (at : ℕ) (what : Seen) (line_events : LineEvents) → IsUnderWay cpus reached → IsSeen what → line_events_at cpus reached at what ≡ Ok line_events → Gives cpus reached line_events
+unfolding line_events_at
+gives_at cpus reached at what line_events so is found = gives_or cpus reached at what line_events so is _ refl found
 
-gives_by : (cpus : ℕ) (reached : Reached) (line : List ℕ) (given : GivenLine) → IsUnderWay cpus reached → (r : Result (Option Sighting) ImportCause) → read_line line ≡ r → given_read cpus reached r ≡ Ok given → Gives cpus reached given
-gives_by cpus reached line given so (Err why) read found = absurd (cc found)
-gives_by cpus reached line given so (Ok None) read found = subst (λ (g : GivenLine). Gives cpus reached g) (ok_same _ given found) (record { fit = tt; known = tt; legal = tt; world = refl; later = so })
-gives_by cpus reached line given so (Ok (Some sighting)) read found = gives_at cpus reached sighting.at sighting.seen given so (line_seen line sighting read) found
+gives_by : (cpus : ℕ) (reached : Reached) (line : List ℕ) (line_events : LineEvents) → IsUnderWay cpus reached → (r : Result (Option Sighting) ImportCause) → read_line line ≡ r → events_read cpus reached r ≡ Ok line_events → Gives cpus reached line_events
+gives_by cpus reached line line_events so (Err why) read found = absurd (cc found)
+gives_by cpus reached line line_events so (Ok None) read found = subst (λ (g : LineEvents). Gives cpus reached g) (ok_same _ line_events found) (record { fit = tt; known = tt; legal = tt; world = refl; later = so })
+gives_by cpus reached line line_events so (Ok (Some sighting)) read found = gives_at cpus reached sighting.at sighting.seen line_events so (line_seen line sighting read) found
 
-pub gives : (cpus : ℕ) (reached : Reached) (line : List ℕ) (given : GivenLine) → IsUnderWay cpus reached → given_of cpus reached line ≡ Ok given → Gives cpus reached given
-unfolding given_of
-gives cpus reached line given so found = gives_by cpus reached line given so (read_line line) refl found
+pub gives : (cpus : ℕ) (reached : Reached) (line : List ℕ) (line_events : LineEvents) → IsUnderWay cpus reached → events_of_line cpus reached line ≡ Ok line_events → Gives cpus reached line_events
+unfolding events_of_line
+gives cpus reached line line_events so found = gives_by cpus reached line line_events so (read_line line) refl found
 
 -- ---- laws of one line
 
 -- after a switch its next task runs
-switch_or : (cpus : ℕ) (reached : Reached) (at : ℕ) (cpu : Cpu) (previous next : Option Pid) (how : How) (given : GivenLine) → IsUnderWay cpus reached → IfSome next IsPid × Leaves how → (o : Option ImportCause)
-    → acts_cause cpus reached.world (line_moment reached at) cpu (switch_acts reached.world.tasks cpu previous next how) ≡ o → given_or reached at (line_moment reached at) (switch_acts reached.world.tasks cpu previous next how) o ≡ Ok given → runner given.reached.world.tasks cpu.0 ≡ next
-switch_or cpus reached at cpu previous next how given so is (Some why) none found = absurd (cc found)
-switch_or cpus reached at cpu previous next how given so is None none found =
+switch_or : (cpus : ℕ) (reached : Reached) (at : ℕ) (cpu : Cpu) (previous next : Option Pid) (how : How) (line_events : LineEvents) → IsUnderWay cpus reached → IfSome next IsPid × Leaves how → (o : Option ImportCause)
+    → acts_cause cpus reached.world (line_moment reached at) cpu (switch_acts reached.world.tasks cpu previous next how) ≡ o → events_or reached at (line_moment reached at) (switch_acts reached.world.tasks cpu previous next how) o ≡ Ok line_events → runner line_events.reached.world.tasks cpu.0 ≡ next
+switch_or cpus reached at cpu previous next how line_events so is (Some why) none found = absurd (cc found)
+switch_or cpus reached at cpu previous next how line_events so is None none found =
     let acts = switch_acts reached.world.tasks cpu previous next how in
     let passes = pass cpus reached.world (line_moment reached at) cpu acts none in
-    let turned = switches cpus (line_moment reached at) (length acts) reached.world cpu previous next how (stands_at cpus reached at cpu acts so passes) (omega arith) passes.there is passes.space in
-    subst (λ (g : GivenLine). runner g.reached.world.tasks cpu.0 ≡ next) (ok_same _ given found) turned.runs
+    let turned = switches cpus (line_moment reached at) (length acts) reached.world cpu previous next how (placed_at cpus reached at cpu acts so passes) (omega arith) passes.there is passes.space in
+    subst (λ (g : LineEvents). runner g.reached.world.tasks cpu.0 ≡ next) (ok_same _ line_events found) turned.runs
 
-pub switch_runs : (cpus : ℕ) (reached : Reached) (at : ℕ) (cpu : Cpu) (previous next : Option Pid) (how : How) (given : GivenLine) → IsUnderWay cpus reached → IfSome next IsPid × Leaves how → given_at cpus reached at (seen.Switch cpu previous next how) ≡ Ok given → runner given.reached.world.tasks cpu.0 ≡ next
-unfolding given_at
-switch_runs cpus reached at cpu previous next how given so is found = switch_or cpus reached at cpu previous next how given so is _ refl found
+pub switch_runs : (cpus : ℕ) (reached : Reached) (at : ℕ) (cpu : Cpu) (previous next : Option Pid) (how : How) (line_events : LineEvents) → IsUnderWay cpus reached → IfSome next IsPid × Leaves how → line_events_at cpus reached at (seen.Switch cpu previous next how) ≡ Ok line_events → runner line_events.reached.world.tasks cpu.0 ≡ next
+unfolding line_events_at
+switch_runs cpus reached at cpu previous next how line_events so is found = switch_or cpus reached at cpu previous next how line_events so is _ refl found
 
 -- after a wakeup its task doesn't sleep
-wakeup_or : (cpus : ℕ) (reached : Reached) (at : ℕ) (pid : Pid) (cpu : Cpu) (given : GivenLine) → IsUnderWay cpus reached → IsPid pid → (o : Option ImportCause)
-    → acts_cause cpus reached.world (line_moment reached at) cpu (wakeup_acts pid cpu (task_of reached.world.tasks pid.0)) ≡ o → given_or reached at (line_moment reached at) (wakeup_acts pid cpu (task_of reached.world.tasks pid.0)) o ≡ Ok given
-    → is_some_and (task_of given.reached.world.tasks pid.0) (λ task. is_active task.mode) ≡ true
-wakeup_or cpus reached at pid cpu given so is (Some why) none found = absurd (cc found)
-wakeup_or cpus reached at pid cpu given so is None none found =
+wakeup_or : (cpus : ℕ) (reached : Reached) (at : ℕ) (pid : Pid) (cpu : Cpu) (line_events : LineEvents) → IsUnderWay cpus reached → IsPid pid → (o : Option ImportCause)
+    → acts_cause cpus reached.world (line_moment reached at) cpu (wakeup_acts pid cpu (task_of reached.world.tasks pid.0)) ≡ o → events_or reached at (line_moment reached at) (wakeup_acts pid cpu (task_of reached.world.tasks pid.0)) o ≡ Ok line_events
+    → is_some_and (task_of line_events.reached.world.tasks pid.0) (λ task. is_active task.mode) ≡ true
+wakeup_or cpus reached at pid cpu line_events so is (Some why) none found = absurd (cc found)
+wakeup_or cpus reached at pid cpu line_events so is None none found =
     let acts = wakeup_acts pid cpu (task_of reached.world.tasks pid.0) in
     let passes = pass cpus reached.world (line_moment reached at) cpu acts none in
-    let woken = wakes cpus (line_moment reached at) (length acts) cpu pid reached.world (task_of reached.world.tasks pid.0) (stands_at cpus reached at cpu acts so passes) (omega arith) is passes.there refl passes.space in
-    subst (λ (g : GivenLine). is_some_and (task_of g.reached.world.tasks pid.0) (λ task. is_active task.mode) ≡ true) (ok_same _ given found) woken.awake
+    let woken = wakes cpus (line_moment reached at) (length acts) cpu pid reached.world (task_of reached.world.tasks pid.0) (placed_at cpus reached at cpu acts so passes) (omega arith) is passes.there refl passes.space in
+    subst (λ (g : LineEvents). is_some_and (task_of g.reached.world.tasks pid.0) (λ task. is_active task.mode) ≡ true) (ok_same _ line_events found) woken.awake
 
-pub wakeup_wakes : (cpus : ℕ) (reached : Reached) (at : ℕ) (pid : Pid) (cpu : Cpu) (given : GivenLine) → IsUnderWay cpus reached → IsPid pid → given_at cpus reached at (seen.Wakeup pid cpu) ≡ Ok given → is_some_and (task_of given.reached.world.tasks pid.0) (λ task. is_active task.mode) ≡ true
-unfolding given_at
-wakeup_wakes cpus reached at pid cpu given so is found = wakeup_or cpus reached at pid cpu given so is _ refl found
+pub wakeup_wakes : (cpus : ℕ) (reached : Reached) (at : ℕ) (pid : Pid) (cpu : Cpu) (line_events : LineEvents) → IsUnderWay cpus reached → IsPid pid → line_events_at cpus reached at (seen.Wakeup pid cpu) ≡ Ok line_events → is_some_and (task_of line_events.reached.world.tasks pid.0) (λ task. is_active task.mode) ≡ true
+unfolding line_events_at
+wakeup_wakes cpus reached at pid cpu line_events so is found = wakeup_or cpus reached at pid cpu line_events so is _ refl found
 
 -- ---- the result of a line, by the cause against it
 
 -- the result if no cause applies
-abbrev pub given_behind : Reached → ℕ → Seen → GivenLine
-given_behind reached at what = record {
+abbrev pub line_events_after : Reached → ℕ → Seen → LineEvents
+line_events_after reached at what = record {
   events = events_at (line_moment reached at) (acts_of reached.world.tasks what);
   reached = record {
     first = Some (first_time reached at);
@@ -200,10 +200,10 @@ given_behind reached at what = record {
 abbrev pub cause_at : ℕ → Reached → ℕ → Seen → Option ImportCause
 cause_at cpus reached at what = acts_cause cpus reached.world (line_moment reached at) (needed_cpu what) (acts_of reached.world.tasks what)
 
-pub given_free : (cpus : ℕ) (reached : Reached) (at : ℕ) (what : Seen) → cause_at cpus reached at what ≡ None → given_at cpus reached at what ≡ Ok (given_behind reached at what)
-unfolding given_at
-given_free cpus reached at what none = ap (given_or reached at (line_moment reached at) (acts_of reached.world.tasks what)) none
+pub events_free : (cpus : ℕ) (reached : Reached) (at : ℕ) (what : Seen) → cause_at cpus reached at what ≡ None → line_events_at cpus reached at what ≡ Ok (line_events_after reached at what)
+unfolding line_events_at
+events_free cpus reached at what none = ap (events_or reached at (line_moment reached at) (acts_of reached.world.tasks what)) none
 
-pub given_refused : (cpus : ℕ) (reached : Reached) (at : ℕ) (what : Seen) (why : ImportCause) → cause_at cpus reached at what ≡ Some why → given_at cpus reached at what ≡ Err why
-unfolding given_at
-given_refused cpus reached at what why some = ap (given_or reached at (line_moment reached at) (acts_of reached.world.tasks what)) some
+pub events_refused : (cpus : ℕ) (reached : Reached) (at : ℕ) (what : Seen) (why : ImportCause) → cause_at cpus reached at what ≡ Some why → line_events_at cpus reached at what ≡ Err why
+unfolding line_events_at
+events_refused cpus reached at what why some = ap (events_or reached at (line_moment reached at) (acts_of reached.world.tasks what)) some

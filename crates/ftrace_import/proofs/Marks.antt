@@ -10,7 +10,7 @@ use Rattle.import_spec.specs.Laws.{NonePasses}
 use Rattle.import_spec.specs.Marked.{Mark, Marked, begins_marked, if_formed, mark_of, marked_of, read_line, read_marked, sighting_of}
 use Rattle.ftrace_import.specs.declared.marked.ShortMark.{ShortMark}
 use Rattle.ftrace_import.specs.Bytes.{IsFirstMark, mark_parts, parted}
-use Rattle.ftrace_import.proofs.Bytes.{begins_other, front, passed_by}
+use Rattle.ftrace_import.proofs.Bytes.{begins_other, prefix, passed_by}
 
 -- no mark begins with another byte than a colon
 unmarked : (rest : List ℕ) → (58 == get_or rest 0 0) ≡ false → mark_of rest ≡ None
@@ -19,7 +19,7 @@ unmarked rest other =
     rw (begins_other (codes ": sched_switch: ") rest (omega arith) other, begins_other (codes ": sched_wakeup: ") rest (omega arith) other, begins_other (codes ": sched_wakeup_new: ") rest (omega arith) other, begins_other (codes ": sched_migrate_task: ") rest (omega arith) other) refl
 
 no_colon : (line : List ℕ) (at : ℕ) → get_or line at 0 ≢ 58 → mark_of (drop at line) ≡ None
-no_colon line at other = unmarked (drop at line) (ne_eqb 58 (get_or (drop at line) 0 0) (λ same. other (sym (front line at) ∙ sym same)))
+no_colon line at other = unmarked (drop at line) (ne_eqb 58 (get_or (drop at line) 0 0) (λ same. other (sym (prefix line at) ∙ sym same)))
 
 -- a mark is here
 pub marked_here : (o : Option Mark) (short : ShortMark) → option_map mark_parts o ≡ Some short → is_some o ≡ true

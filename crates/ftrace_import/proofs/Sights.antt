@@ -13,7 +13,7 @@ use Rattle.import_spec.specs.declared.seen.LineKind.TheVariants as kind
 use Rattle.import_spec.specs.declared.seen.Seen.{Seen}
 use Rattle.import_spec.specs.declared.seen.Sighting.{Sighting}
 use Rattle.psi_base.specs.OptionSteps.{◌>>=◌}
-use Rattle.import_spec.specs.Places.{begins_with, behind_last, last_place}
+use Rattle.import_spec.specs.Places.{begins_with, after_last, last_place}
 use Rattle.import_spec.specs.Tails.{cpu_in, field_in, how_in, if_small, is_space, short_number, pid_in, time_in}
 use Rattle.import_spec.specs.Marked.{Marked, if_formed, marked_of, migration_in, read_line, read_marked, seen_in, sighting_of, switch_in, wakeup_in}
 use Rattle.ftrace_import.specs.Stands.{IsSeen, Leaves}
@@ -42,7 +42,7 @@ small_is m n is =
 field_small : (key part : List ℕ) (n : ℕ) → field_in key part ≡ Some n → n < 2 ^ 32
 unfolding field_in
 field_small key part n is =
-    let first = bound (behind_last key part) _ n is in
+    let first = bound (after_last key part) _ n is in
     let second = bound (short_number 10 (before_first is_space first.value)) _ n first.then in
     small_is second.value n second.then
 
@@ -69,7 +69,7 @@ unfolding switch_in
 switch_seen cpu tail what is =
     let arrow = bound (last_place (begins_with (codes " ==> ")) tail) _ what is in
     let previous = bound (field_in (codes " prev_pid=") (take arrow.value tail)) _ what arrow.then in
-    let state = bound (behind_last (codes " prev_state=") (take arrow.value tail)) _ what previous.then in
+    let state = bound (after_last (codes " prev_state=") (take arrow.value tail)) _ what previous.then in
     let how = bound (how_in state.value) _ what state.then in
     let next = bound (field_in (codes " next_pid=") (drop (arrow.value + length (codes " ==> ")) tail)) _ what how.then in
     subst IsSeen (some_same _ what next.then) (pid_fits next.value (field_small (codes " next_pid=") (drop (arrow.value + length (codes " ==> ")) tail) next.value next.first), how_leaves state.value how.value how.first)

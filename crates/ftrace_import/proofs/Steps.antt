@@ -19,7 +19,7 @@ use Rattle.psi_spec.specs.Fields.{IsAmong, IsPid}
 use Rattle.psi_spec.specs.Grammar.{ActFits, Fits, IsKnown, One, phrase_of, verbs_of}
 use Rattle.psi_spec.specs.Refusal.{AreLegal, cause_of, is_exit, is_wrong}
 use Rattle.psi_spec.specs.Trace.{AllFit, AreKnown, IsCpuCount}
-use Rattle.psi_spec.specs.World.{Tasks, World, after_event, after_from, ends, first_world, groups_after, is_active, is_ready, is_ready_on, readied, running_on, task_of, tasks_after, events_at}
+use Rattle.psi_spec.specs.World.{Tasks, World, after_event, after_from, ends, first_world, groups_after, is_active, is_ready, is_ready_on, prepared_changes, running_on, task_of, tasks_after, events_at}
 use Rattle.psi_counts.proofs.LegalLaws.{legal_first, legal_kept}
 use Rattle.task_table.specs.Causes.{act_cause}
 use Rattle.task_table.proofs.CauseLaws.{first_of_act}
@@ -30,8 +30,8 @@ use Rattle.ftrace_import.proofs.Runs.{calm_change, calm_put, calm_running, calm_
 -- ---- the world of an import
 
 -- the first one
-pub stands_first : (cpus : ℕ) → IsCpuCount cpus → Stands cpus 0 0 first_world
-stands_first cpus counted = record {
+pub first_in : (cpus : ℕ) → IsCpuCount cpus → Stands cpus 0 0 first_world
+first_in cpus counted = record {
   counted = counted;
   legal = legal_first (limits cpus);
   calm = λ q. rw (tasks_by.get-empty nat_cmp q) refl;
@@ -43,8 +43,8 @@ stands_first cpus counted = record {
 }
 
 -- at a later time, and with room for fewer events
-pub stands_later : (cpus at room now few : ℕ) (w : World) → Stands cpus at room w → at ≤ now → now ≤ 2000000000000000 → w.lines + few ≤ 3999999 → Stands cpus now few w
-stands_later cpus at room now few w so later early left = record {
+pub later_in : (cpus at room now few : ℕ) (w : World) → Stands cpus at room w → at ≤ now → now ≤ 2000000000000000 → w.lines + few ≤ 3999999 → Stands cpus now few w
+later_in cpus at room now few w so later early left = record {
   counted = so.counted;
   legal = so.legal;
   calm = so.calm;
@@ -117,15 +117,15 @@ goes_one cpus at room w what step = goes_then cpus at room room w what [] step (
 
 -- acts, and later ones
 pub goes_on : (cpus at mid room : ℕ) (w : World) (xs ys : List Act) → Goes cpus at mid w xs → Goes cpus at room (after_from w (events_at at xs)) ys → Goes cpus at room w (xs ++ ys)
-goes_on cpus at mid room w [] ys front rest = rest
-goes_on cpus at mid room w (x ∷ xs) ys front rest =
-    let inner : Goes cpus at mid (after_event w (event_at at x)) xs = record { fit = front.fit.1; known = front.known.1; legal = front.legal.1; later = front.later } in
-    let behind = goes_on cpus at mid room (after_event w (event_at at x)) xs ys inner rest in
+goes_on cpus at mid room w [] ys prefix rest = rest
+goes_on cpus at mid room w (x ∷ xs) ys prefix rest =
+    let inner : Goes cpus at mid (after_event w (event_at at x)) xs = record { fit = prefix.fit.1; known = prefix.known.1; legal = prefix.legal.1; later = prefix.later } in
+    let suffix = goes_on cpus at mid room (after_event w (event_at at x)) xs ys inner rest in
     record {
-      fit = (front.fit.0, behind.fit);
-      known = (front.known.0, behind.known);
-      legal = (front.legal.0, behind.legal);
-      later = behind.later;
+      fit = (prefix.fit.0, suffix.fit);
+      known = (prefix.known.0, suffix.known);
+      legal = (prefix.legal.0, suffix.legal);
+      later = suffix.later;
     }
 
 -- ---- the acts of an import
@@ -161,7 +161,7 @@ step_wake cpus at room w pid cpu task so is there live sleeps =
     (rw (live, there_is cpus cpu.0 there, sleeps) refl)
     (is, (small_cpu cpus cpu.0 so.counted there, tt))
     (inr (inl refl))
-    refl refl (calm_change w.tasks so.calm pid.0 (readied cpu.0) (λ t. refl) (task_of w.tasks pid.0) refl)
+    refl refl (calm_change w.tasks so.calm pid.0 (prepared_changes cpu.0) (λ t. refl) (task_of w.tasks pid.0) refl)
 
 -- a task that is ready goes elsewhere
 pub step_migrate : (cpus at room : ℕ) (w : World) (pid : Pid) (cpu : Cpu) (task : Task) → Stands cpus at (room + 1) w → IsPid pid → cpu.0 < cpus → task_of w.tasks pid.0 ≡ Some task → is_ready task.mode ≡ true → Step cpus at room w (act.Migrate pid cpu)
@@ -170,7 +170,7 @@ step_migrate cpus at room w pid cpu task so is there live ready =
     (rw (live, there_is cpus cpu.0 there, ready) refl)
     (is, (small_cpu cpus cpu.0 so.counted there, tt))
     (inr (inr (inr (inr (inl refl)))))
-    refl refl (calm_change w.tasks so.calm pid.0 (readied cpu.0) (λ t. refl) (task_of w.tasks pid.0) refl)
+    refl refl (calm_change w.tasks so.calm pid.0 (prepared_changes cpu.0) (λ t. refl) (task_of w.tasks pid.0) refl)
 
 -- a task that runs next, if there is one, is ready on the processor
 abbrev pub IsNext : Tasks → ℕ → Option Pid → Type 0

@@ -2,7 +2,7 @@
 use Rattle.std.proofs.Common.{◌≡◌, ℕ, ◌+◌, ◌-◌, ◌≤◌, List, [], ◌∷◌, length, refl, sym, ap, ◌∙◌, subst, arith, Bool}
 use Rattle.std.specs.Prelude.{Option, None, Some, Result, Ok, Err, IsErrOf}
 use Rattle.std.specs.Borrow.{Bor}
-use Rattle.outside.specs.Outside.{Files, told}
+use Rattle.outside.specs.Outside.{Files, content_of}
 use Rattle.psi_base.specs.declared.event.Event.{Event}
 use Rattle.psi_base.specs.declared.event.Fault.{Fault}
 use Rattle.psi_base.specs.declared.event.Fault.TheVariants as fault
@@ -14,8 +14,8 @@ use Rattle.psi_lines.specs.declared.lines.LineFault.TheVariants as lines
 use Rattle.psi_lines.proofs.Counts.{lines_read, lines_stay}
 use Rattle.import_spec.specs.declared.cause.ImportCause.{ImportCause}
 use Rattle.import_spec.specs.declared.cause.ImportCause.TheVariants as cause
-use Rattle.import_spec.specs.Events.{GivenLine, Reached, unreached}
-use Rattle.import_spec.specs.Import.{Refused, ends_or, events_followed, import_from, import_of, import_refused, line_given, or_refused_line, tail_cause}
+use Rattle.import_spec.specs.Events.{LineEvents, Reached, unreached}
+use Rattle.import_spec.specs.Import.{Refused, ends_or, events_followed, import_from, import_of, import_refused, yield_of_line, or_refused_line, tail_cause}
 use Rattle.ftrace_import.specs.declared.taking.Gathering.{Gathering}
 use Rattle.ftrace_import.specs.declared.text.ImportFault.{ImportFault}
 use Rattle.ftrace_import.specs.declared.text.ImportFault.TheVariants as import
@@ -38,13 +38,13 @@ ends_or-line : (reached : Reached) (number : ℕ) (why : Option ImportCause) (re
 ends_or-line reached number None refusal is = absurd (cc is)
 ends_or-line reached number (Some why) refusal is = same_number number why refusal is
 
-followed-err : (front : List Event) (rest : Answer) (refusal : Refused) → events_followed front rest ≡ Err refusal → rest ≡ Err refusal
-followed-err front (Ok events) refusal is = absurd (cc is)
-followed-err front (Err why) refusal is = is
+followed-err : (prefix : List Event) (rest : Answer) (refusal : Refused) → events_followed prefix rest ≡ Err refusal → rest ≡ Err refusal
+followed-err prefix (Ok events) refusal is = absurd (cc is)
+followed-err prefix (Err why) refusal is = is
 
-or_refused-line : (number : ℕ) (given : Result GivenLine ImportCause) (behind : Reached → Answer) (refusal : Refused) → ((reached : Reached) → behind reached ≡ Err refusal → number ≤ refusal.line) → or_refused_line number given behind ≡ Err refusal → number ≤ refusal.line
-or_refused-line number (Ok given) behind refusal later is = later given.reached (followed-err given.events (behind given.reached) refusal is)
-or_refused-line number (Err why) behind refusal later is = same_number number why refusal is
+or_refused-line : (number : ℕ) (line_events : Result LineEvents ImportCause) (suffix : Reached → Answer) (refusal : Refused) → ((reached : Reached) → suffix reached ≡ Err refusal → number ≤ refusal.line) → or_refused_line number line_events suffix ≡ Err refusal → number ≤ refusal.line
+or_refused-line number (Ok line_events) suffix refusal later is = later line_events.reached (followed-err line_events.events (suffix line_events.reached) refusal is)
+or_refused-line number (Err why) suffix refusal later is = same_number number why refusal is
 
 -- the lines from a given one on are rejected at no line before it
 from_line : (cpus : ℕ) (reached : Reached) (number : ℕ) (parts : List (List ℕ)) (refusal : Refused) → import_from cpus reached number parts ≡ Err refusal → number ≤ refusal.line
@@ -52,8 +52,8 @@ unfolding import_from
 from_line cpus reached number [] refusal is = absurd (cc is)
 from_line cpus reached number (rest ∷ []) refusal is = ends_or-line reached number (tail_cause number rest) refusal is
 from_line cpus reached number (line ∷ next ∷ parts) refusal is =
-    or_refused-line number (line_given cpus reached number line) (λ behind. import_from cpus behind (number + 1) (next ∷ parts)) refusal
-    (λ behind found. let later = from_line cpus behind (number + 1) (next ∷ parts) refusal found in omega (arith, later)) is
+    or_refused-line number (yield_of_line cpus reached number line) (λ suffix. import_from cpus suffix (number + 1) (next ∷ parts)) refusal
+    (λ suffix found. let later = from_line cpus suffix (number + 1) (next ∷ parts) refusal found in omega (arith, later)) is
 
 -- ---- one line
 
@@ -91,43 +91,43 @@ fault_number at lines.ReadFault number because same is = absurd (cc is)
 fault_number at (lines.NoMemory none) number because same is = absurd (cc is)
 
 -- what is said of a line that is lent, of how many are left
-keeps_lines : {A : Type 0} (files : Option Files) (given given_now : ℕ) (old new : Reader) (lent : Result (Option (Bor (List ℕ))) LineFault) (result : Result A ImportFault) → LendsLine files given given_now old new lent → (IsErrOf result import.ReadFault → lent ≡ Err lines.ReadFault)
-    → ((number : ℕ) (why : ImportCause) → IsErrOf result (import.Refused number why) → number ≡ old.number) → KeepsLines (told files old.name) old new result
-keeps_lines files given given_now old new lent result lends only at = record {
-  lines = λ bytes tells. lines_stay bytes old new (lent_line old.number lent) (lends.line bytes tells) lends.number;
-  failed = λ is. let from = only is in (rw from at lends.number, λ bytes tells. let found = rw from at (lends.line bytes tells) in found.1);
+keeps_lines : {A : Type 0} (files : Option Files) (bytes_read read_now : ℕ) (old new : Reader) (lent : Result (Option (Bor (List ℕ))) LineFault) (result : Result A ImportFault) → LendsLine files bytes_read read_now old new lent → (IsErrOf result import.ReadFault → lent ≡ Err lines.ReadFault)
+    → ((number : ℕ) (why : ImportCause) → IsErrOf result (import.Refused number why) → number ≡ old.number) → KeepsLines (content_of files old.name) old new result
+keeps_lines files bytes_read read_now old new lent result lends only at = record {
+  lines = λ bytes shows. lines_stay bytes old new (lent_line old.number lent) (lends.line bytes shows) lends.number;
+  failed = λ is. let from = only is in (rw from at lends.number, λ bytes shows. let found = rw from at (lends.line bytes shows) in found.1);
   refused = at;
 }
 
 -- if it was taken, or there is none
-pub taken_keeps : {A : Type 0} (files : Option Files) (given given_now : ℕ) (old new : Reader) (lent : Result (Option (Bor (List ℕ))) LineFault) (x : A) → LendsLine files given given_now old new lent → KeepsLines (told files old.name) old new (Ok x)
-taken_keeps files given given_now old new lent x lends = keeps_lines files given given_now old new lent (Ok x) lends (λ is. absurd (cc is)) (λ number why is. absurd (cc is))
+pub taken_keeps : {A : Type 0} (files : Option Files) (bytes_read read_now : ℕ) (old new : Reader) (lent : Result (Option (Bor (List ℕ))) LineFault) (x : A) → LendsLine files bytes_read read_now old new lent → KeepsLines (content_of files old.name) old new (Ok x)
+taken_keeps files bytes_read read_now old new lent x lends = keeps_lines files bytes_read read_now old new lent (Ok x) lends (λ is. absurd (cc is)) (λ number why is. absurd (cc is))
 
 -- if it was read, and isn't taken
-pub faulted_keeps : {A : Type 0} (files : Option Files) (given given_now : ℕ) (old new : Reader) (lent : Result (Option (Bor (List ℕ))) LineFault) (why : Fault ImportCause) (found : ImportFault) → LendsLine files given given_now old new lent → IsLineFault old.number why found
-    → KeepsLines {A = A} (told files old.name) old new (Err found)
-faulted_keeps files given given_now old new lent why found lends faults =
-    keeps_lines files given given_now old new lent (Err found) lends
+pub faulted_keeps : {A : Type 0} (files : Option Files) (bytes_read read_now : ℕ) (old new : Reader) (lent : Result (Option (Bor (List ℕ))) LineFault) (why : Fault ImportCause) (found : ImportFault) → LendsLine files bytes_read read_now old new lent → IsLineFault old.number why found
+    → KeepsLines {A = A} (content_of files old.name) old new (Err found)
+faulted_keeps files bytes_read read_now old new lent why found lends faults =
+    keeps_lines files bytes_read read_now old new lent (Err found) lends
     (λ is. absurd (line_was_read old.number why found faults (err_same found import.ReadFault is)))
     (λ number because is. line_number old.number why found number because faults (err_same found (import.Refused number because) is))
 
 -- if it wasn't read
-pub unread_keeps : {A : Type 0} (files : Option Files) (given given_now : ℕ) (old new : Reader) (lent : Result (Option (Bor (List ℕ))) LineFault) (why : LineFault) (found : ImportFault) → LendsLine files given given_now old new lent → lent ≡ Err why → IsNumbered old.number (lent_line old.number lent) → found ≡ import_fault why
-    → KeepsLines {A = A} (told files old.name) old new (Err found)
-unread_keeps files given given_now old new lent why found lends is numbered from =
-    keeps_lines files given given_now old new lent (Err found) lends
+pub unread_keeps : {A : Type 0} (files : Option Files) (bytes_read read_now : ℕ) (old new : Reader) (lent : Result (Option (Bor (List ℕ))) LineFault) (why : LineFault) (found : ImportFault) → LendsLine files bytes_read read_now old new lent → lent ≡ Err why → IsNumbered old.number (lent_line old.number lent) → found ≡ import_fault why
+    → KeepsLines {A = A} (content_of files old.name) old new (Err found)
+unread_keeps files bytes_read read_now old new lent why found lends is numbered from =
+    keeps_lines files bytes_read read_now old new lent (Err found) lends
     (λ read. same_fault lent why is (read_failed why (sym from ∙ err_same found import.ReadFault read)))
     (λ number because refuses. fault_number old.number why number because (rw is at numbered) (sym from ∙ err_same found (import.Refused number because) refuses))
 
-no_newline : (held : List ℕ) → held ≡ [] → HasNoNewline held (length held)
-no_newline held none = rw none (λ k below. absurd (omega (arith, below)))
+no_newline : (buffered : List ℕ) → buffered ≡ [] → HasNoNewline buffered (length buffered)
+no_newline buffered none = rw none (λ k below. absurd (omega (arith, below)))
 
 -- a check that nothing follows the lines takes none
-look_keeps : {A : Type 0} (known : Option (List ℕ)) (old new : Reader) (result : Result A ImportFault) → ((bytes : List ℕ) → known ≡ Some bytes → left new bytes ≡ left old bytes) → new.number ≡ old.number → (IsErrOf result import.ReadFault → new.held ≡ [])
+look_keeps : {A : Type 0} (known : Option (List ℕ)) (old new : Reader) (result : Result A ImportFault) → ((bytes : List ℕ) → known ≡ Some bytes → left new bytes ≡ left old bytes) → new.number ≡ old.number → (IsErrOf result import.ReadFault → new.buffered ≡ [])
     → ((number : ℕ) (why : ImportCause) → IsErrOf result (import.Refused number why) → number ≡ old.number) → KeepsLines known old new result
 look_keeps known old new result same number none at = record {
-  lines = λ bytes tells. rw (number, same bytes tells) refl;
-  failed = λ is. (number, λ bytes tells. no_newline new.held (none is));
+  lines = λ bytes shows. rw (number, same bytes shows) refl;
+  failed = λ is. (number, λ bytes shows. no_newline new.buffered (none is));
   refused = at;
 }
 
@@ -148,7 +148,7 @@ no_refusal lines.ReadFault number because reads is = absurd (cc is)
 no_refusal (lines.NoMemory none) number because reads is = absurd (cc is)
 
 -- the look failed
-pub unseen_keeps : {A : Type 0} (known : Option (List ℕ)) (old new : Reader) (seen : Result Bool LineFault) (why : LineFault) (found : ImportFault) → ((bytes : List ℕ) → known ≡ Some bytes → left new bytes ≡ left old bytes) → new.number ≡ old.number → (IsErrOf seen lines.ReadFault → new.held ≡ []) → IsReadFault seen → seen ≡ Err why → found ≡ import_fault why
+pub unseen_keeps : {A : Type 0} (known : Option (List ℕ)) (old new : Reader) (seen : Result Bool LineFault) (why : LineFault) (found : ImportFault) → ((bytes : List ℕ) → known ≡ Some bytes → left new bytes ≡ left old bytes) → new.number ≡ old.number → (IsErrOf seen lines.ReadFault → new.buffered ≡ []) → IsReadFault seen → seen ≡ Err why → found ≡ import_fault why
     → KeepsLines {A = A} known old new (Err found)
 unseen_keeps {A} known old new seen why found same number none reads is from =
     look_keeps {A = A} known old new (Err found) same number
@@ -156,33 +156,33 @@ unseen_keeps {A} known old new seen why found same number none reads is from =
     (λ number because refuses. absurd (no_refusal why number because (rw is at reads) (sym from ∙ err_same found (import.Refused number because) refuses)))
 
 -- so it is of the bytes that were known before
-pub known_keeps : {A : Type 0} (files files_now : Option Files) (name name_now : List ℕ) (old new : Reader) (result : Result A ImportFault) → files_now ≡ files → name_now ≡ name → KeepsLines (told files_now name_now) old new result → KeepsLines (told files name) old new result
+pub known_keeps : {A : Type 0} (files files_now : Option Files) (name name_now : List ℕ) (old new : Reader) (result : Result A ImportFault) → files_now ≡ files → name_now ≡ name → KeepsLines (content_of files_now name_now) old new result → KeepsLines (content_of files name) old new result
 known_keeps files files_now name name_now old new result same named keeps =
-    subst (λ n. KeepsLines (told files n) old new result) named (subst (λ f. KeepsLines (told f name_now) old new result) same keeps)
+    subst (λ n. KeepsLines (content_of files n) old new result) named (subst (λ f. KeepsLines (content_of f name_now) old new result) same keeps)
 
 -- ---- all lines
 
 -- reading stops at the line that a reader has come to
-pub stops_here : (A : Type 0) (cpus : ℕ) (g : Gathering) (known : Option (List ℕ)) (first old new : Reader) (given given_old given_now : ℕ) (found : ImportFault) → first.number ≡ 1 → first.held ≡ [] → first.at ≡ 0 → given_old + first.at ≡ given + old.at → given_now + old.at ≡ given_old + new.at → new.at ≤ furthest old.number
+pub stops_here : (A : Type 0) (cpus : ℕ) (g : Gathering) (known : Option (List ℕ)) (first old new : Reader) (bytes_read read_before read_now : ℕ) (found : ImportFault) → first.number ≡ 1 → first.buffered ≡ [] → first.at ≡ 0 → read_before + first.at ≡ bytes_read + old.at → read_now + old.at ≡ read_before + new.at → new.at ≤ furthest old.number
     → ((bytes : List ℕ) → known ≡ Some bytes → old.number + line_count (left old bytes) ≡ first.number + line_count (left first bytes))
-    → SoFar cpus old.number g (left first) (left old) known → KeepsLines {A = Bool} known old new (Err found) → StopsAtRefusal {A = A} (rest_from cpus unreached 1) known given given_now (Err found)
-stops_here A cpus g known first old new given given_old given_now (import.Refused number why) one held start before counted place stay so keeps =
+    → SoFar cpus old.number g (left first) (left old) known → KeepsLines {A = Bool} known old new (Err found) → StopsAtRefusal {A = A} (rest_from cpus unreached 1) known bytes_read read_now (Err found)
+stops_here A cpus g known first old new bytes_read read_before read_now (import.Refused number why) one buffered start before counted place stay so keeps =
     let at = keeps.refused number why refl in
     rw at (omega (arith, start, before, counted, place))
-stops_here A cpus g known first old new given given_old given_now import.NoFile one held start before counted place stay so keeps = tt
-stops_here A cpus g known first old new given given_old given_now import.ReadFault one held start before counted place stay so keeps = λ bytes refusal tells is.
+stops_here A cpus g known first old new bytes_read read_before read_now import.NoFile one buffered start before counted place stay so keeps = tt
+stops_here A cpus g known first old new bytes_read read_before read_now import.ReadFault one buffered start before counted place stay so keeps = λ bytes refusal shows is.
     let here = keeps.failed refl in
     let number = here.0 in
-    let all : left first bytes ≡ bytes = rw (held, start) refl in
+    let all : left first bytes ≡ bytes = rw (buffered, start) refl in
     let whole = ap line_count all in
-    let now = keeps.lines bytes tells in
-    let was = stay bytes tells in
-    let count = lines_read bytes new (omega (arith, now, was, whole, one)) (here.1 bytes tells) in
-    let refused = followed-err (events_by g.kept.items) _ refusal (so.read bytes tells ∙ ap (rest_from cpus unreached 1) all ∙ is) in
+    let now = keeps.lines bytes shows in
+    let was = stay bytes shows in
+    let count = lines_read bytes new (omega (arith, now, was, whole, one)) (here.1 bytes shows) in
+    let refused = followed-err (events_by g.kept.items) _ refusal (so.read bytes shows ∙ ap (rest_from cpus unreached 1) all ∙ is) in
     let later = from_line cpus (reached_in g) old.number _ refusal refused in
-    let total : given_now - given ≡ new.at = omega (arith, start, before, counted) in
+    let total : read_now - bytes_read ≡ new.at = omega (arith, start, before, counted) in
     rw total (omega (arith, count, number, later))
-stops_here A cpus g known first old new given given_old given_now (import.NoMemory none) one held start before counted place stay so keeps = tt
+stops_here A cpus g known first old new bytes_read read_before read_now (import.NoMemory none) one buffered start before counted place stay so keeps = tt
 
 -- ---- a whole text
 
@@ -190,10 +190,10 @@ whole : (cpus : ℕ) (bytes : List ℕ) → import_of cpus bytes ≡ rest_from c
 unfolding import_of
 whole cpus bytes = refl
 
-pub gather_stops : (A B : Type 0) (n cpus : ℕ) (known : List ℕ → Option (List ℕ)) (name : List ℕ) (old : Reader) (given given_now : ℕ) (found : ImportFault) → n ≡ cpus → old ≡ fresh_reader name → StopsAtRefusal {A = A} (rest_from n unreached 1) (known old.name) given given_now (Err found) → StopsAtRefusal {A = B} (import_of cpus) (known name) given given_now (Err found)
-gather_stops A B n cpus known name old given given_now (import.Refused number why) same fresh stops = stops
-gather_stops A B n cpus known name old given given_now import.NoFile same fresh stops = tt
-gather_stops A B n cpus known name old given given_now import.ReadFault same fresh stops = λ bytes refusal tells is.
+pub gather_stops : (A B : Type 0) (n cpus : ℕ) (known : List ℕ → Option (List ℕ)) (name : List ℕ) (old : Reader) (bytes_read read_now : ℕ) (found : ImportFault) → n ≡ cpus → old ≡ fresh_reader name → StopsAtRefusal {A = A} (rest_from n unreached 1) (known old.name) bytes_read read_now (Err found) → StopsAtRefusal {A = B} (import_of cpus) (known name) bytes_read read_now (Err found)
+gather_stops A B n cpus known name old bytes_read read_now (import.Refused number why) same fresh stops = stops
+gather_stops A B n cpus known name old bytes_read read_now import.NoFile same fresh stops = tt
+gather_stops A B n cpus known name old bytes_read read_now import.ReadFault same fresh stops = λ bytes refusal shows is.
     let named : old.name ≡ name = ap (λ (r : Reader). r.name) fresh in
-    stops bytes refusal (ap known named ∙ tells) (rw same (sym (whole cpus bytes) ∙ is))
-gather_stops A B n cpus known name old given given_now (import.NoMemory none) same fresh stops = tt
+    stops bytes refusal (ap known named ∙ shows) (rw same (sym (whole cpus bytes) ∙ is))
+gather_stops A B n cpus known name old bytes_read read_now (import.NoMemory none) same fresh stops = tt

@@ -14,8 +14,8 @@ use Rattle.psi_lines.specs.declared.lines.LineFault.{LineFault}
 use Rattle.psi_lines.specs.declared.lines.LineFault.TheVariants as lines
 use Rattle.import_spec.specs.declared.cause.ImportCause.{ImportCause}
 use Rattle.import_spec.specs.declared.cause.ImportCause.TheVariants as cause
-use Rattle.import_spec.specs.Events.{GivenLine, Reached, given_of, unreached}
-use Rattle.import_spec.specs.Import.{Refused, end_at, ends_or, events_followed, import_from, import_of, line_given, or_refused_line, import_refused, tail_cause}
+use Rattle.import_spec.specs.Events.{LineEvents, Reached, events_of_line, unreached}
+use Rattle.import_spec.specs.Import.{Refused, end_at, ends_or, events_followed, import_from, import_of, yield_of_line, or_refused_line, import_refused, tail_cause}
 use Rattle.ftrace_import.specs.declared.taking.Gathering.{Gathering}
 use Rattle.ftrace_import.specs.declared.text.ImportFault.{ImportFault}
 use Rattle.ftrace_import.specs.declared.text.ImportFault.TheVariants as import
@@ -28,12 +28,12 @@ Answer = Result (List Event) Refused
 
 -- ---- one line
 
-step_parts : (cpus : ℕ) (reached : Reached) (number : ℕ) (line : List ℕ) (parts : List (List ℕ)) → HasFirst parts → import_from cpus reached number (line ∷ parts) ≡ or_refused_line number (line_given cpus reached number line) (λ behind. import_from cpus behind (number + 1) parts)
+step_parts : (cpus : ℕ) (reached : Reached) (number : ℕ) (line : List ℕ) (parts : List (List ℕ)) → HasFirst parts → import_from cpus reached number (line ∷ parts) ≡ or_refused_line number (yield_of_line cpus reached number line) (λ suffix. import_from cpus suffix (number + 1) parts)
 unfolding import_from
 step_parts cpus reached number line parts has = rw has.2 refl
 
-rest_line : (cpus : ℕ) (reached : Reached) (number : ℕ) (line behind : List ℕ) → HasNone 10 line (length line) → rest_from cpus reached number (line ++ 10 ∷ behind) ≡ or_refused_line number (line_given cpus reached number line) (λ r. rest_from cpus r (number + 1) behind)
-rest_line cpus reached number line behind none = rw (parts_at-line 10 line behind none) (step_parts cpus reached number line (parts_at 10 behind) (first_part 10 behind))
+rest_line : (cpus : ℕ) (reached : Reached) (number : ℕ) (line suffix : List ℕ) → HasNone 10 line (length line) → rest_from cpus reached number (line ++ 10 ∷ suffix) ≡ or_refused_line number (yield_of_line cpus reached number line) (λ r. rest_from cpus r (number + 1) suffix)
+rest_line cpus reached number line suffix none = rw (parts_at-line 10 line suffix none) (step_parts cpus reached number line (parts_at 10 suffix) (first_part 10 suffix))
 
 rest_last : (cpus : ℕ) (reached : Reached) (number : ℕ) (rest : List ℕ) → HasNone 10 rest (length rest) → rest_from cpus reached number rest ≡ ends_or reached number (tail_cause number rest)
 unfolding import_from
@@ -51,23 +51,23 @@ short_line n short = grind (arith, short)
 long_line : (n : ℕ) → 513 ≤ n → nat_lt 512 n ≡ true
 long_line n long = grind (arith, long)
 
-given_plain : (cpus : ℕ) (reached : Reached) (number : ℕ) (line : List ℕ) → number ≤ 16000000 → length line ≤ 512 → line_given cpus reached number line ≡ given_of cpus reached line
-unfolding line_given
-given_plain cpus reached number line few short = rw (low_number number few, short_line (length line) short) refl
+events_plain : (cpus : ℕ) (reached : Reached) (number : ℕ) (line : List ℕ) → number ≤ 16000000 → length line ≤ 512 → yield_of_line cpus reached number line ≡ events_of_line cpus reached line
+unfolding yield_of_line
+events_plain cpus reached number line few short = rw (low_number number few, short_line (length line) short) refl
 
-given_long : (cpus : ℕ) (reached : Reached) (number : ℕ) (line : List ℕ) → number ≤ 16000000 → 513 ≤ length line → line_given cpus reached number line ≡ Err cause.LineTooLong
-unfolding line_given
-given_long cpus reached number line few long = rw (low_number number few, long_line (length line) long) refl
+events_long : (cpus : ℕ) (reached : Reached) (number : ℕ) (line : List ℕ) → number ≤ 16000000 → 513 ≤ length line → yield_of_line cpus reached number line ≡ Err cause.LineTooLong
+unfolding yield_of_line
+events_long cpus reached number line few long = rw (low_number number few, long_line (length line) long) refl
 
-given_many : (cpus : ℕ) (reached : Reached) (number : ℕ) (line : List ℕ) → 16000000 < number → line_given cpus reached number line ≡ Err cause.TooManyLines
-unfolding line_given
-given_many cpus reached number line many = rw (high_number number many) refl
+events_many : (cpus : ℕ) (reached : Reached) (number : ℕ) (line : List ℕ) → 16000000 < number → yield_of_line cpus reached number line ≡ Err cause.TooManyLines
+unfolding yield_of_line
+events_many cpus reached number line many = rw (high_number number many) refl
 
 -- a line and what it gives
-at_line : (cpus : ℕ) (reached : Reached) (number : ℕ) (bytes line behind : List ℕ) (r : Result GivenLine ImportCause) → number ≤ 16000000 → BeginsWithLine bytes line behind → given_of cpus reached line ≡ r → rest_from cpus reached number bytes ≡ or_refused_line number r (λ next. rest_from cpus next (number + 1) behind)
-at_line cpus reached number bytes line behind r few begins is =
-    ap (rest_from cpus reached number) begins.whole ∙ rest_line cpus reached number line behind begins.one
-    ∙ ap (λ r. or_refused_line number r (λ next. rest_from cpus next (number + 1) behind)) (given_plain cpus reached number line few begins.short ∙ is)
+at_line : (cpus : ℕ) (reached : Reached) (number : ℕ) (bytes line suffix : List ℕ) (r : Result LineEvents ImportCause) → number ≤ 16000000 → BeginsWithLine bytes line suffix → events_of_line cpus reached line ≡ r → rest_from cpus reached number bytes ≡ or_refused_line number r (λ next. rest_from cpus next (number + 1) suffix)
+at_line cpus reached number bytes line suffix r few begins is =
+    ap (rest_from cpus reached number) begins.whole ∙ rest_line cpus reached number line suffix begins.one
+    ∙ ap (λ r. or_refused_line number r (λ next. rest_from cpus next (number + 1) suffix)) (events_plain cpus reached number line few begins.short ∙ is)
 
 -- ---- the end
 
@@ -107,7 +107,7 @@ rest_cut cpus reached number bytes few is =
 long_first : (bytes : List ℕ) (c : Cut 10 bytes) → IsTooLong bytes → 513 ≤ length c.line
 long_first bytes c is =
     let case : (513 ≤ length c.line) ⊎ (length c.line < 513) = grind arith in
-    ⊎_elim (λ long. long) (λ short. absurd (is.none (length c.line) short (ap (λ bs. get_or bs (length c.line) 0) c.whole ∙ get_or-append_seam c.line 10 c.behind 0))) case
+    ⊎_elim (λ long. long) (λ short. absurd (is.none (length c.line) short (ap (λ bs. get_or bs (length c.line) 0) c.whole ∙ get_or-append_seam c.line 10 c.suffix 0))) case
 
 rest_long : (cpus : ℕ) (reached : Reached) (number : ℕ) (bytes : List ℕ) → number ≤ 16000000 → IsTooLong bytes → rest_from cpus reached number bytes ≡ Err (import_refused number cause.LineTooLong)
 rest_long cpus reached number bytes few is = ⊎_elim
@@ -115,8 +115,8 @@ rest_long cpus reached number bytes few is = ⊎_elim
     rest_last cpus reached number bytes none
     ∙ refusal_at reached number cause.LineTooLong (tail_cause number bytes) (rest_some number bytes cause.LineTooLong (let long = is.long in some_bytes bytes (omega (arith, long))) (rw (low_number number few, long_line (length bytes) is.long) refl)))
     (λ (c : Cut 10 bytes).
-    ap (rest_from cpus reached number) c.whole ∙ rest_line cpus reached number c.line c.behind c.none
-    ∙ ap (λ r. or_refused_line number r (λ next. rest_from cpus next (number + 1) c.behind)) (given_long cpus reached number c.line few (long_first bytes c is)))
+    ap (rest_from cpus reached number) c.whole ∙ rest_line cpus reached number c.line c.suffix c.none
+    ∙ ap (λ r. or_refused_line number r (λ next. rest_from cpus next (number + 1) c.suffix)) (events_long cpus reached number c.line few (long_first bytes c is)))
     (cut 10 bytes)
 
 -- something follows the maximum number of lines
@@ -126,29 +126,29 @@ rest_many cpus reached number bytes many some = ⊎_elim
     rest_last cpus reached number bytes none
     ∙ refusal_at reached number cause.TooManyLines (tail_cause number bytes) (rest_some number bytes cause.TooManyLines some (rw (high_number number many) refl)))
     (λ (c : Cut 10 bytes).
-    ap (rest_from cpus reached number) c.whole ∙ rest_line cpus reached number c.line c.behind c.none
-    ∙ ap (λ r. or_refused_line number r (λ next. rest_from cpus next (number + 1) c.behind)) (given_many cpus reached number c.line many))
+    ap (rest_from cpus reached number) c.whole ∙ rest_line cpus reached number c.line c.suffix c.none
+    ∙ ap (λ r. or_refused_line number r (λ next. rest_from cpus next (number + 1) c.suffix)) (events_many cpus reached number c.line many))
     (cut 10 bytes)
 
 -- ---- the result of the next line
 
-pub next_taken : (old new : Gathering) (number : ℕ) (line : List ℕ) (before behind : List ℕ → List ℕ) (known : Option (List ℕ)) → number ≤ 16000000 → HasTaken (given_of old.cpus (reached_in old) line) old new
-    → ((bytes : List ℕ) → known ≡ Some bytes → BeginsWithLine (before bytes) line (behind bytes)) → LineTaken number old new before behind known
-next_taken old new number line before behind known few taken begins = record {
+pub next_taken : (old new : Gathering) (number : ℕ) (line : List ℕ) (before suffix : List ℕ → List ℕ) (known : Option (List ℕ)) → number ≤ 16000000 → HasTaken (events_of_line old.cpus (reached_in old) line) old new
+    → ((bytes : List ℕ) → known ≡ Some bytes → BeginsWithLine (before bytes) line (suffix bytes)) → LineTaken number old new before suffix known
+next_taken old new number line before suffix known few taken begins = record {
   so = taken.so;
   cpus = taken.cpus;
-  events = taken.behind.events;
+  events = taken.suffix.events;
   kept = taken.kept;
-  read = λ bytes tells.
-      at_line old.cpus (reached_in old) number (before bytes) line (behind bytes) (Ok taken.behind) few (begins bytes tells) taken.is
-      ∙ ap (λ (r : Reached). events_followed taken.behind.events (rest_from old.cpus r (number + 1) (behind bytes))) (sym taken.reached);
+  read = λ bytes shows.
+      at_line old.cpus (reached_in old) number (before bytes) line (suffix bytes) (Ok taken.suffix) few (begins bytes shows) taken.is
+      ∙ ap (λ (r : Reached). events_followed taken.suffix.events (rest_from old.cpus r (number + 1) (suffix bytes))) (sym taken.reached);
 }
 
-pub next_refused : (old new : Gathering) (number : ℕ) (line : List ℕ) (before behind : List ℕ → List ℕ) (known : Option (List ℕ)) (why : Fault ImportCause) (found : ImportFault) → number ≤ 16000000 → IsLineFault number why found → TakesLine (given_of old.cpus (reached_in old) line) old new (Err why)
-    → ((bytes : List ℕ) → known ≡ Some bytes → BeginsWithLine (before bytes) line (behind bytes)) → (bytes : List ℕ) → known ≡ Some bytes → RefusalOf found (rest_from old.cpus (reached_in old) number (before bytes))
-next_refused old new number line before behind known (fault.Refused cause) found few is taken begins bytes tells =
-    rw is (at_line old.cpus (reached_in old) number (before bytes) line (behind bytes) (Err cause) few (begins bytes tells) taken)
-next_refused old new number line before behind known (fault.NoMemory none) found few is taken begins bytes tells = rw is tt
+pub next_refused : (old new : Gathering) (number : ℕ) (line : List ℕ) (before suffix : List ℕ → List ℕ) (known : Option (List ℕ)) (why : Fault ImportCause) (found : ImportFault) → number ≤ 16000000 → IsLineFault number why found → TakesLine (events_of_line old.cpus (reached_in old) line) old new (Err why)
+    → ((bytes : List ℕ) → known ≡ Some bytes → BeginsWithLine (before bytes) line (suffix bytes)) → (bytes : List ℕ) → known ≡ Some bytes → RefusalOf found (rest_from old.cpus (reached_in old) number (before bytes))
+next_refused old new number line before suffix known (fault.Refused cause) found few is taken begins bytes shows =
+    rw is (at_line old.cpus (reached_in old) number (before bytes) line (suffix bytes) (Err cause) few (begins bytes shows) taken)
+next_refused old new number line before suffix known (fault.NoMemory none) found few is taken begins bytes shows = rw is tt
 
 pub not_read : (g : Gathering) (bytes : List ℕ) (old new : Reader) (why : LineFault) → old.number ≤ 16000000 → NextOf bytes old new (Err why) → RefusalOf (import_fault why) (rest_from g.cpus (reached_in g) old.number (left old bytes))
 not_read g bytes old new (lines.TooLong number) few found = rw found.1 (rest_long g.cpus (reached_in g) old.number (left old bytes) few found.0)
@@ -168,27 +168,27 @@ followed_on xs ys (Ok events) = ap (λ es. let r : Answer = Ok es in r) (append_
 followed_on xs ys (Err refusal) = refl
 
 -- before the line with this number: what was stored, and the rest of the text
-pub record SoFar (cpus number : ℕ) (g : Gathering) (before behind : List ℕ → List ℕ) (known : Option (List ℕ)) : Type 0 where
+pub record SoFar (cpus number : ℕ) (g : Gathering) (before suffix : List ℕ → List ℕ) (known : Option (List ℕ)) : Type 0 where
   pub so : IsGathered g
   pub cpus_are : g.cpus ≡ cpus
-  pub read : (bytes : List ℕ) → known ≡ Some bytes → events_followed (events_by g.kept.items) (rest_from cpus (reached_in g) number (behind bytes)) ≡ rest_from cpus unreached 1 (before bytes)
+  pub read : (bytes : List ℕ) → known ≡ Some bytes → events_followed (events_by g.kept.items) (rest_from cpus (reached_in g) number (suffix bytes)) ≡ rest_from cpus unreached 1 (before bytes)
 
 pub none_so_far : (cpus number : ℕ) (g : Gathering) (before : List ℕ → List ℕ) (known : Option (List ℕ)) → IsGathered g → g.cpus ≡ cpus → reached_in g ≡ unreached → g.kept.items ≡ [] → number ≡ 1 → SoFar cpus number g before before known
 none_so_far cpus number g before known so is fresh none first = record {
   so = so;
   cpus_are = is;
-  read = λ bytes tells. rw (none, fresh, first) (followed_none (rest_from cpus unreached 1 (before bytes)));
+  read = λ bytes shows. rw (none, fresh, first) (followed_none (rest_from cpus unreached 1 (before bytes)));
 }
 
-pub one_more : (cpus number : ℕ) (old new : Gathering) (before behind later : List ℕ → List ℕ) (known : Option (List ℕ)) → SoFar cpus number old before behind known → LineTaken number old new behind later known → SoFar cpus (number + 1) new before later known
-one_more cpus number old new before behind later known so taken = record {
+pub one_more : (cpus number : ℕ) (old new : Gathering) (before suffix later : List ℕ → List ℕ) (known : Option (List ℕ)) → SoFar cpus number old before suffix known → LineTaken number old new suffix later known → SoFar cpus (number + 1) new before later known
+one_more cpus number old new before suffix later known so taken = record {
   so = taken.so;
   cpus_are = taken.cpus ∙ so.cpus_are;
-  read = λ bytes tells.
-      let here = subst (λ n. rest_from n (reached_in old) number (behind bytes) ≡ events_followed taken.events (rest_from n (reached_in new) (number + 1) (later bytes))) so.cpus_are (taken.read bytes tells) in
+  read = λ bytes shows.
+      let here = subst (λ n. rest_from n (reached_in old) number (suffix bytes) ≡ events_followed taken.events (rest_from n (reached_in new) (number + 1) (later bytes))) so.cpus_are (taken.read bytes shows) in
       ap (λ es. events_followed es (rest_from cpus (reached_in new) (number + 1) (later bytes))) taken.kept
       ∙ followed_on (events_by old.kept.items) taken.events (rest_from cpus (reached_in new) (number + 1) (later bytes))
-      ∙ ap (events_followed (events_by old.kept.items)) (sym here) ∙ so.read bytes tells;
+      ∙ ap (events_followed (events_by old.kept.items)) (sym here) ∙ so.read bytes shows;
 }
 
 -- the fault of a line is the whole's
@@ -198,17 +198,17 @@ faulted events rest whole import.NoFile is found = tt
 faulted events rest whole import.ReadFault is found = tt
 faulted events rest whole (import.NoMemory none) is found = tt
 
-pub fault_here : (cpus number : ℕ) (old : Gathering) (before behind : List ℕ → List ℕ) (known : Option (List ℕ)) (why : ImportFault) → SoFar cpus number old before behind known → ((bytes : List ℕ) → known ≡ Some bytes → RefusalOf why (rest_from old.cpus (reached_in old) number (behind bytes)))
+pub fault_here : (cpus number : ℕ) (old : Gathering) (before suffix : List ℕ → List ℕ) (known : Option (List ℕ)) (why : ImportFault) → SoFar cpus number old before suffix known → ((bytes : List ℕ) → known ≡ Some bytes → RefusalOf why (rest_from old.cpus (reached_in old) number (suffix bytes)))
     → (bytes : List ℕ) → known ≡ Some bytes → RefusalOf why (rest_from cpus unreached 1 (before bytes))
-fault_here cpus number old before behind known why so found bytes tells =
-    faulted (events_by old.kept.items) (rest_from cpus (reached_in old) number (behind bytes)) (rest_from cpus unreached 1 (before bytes)) why (so.read bytes tells)
-    (subst (λ n. RefusalOf why (rest_from n (reached_in old) number (behind bytes))) so.cpus_are (found bytes tells))
+fault_here cpus number old before suffix known why so found bytes shows =
+    faulted (events_by old.kept.items) (rest_from cpus (reached_in old) number (suffix bytes)) (rest_from cpus unreached 1 (before bytes)) why (so.read bytes shows)
+    (subst (λ n. RefusalOf why (rest_from n (reached_in old) number (suffix bytes))) so.cpus_are (found bytes shows))
 
 -- there is no line more
-pub ends_here : (cpus number : ℕ) (old : Gathering) (before behind : List ℕ → List ℕ) (known : Option (List ℕ)) → SoFar cpus number old before behind known → ((bytes : List ℕ) → known ≡ Some bytes → rest_from old.cpus (reached_in old) number (behind bytes) ≡ Ok (end_at (reached_in old) ∷ []))
+pub ends_here : (cpus number : ℕ) (old : Gathering) (before suffix : List ℕ → List ℕ) (known : Option (List ℕ)) → SoFar cpus number old before suffix known → ((bytes : List ℕ) → known ≡ Some bytes → rest_from old.cpus (reached_in old) number (suffix bytes) ≡ Ok (end_at (reached_in old) ∷ []))
     → (bytes : List ℕ) → known ≡ Some bytes → rest_from cpus unreached 1 (before bytes) ≡ Ok (whole_events old)
-ends_here cpus number old before behind known so found bytes tells =
-    sym (so.read bytes tells) ∙ ap (events_followed (events_by old.kept.items)) (subst (λ n. rest_from n (reached_in old) number (behind bytes) ≡ Ok (end_at (reached_in old) ∷ [])) so.cpus_are (found bytes tells))
+ends_here cpus number old before suffix known so found bytes shows =
+    sym (so.read bytes shows) ∙ ap (events_followed (events_by old.kept.items)) (subst (λ n. rest_from n (reached_in old) number (suffix bytes) ≡ Ok (end_at (reached_in old) ∷ [])) so.cpus_are (found bytes shows))
 
 -- ---- a whole text
 
@@ -219,7 +219,7 @@ whole cpus bytes = refl
 
 -- a reader before the first line of a name
 abbrev pub fresh_reader : List ℕ → Reader
-fresh_reader name = record { name = name; number = 1; held = []; at = 0 }
+fresh_reader name = record { name = name; number = 1; buffered = []; at = 0 }
 
 pub gathered_all : (n cpus : ℕ) (new : Gathering) (old : Reader) (name : List ℕ) (known_of : List ℕ → Option (List ℕ)) (done : Unit {0}) → n ≡ cpus → old ≡ fresh_reader name → LinesGive n new (left old) (known_of old.name) (Ok done) → Gathers cpus (known_of name) (Ok new)
 gathered_all n cpus new old name known_of done is fresh gives =
@@ -228,10 +228,10 @@ gathered_all n cpus new old name known_of done is fresh gives =
       so = here.0;
       cpus_are = here.1 ∙ is;
       ends = all_end cpus new here.0 (here.1 ∙ is);
-      read = λ bytes tells. whole cpus bytes ∙ subst (λ m. rest_from m unreached 1 bytes ≡ Ok (whole_events new)) is (here.2 bytes tells);
+      read = λ bytes shows. whole cpus bytes ∙ subst (λ m. rest_from m unreached 1 bytes ≡ Ok (whole_events new)) is (here.2 bytes shows);
     }
 
 pub gathered_none : (n cpus : ℕ) (new : Gathering) (old : Reader) (name : List ℕ) (known_of : List ℕ → Option (List ℕ)) (why : ImportFault) → n ≡ cpus → old ≡ fresh_reader name → LinesGive n new (left old) (known_of old.name) (Err why) → Gathers cpus (known_of name) (Err why)
 gathered_none n cpus new old name known_of why is fresh gives =
     let here = subst (λ (r : Reader). LinesGive n new (left r) (known_of r.name) (Err why)) fresh gives in
-    λ bytes tells. rw (whole cpus bytes) (subst (λ m. RefusalOf why (rest_from m unreached 1 bytes)) is (here bytes tells))
+    λ bytes shows. rw (whole cpus bytes) (subst (λ m. RefusalOf why (rest_from m unreached 1 bytes)) is (here bytes shows))

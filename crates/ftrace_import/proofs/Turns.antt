@@ -107,23 +107,23 @@ turned_already cpus at have room w cpu (Some pid) so few runs = record {
 }
 
 -- the world after acts and later ones
-pub events_behind : (at : ℕ) (w : World) (xs ys : List Act) → after_from w (events_at at (xs ++ ys)) ≡ after_from (after_from w (events_at at xs)) (events_at at ys)
-events_behind at w xs ys = ap (after_from w) (map-append (event_at at) xs ys) ∙ after_from-append w (events_at at xs) (events_at at ys)
+pub events_after : (at : ℕ) (w : World) (xs ys : List Act) → after_from w (events_at at (xs ++ ys)) ≡ after_from (after_from w (events_at at xs)) (events_at at ys)
+events_after at w xs ys = ap (after_from w) (map-append (event_at at) xs ys) ∙ after_from-append w (events_at at xs) (events_at at ys)
 
 -- what brings the next task, and then the turn
 turned_in : (cpus at have room : ℕ) (w : World) (cpu : Cpu) (next : Option Pid) (how : How) → Stands cpus at have w → length (next_acts w.tasks cpu next ++ turn_by (is_some (running_on w.tasks cpu.0)) cpu next how) + room ≤ have → cpu.0 < cpus → IfSome next IsPid → Leaves how
     → IfSome next (λ pid. task_of w.tasks pid.0 ≡ None → tasks_by.len w.tasks < 65536) → runs_there w.tasks cpu next ≡ false → Turned cpus at room cpu next w (next_acts w.tasks cpu next ++ turn_by (is_some (running_on w.tasks cpu.0)) cpu next how)
 turned_in cpus at have room w cpu None how so few there is leaves space off = turned cpus at have room w cpu None how (is_some (running_on w.tasks cpu.0)) so few there tt refl leaves
 turned_in cpus at have room w cpu (Some pid) how so few there is leaves space off =
-    let front = next_acts w.tasks cpu (Some pid) in
+    let prefix = next_acts w.tasks cpu (Some pid) in
     let turn = turn_by (is_some (running_on w.tasks cpu.0)) cpu (Some pid) how in
-    let all = length-append front turn in
+    let all = length-append prefix turn in
     let first = comes cpus at have (length turn + room) cpu pid w (task_of w.tasks pid.0) so (omega (arith, few, all)) is there refl space off in
-    let between = after_from w (events_at at front) in
+    let between = after_from w (events_at at prefix) in
     let then = turned cpus at (length turn + room) room between cpu (Some pid) how (is_some (running_on w.tasks cpu.0)) first.goes.later (omega arith) there (is, first.ready) (same_runs cpu.0 w.tasks between.tasks first.same) leaves in
     record {
-      goes = goes_on cpus at (length turn + room) room w front turn first.goes then.goes;
-      runs = subst (λ (v : World). runner v.tasks cpu.0 ≡ Some pid) (sym (events_behind at w front turn)) then.runs;
+      goes = goes_on cpus at (length turn + room) room w prefix turn first.goes then.goes;
+      runs = subst (λ (v : World). runner v.tasks cpu.0 ≡ Some pid) (sym (events_after at w prefix turn)) then.runs;
     }
 
 -- a switch

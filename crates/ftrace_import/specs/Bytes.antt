@@ -21,7 +21,7 @@ mark_parts mark = record { kind = mark.kind; size = length mark.text }
 -- the last number in brackets begins at `start` and has `count` digits
 pub record IsLastBracket (bytes : List ℕ) (start count : ℕ) : Type 0 where
   pub at : ℕ
-  pub behind : start ≡ at + 1
+  pub suffix : start ≡ at + 1
   pub last : last_place is_bracketed bytes ≡ Some at
   pub digits : count ≡ digit_count (drop start bytes)
   pub inside : start + count ≤ length bytes

@@ -16,7 +16,7 @@ use Rattle.psi_lines.specs.declared.lines.LineFault.{LineFault}
 use Rattle.psi_lines.specs.declared.lines.LineFault.TheVariants as lines
 use Rattle.import_spec.specs.declared.cause.ImportCause.{ImportCause}
 use Rattle.import_spec.specs.declared.cause.ImportCause.TheVariants as cause
-use Rattle.import_spec.specs.Events.{GivenLine, Reached, unreached}
+use Rattle.import_spec.specs.Events.{LineEvents, Reached, unreached}
 use Rattle.import_spec.specs.Import.{Refused, end_at, events_followed, import_from, import_of, import_refused}
 use Rattle.ftrace_import.specs.declared.taking.Gathering.{Gathering}
 use Rattle.ftrace_import.specs.declared.text.ImportFault.{ImportFault}
@@ -39,20 +39,20 @@ pub record IsGathered (g : Gathering) : Type 0 where
   pub after_them : g.table.world ≡ after_from first_world (events_by g.kept.items)
 
 -- the result of a line was stored after the events before it
-pub record HasTaken (given : Result GivenLine ImportCause) (old new : Gathering) : Type 0 where
-  pub behind : GivenLine
-  pub is : given ≡ Ok behind
-  pub kept : events_by new.kept.items ≡ events_by old.kept.items ++ behind.events
-  pub reached : reached_in new ≡ behind.reached
+pub record HasTaken (line_events : Result LineEvents ImportCause) (old new : Gathering) : Type 0 where
+  pub suffix : LineEvents
+  pub is : line_events ≡ Ok suffix
+  pub kept : events_by new.kept.items ≡ events_by old.kept.items ++ suffix.events
+  pub reached : reached_in new ≡ suffix.reached
   pub cpus : new.cpus ≡ old.cpus
   pub so : IsGathered new
 
 -- what taking a line does: the result of the line was stored, or the cause against the line is
 -- returned
-abbrev pub TakesLine : Result GivenLine ImportCause → Gathering → Gathering → Result (Unit {0}) (Fault ImportCause) → Type 0
-TakesLine given old new (Ok done) = HasTaken given old new
-TakesLine given old new (Err (fault.Refused why)) = given ≡ Err why
-TakesLine given old new (Err (fault.NoMemory _)) = ⊤
+abbrev pub TakesLine : Result LineEvents ImportCause → Gathering → Gathering → Result (Unit {0}) (Fault ImportCause) → Type 0
+TakesLine line_events old new (Ok done) = HasTaken line_events old new
+TakesLine line_events old new (Err (fault.Refused why)) = line_events ≡ Err why
+TakesLine line_events old new (Err (fault.NoMemory _)) = ⊤
 
 -- ---- the lines of a file
 
@@ -81,22 +81,22 @@ import_fault lines.ReadFault = import.ReadFault
 import_fault (lines.NoMemory none) = import.NoMemory none
 
 -- a line was taken: its events come before those of the rest
-pub record LineTaken (number : ℕ) (old new : Gathering) (before behind : List ℕ → List ℕ) (known : Option (List ℕ)) : Type 0 where
+pub record LineTaken (number : ℕ) (old new : Gathering) (before suffix : List ℕ → List ℕ) (known : Option (List ℕ)) : Type 0 where
   pub so : IsGathered new
   pub cpus : new.cpus ≡ old.cpus
   pub events : List Event
   pub kept : events_by new.kept.items ≡ events_by old.kept.items ++ events
   pub read : (bytes : List ℕ) → known ≡ Some bytes → rest_from old.cpus (reached_in old) number (before bytes)
-      ≡ events_followed events (rest_from old.cpus (reached_in new) (number + 1) (behind bytes))
+      ≡ events_followed events (rest_from old.cpus (reached_in new) (number + 1) (suffix bytes))
 
 -- the result of the next line: it was taken, or there is none, or a fault
 abbrev pub NextGives : ℕ → Gathering → Gathering → (List ℕ → List ℕ) → (List ℕ → List ℕ) → Option (List ℕ) → Result Bool ImportFault
     → Type 0
-NextGives number old new before behind known (Ok true) = LineTaken number old new before behind known
-NextGives number old new before behind known (Ok false) =
+NextGives number old new before suffix known (Ok true) = LineTaken number old new before suffix known
+NextGives number old new before suffix known (Ok false) =
     (new ≡ old) × ((bytes : List ℕ) → known ≡ Some bytes
     → rest_from old.cpus (reached_in old) number (before bytes) ≡ Ok (end_at (reached_in old) ∷ []))
-NextGives number old new before behind known (Err fault) =
+NextGives number old new before suffix known (Err fault) =
     (bytes : List ℕ) → known ≡ Some bytes → RefusalOf fault (rest_from old.cpus (reached_in old) number (before bytes))
 
 -- a shelf counted this fault of an import and nothing else: a failed read, or an absent name
@@ -122,13 +122,13 @@ LineInOrder name at place before now (Ok false) = ReadsFile name at before now N
 LineInOrder name at place before now (Err found) = ReadsFile name at before now (shelf_fault found)
 
 -- what reading the next line does to the reader and to the shelf, whatever the line contains
-pub record ReadsLine {A : Type 0} (known : Option (List ℕ)) (old new : Reader) (counts counts_now : ShelfCounts) (given given_now : ℕ)
+pub record ReadsLine {A : Type 0} (known : Option (List ℕ)) (old new : Reader) (counts counts_now : ShelfCounts) (bytes_read read_now : ℕ)
     (result : Result A ImportFault) : Type 0 where
   pub name : new.name ≡ old.name
   pub number : OnOk result (new.number ≤ old.number + 1)
   pub missed : IsErrOf result import.NoFile → known ≡ None
   pub cause : CausesImportFault counts counts_now result
-  pub counted : given_now + old.at ≡ given + new.at
+  pub counted : read_now + old.at ≡ bytes_read + new.at
   pub place : new.at ≤ furthest old.number
 
 -- What reading the next line does to the number of remaining lines. If a read failed, no line was
@@ -136,27 +136,27 @@ pub record ReadsLine {A : Type 0} (known : Option (List ℕ)) (old new : Reader)
 pub record KeepsLines {A : Type 0} (known : Option (List ℕ)) (old new : Reader) (result : Result A ImportFault) : Type 0 where
   pub lines : (bytes : List ℕ) → known ≡ Some bytes → new.number + line_count (left new bytes) ≡ old.number + line_count (left old bytes)
   pub failed : IsErrOf result import.ReadFault → (new.number ≡ old.number)
-      × ((bytes : List ℕ) → known ≡ Some bytes → HasNoNewline new.held (length new.held))
+      × ((bytes : List ℕ) → known ≡ Some bytes → HasNoNewline new.buffered (length new.buffered))
   pub refused : (number : ℕ) (why : ImportCause) → IsErrOf result (import.Refused number why) → number ≡ old.number
 
 -- Reading a text stops at the first rejected line: no more is read than the buffer holds after the
 -- lines before it, and a read fails only if that line isn't complete in the bytes read.
 abbrev pub StopsAtRefusal : {A : Type 0} → (List ℕ → Result (List Event) Refused) → Option (List ℕ) → ℕ → ℕ → Result A ImportFault → Type 0
-StopsAtRefusal read known given given_now (Ok x) = ⊤
-StopsAtRefusal read known given given_now (Err (import.Refused number why)) = given_now ≤ given + furthest number
-StopsAtRefusal read known given given_now (Err import.NoFile) = ⊤
-StopsAtRefusal read known given given_now (Err import.ReadFault) =
+StopsAtRefusal read known bytes_read read_now (Ok x) = ⊤
+StopsAtRefusal read known bytes_read read_now (Err (import.Refused number why)) = read_now ≤ bytes_read + furthest number
+StopsAtRefusal read known bytes_read read_now (Err import.NoFile) = ⊤
+StopsAtRefusal read known bytes_read read_now (Err import.ReadFault) =
     (bytes : List ℕ) (refusal : Refused) → known ≡ Some bytes → read bytes ≡ Err refusal
-    → line_count (take (given_now - given) bytes) ≤ refusal.line
-StopsAtRefusal read known given given_now (Err (import.NoMemory _)) = ⊤
+    → line_count (take (read_now - bytes_read) bytes) ≤ refusal.line
+StopsAtRefusal read known bytes_read read_now (Err (import.NoMemory _)) = ⊤
 
 -- the answer depends on no bytes
-abbrev pub TellsNothing : {A : Type 0} → Result A ImportFault → Type 0
-TellsNothing (Ok x) = ⊥
-TellsNothing (Err (import.Refused number why)) = ⊥
-TellsNothing (Err import.NoFile) = ⊤
-TellsNothing (Err import.ReadFault) = ⊤
-TellsNothing (Err (import.NoMemory _)) = ⊤
+abbrev pub ShowsNothing : {A : Type 0} → Result A ImportFault → Type 0
+ShowsNothing (Ok x) = ⊥
+ShowsNothing (Err (import.Refused number why)) = ⊥
+ShowsNothing (Err import.NoFile) = ⊤
+ShowsNothing (Err import.ReadFault) = ⊤
+ShowsNothing (Err (import.NoMemory _)) = ⊤
 
 -- ---- a whole text
 

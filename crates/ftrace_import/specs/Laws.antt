@@ -16,7 +16,7 @@ use Rattle.import_spec.specs.declared.cause.ImportCause.{ImportCause}
 use Rattle.import_spec.specs.declared.seen.Seen.TheVariants as seen
 use Rattle.import_spec.specs.declared.seen.Sighting.{Sighting}
 use Rattle.import_spec.specs.Marked.{read_line}
-use Rattle.import_spec.specs.Events.{GivenLine, Reached, default_tick, given_of, unreached}
+use Rattle.import_spec.specs.Events.{LineEvents, Reached, default_tick, events_of_line, unreached}
 use Rattle.import_spec.specs.Import.{import_of, import_trace}
 
 -- If the first version is accepted, each imported text is accepted at the default tick, as the
@@ -28,22 +28,22 @@ ImportedIsTrace =
     → IsTrace (accepts_with versions default_tick) (text_of (import_trace cpus events)) (import_trace cpus events)
 
 -- how far an import has come after a line and later ones, or None if the line is rejected
-abbrev pub behind_given : Result GivenLine ImportCause → (Reached → Option Reached) → Option Reached
-behind_given (Err why) next = None
-behind_given (Ok given) next = next given.reached
+abbrev pub after_events : Result LineEvents ImportCause → (Reached → Option Reached) → Option Reached
+after_events (Err why) next = None
+after_events (Ok line_events) next = next line_events.reached
 
 -- how far an import has come after complete lines, or None if one of them is rejected
 abbrev pub reached_by : ℕ → Reached → List (List ℕ) → Option Reached
 reached_by cpus reached [] = Some reached
-reached_by cpus reached (line ∷ lines) = behind_given (given_of cpus reached line) (λ behind. reached_by cpus behind lines)
+reached_by cpus reached (line ∷ lines) = after_events (events_of_line cpus reached line) (λ suffix. reached_by cpus suffix lines)
 
 -- a line has this result after other lines that aren't rejected, and reports this
-pub record GivesBehind (cpus : ℕ) (lines : List (List ℕ)) (line : List ℕ) (sighting : Sighting) (given : GivenLine) : Type 0 where
+pub record GivesAfter (cpus : ℕ) (lines : List (List ℕ)) (line : List ℕ) (sighting : Sighting) (line_events : LineEvents) : Type 0 where
   pub counted : IsCpuCount cpus
   pub reached : Reached
-  pub behind : reached_by cpus unreached lines ≡ Some reached
-  pub tells : read_line line ≡ Ok (Some sighting)
-  pub gives : given_of cpus reached line ≡ Ok given
+  pub suffix : reached_by cpus unreached lines ≡ Some reached
+  pub shows : read_line line ≡ Ok (Some sighting)
+  pub gives : events_of_line cpus reached line ≡ Ok line_events
 
 -- the number of the running task of a processor, or None
 abbrev pub runner : Tasks → ℕ → Option Pid
@@ -52,30 +52,31 @@ runner tasks cpu = option_map (λ (e : ℕ × Task). let pid : Pid = record { 0 
 -- After the line of a switch, its processor runs the next task, or none.
 abbrev pub SwitchRunsNext : Type 0
 SwitchRunsNext =
-    (cpus : ℕ) (lines : List (List ℕ)) (line : List ℕ) (at : ℕ) (cpu : Cpu) (previous next : Option Pid) (how : How) (given : GivenLine)
-    → GivesBehind cpus lines line (record { at = at; seen = seen.Switch cpu previous next how }) given
-    → runner given.reached.world.tasks cpu.0 ≡ next
+    (cpus : ℕ) (lines : List (List ℕ)) (line : List ℕ) (at : ℕ) (cpu : Cpu) (previous next : Option Pid) (how : How)
+    (line_events : LineEvents)
+    → GivesAfter cpus lines line (record { at = at; seen = seen.Switch cpu previous next how }) line_events
+    → runner line_events.reached.world.tasks cpu.0 ≡ next
 
 -- After the line of a wakeup, its task is live and isn't blocked.
 abbrev pub WakeupWakes : Type 0
-WakeupWakes = (cpus : ℕ) (lines : List (List ℕ)) (line : List ℕ) (at : ℕ) (pid : Pid) (cpu : Cpu) (given : GivenLine)
-    → GivesBehind cpus lines line (record { at = at; seen = seen.Wakeup pid cpu }) given
-    → is_some_and (task_of given.reached.world.tasks pid.0) (λ task. is_active task.mode) ≡ true
+WakeupWakes = (cpus : ℕ) (lines : List (List ℕ)) (line : List ℕ) (at : ℕ) (pid : Pid) (cpu : Cpu) (line_events : LineEvents)
+    → GivesAfter cpus lines line (record { at = at; seen = seen.Wakeup pid cpu }) line_events
+    → is_some_and (task_of line_events.reached.world.tasks pid.0) (λ task. is_active task.mode) ≡ true
 
 -- A complete line after these lines, in a text that isn't rejected, has its own part of the written
 -- events: the events before them lead to the world that the earlier lines reach, and together with
 -- them to the world after the line. So the laws of a line's world hold for the world after a prefix
 -- of the written events.
 pub record IsWritten (cpus : ℕ) (lines : List (List ℕ)) (line : List ℕ) (events : List Event) : Type 0 where
-  pub front : List Event
-  pub behind : List Event
+  pub prefix : List Event
+  pub suffix : List Event
   pub reached : Reached
-  pub given : GivenLine
+  pub line_events : LineEvents
   pub before : reached_by cpus unreached lines ≡ Some reached
-  pub gives : given_of cpus reached line ≡ Ok given
-  pub written : events ≡ front ++ given.events ++ behind
-  pub there : reached.world ≡ after front
-  pub world : given.reached.world ≡ after (front ++ given.events)
+  pub gives : events_of_line cpus reached line ≡ Ok line_events
+  pub written : events ≡ prefix ++ line_events.events ++ suffix
+  pub there : reached.world ≡ after prefix
+  pub world : line_events.reached.world ≡ after (prefix ++ line_events.events)
 
 -- This holds for each line of a text that isn't rejected: each part of it before a newline.
 abbrev pub LinesAreWritten : Type 0

@@ -5,7 +5,7 @@ ghost use Rattle.import_spec.specs.Places.{last_place};
 ghost use Rattle.import_spec.specs.Tails.{cpu_in, digit_count, field_in, how_in, is_bracketed, short_number, pid_in, time_in, time_of};
 ghost use Rattle.ftrace_import.specs.Bytes.{IsLastBracket};
 
-use crate::places::{behind_last, count_before, count_digits};
+use crate::places::{after_last, count_before, count_digits};
 use psi_base::{How, Ns, Pid, read_digits};
 
 /// A second in ns.
@@ -50,13 +50,13 @@ fn time_of(word: &[u8]) -> Option<Ns>
 {
     let point = count_before(word, b'.');
     let seconds = number_in(&word[..point], 10)?;
-    let digits = behind(word, point);
+    let digits = suffix(word, point);
     let fraction = number_in(digits, 9)?;
     Some(seconds * SECOND + fraction * unit(9 - digits.len()))
 }
 
 /// The bytes after the byte at a place; empty if the bytes end there.
-fn behind(bytes: &[u8], at: usize) -> &[u8]
+fn suffix(bytes: &[u8], at: usize) -> &[u8]
     requires { at ≤ length bytes.now }
     ensures { result.now ≡ drop (at + 1) bytes.now }
 {
@@ -72,7 +72,7 @@ fn behind(bytes: &[u8], at: usize) -> &[u8]
 pub(crate) fn time_in(head: &[u8]) -> Option<Ns>
     ensures { result ≡ time_in head.now }
 {
-    let word = behind_last(head, b" ")?;
+    let word = after_last(head, b" ")?;
     time_of(word)
 }
 
@@ -139,7 +139,7 @@ pub(crate) fn field_in(part: &[u8], key: &[u8]) -> Option<u32>
     requires some { 0 < length key.now }
     ensures { result ≡ field_in key.now part.now }
 {
-    let rest = behind_last(part, key)?;
+    let rest = after_last(part, key)?;
     let number = number_in(&rest[..count_before(rest, b' ')], 10)?;
     if number <= u32::MAX as u64 {
         Some(number as u32)

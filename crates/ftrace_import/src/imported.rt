@@ -1,13 +1,13 @@
 //! An iterator that lends the events of an import.
 ghost use Rattle.std.specs.Prelude.{◌≡◌, ◌+◌, ◌≤◌, ℕ, List, false, IfOk, IsErrOf, MatchResult, Some, None, Ok};
-ghost use Rattle.outside.specs.Outside.{told, Lacks, counts_of};
+ghost use Rattle.outside.specs.Outside.{content_of, IsAbsent, counts_of};
 ghost use Rattle.outside.specs.Reads.{ReadsFile};
 ghost use Rattle.psi_spec.specs.Trace.{IsCpuCount};
 ghost use Rattle.psi_spec.specs.World.{first_world};
 ghost use Rattle.import_spec.specs.Events.{made};
 ghost use Rattle.import_spec.specs.Import.{import_of};
 ghost use Rattle.ftrace_import.specs.Deeds.{event_by};
-ghost use Rattle.ftrace_import.specs.Gathers.{CausesImportFault, RefusalOf, StopsAtRefusal, TellsNothing, most_of_text, shelf_fault_in, whole_events};
+ghost use Rattle.ftrace_import.specs.Gathers.{CausesImportFault, RefusalOf, StopsAtRefusal, ShowsNothing, most_of_text, shelf_fault_in, whole_events};
 ghost use Rattle.ftrace_import.specs.Lending.{GoesOn, IsMade, shown};
 ghost use Rattle.ftrace_import.specs.Stands.{Ends};
 
@@ -65,7 +65,7 @@ fn make_anew(making: &mut Event, at: Ns, pid: Pid, cpu: Cpu)
 }
 
 /// Replaces the other event. Always returns false, which selects it.
-fn tell_other(other: &mut Event, at: Ns, act: Act) -> bool
+fn show_other(other: &mut Event, at: Ns, act: Act) -> bool
     ensures event { other.new ≡ record { at = at; act = act } }
     ensures result { result ≡ false }
 {
@@ -75,9 +75,9 @@ fn tell_other(other: &mut Event, at: Ns, act: Act) -> bool
 
 /// Writes the stored event into one of two events: `making` if it creates a task, otherwise
 /// `other`. Returns whether it is `making`.
-fn tell(kept: Kept, making: &mut Event, other: &mut Event) -> bool
+fn notify(kept: Kept, making: &mut Event, other: &mut Event) -> bool
     requires { IsMade making.old.act }
-    ensures told { shown result making.new other.new ≡ event_by kept }
+    ensures known { shown result making.new other.new ≡ event_by kept }
     ensures makes { IsMade making.new.act }
 {
     match kept.deed {
@@ -85,11 +85,11 @@ fn tell(kept: Kept, making: &mut Event, other: &mut Event) -> bool
             make_anew(making, kept.at, pid, cpu);
             true
         }
-        Deed::Wake { pid, cpu } => tell_other(other, kept.at, Act::Wake { pid, cpu }),
+        Deed::Wake { pid, cpu } => show_other(other, kept.at, Act::Wake { pid, cpu }),
         Deed::Switch { cpu, next, how } => {
-            tell_other(other, kept.at, Act::Switch { cpu, next, how })
+            show_other(other, kept.at, Act::Switch { cpu, next, how })
         }
-        Deed::Migrate { pid, cpu } => tell_other(other, kept.at, Act::Migrate { pid, cpu }),
+        Deed::Migrate { pid, cpu } => show_other(other, kept.at, Act::Migrate { pid, cpu }),
     }
 }
 
@@ -130,11 +130,11 @@ impl Imported {
         }
         self.at += 1;
         if at == count {
-            self.makes = tell_other(&mut self.other, self.gathering.moment, Act::End);
+            self.makes = show_other(&mut self.other, self.gathering.moment, Act::End);
             return true;
         }
         let kept = self.gathering.kept[at];
-        self.makes = tell(kept, &mut self.making, &mut self.other);
+        self.makes = notify(kept, &mut self.making, &mut self.other);
         true
     }
 
@@ -159,19 +159,19 @@ pub fn read_import<S: Shelf>(
     cpus: u32,
 ) -> Result<Imported, ImportFault>
     requires { IsCpuCount cpus }
-    ensures kept { S.holds shelf.new ≡ S.holds shelf.old }
+    ensures unchanged { S.holds shelf.new ≡ S.holds shelf.old }
     ensures accepted { IfOk result (λ events. Ends cpus first_world events.left) }
-    ensures content { (bytes : List ℕ) → told (S.holds shelf.old) name.now ≡ Some bytes →
+    ensures content { (bytes : List ℕ) → content_of (S.holds shelf.old) name.now ≡ Some bytes →
         MatchResult result (λ events. import_of cpus bytes ≡ Ok events.left)
         (λ fault. RefusalOf fault (import_of cpus bytes)) }
     ensures missed { IsErrOf result ImportFault.NoFile →
-        told (S.holds shelf.old) name.now ≡ None }
-    ensures missing { Lacks (S.holds shelf.old) name.now → TellsNothing result }
+        content_of (S.holds shelf.old) name.now ≡ None }
+    ensures missing { IsAbsent (S.holds shelf.old) name.now → ShowsNothing result }
     ensures cause { CausesImportFault (counts_of (S.faults shelf.old) (S.absent shelf.old))
         (counts_of (S.faults shelf.new) (S.absent shelf.new)) result }
-    ensures given { S.given shelf.new ≤ S.given shelf.old + most_of_text }
-    ensures stops { StopsAtRefusal (import_of cpus) (told (S.holds shelf.old) name.now)
-        (S.given shelf.old) (S.given shelf.new) result }
+    ensures bytes_read { S.bytes_read shelf.new ≤ S.bytes_read shelf.old + most_of_text }
+    ensures stops { StopsAtRefusal (import_of cpus) (content_of (S.holds shelf.old) name.now)
+        (S.bytes_read shelf.old) (S.bytes_read shelf.new) result }
     ensures order { ReadsFile name.now 0
         (S.reads shelf.old) (S.reads shelf.new) (shelf_fault_in result) }
 {

@@ -5,7 +5,7 @@ ghost use Rattle.import_spec.specs.Marked.{begins_marked, if_formed, mark_of, mi
 ghost use Rattle.ftrace_import.specs.Bytes.{IsFirstMark, mark_parts, parted};
 
 use crate::fields::{cpu_in, field_in, how_in, pid_in, time_in};
-use crate::places::{behind_last, last_text};
+use crate::places::{after_last, last_text};
 use import_spec::{ImportCause, LineKind, Seen, Sighting};
 use memchr::memchr;
 use psi_base::Cpu;
@@ -75,7 +75,7 @@ fn switch_in(cpu: u32, tail: &[u8]) -> Option<Seen>
     let arrow = last_text(tail, b" ==> ")?;
     let left = &tail[..arrow];
     let previous = field_in(left, b" prev_pid=")?;
-    let state = behind_last(left, b" prev_state=")?;
+    let state = after_last(left, b" prev_state=")?;
     let how = how_in(state)?;
     let next = field_in(&tail[arrow + 5..], b" next_pid=")?;
     Some(Seen::Switch {

@@ -2,7 +2,7 @@
 ghost use Rattle.std.specs.Prelude.{◌≡◌, ◌+◌, ◌<◌, ◌≤◌, IfSome, length};
 ghost use Rattle.std.specs.List.{position_or_len, prefix_len};
 ghost use Rattle.std.specs.Char.{is_ascii_digit};
-ghost use Rattle.import_spec.specs.Places.{begins_with, behind_last, last_place};
+ghost use Rattle.import_spec.specs.Places.{begins_with, after_last, last_place};
 ghost use Rattle.ftrace_import.specs.Bytes.{is_at, shown};
 
 use memchr::memrchr;
@@ -26,9 +26,9 @@ pub(crate) fn last_text(bytes: &[u8], text: &[u8]) -> Option<usize>
 
 /// The bytes after the last place of a text.
 #[inline(always)]
-pub(crate) fn behind_last<'a>(bytes: &'a [u8], text: &[u8]) -> Option<&'a [u8]>
+pub(crate) fn after_last<'a>(bytes: &'a [u8], text: &[u8]) -> Option<&'a [u8]>
     requires some { 0 < length text.now }
-    ensures { shown result ≡ behind_last text.now bytes.now }
+    ensures { shown result ≡ after_last text.now bytes.now }
 {
     match last_text(bytes, text) {
         Some(at) => Some(&bytes[at + text.len()..]),

@@ -4,7 +4,7 @@ ghost use Rattle.psi_spec.specs.Names.{names};
 ghost use Rattle.psi_spec.specs.Refusal.{AreLegal, cause_of};
 ghost use Rattle.psi_spec.specs.Trace.{IsCpuCount};
 ghost use Rattle.psi_spec.specs.World.{after_event, after_from};
-ghost use Rattle.import_spec.specs.Events.{acts_cause, given_at, given_of, make_task, needed_cpu, unreached};
+ghost use Rattle.import_spec.specs.Events.{acts_cause, line_events_at, events_of_line, make_task, needed_cpu, unreached};
 ghost use Rattle.ftrace_import.specs.Deeds.{act_by, acts_in, event_by, events_by};
 ghost use Rattle.ftrace_import.specs.Gathers.{IsGathered, TakesLine, reached_in};
 ghost use Rattle.ftrace_import.specs.Stands.{IsSeen};
@@ -12,15 +12,9 @@ ghost use Rattle.ftrace_import.specs.Stands.{IsSeen};
 use crate::deeds::{Deed, Kept, event_of, keep_seen};
 use crate::marked::read_line;
 use import_spec::{ImportCause, Seen, Sighting};
-use psi_base::{Cpu, Fault, NoMemory, Ns};
+use psi_base::{Cpu, Fault, LATEST, MOST_EVENTS, NoMemory, Ns};
 use std::alloc::Global;
 use task_table::Table;
-
-/// The latest time (ns) of a trace with the default tick.
-const LATEST: Ns = 2_000_000_000_000_000;
-
-/// The maximum number of events before the end.
-const MOST_EVENTS: usize = 3_999_999;
 
 /// The state of an import after the lines so far.
 #[derive(Drop)]
@@ -89,7 +83,7 @@ fn acts_cause(table: &Table, cpus: u32, moment: Ns, cpu: Cpu, kept: &[Kept]) -> 
         Some(ImportCause::TooLate)
     } else if make_task(kept) && table.is_full() {
         Some(ImportCause::TooManyTasks)
-    } else if table.lines() as usize + kept.len() > MOST_EVENTS {
+    } else if table.lines() as usize + kept.len() >= MOST_EVENTS as usize {
         Some(ImportCause::TooManyEvents)
     } else {
         None
@@ -164,7 +158,7 @@ fn kept_from(kept: &Vec<Kept>, before: usize) -> &[Kept]
 fn take_sighting(g: &mut Gathering, sighting: Sighting) -> Result<(), Fault<ImportCause>>
     requires so { IsGathered g.old }
     requires seen { IsSeen sighting.seen }
-    ensures { TakesLine (given_at g.old.cpus (reached_in g.old) sighting.at sighting.seen)
+    ensures { TakesLine (line_events_at g.old.cpus (reached_in g.old) sighting.at sighting.seen)
         g.old g.new result }
 {
     let first = time_or(g.first, sighting.at);
@@ -186,7 +180,7 @@ fn take_sighting(g: &mut Gathering, sighting: Sighting) -> Result<(), Fault<Impo
 /// again.
 pub(crate) fn take_line(g: &mut Gathering, line: &[u8]) -> Result<(), Fault<ImportCause>>
     requires { IsGathered g.old }
-    ensures { TakesLine (given_of g.old.cpus (reached_in g.old) line.now) g.old g.new result }
+    ensures { TakesLine (events_of_line g.old.cpus (reached_in g.old) line.now) g.old g.new result }
 {
     match read_line(line) {
         Ok(Some(sighting)) => take_sighting(g, sighting),

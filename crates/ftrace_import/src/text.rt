@@ -1,13 +1,13 @@
 //! The import of a file.
 ghost use Rattle.std.specs.Prelude.{◌≡◌, ◌+◌, ◌≤◌, ℕ, List, [], IfOk, IsErrOf, MatchResult, Some, None, Ok, true, false};
-ghost use Rattle.outside.specs.Outside.{told, Lacks, counts_of};
+ghost use Rattle.outside.specs.Outside.{content_of, IsAbsent, counts_of};
 ghost use Rattle.outside.specs.Reads.{ReadsFile};
 ghost use Rattle.psi_lines.specs.Lines.{left};
 ghost use Rattle.psi_spec.specs.Trace.{IsCpuCount};
 ghost use Rattle.psi_spec.specs.World.{first_world};
 ghost use Rattle.import_spec.specs.Events.{unreached};
 ghost use Rattle.import_spec.specs.Import.{import_of};
-ghost use Rattle.ftrace_import.specs.Gathers.{CausesImportFault, Gathers, IsGathered, IsLineFault, KeepsLines, LineInOrder, LinesGive, NextGives, ReadsLine, RefusalOf, StopsAtRefusal, TellsNothing, import_fault, most_of_text, reached_in, rest_from, shelf_fault_in, whole_events};
+ghost use Rattle.ftrace_import.specs.Gathers.{CausesImportFault, Gathers, IsGathered, IsLineFault, KeepsLines, LineInOrder, LinesGive, NextGives, ReadsLine, RefusalOf, StopsAtRefusal, ShowsNothing, import_fault, most_of_text, reached_in, rest_from, shelf_fault_in, whole_events};
 ghost use Rattle.ftrace_import.specs.Stands.{Ends};
 
 use crate::deeds::event_of;
@@ -74,25 +74,25 @@ fn import_fault(fault: LineFault) -> ImportFault
 }
 
 /// Checks that nothing follows the maximum number of lines.
-fn look_behind<S: Shelf>(
+fn look_after<S: Shelf>(
     g: &Gathering,
     lines: &mut Lines,
     shelf: &mut S,
 ) -> Result<bool, ImportFault>
     requires so { IsGathered g.now }
     requires number { lines.old.number ≡ 16000001 }
-    ensures kept { S.holds shelf.new ≡ S.holds shelf.old }
+    ensures unchanged { S.holds shelf.new ≡ S.holds shelf.old }
     ensures content { NextGives lines.old.number g.now g.now (left lines.old) (left lines.new)
-        (told (S.holds shelf.old) lines.old.name) result }
+        (content_of (S.holds shelf.old) lines.old.name) result }
     ensures over { IfOk result (λ more. more ≡ false) }
-    ensures reads { ReadsLine (told (S.holds shelf.old) lines.old.name) lines.old lines.new
+    ensures reads { ReadsLine (content_of (S.holds shelf.old) lines.old.name) lines.old lines.new
         (counts_of (S.faults shelf.old) (S.absent shelf.old))
         (counts_of (S.faults shelf.new) (S.absent shelf.new))
-        (S.given shelf.old) (S.given shelf.new) result }
-    ensures stays { KeepsLines (told (S.holds shelf.old) lines.old.name)
+        (S.bytes_read shelf.old) (S.bytes_read shelf.new) result }
+    ensures stays { KeepsLines (content_of (S.holds shelf.old) lines.old.name)
         lines.old lines.new result }
-    ensures missing { lines.old.held ≡ [] → Lacks (S.holds shelf.old) lines.old.name →
-        TellsNothing result }
+    ensures missing { lines.old.buffered ≡ [] → IsAbsent (S.holds shelf.old) lines.old.name →
+        ShowsNothing result }
     ensures order { LineInOrder lines.old.name lines.old.at lines.new.at
         (S.reads shelf.old) (S.reads shelf.new) result }
 {
@@ -114,18 +114,18 @@ fn take_next<S: Shelf>(
 ) -> Result<bool, ImportFault>
     requires so { IsGathered g.old }
     requires number { lines.old.number ≤ 16000000 }
-    ensures kept { S.holds shelf.new ≡ S.holds shelf.old }
+    ensures unchanged { S.holds shelf.new ≡ S.holds shelf.old }
     ensures content { NextGives lines.old.number g.old g.new (left lines.old) (left lines.new)
-        (told (S.holds shelf.old) lines.old.name) result }
+        (content_of (S.holds shelf.old) lines.old.name) result }
     ensures number { result ≡ Ok true → lines.new.number ≡ lines.old.number + 1 }
-    ensures reads { ReadsLine (told (S.holds shelf.old) lines.old.name) lines.old lines.new
+    ensures reads { ReadsLine (content_of (S.holds shelf.old) lines.old.name) lines.old lines.new
         (counts_of (S.faults shelf.old) (S.absent shelf.old))
         (counts_of (S.faults shelf.new) (S.absent shelf.new))
-        (S.given shelf.old) (S.given shelf.new) result }
-    ensures stays { KeepsLines (told (S.holds shelf.old) lines.old.name)
+        (S.bytes_read shelf.old) (S.bytes_read shelf.new) result }
+    ensures stays { KeepsLines (content_of (S.holds shelf.old) lines.old.name)
         lines.old lines.new result }
-    ensures missing { lines.old.held ≡ [] → Lacks (S.holds shelf.old) lines.old.name →
-        TellsNothing result }
+    ensures missing { lines.old.buffered ≡ [] → IsAbsent (S.holds shelf.old) lines.old.name →
+        ShowsNothing result }
     ensures order { LineInOrder lines.old.name lines.old.at lines.new.at
         (S.reads shelf.old) (S.reads shelf.new) result }
 {
@@ -148,24 +148,24 @@ fn next_step<S: Shelf>(
 ) -> Result<bool, ImportFault>
     requires so { IsGathered g.old }
     requires number { lines.old.number ≤ 16000001 }
-    ensures kept { S.holds shelf.new ≡ S.holds shelf.old }
+    ensures unchanged { S.holds shelf.new ≡ S.holds shelf.old }
     ensures content { NextGives lines.old.number g.old g.new (left lines.old) (left lines.new)
-        (told (S.holds shelf.old) lines.old.name) result }
+        (content_of (S.holds shelf.old) lines.old.name) result }
     ensures number { result ≡ Ok true → (lines.new.number ≡ lines.old.number + 1)
         × (lines.new.number ≤ 16000001) }
-    ensures reads { ReadsLine (told (S.holds shelf.old) lines.old.name) lines.old lines.new
+    ensures reads { ReadsLine (content_of (S.holds shelf.old) lines.old.name) lines.old lines.new
         (counts_of (S.faults shelf.old) (S.absent shelf.old))
         (counts_of (S.faults shelf.new) (S.absent shelf.new))
-        (S.given shelf.old) (S.given shelf.new) result }
-    ensures stays { KeepsLines (told (S.holds shelf.old) lines.old.name)
+        (S.bytes_read shelf.old) (S.bytes_read shelf.new) result }
+    ensures stays { KeepsLines (content_of (S.holds shelf.old) lines.old.name)
         lines.old lines.new result }
-    ensures missing { lines.old.held ≡ [] → Lacks (S.holds shelf.old) lines.old.name →
-        TellsNothing result }
+    ensures missing { lines.old.buffered ≡ [] → IsAbsent (S.holds shelf.old) lines.old.name →
+        ShowsNothing result }
     ensures order { LineInOrder lines.old.name lines.old.at lines.new.at
         (S.reads shelf.old) (S.reads shelf.new) result }
 {
     if lines.number() > MOST_LINES {
-        look_behind(g, lines, shelf)
+        look_after(g, lines, shelf)
     } else {
         take_next(g, lines, shelf)
     }
@@ -181,19 +181,19 @@ fn take_lines<S: Shelf>(
     requires fresh { reached_in g.old ≡ unreached }
     requires none { g.old.kept.items ≡ [] }
     requires number { lines.old.number ≡ 1 }
-    requires held { lines.old.held ≡ [] }
+    requires buffered { lines.old.buffered ≡ [] }
     requires place { lines.old.at ≡ 0 }
-    ensures kept { S.holds shelf.new ≡ S.holds shelf.old }
+    ensures unchanged { S.holds shelf.new ≡ S.holds shelf.old }
     ensures content { LinesGive g.old.cpus g.new (left lines.old)
-        (told (S.holds shelf.old) lines.old.name) result }
+        (content_of (S.holds shelf.old) lines.old.name) result }
     ensures missed { IsErrOf result ImportFault.NoFile →
-        told (S.holds shelf.old) lines.old.name ≡ None }
-    ensures missing { Lacks (S.holds shelf.old) lines.old.name → TellsNothing result }
+        content_of (S.holds shelf.old) lines.old.name ≡ None }
+    ensures missing { IsAbsent (S.holds shelf.old) lines.old.name → ShowsNothing result }
     ensures cause { CausesImportFault (counts_of (S.faults shelf.old) (S.absent shelf.old))
         (counts_of (S.faults shelf.new) (S.absent shelf.new)) result }
-    ensures given { S.given shelf.new ≤ S.given shelf.old + most_of_text }
+    ensures bytes_read { S.bytes_read shelf.new ≤ S.bytes_read shelf.old + most_of_text }
     ensures stops { StopsAtRefusal (rest_from g.old.cpus unreached 1)
-        (told (S.holds shelf.old) lines.old.name) (S.given shelf.old) (S.given shelf.new) result }
+        (content_of (S.holds shelf.old) lines.old.name) (S.bytes_read shelf.old) (S.bytes_read shelf.new) result }
     ensures order { ReadsFile lines.old.name lines.old.at
         (S.reads shelf.old) (S.reads shelf.new) (shelf_fault_in result) }
 {
@@ -218,16 +218,16 @@ pub fn gather<S: Shelf>(
     cpus: u32,
 ) -> Result<Gathering, ImportFault>
     requires { IsCpuCount cpus }
-    ensures kept { S.holds shelf.new ≡ S.holds shelf.old }
-    ensures content { Gathers cpus (told (S.holds shelf.old) name.now) result }
+    ensures unchanged { S.holds shelf.new ≡ S.holds shelf.old }
+    ensures content { Gathers cpus (content_of (S.holds shelf.old) name.now) result }
     ensures missed { IsErrOf result ImportFault.NoFile →
-        told (S.holds shelf.old) name.now ≡ None }
-    ensures missing { Lacks (S.holds shelf.old) name.now → TellsNothing result }
+        content_of (S.holds shelf.old) name.now ≡ None }
+    ensures missing { IsAbsent (S.holds shelf.old) name.now → ShowsNothing result }
     ensures cause { CausesImportFault (counts_of (S.faults shelf.old) (S.absent shelf.old))
         (counts_of (S.faults shelf.new) (S.absent shelf.new)) result }
-    ensures given { S.given shelf.new ≤ S.given shelf.old + most_of_text }
-    ensures stops { StopsAtRefusal (import_of cpus) (told (S.holds shelf.old) name.now)
-        (S.given shelf.old) (S.given shelf.new) result }
+    ensures bytes_read { S.bytes_read shelf.new ≤ S.bytes_read shelf.old + most_of_text }
+    ensures stops { StopsAtRefusal (import_of cpus) (content_of (S.holds shelf.old) name.now)
+        (S.bytes_read shelf.old) (S.bytes_read shelf.new) result }
     ensures order { ReadsFile name.now 0
         (S.reads shelf.old) (S.reads shelf.new) (shelf_fault_in result) }
 {
@@ -250,19 +250,19 @@ pub fn import<S: Shelf>(
     cpus: u32,
 ) -> Result<Vec<Event>, ImportFault>
     requires { IsCpuCount cpus }
-    ensures kept { S.holds shelf.new ≡ S.holds shelf.old }
+    ensures unchanged { S.holds shelf.new ≡ S.holds shelf.old }
     ensures accepted { IfOk result (λ events. Ends cpus first_world events.items) }
-    ensures content { (bytes : List ℕ) → told (S.holds shelf.old) name.now ≡ Some bytes →
+    ensures content { (bytes : List ℕ) → content_of (S.holds shelf.old) name.now ≡ Some bytes →
         MatchResult result (λ events. import_of cpus bytes ≡ Ok events.items)
         (λ fault. RefusalOf fault (import_of cpus bytes)) }
     ensures missed { IsErrOf result ImportFault.NoFile →
-        told (S.holds shelf.old) name.now ≡ None }
-    ensures missing { Lacks (S.holds shelf.old) name.now → TellsNothing result }
+        content_of (S.holds shelf.old) name.now ≡ None }
+    ensures missing { IsAbsent (S.holds shelf.old) name.now → ShowsNothing result }
     ensures cause { CausesImportFault (counts_of (S.faults shelf.old) (S.absent shelf.old))
         (counts_of (S.faults shelf.new) (S.absent shelf.new)) result }
-    ensures given { S.given shelf.new ≤ S.given shelf.old + most_of_text }
-    ensures stops { StopsAtRefusal (import_of cpus) (told (S.holds shelf.old) name.now)
-        (S.given shelf.old) (S.given shelf.new) result }
+    ensures bytes_read { S.bytes_read shelf.new ≤ S.bytes_read shelf.old + most_of_text }
+    ensures stops { StopsAtRefusal (import_of cpus) (content_of (S.holds shelf.old) name.now)
+        (S.bytes_read shelf.old) (S.bytes_read shelf.new) result }
     ensures order { ReadsFile name.now 0
         (S.reads shelf.old) (S.reads shelf.new) (shelf_fault_in result) }
 {

@@ -12,21 +12,21 @@ use Rattle.psi_spec.specs.World.{root, is_live, is_root, slot_of, as_slot, paren
 use Rattle.psi_spec.specs.Refusal.{is_slot}
 use Rattle.psi_spec.specs.Stall.{number_of_slot, parents_of}
 use Rattle.psi_spec.specs.LegalGroups.{AreOlder, IsOneLive, AreGroups}
-use Rattle.psi_spec.proofs.GroupLaws.{first_of_two, found_behind, found_group, found_below, removed_not_found, same_bytes, and_false}
-use Rattle.psi_spec.proofs.GroupChanges.{got_behind, groups_first, groups_made, groups_removed, groups_switched, parents_behind}
+use Rattle.psi_spec.proofs.GroupLaws.{first_of_two, found_in_suffix, found_group, found_below, removed_not_found, same_bytes, and_false}
+use Rattle.psi_spec.proofs.GroupChanges.{got_after, groups_first, groups_made, groups_removed, groups_switched, parents_after}
 use Rattle.psi_spec.proofs.RefusalLaws.{first_true, second_true}
 use Rattle.psi_spec.proofs.SwitchLaws.{switched_found, switched_leaves}
 use Rattle.group_tree.specs.Tree.{slot_at, add_cause, pressure_cause, count_children, IsTree}
-use Rattle.group_tree.proofs.Counting.{one, count_behind, count_set, count_at, count_few}
+use Rattle.group_tree.proofs.Counting.{one, count_following, count_set, count_at, count_few}
 
 -- ---- a group is made
 
 -- an appended zero changes no look-up
-zero_behind : (xs : List ℕ) (n : ℕ) → slice_index_or (xs ++ 0 ∷ []) n 0 ≡ slice_index_or xs n 0
-zero_behind [] zero = refl
-zero_behind [] (suc n) = refl
-zero_behind (x ∷ xs) zero = refl
-zero_behind (x ∷ xs) (suc n) = zero_behind xs n
+zero_after : (xs : List ℕ) (n : ℕ) → slice_index_or (xs ++ 0 ∷ []) n 0 ≡ slice_index_or xs n 0
+zero_after [] zero = refl
+zero_after [] (suc n) = refl
+zero_after (x ∷ xs) zero = refl
+zero_after (x ∷ xs) (suc n) = zero_after xs n
 
 -- nothing in the second place
 first_alone : (o : Option ℕ) → first_of_two o None ≡ o
@@ -38,11 +38,11 @@ found_more : (groups : List GroupLife) (group : GroupLife) (find : List ℕ → 
 found_more groups group find slot found one live number path =
     elim (bytes_eq group.path path) as (λ b. bytes_eq group.path path ≡ b → (if b then Some slot else find path) ≡ as_slot (slot_of (groups ++ group ∷ []) path)) [
       | true ↦ λ is.
-          let here : slot_of (groups ++ group ∷ []) group.path ≡ Some slot.0 = one slot.0 group (got_behind groups group slot.0 number) live in
+          let here : slot_of (groups ++ group ∷ []) group.path ≡ Some slot.0 = one slot.0 group (got_after groups group slot.0 number) live in
           subst (λ p. Some slot ≡ as_slot (slot_of (groups ++ group ∷ []) p)) (same_bytes group.path path is) (sym (ap as_slot here))
       | false ↦ λ is.
           let misses = and_false (is_live group) (bytes_eq group.path path) is in
-          found path ∙ sym (ap as_slot (found_behind 0 groups group path
+          found path ∙ sym (ap as_slot (found_in_suffix 0 groups group path
           ∙ ap (λ b. first_of_two (slot_of groups path) (if b then Some (0 + length groups) else None)) misses
           ∙ first_alone (slot_of groups path)))
     ] refl
@@ -66,7 +66,7 @@ tree_more groups group find later slot children counts tree legal live number fi
       each = let more : length (counts ++ 0 ∷ []) ≡ length counts + 1 = length-append counts (0 ∷ []) in
           let all : length (groups ++ group ∷ []) ≡ length groups + 1 = length-append groups (group ∷ []) in
           omega (arith, more, all, len, same);
-      counted = λ n. zero_behind counts n ∙ each n ∙ ap (λ k. k + (if is_slot (Some n) group.parent then 1 else 0)) (tree.counted n) ∙ ap (λ k. count_children groups n + k) (sym (live_one n group live)) ∙ sym (count_behind groups group n);
+      counted = λ n. zero_after counts n ∙ each n ∙ ap (λ k. k + (if is_slot (Some n) group.parent then 1 else 0)) (tree.counted n) ∙ ap (λ k. count_children groups n + k) (sym (live_one n group live)) ∙ sym (count_following groups group n);
     }
 
 -- the parent of a new group was made
@@ -74,7 +74,7 @@ new_parent : (groups : List GroupLife) (group : GroupLife) → AreOlder (parents
 new_parent groups group older None is = tt
 new_parent groups group older (Some slot) is =
     let len : length (parents_of groups) ≡ length groups = length-map groups (λ (g : GroupLife). number_of_slot g.parent) in
-    older (length groups) slot.0 (ap (λ ps. slice_index_or ps (length groups) None) (parents_behind groups group) ∙ get_or_push (parents_of groups) (number_of_slot group.parent) None (length groups) len ∙ ap number_of_slot is)
+    older (length groups) slot.0 (ap (λ ps. slice_index_or ps (length groups) None) (parents_after groups group) ∙ get_or_push (parents_of groups) (number_of_slot group.parent) None (length groups) len ∙ ap number_of_slot is)
 
 -- so it has a place among the counts
 pub parent_counted : (groups : List GroupLife) (group : GroupLife) (find : List ℕ → Option Slot) (children : List ℕ) → IsTree groups find children → AreGroups (groups ++ group ∷ []) → (o : Option Slot) → group.parent ≡ o → IfSome o (λ slot. slot.0 < length children)
@@ -267,7 +267,7 @@ pub tree_switched : (groups : List GroupLife) (path : List ℕ) (on : Bool) (fin
     → IsTree groups find children → is_root path ≡ false → IsTree (map (marked_switched path on) groups) find children
 tree_switched groups path on find children tree other = record {
   legal = groups_switched groups path on other tree.legal;
-  found = λ path_asked. tree.found path_asked ∙ ap as_slot (sym (switched_found 0 path on groups path_asked));
+  found = λ path_requested. tree.found path_requested ∙ ap as_slot (sym (switched_found 0 path on groups path_requested));
   each = tree.each ∙ sym (length-map groups (marked_switched path on));
   counted = λ slot. tree.counted slot ∙ sym (count_switched path on groups slot);
 }

@@ -19,10 +19,10 @@ once true = omega arith
 once false = omega arith
 
 -- one appended group
-pub count_behind : (groups : List GroupLife) (group : GroupLife) (slot : ℕ) → count_children (groups ++ group ∷ []) slot ≡ count_children groups slot + one slot group
-count_behind [] group slot = refl
-count_behind (first ∷ groups) group slot =
-    let rest = count_behind groups group slot in
+pub count_following : (groups : List GroupLife) (group : GroupLife) (slot : ℕ) → count_children (groups ++ group ∷ []) slot ≡ count_children groups slot + one slot group
+count_following [] group slot = refl
+count_following (first ∷ groups) group slot =
+    let rest = count_following groups group slot in
     let goal : (count_children (groups ++ group ∷ []) slot + one slot first) ≡ (count_children groups slot + one slot first) + one slot group = omega (arith, rest) in
     goal
 

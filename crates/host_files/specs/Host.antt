@@ -9,8 +9,8 @@ LeavesFromPlace {F} left place bytes =
     (file : F) (at : ℕ) (held : List ℕ) → place file ≡ Some at → bytes file ≡ Some held → left file ≡ Some (drop at held)
 
 -- a stream's place and bytes are known to be these
-abbrev pub StandsAt : {F : Type 0} → (F → Option ℕ) → (F → Option (List ℕ)) → F → ℕ → List ℕ → Type 0
-StandsAt place bytes file at held = (place file ≡ Some at) × (bytes file ≡ Some held)
+abbrev pub IsPlacedAt : {F : Type 0} → (F → Option ℕ) → (F → Option (List ℕ)) → F → ℕ → List ℕ → Type 0
+IsPlacedAt place bytes file at held = (place file ≡ Some at) × (bytes file ≡ Some held)
 
 -- a 64-bit place advanced by the number of bytes read, and is unchanged if the read failed, which
 -- is never a missing file
@@ -19,7 +19,7 @@ GoesOn before now result = MatchResult result (λ n. now ≡ min (before + n) (2
 
 -- n bytes were read from this place into the start of this buffer; n is 0 only at the end. Nothing
 -- is said about the rest of the buffer.
-pub record ReadsFront (bytes : List ℕ) (at n : ℕ) (into : List ℕ) : Type 0 where
+pub record ReadsPrefix (bytes : List ℕ) (at n : ℕ) (into : List ℕ) : Type 0 where
   pub read : take n into ≡ take n (drop at bytes)
   pub inside : n ≤ length bytes - at
   pub end : n ≡ 0 → 0 < length into → length bytes ≤ at

@@ -1,7 +1,7 @@
 //! The system's files and streams. Nothing is known about their content: here trust begins.
 ghost use Rattle.std.specs.Prelude.{◌≡◌, ◌≢◌, ◌<◌, ◌≤◌, ℕ, List, None, Some, IfErr, IfOk, IfSome, IsErrOf, OnOk, codes, length};
 ghost use Rattle.std.specs.Io.KnownBytes.{Keeps, ReadConsumes};
-ghost use Rattle.host_files.specs.Host.{GoesOn, LeavesFromPlace, ReadsFront, StandsAt};
+ghost use Rattle.host_files.specs.Host.{GoesOn, LeavesFromPlace, ReadsPrefix, IsPlacedAt};
 
 use crate::name::Name;
 use outside::{Call, ReadLog, Shelf, ShelfFault, Sink, Tally, WriteFailed};
@@ -81,8 +81,8 @@ impl<F: Read + Seek> Opened<F> {
         ensures bound { IfOk result (λ n. n ≤ length into.new) }
         ensures bytes { (bytes : List ℕ)
             → LeavesFromPlace F.remaining F.stream_position F.stream_bytes
-            → StandsAt F.stream_position F.stream_bytes self.old.file self.old.place bytes
-            → IfOk result (λ n. ReadsFront bytes at n into.new) }
+            → IsPlacedAt F.stream_position F.stream_bytes self.old.file self.old.place bytes
+            → IfOk result (λ n. ReadsPrefix bytes at n into.new) }
         ensures place { OnOk result (GoesOn at self.new.place result) }
         ensures fault { IfErr result (λ fault. fault ≡ ShelfFault.Failed) }
         ensures name { self.new.name ≡ self.old.name }
@@ -145,7 +145,7 @@ pub struct HostShelf<'a, R: Files, I> {
     opened: Option<Opened<R::File>>,
     faults: u64,
     absent: u64,
-    given: Tally,
+    bytes_read: Tally,
     reads: ReadLog,
 }
 
@@ -159,7 +159,7 @@ impl<'a, R: Files, I: Read> HostShelf<'a, R, I> {
             opened: None,
             faults: 0,
             absent: 0,
-            given: Tally::new(),
+            bytes_read: Tally::new(),
             reads: ReadLog::new(),
         }
     }
@@ -176,7 +176,7 @@ impl<'a, R: Files, I: Read> HostShelf<'a, R, I> {
         ensures place { name.now ≢ codes "-" → self.new.place ≡ self.old.place }
         ensures faults { self.new.faults ≡ self.old.faults }
         ensures absent { self.new.absent ≡ self.old.absent }
-        ensures given { self.new.given ≡ self.old.given }
+        ensures bytes_read { self.new.bytes_read ≡ self.old.bytes_read }
         ensures log { self.new.reads ≡ self.old.reads }
     {
         if name == "-" {
@@ -194,7 +194,7 @@ impl<'a, R: Files, I: Read> Shelf for HostShelf<'a, R, I> {
 
     ghost absent = { λ s. s.absent };
 
-    ghost given = { λ s. s.given.count };
+    ghost bytes_read = { λ s. s.bytes_read.count };
 
     ghost reads = { λ s. s.reads.calls };
 
@@ -209,7 +209,7 @@ impl<'a, R: Files, I: Read> Shelf for HostShelf<'a, R, I> {
         });
         match outcome {
             Ok(count) => {
-                self.given = self.given.and(count);
+                self.bytes_read = self.bytes_read.and(count);
                 Ok(count)
             }
             Err(ShelfFault::NoFile) => {

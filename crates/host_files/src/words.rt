@@ -10,7 +10,7 @@ use std::io;
 use std::io::ErrorKind;
 
 // All words but the first, which is the program's name.
-fn behind_the_name(alloc: Global, words: Args) -> Result<Vec<String>, AllocError>
+fn after_the_name(alloc: Global, words: Args) -> Result<Vec<String>, AllocError>
     ensures { IfOk result (λ kept. kept.items ≡ drop 1 (into_iter_items words)) }
 {
     words.skip(1).collect(alloc)
@@ -18,17 +18,17 @@ fn behind_the_name(alloc: Global, words: Args) -> Result<Vec<String>, AllocError
 
 /// The words of a command line without the first, which is the program's name. If a word isn't
 /// UTF-8, there are no words: that is never a command.
-pub fn words_of(alloc: Global, given: io::Result<Args>) -> Result<Vec<String>, NoMemory>
-    ensures words { IfOk given
+pub fn words_of(alloc: Global, bytes_read: io::Result<Args>) -> Result<Vec<String>, NoMemory>
+    ensures words { IfOk bytes_read
         (λ args. IfOk result (λ words. words.items ≡ drop 1 (into_iter_items args))) }
-    ensures none { IfErr given (λ error. IfOk result (λ words. words.items ≡ [])) }
-    ensures memory { IfErr given (λ error.
+    ensures none { IfErr bytes_read (λ error. IfOk result (λ words. words.items ≡ [])) }
+    ensures memory { IfErr bytes_read (λ error.
         error_kind error ≡ ErrorKind.OutOfMemory → IsErr result) }
-    ensures other { IfErr given (λ error. error_kind error ≢ ErrorKind.OutOfMemory →
+    ensures other { IfErr bytes_read (λ error. error_kind error ≢ ErrorKind.OutOfMemory →
         IsOk result) }
 {
-    match given {
-        Ok(words) => Ok(behind_the_name(alloc, words)?),
+    match bytes_read {
+        Ok(words) => Ok(after_the_name(alloc, words)?),
         Err(error) if error.kind() == ErrorKind::OutOfMemory => Err(AllocError.into()),
         Err(_) => Ok(Vec::new(alloc)),
     }

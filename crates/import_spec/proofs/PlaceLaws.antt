@@ -7,16 +7,16 @@ use Rattle.import_spec.specs.Laws.{IsFirstPlace, IsLastPlace, NonePasses, FindsF
 -- ---- no place
 
 -- a test that passes at no place in the rest of the bytes passes at none of the following places
-none_behind : (test : List ℕ → Bool) (byte : ℕ) (bytes : List ℕ) (low high : ℕ) → NonePasses test bytes low high → NonePasses test (byte ∷ bytes) (low + 1) (high + 1)
-none_behind test byte bytes low high none zero above below = absurd (omega (arith, above))
-none_behind test byte bytes low high none (suc k) above below = none k (omega (arith, above)) (omega (arith, below))
+none_following : (test : List ℕ → Bool) (byte : ℕ) (bytes : List ℕ) (low high : ℕ) → NonePasses test bytes low high → NonePasses test (byte ∷ bytes) (low + 1) (high + 1)
+none_following test byte bytes low high none zero above below = absurd (omega (arith, above))
+none_following test byte bytes low high none (suc k) above below = none k (omega (arith, above)) (omega (arith, below))
 
 -- the other way round
 none_within : (test : List ℕ → Bool) (byte : ℕ) (bytes : List ℕ) (low high : ℕ) → NonePasses test (byte ∷ bytes) low (high + 1) → NonePasses test bytes low high
 none_within test byte bytes low high none k above below = none (suc k) (omega (arith, above)) (omega (arith, below))
 
-none_above : (test : List ℕ → Bool) (byte : ℕ) (bytes : List ℕ) (low high above behind : ℕ) → above ≡ low + 1 → behind ≡ high + 1 → NonePasses test (byte ∷ bytes) above behind → NonePasses test bytes low high
-none_above test byte bytes low high above behind one other none k over below = none (suc k) (omega (arith, one, over)) (omega (arith, other, below))
+none_above : (test : List ℕ → Bool) (byte : ℕ) (bytes : List ℕ) (low high above suffix : ℕ) → above ≡ low + 1 → suffix ≡ high + 1 → NonePasses test (byte ∷ bytes) above suffix → NonePasses test bytes low high
+none_above test byte bytes low high above suffix one other none k over below = none (suc k) (omega (arith, one, over)) (omega (arith, other, below))
 
 -- the same with the first place, which doesn't pass
 none_with : (test : List ℕ → Bool) (byte : ℕ) (bytes : List ℕ) (high : ℕ) → test (byte ∷ bytes) ≡ false → NonePasses test bytes 0 high → NonePasses test (byte ∷ bytes) 0 (high + 1)
@@ -33,13 +33,13 @@ first_further test byte bytes (Some at) here is = record {
   none = none_with test byte bytes at here is.none;
 }
 
-pub first_tells : (test : List ℕ → Bool) (bytes : List ℕ) → MatchOption (first_place test bytes) (NonePasses test bytes 0 (length bytes)) (λ at. IsFirstPlace test bytes at)
+pub first_shows : (test : List ℕ → Bool) (bytes : List ℕ) → MatchOption (first_place test bytes) (NonePasses test bytes 0 (length bytes)) (λ at. IsFirstPlace test bytes at)
 unfolding first_place
-first_tells test [] = λ k above below. absurd (omega (arith, below))
-first_tells test (byte ∷ bytes) =
+first_shows test [] = λ k above below. absurd (omega (arith, below))
+first_shows test (byte ∷ bytes) =
     elim (test (byte ∷ bytes)) as (λ b. test (byte ∷ bytes) ≡ b → MatchOption (cond b (Some 0) (option_map (λ at. at + 1) (first_place test bytes))) (NonePasses test (byte ∷ bytes) 0 (length (byte ∷ bytes))) (λ at. IsFirstPlace test (byte ∷ bytes) at)) [
       | true ↦ λ here. record { inside = omega arith; passes = here; none = λ k above below. absurd (omega (arith, below)) }
-      | false ↦ λ here. first_further test byte bytes (first_place test bytes) here (first_tells test bytes)
+      | false ↦ λ here. first_further test byte bytes (first_place test bytes) here (first_shows test bytes)
     ] refl
 
 pub first_is : (test : List ℕ → Bool) (bytes : List ℕ) (at : ℕ) → IsFirstPlace test bytes at → first_place test bytes ≡ Some at
@@ -70,19 +70,19 @@ last_here : (test : List ℕ → Bool) (byte : ℕ) (bytes : List ℕ) (found : 
 last_here test byte bytes None true here none = record {
   inside = omega arith;
   passes = here;
-  none = rw (← add-one (length bytes)) (none_behind test byte bytes 0 (length bytes) none);
+  none = rw (← add-one (length bytes)) (none_following test byte bytes 0 (length bytes) none);
 }
 last_here test byte bytes None false here none = rw (← add-one (length bytes)) (none_with test byte bytes (length bytes) here none)
 last_here test byte bytes (Some at) passes here is = record {
   inside = let room = is.inside in omega (arith, room);
   passes = rw add-one is.passes;
-  none = rw (← add-one (length bytes)) (none_behind test byte bytes (at + 1) (length bytes) is.none);
+  none = rw (← add-one (length bytes)) (none_following test byte bytes (at + 1) (length bytes) is.none);
 }
 
-pub last_tells : (test : List ℕ → Bool) (bytes : List ℕ) → MatchOption (last_place test bytes) (NonePasses test bytes 0 (length bytes)) (λ at. IsLastPlace test bytes at)
+pub last_shows : (test : List ℕ → Bool) (bytes : List ℕ) → MatchOption (last_place test bytes) (NonePasses test bytes 0 (length bytes)) (λ at. IsLastPlace test bytes at)
 unfolding last_place
-last_tells test [] = λ k above below. absurd (omega (arith, below))
-last_tells test (byte ∷ bytes) = last_here test byte bytes (last_place test bytes) (test (byte ∷ bytes)) refl (last_tells test bytes)
+last_shows test [] = λ k above below. absurd (omega (arith, below))
+last_shows test (byte ∷ bytes) = last_here test byte bytes (last_place test bytes) (test (byte ∷ bytes)) refl (last_shows test bytes)
 
 pub last_none : (test : List ℕ → Bool) (bytes : List ℕ) → NonePasses test bytes 0 (length bytes) → last_place test bytes ≡ None
 unfolding last_place
@@ -111,10 +111,10 @@ last_is test (byte ∷ bytes) (suc at) is =
 -- ---- the laws
 
 pub finds_first : FindsFirst
-finds_first test bytes at = (λ is. rw is at (first_tells test bytes), first_is test bytes at)
+finds_first test bytes at = (λ is. rw is at (first_shows test bytes), first_is test bytes at)
 
 pub finds_last : FindsLast
-finds_last test bytes at = (λ is. rw is at (last_tells test bytes), last_is test bytes at)
+finds_last test bytes at = (λ is. rw is at (last_shows test bytes), last_is test bytes at)
 
 pub finds_none : FindsNone
-finds_none test bytes = ((λ is. rw is at (first_tells test bytes), first_none test bytes), (λ is. rw is at (last_tells test bytes), last_none test bytes))
+finds_none test bytes = ((λ is. rw is at (first_shows test bytes), first_none test bytes), (λ is. rw is at (last_shows test bytes), last_none test bytes))

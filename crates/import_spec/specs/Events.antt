@@ -148,14 +148,14 @@ acts_cause cpus w moment cpu acts =
 -- ---- one line
 
 -- the result of a line: its events, and how far the import has come after it
-pub record GivenLine : Type 0 where
+pub record LineEvents : Type 0 where
   pub events : List Event
   pub reached : Reached
 
 -- the result of a line with this time and these acts at a trace time (ns), or the cause against it
-abbrev pub given_or : Reached → ℕ → ℕ → List Act → Option ImportCause → Result GivenLine ImportCause
-given_or reached at moment acts (Some why) = Err why
-given_or reached at moment acts None = Ok (record {
+abbrev pub events_or : Reached → ℕ → ℕ → List Act → Option ImportCause → Result LineEvents ImportCause
+events_or reached at moment acts (Some why) = Err why
+events_or reached at moment acts None = Ok (record {
   events = events_at moment acts;
   reached = record {
     first = Some (first_time reached at);
@@ -165,17 +165,17 @@ given_or reached at moment acts None = Ok (record {
 })
 
 -- the result of a line that reports this at a time (ns), with n processors
-unfoldable pub given_at : ℕ → Reached → ℕ → Seen → Result GivenLine ImportCause
-given_at cpus reached at what =
-    given_or reached at (line_moment reached at) (acts_of reached.world.tasks what)
+unfoldable pub line_events_at : ℕ → Reached → ℕ → Seen → Result LineEvents ImportCause
+line_events_at cpus reached at what =
+    events_or reached at (line_moment reached at) (acts_of reached.world.tasks what)
     (acts_cause cpus reached.world (line_moment reached at) (needed_cpu what) (acts_of reached.world.tasks what))
 
 -- the same for a parsed line: an unmarked line gives nothing
-abbrev pub given_read : ℕ → Reached → Result (Option Sighting) ImportCause → Result GivenLine ImportCause
-given_read cpus reached (Err why) = Err why
-given_read cpus reached (Ok None) = Ok (record { events = []; reached = reached })
-given_read cpus reached (Ok (Some sighting)) = given_at cpus reached sighting.at sighting.seen
+abbrev pub events_read : ℕ → Reached → Result (Option Sighting) ImportCause → Result LineEvents ImportCause
+events_read cpus reached (Err why) = Err why
+events_read cpus reached (Ok None) = Ok (record { events = []; reached = reached })
+events_read cpus reached (Ok (Some sighting)) = line_events_at cpus reached sighting.at sighting.seen
 
 -- the result of a line, or the cause against it
-unfoldable pub given_of : ℕ → Reached → List ℕ → Result GivenLine ImportCause
-given_of cpus reached line = given_read cpus reached (read_line line)
+unfoldable pub events_of_line : ℕ → Reached → List ℕ → Result LineEvents ImportCause
+events_of_line cpus reached line = events_read cpus reached (read_line line)

@@ -7,7 +7,7 @@ use Rattle.psi_spec.specs.Grammar.{One}
 use Rattle.psi_spec.specs.Trace.{Trace}
 use Rattle.import_spec.specs.declared.cause.ImportCause.{ImportCause}
 use Rattle.import_spec.specs.declared.cause.ImportCause.TheVariants as cause
-use Rattle.import_spec.specs.Events.{GivenLine, Reached, given_of, unreached}
+use Rattle.import_spec.specs.Events.{LineEvents, Reached, events_of_line, unreached}
 
 -- the rejected line, by its number from 1, and the cause
 pub record Refused : Type 0 where
@@ -27,11 +27,11 @@ abbrev pub end_at : Reached → Event
 end_at reached = record { at = reached.moment; act = act.End }
 
 -- the result of a whole line: there are at most 16,000,000 lines, and a line has at most 512 bytes
-unfoldable pub line_given : ℕ → Reached → ℕ → List ℕ → Result GivenLine ImportCause
-line_given cpus reached number line =
+unfoldable pub yield_of_line : ℕ → Reached → ℕ → List ℕ → Result LineEvents ImportCause
+yield_of_line cpus reached number line =
     if nat_lt most_text_lines number then Err cause.TooManyLines
     else if nat_lt 512 (length line) then Err cause.LineTooLong
-    else given_of cpus reached line
+    else events_of_line cpus reached line
 
 -- the cause against what follows the last newline, or None if nothing does
 unfoldable pub tail_cause : ℕ → List ℕ → Option ImportCause
@@ -48,13 +48,13 @@ ends_or reached number (Some why) = Err (import_refused number why)
 
 -- events, and the later events after them
 abbrev pub events_followed : List Event → Result (List Event) Refused → Result (List Event) Refused
-events_followed front (Ok events) = Ok (front ++ events)
-events_followed front (Err refusal) = Err refusal
+events_followed prefix (Ok events) = Ok (prefix ++ events)
+events_followed prefix (Err refusal) = Err refusal
 
 -- a refusal of a line, or its events and those after them
-abbrev pub or_refused_line : ℕ → Result GivenLine ImportCause → (Reached → Result (List Event) Refused) → Result (List Event) Refused
-or_refused_line number (Err why) behind = Err (import_refused number why)
-or_refused_line number (Ok given) behind = events_followed given.events (behind given.reached)
+abbrev pub or_refused_line : ℕ → Result LineEvents ImportCause → (Reached → Result (List Event) Refused) → Result (List Event) Refused
+or_refused_line number (Err why) suffix = Err (import_refused number why)
+or_refused_line number (Ok line_events) suffix = events_followed line_events.events (suffix line_events.reached)
 
 -- The events of these parts of a text between newlines, or the first bad line. The first part is
 -- the line with this number, and the last part is what follows the last newline.
@@ -62,8 +62,8 @@ unfoldable pub import_from : ℕ → Reached → ℕ → List (List ℕ) → Res
 import_from cpus reached number [] = Ok (end_at reached ∷ [])
 import_from cpus reached number (rest ∷ []) = ends_or reached number (tail_cause number rest)
 import_from cpus reached number (line ∷ next ∷ parts) =
-    or_refused_line number (line_given cpus reached number line)
-    (λ behind. import_from cpus behind (number + 1) (next ∷ parts))
+    or_refused_line number (yield_of_line cpus reached number line)
+    (λ suffix. import_from cpus suffix (number + 1) (next ∷ parts))
 
 -- the events of a text, including the end, on a machine with n processors; or the first bad line
 unfoldable pub import_of : ℕ → List ℕ → Result (List Event) Refused

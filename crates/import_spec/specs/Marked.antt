@@ -8,7 +8,7 @@ use Rattle.import_spec.specs.declared.seen.Seen.{Seen}
 use Rattle.import_spec.specs.declared.seen.Seen.TheVariants as seen
 use Rattle.import_spec.specs.declared.seen.Sighting.{Sighting}
 use Rattle.psi_base.specs.OptionSteps.{◌>>=◌}
-use Rattle.import_spec.specs.Places.{begins_with, behind_last, first_place, last_place}
+use Rattle.import_spec.specs.Places.{begins_with, after_last, first_place, last_place}
 use Rattle.import_spec.specs.Tails.{cpu_in, field_in, how_in, pid_in, time_in}
 
 -- ---- marks
@@ -58,7 +58,7 @@ unfoldable pub switch_in : ℕ → List ℕ → Option Seen
 switch_in cpu tail = do
   arrow ← last_place (begins_with (codes " ==> ")) tail
   previous ← field_in (codes " prev_pid=") (take arrow tail)
-  state ← behind_last (codes " prev_state=") (take arrow tail)
+  state ← after_last (codes " prev_state=") (take arrow tail)
   how ← how_in state
   next ← field_in (codes " next_pid=") (drop (arrow + length (codes " ==> ")) tail)
   Some (seen.Switch (record { 0 = cpu }) (pid_in previous) (pid_in next) how)

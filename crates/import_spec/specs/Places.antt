@@ -23,7 +23,7 @@ abbrev pub begins_with : List ℕ → List ℕ → Bool
 begins_with text bytes = starts_with nat_eq bytes text
 
 -- what follows the last occurrence of a text, if any
-abbrev pub behind_last : List ℕ → List ℕ → Option (List ℕ)
-behind_last text bytes = do
+abbrev pub after_last : List ℕ → List ℕ → Option (List ℕ)
+after_last text bytes = do
   at ← last_place (begins_with text) bytes
   Some (drop (at + length text) bytes)

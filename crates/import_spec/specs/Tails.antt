@@ -8,7 +8,7 @@ use Rattle.psi_base.specs.declared.event.Pid.{Pid}
 use Rattle.psi_base.specs.declared.event.How.{How}
 use Rattle.psi_base.specs.declared.event.How.TheVariants.{Preempt, Sleep, IoWait, Exit}
 use Rattle.psi_base.specs.OptionSteps.{◌>>=◌}
-use Rattle.import_spec.specs.Places.{begins_with, behind_last, last_place}
+use Rattle.import_spec.specs.Places.{begins_with, after_last, last_place}
 
 -- ---- numbers
 
@@ -41,7 +41,7 @@ time_of word = do
 -- the time (ns) of a head: the word after its last space
 unfoldable pub time_in : List ℕ → Option ℕ
 time_in head = do
-  word ← behind_last (codes " ") head
+  word ← after_last (codes " ") head
   time_of word
 
 -- the number of leading digits
@@ -66,7 +66,7 @@ cpu_in head = do
 -- end
 unfoldable pub field_in : List ℕ → List ℕ → Option ℕ
 field_in key part = do
-  rest ← behind_last key part
+  rest ← after_last key part
   number ← short_number 10 (before_first is_space rest)
   if_small number
 

@@ -14,42 +14,42 @@ use Rattle.kill_spec.specs.Kills.{and_then, chain, ends_chain, kill_by, kill_of}
 use Rattle.kill_engine.specs.Rulesets.{rest_of}
 
 -- the kills of a chain from the action with a number on
-abbrev pub behind : List GroupLife → ℕ → List Action → Reading → List Reading → ℕ → List Kill
-behind lives number actions now past act = chain lives number act (drop act actions) now past
+abbrev pub suffix : List GroupLife → ℕ → List Action → Reading → List Reading → ℕ → List Kill
+suffix lives number actions now past act = chain lives number act (drop act actions) now past
 
 -- what the action with a number gives
 abbrev pub turn : List GroupLife → ℕ → Reading → List Reading → ℕ → Action → Option Kill
 turn lives number now past act action = kill_by number act now (victim lives action now past)
 
 -- the place of an action among others
-abbrev pub StandsAt : List Action → ℕ → Action → Type 0
-StandsAt actions act action = action ≡ get_or actions act action
+abbrev pub IsPlacedAt : List Action → ℕ → Action → Type 0
+IsPlacedAt actions act action = action ≡ get_or actions act action
 
 -- the chain from an action on is what it gives, and then the rest
-turn_next : (lives : List GroupLife) (number : ℕ) (actions : List Action) (now : Reading) (past : List Reading) (act : ℕ) (action : Action) → act < length actions → StandsAt actions act action →
-    behind lives number actions now past act ≡ and_then (after_of action).always_continue (turn lives number now past act action) (behind lives number actions now past (act + 1))
+turn_next : (lives : List GroupLife) (number : ℕ) (actions : List Action) (now : Reading) (past : List Reading) (act : ℕ) (action : Action) → act < length actions → IsPlacedAt actions act action →
+    suffix lives number actions now past act ≡ and_then (after_of action).always_continue (turn lives number now past act action) (suffix lives number actions now past (act + 1))
 turn_next lives number actions now past act action below here = rw (drop_more actions act action below, sym here) refl
 
 -- Without a victim the chain is that of the rest.
-pub passes : (lives : List GroupLife) (number : ℕ) (actions : List Action) (now : Reading) (past : List Reading) (act : ℕ) (action : Action) → act < length actions → StandsAt actions act action →
+pub passes : (lives : List GroupLife) (number : ℕ) (actions : List Action) (now : Reading) (past : List Reading) (act : ℕ) (action : Action) → act < length actions → IsPlacedAt actions act action →
     None ≡ turn lives number now past act action →
-    behind lives number actions now past (act + 1) ≡ behind lives number actions now past act
+    suffix lives number actions now past (act + 1) ≡ suffix lives number actions now past act
 passes lives number actions now past act action below here none = rw (turn_next lives number actions now past act action below here, sym none) refl
 
 -- no kill comes after the last action
-none_behind : (lives : List GroupLife) (number : ℕ) (actions : List Action) (now : Reading) (past : List Reading) (act : ℕ) → length actions ≤ act → behind lives number actions now past act ≡ []
-none_behind lives number actions now past act over = ap (λ rest. chain lives number act rest now past) (drop_all act actions over)
+none_following : (lives : List GroupLife) (number : ℕ) (actions : List Action) (now : Reading) (past : List Reading) (act : ℕ) → length actions ≤ act → suffix lives number actions now past act ≡ []
+none_following lives number actions now past act over = ap (λ rest. chain lives number act rest now past) (drop_all act actions over)
 
 -- There the kills are those of the whole chain,
 pub all_found : (lives : List GroupLife) (number : ℕ) (actions : List Action) (now : Reading) (past : List Reading) (act : ℕ) (found all : List Kill) → length actions ≤ act →
-    found ++ behind lives number actions now past act ≡ all → found ≡ all
+    found ++ suffix lives number actions now past act ≡ all → found ≡ all
 all_found lives number actions now past act found all over is =
-    sym (append-nil found) ∙ ap (λ kills. found ++ kills) (sym (none_behind lives number actions now past act over)) ∙ is
+    sym (append-nil found) ∙ ap (λ kills. found ++ kills) (sym (none_following lives number actions now past act over)) ∙ is
 
 -- and none of them ended it.
 pub none_rests : (lives : List GroupLife) (number : ℕ) (actions : List Action) (now : Reading) (past : List Reading) (act : ℕ) → length actions ≤ act →
-    None ≡ option_map (rest_of actions) (find (ends_chain actions) (behind lives number actions now past act))
-none_rests lives number actions now past act over = rw (none_behind lives number actions now past act over) refl
+    None ≡ option_map (rest_of actions) (find (ends_chain actions) (suffix lives number actions now past act))
+none_rests lives number actions now past act over = rw (none_following lives number actions now past act over) refl
 
 -- a kill has its time and the number of its action
 record IsOf (now : Reading) (act : ℕ) (kill : Kill) : Type 0 where
@@ -63,36 +63,36 @@ is_of number act now (Some group) kill is =
     subst (λ k. IsOf now act k) same (record { at = refl; by = refl })
 
 -- the action that gave a kill is found again by its number
-again : (actions : List Action) (act : ℕ) (action : Action) (kill : Kill) → act < length actions → StandsAt actions act action → kill.action ≡ act → slice_get actions kill.action ≡ Some action
+again : (actions : List Action) (act : ℕ) (action : Action) (kill : Kill) → act < length actions → IsPlacedAt actions act action → kill.action ≡ act → slice_get actions kill.action ≡ Some action
 again actions act action kill below here by = rw by (slice_get_read actions (length actions) act action refl below here)
 
 -- A kill by an action that always continues: the rest of the chain follows.
-pub goes_on : (lives : List GroupLife) (number : ℕ) (actions : List Action) (now : Reading) (past : List Reading) (act : ℕ) (action : Action) (kill : Kill) → act < length actions → StandsAt actions act action →
+pub goes_on : (lives : List GroupLife) (number : ℕ) (actions : List Action) (now : Reading) (past : List Reading) (act : ℕ) (action : Action) (kill : Kill) → act < length actions → IsPlacedAt actions act action →
     Some kill ≡ turn lives number now past act action → (after_of action).always_continue ≡ true →
-    behind lives number actions now past act ≡ kill ∷ behind lives number actions now past (act + 1)
-goes_on lives number actions now past act action kill below here given on = rw (turn_next lives number actions now past act action below here, sym given, on) refl
+    suffix lives number actions now past act ≡ kill ∷ suffix lives number actions now past (act + 1)
+goes_on lives number actions now past act action kill below here bytes_read on = rw (turn_next lives number actions now past act action below here, sym bytes_read, on) refl
 
 -- It doesn't end the chain.
-pub not_ended : (lives : List GroupLife) (number : ℕ) (actions : List Action) (now : Reading) (past : List Reading) (act : ℕ) (action : Action) (kill : Kill) → act < length actions → StandsAt actions act action →
+pub not_ended : (lives : List GroupLife) (number : ℕ) (actions : List Action) (now : Reading) (past : List Reading) (act : ℕ) (action : Action) (kill : Kill) → act < length actions → IsPlacedAt actions act action →
     Some kill ≡ turn lives number now past act action → (after_of action).always_continue ≡ true →
-    find (ends_chain actions) (behind lives number actions now past (act + 1)) ≡ find (ends_chain actions) (behind lives number actions now past act)
-not_ended lives number actions now past act action kill below here given on =
-    let of = is_of number act now (victim lives action now past) kill given in
+    find (ends_chain actions) (suffix lives number actions now past (act + 1)) ≡ find (ends_chain actions) (suffix lives number actions now past act)
+not_ended lives number actions now past act action kill below here bytes_read on =
+    let of = is_of number act now (victim lives action now past) kill bytes_read in
     let mine : ends_chain actions kill ≡ false = rw (again actions act action kill below here of.by, on) refl in
-    rw (goes_on lives number actions now past act action kill below here given on, mine) refl
+    rw (goes_on lives number actions now past act action kill below here bytes_read on, mine) refl
 
 -- A kill by another action ends the chain, and nothing follows.
-pub stops : (lives : List GroupLife) (number : ℕ) (actions : List Action) (now : Reading) (past : List Reading) (act : ℕ) (action : Action) (kill : Kill) → act < length actions → StandsAt actions act action →
+pub stops : (lives : List GroupLife) (number : ℕ) (actions : List Action) (now : Reading) (past : List Reading) (act : ℕ) (action : Action) (kill : Kill) → act < length actions → IsPlacedAt actions act action →
     Some kill ≡ turn lives number now past act action → (after_of action).always_continue ≡ false →
-    behind lives number actions now past act ≡ kill ∷ []
-stops lives number actions now past act action kill below here given off = rw (turn_next lives number actions now past act action below here, sym given, off) refl
+    suffix lives number actions now past act ≡ kill ∷ []
+stops lives number actions now past act action kill below here bytes_read off = rw (turn_next lives number actions now past act action below here, sym bytes_read, off) refl
 
 -- The ruleset rests for its action's delay.
-pub rests : (lives : List GroupLife) (number : ℕ) (actions : List Action) (now : Reading) (past : List Reading) (act : ℕ) (action : Action) (kill : Kill) (until : ℕ) → act < length actions → StandsAt actions act action →
+pub rests : (lives : List GroupLife) (number : ℕ) (actions : List Action) (now : Reading) (past : List Reading) (act : ℕ) (action : Action) (kill : Kill) (until : ℕ) → act < length actions → IsPlacedAt actions act action →
     Some kill ≡ turn lives number now past act action → (after_of action).always_continue ≡ false → until ≡ kill.at + of_seconds (after_of action).delay_s →
-    Some until ≡ option_map (rest_of actions) (find (ends_chain actions) (behind lives number actions now past act))
-rests lives number actions now past act action kill until below here given off is =
-    let of = is_of number act now (victim lives action now past) kill given in
+    Some until ≡ option_map (rest_of actions) (find (ends_chain actions) (suffix lives number actions now past act))
+rests lives number actions now past act action kill until below here bytes_read off is =
+    let of = is_of number act now (victim lives action now past) kill bytes_read in
     let found = again actions act action kill below here of.by in
     let mine : ends_chain actions kill ≡ true = rw (found, off) refl in
-    rw (stops lives number actions now past act action kill below here given off, mine, found, is) refl
+    rw (stops lives number actions now past act action kill below here bytes_read off, mine, found, is) refl

@@ -8,7 +8,7 @@ use Rattle.kill_spec.specs.Kills.{kills}
 use Rattle.detectors.specs.Views.{ReadingView}
 use Rattle.detectors.specs.Stands.{newest_moment}
 use Rattle.victim_rank.specs.Pasts.{IsPastOf, Kept}
-use Rattle.kill_engine.specs.Rulesets.{IsRulesetAt, RulesetStands, RulesetView}
+use Rattle.kill_engine.specs.Rulesets.{IsRulesetAt, RulesetRepresents, RulesetView}
 
 -- A killer: its rulesets, the stored past of groups, the time (ns) of its last reading, and the
 -- kills at it.
@@ -30,14 +30,14 @@ killer_slots killer = length killer.past.sizes
 -- ---- the readings that a killer represents
 
 -- rulesets represent readings; the first one has this number
-abbrev pub RulesetsStand :
+abbrev pub RulesetsRepresent :
     List GroupLife → List Reading → ℕ → List RulesetView → List Rule → Type 0
-RulesetsStand lives history number [] [] = Unit {0}
-RulesetsStand lives history number [] (rule ∷ rules) = ⊥
-RulesetsStand lives history number (state ∷ states) [] = ⊥
-RulesetsStand lives history number (state ∷ states) (rule ∷ rules) =
-    RulesetStands lives history number state rule
-    × RulesetsStand lives history (number + 1) states rules
+RulesetsRepresent lives history number [] [] = Unit {0}
+RulesetsRepresent lives history number [] (rule ∷ rules) = ⊥
+RulesetsRepresent lives history number (state ∷ states) [] = ⊥
+RulesetsRepresent lives history number (state ∷ states) (rule ∷ rules) =
+    RulesetRepresents lives history number state rule
+    × RulesetsRepresent lives history (number + 1) states rules
 
 -- the kills at the newest reading, if any
 abbrev pub newest_kills : List GroupLife → List Rule → List Reading → List Kill
@@ -47,10 +47,10 @@ newest_kills lives rules (now ∷ past) = kills lives rules now past
 -- A killer with rules represents readings of groups, the newest first: it has a place for each
 -- group, each ruleset and the past represent the readings, and it has the time of the newest
 -- reading and the kills at it.
-pub record StandsFor (killer : KillerView) (lives : List GroupLife) (rules : List Rule)
+pub record Represents (killer : KillerView) (lives : List GroupLife) (rules : List Rule)
     (history : List Reading) : Type 0 where
   pub slots : killer_slots killer ≡ length lives
-  pub rulesets : RulesetsStand lives history 0 killer.rulesets rules
+  pub rulesets : RulesetsRepresent lives history 0 killer.rulesets rules
   pub past : IsPastOf killer.past history
   pub last : killer.last ≡ newest_moment history
   pub found : killer.found ≡ newest_kills lives rules history
@@ -58,38 +58,38 @@ pub record StandsFor (killer : KillerView) (lives : List GroupLife) (rules : Lis
 -- a killer represents some readings of the groups
 abbrev pub IsStanding : KillerView → List GroupLife → Type 0
 IsStanding killer lives = (rules : List Rule) × (history : List Reading) ×
-    StandsFor killer lives rules history
+    Represents killer lives rules history
 
 -- The kills that a killer decides at a reading, after the earlier readings that it represents.
 abbrev pub Decides : KillerView → ReadingView → List Kill → Type 0
 Decides old reading found = (rules : List Rule) (history : List Reading) →
-    StandsFor old reading.lives rules history →
+    Represents old reading.lives rules history →
     found ≡ kills reading.lives rules reading.seen history
 
 -- A killer takes a reading: afterwards it represents this reading and those before it.
 abbrev pub KillerTakes : KillerView → ReadingView → KillerView → Type 0
 KillerTakes old reading new = (rules : List Rule) (history : List Reading) →
-    StandsFor old reading.lives rules history →
-    StandsFor new reading.lives rules (reading.seen ∷ history)
+    Represents old reading.lives rules history →
+    Represents new reading.lives rules (reading.seen ∷ history)
 
 -- ---- rulesets in order
 
 -- rulesets represent some readings of the groups
 abbrev pub AreStanding : List GroupLife → List RulesetView → Type 0
 AreStanding lives states = (rules : List Rule) × (history : List Reading) ×
-    RulesetsStand lives history 0 states rules
+    RulesetsRepresent lives history 0 states rules
 
 -- the kills of rulesets at a reading, after the earlier readings that they represent
 abbrev pub AllDecide : List RulesetView → ReadingView → Kept → List Kill → Type 0
 AllDecide old reading past found = (rules : List Rule) (history : List Reading) →
-    RulesetsStand reading.lives history 0 old rules → IsPastOf past history →
+    RulesetsRepresent reading.lives history 0 old rules → IsPastOf past history →
     found ≡ kills reading.lives rules reading.seen history
 
 -- rulesets take a reading: afterwards they represent this reading and those before it
 abbrev pub RulesetsTake : List RulesetView → ReadingView → Kept → List RulesetView → Type 0
 RulesetsTake old reading past new = (rules : List Rule) (history : List Reading) →
-    RulesetsStand reading.lives history 0 old rules → IsPastOf past history →
-    RulesetsStand reading.lives (reading.seen ∷ history) 0 new rules
+    RulesetsRepresent reading.lives history 0 old rules → IsPastOf past history →
+    RulesetsRepresent reading.lives (reading.seen ∷ history) 0 new rules
 
 -- ---- the invariant of a killer
 

@@ -15,7 +15,7 @@ use Rattle.kill_spec.specs.Kills.{chain, delay_of, ends_chain, kill_by}
 use Rattle.kill_spec.specs.Kills.{kills_at, kills_of, last_ending}
 use Rattle.detectors.specs.Tables.{match_table}
 use Rattle.detectors.specs.Views.{DetectorView, IsAfter, ReadingView, slots_of}
-use Rattle.detectors.specs.Stands.{StandsFor}
+use Rattle.detectors.specs.Stands.{Represents}
 use Rattle.victim_rank.specs.Pasts.{IsPastOf, Kept}
 
 -- ---- which readings detectors can take
@@ -35,48 +35,48 @@ pub record IsAt (moment : Option ℕ) (slots : ℕ) (detector : DetectorView) : 
 -- ---- groups of detectors
 
 -- detectors represent readings, each with its arguments
-abbrev pub DetectorsStand :
+abbrev pub DetectorsRepresent :
     List GroupLife → List Reading → List DetectorView → List DetectorSpec → Type 0
-DetectorsStand lives history detectors specs =
+DetectorsRepresent lives history detectors specs =
     AllZip (λ (detector : DetectorView) (spec : DetectorSpec).
-    StandsFor detector lives spec history)
+    Represents detector lives spec history)
     detectors specs
 
 -- the answer of detectors at a reading, after the earlier readings that they represent: whether all
 -- are true
 abbrev pub AllAnswer : List DetectorView → ReadingView → Bool → Type 0
 AllAnswer old reading answer = (specs : List DetectorSpec) (history : List Reading) →
-    DetectorsStand reading.lives history old specs →
+    DetectorsRepresent reading.lives history old specs →
     answer ≡
     list_all (λ (spec : DetectorSpec). is_true reading.lives spec reading.seen history) specs
 
 -- detectors take a reading: afterwards they represent this reading and those before it
 abbrev pub AllTake : List DetectorView → ReadingView → List DetectorView → Type 0
 AllTake old reading new = (specs : List DetectorSpec) (history : List Reading) →
-    DetectorsStand reading.lives history old specs →
-    DetectorsStand reading.lives (reading.seen ∷ history) new specs
+    DetectorsRepresent reading.lives history old specs →
+    DetectorsRepresent reading.lives (reading.seen ∷ history) new specs
 
 -- groups of detectors represent readings
-abbrev pub GroupsStand :
+abbrev pub GroupsRepresent :
     List GroupLife → List Reading → List (List DetectorView) → List DetectorGroup → Type 0
-GroupsStand lives history groups specs =
+GroupsRepresent lives history groups specs =
     AllZip (λ (group : List DetectorView) (spec : DetectorGroup).
-    DetectorsStand lives history group spec.detectors)
+    DetectorsRepresent lives history group spec.detectors)
     groups specs
 
 -- the answer of groups of detectors at a reading, after the earlier readings that they represent:
 -- whether one of the groups holds
 abbrev pub SomeAnswers : List (List DetectorView) → ReadingView → Bool → Type 0
 SomeAnswers old reading answer = (specs : List DetectorGroup) (history : List Reading) →
-    GroupsStand reading.lives history old specs →
+    GroupsRepresent reading.lives history old specs →
     answer ≡
     list_any (λ (group : DetectorGroup). group_holds reading.lives group reading.seen history) specs
 
 -- groups of detectors take a reading: afterwards they represent this reading and those before it
 abbrev pub GroupsTake : List (List DetectorView) → ReadingView → List (List DetectorView) → Type 0
 GroupsTake old reading new = (specs : List DetectorGroup) (history : List Reading) →
-    GroupsStand reading.lives history old specs →
-    GroupsStand reading.lives (reading.seen ∷ history) new specs
+    GroupsRepresent reading.lives history old specs →
+    GroupsRepresent reading.lives (reading.seen ∷ history) new specs
 
 -- a property holds for each detector of groups of detectors
 abbrev pub EachDetector : (DetectorView → Type 0) → List (List DetectorView) → Type 0
@@ -140,9 +140,9 @@ ruleset_of groups actions tables rests_until =
 -- A ruleset with a number represents readings, the newest first: its detectors do, it has the
 -- actions and the groups that they match, and it rests after its last chain-ending kill at these
 -- readings, for the delay of that kill's action.
-pub record RulesetStands (lives : List GroupLife) (history : List Reading) (number : ℕ)
+pub record RulesetRepresents (lives : List GroupLife) (history : List Reading) (number : ℕ)
     (state : RulesetView) (rule : Rule) : Type 0 where
-  pub groups : GroupsStand lives history state.groups rule.groups
+  pub groups : GroupsRepresent lives history state.groups rule.groups
   pub actions : state.actions ≡ rule.actions
   pub tables : state.tables ≡ match_tables lives rule.actions
   pub rests : state.rests_until ≡
@@ -155,7 +155,7 @@ IsRulesetReady reading state = EachDetector (IsStateReady reading) state.groups
 -- a ruleset with this number represents some readings of the groups
 abbrev pub IsStanding : List GroupLife → ℕ → RulesetView → Type 0
 IsStanding lives number state = (rule : Rule) × (history : List Reading) ×
-    RulesetStands lives history number state rule
+    RulesetRepresents lives history number state rule
 
 -- each detector of a ruleset has this number of groups, and its last reading was at this time (ns),
 -- if there was one
@@ -166,7 +166,7 @@ IsRulesetAt moment slots state = EachDetector (IsAt moment slots) state.groups
 -- to earlier kills
 abbrev pub HasKills : ℕ → RulesetView → ReadingView → Kept → List Kill → List Kill → Type 0
 HasKills number old reading past before after = (rule : Rule) (history : List Reading) →
-    RulesetStands reading.lives history number old rule → IsPastOf past history →
+    RulesetRepresents reading.lives history number old rule → IsPastOf past history →
     after ≡
     before
     ++ kills_at reading.lives number rule reading.seen history
@@ -175,5 +175,5 @@ HasKills number old reading past before after = (rule : Rule) (history : List Re
 -- a ruleset takes a reading: afterwards it represents this reading and those before it
 abbrev pub RulesetTakes : ℕ → RulesetView → ReadingView → Kept → RulesetView → Type 0
 RulesetTakes number old reading past new = (rule : Rule) (history : List Reading) →
-    RulesetStands reading.lives history number old rule → IsPastOf past history →
-    RulesetStands reading.lives (reading.seen ∷ history) number new rule
+    RulesetRepresents reading.lives history number old rule → IsPastOf past history →
+    RulesetRepresents reading.lives (reading.seen ∷ history) number new rule

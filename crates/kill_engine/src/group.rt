@@ -1,7 +1,7 @@
 //! A group of detectors.
 ghost use Rattle.std.specs.Prelude.{◌≤◌, [], IfOk, All, Some, length};
 ghost use Rattle.psi_spec.specs.World.{most_groups};
-ghost use Rattle.kill_engine.specs.Rulesets.{AllAnswer, AllTake, DetectorsStand, IsAt, IsStateReady};
+ghost use Rattle.kill_engine.specs.Rulesets.{AllAnswer, AllTake, DetectorsRepresent, IsAt, IsStateReady};
 
 use detectors::{Detector, Reading};
 use psi_base::NoMemory;
@@ -48,7 +48,7 @@ impl GroupState {
         lives: &[GroupLife],
     ) -> Result<GroupState, NoMemory>
         requires { length lives.now ≤ most_groups }
-        ensures { IfOk result (λ group. DetectorsStand lives.now [] group specs.now) }
+        ensures { IfOk result (λ group. DetectorsRepresent lives.now [] group specs.now) }
     {
         let mut detectors = Vec::with_capacity(alloc, specs.len())?;
         'specs: for spec in specs {

@@ -2,7 +2,7 @@
 ghost use Rattle.std.specs.Prelude.{◌≡◌, ◌≤◌, [], IfOk, All, Some, length, vec_capacity};
 ghost use Rattle.psi_spec.specs.World.{most_groups};
 ghost use Rattle.detectors.specs.Views.{IsAfter};
-ghost use Rattle.kill_engine.specs.Killers.{Decides, KillerTakes, RulesetsStand, StandsFor, killer_slots};
+ghost use Rattle.kill_engine.specs.Killers.{Decides, KillerTakes, RulesetsRepresent, Represents, killer_slots};
 ghost use Rattle.kill_engine.specs.Killers.{AllDecide, AreStanding, IsStanding, RulesetsTake};
 ghost use Rattle.kill_engine.specs.Rulesets.{IsRulesetAt, IsRulesetReady};
 
@@ -50,7 +50,7 @@ fn rulesets_of(
     lives: &[GroupLife],
 ) -> Result<Vec<RuleState>, NoMemory>
     requires { length lives.now ≤ most_groups }
-    ensures { IfOk result (λ states. RulesetsStand lives.now [] 0 states.items rules.items) }
+    ensures { IfOk result (λ states. RulesetsRepresent lives.now [] 0 states.items rules.items) }
 {
     let mut rulesets = Vec::with_capacity(alloc, rules.len())?;
     'rules: for rule in rules {
@@ -64,7 +64,7 @@ fn rulesets_of(
 fn evaluate_all(rulesets: &mut [RuleState], reading: &Reading, past: &Past, found: &mut Vec<Kill>)
     requires few { length rulesets.old ≤ 64 }
     requires ready { All (IsRulesetReady reading.now) rulesets.old }
-    requires stand { AreStanding reading.now.lives rulesets.old }
+    requires word_state { AreStanding reading.now.lives rulesets.old }
     requires slots { length past.now.sizes ≡ length reading.now.lives }
     requires empty { found.old.items ≡ [] }
     requires room { MOST_KILLS ≤ vec_capacity found.old }
@@ -85,7 +85,7 @@ impl Killer {
     /// everything at the start.
     pub fn make(alloc: Global, rules: Rules, lives: &[GroupLife]) -> Result<Killer, NoMemory>
         requires { length lives.now ≤ most_groups }
-        ensures { IfOk result (λ killer. StandsFor killer lives.now rules.rules []) }
+        ensures { IfOk result (λ killer. Represents killer lives.now rules.rules []) }
     {
         Ok(Killer {
             rulesets: rulesets_of(alloc, rules.rules.into_items(), lives)?,

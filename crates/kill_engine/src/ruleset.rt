@@ -1,8 +1,8 @@
 //! A ruleset.
 ghost use Rattle.std.specs.Prelude.{◌≡◌, ◌≤◌, ◌+◌, ℕ, [], IfOk, Some, length, nat_lt, vec_capacity, vec_len};
 ghost use Rattle.psi_spec.specs.World.{most_groups};
-ghost use Rattle.kill_engine.specs.Rulesets.{EachDetector, GroupsStand, GroupsTake, HasKills, IsAt, IsStateReady, match_tables};
-ghost use Rattle.kill_engine.specs.Rulesets.{IsRulesetAt, IsRulesetReady, IsStanding, RulesetStands, RulesetTakes, SomeAnswers};
+ghost use Rattle.kill_engine.specs.Rulesets.{EachDetector, GroupsRepresent, GroupsTake, HasKills, IsAt, IsStateReady, match_tables};
+ghost use Rattle.kill_engine.specs.Rulesets.{IsRulesetAt, IsRulesetReady, IsStanding, RulesetRepresents, RulesetTakes, SomeAnswers};
 
 use crate::chain::take_chain;
 use crate::group::GroupState;
@@ -42,7 +42,7 @@ fn groups_of(
     lives: &[GroupLife],
 ) -> Result<Vec<GroupState>, NoMemory>
     requires { length lives.now ≤ most_groups }
-    ensures { IfOk result (λ groups. GroupsStand lives.now [] groups.items specs.now) }
+    ensures { IfOk result (λ groups. GroupsRepresent lives.now [] groups.items specs.now) }
 {
     let mut groups = Vec::with_capacity(alloc, specs.len())?;
     'specs: for spec in specs {
@@ -90,7 +90,7 @@ impl RuleState {
     pub(crate) fn of(alloc: Global, rule: Rule, lives: &[GroupLife]) -> Result<RuleState, NoMemory>
         requires { length lives.now ≤ most_groups }
         ensures { IfOk result (λ state. (number : ℕ) →
-            RulesetStands lives.now [] number state rule) }
+            RulesetRepresents lives.now [] number state rule) }
     {
         let groups = groups_of(alloc, rule.groups.items(), lives)?;
         let tables = tables_of(alloc, rule.actions.items(), lives)?;

@@ -117,17 +117,17 @@ before_all lives first (second ∷ groups) ascend = (
       (before_all lives second groups ascend.1),
 )
 
-ascend_behind : (lives : List GroupLife) (first : GroupReading) (groups : List GroupReading) →
+ascend_after : (lives : List GroupLife) (first : GroupReading) (groups : List GroupReading) →
     Ascend (map (path_of lives) (first ∷ groups)) → Ascend (map (path_of lives) groups)
-ascend_behind lives first [] ascend = tt
-ascend_behind lives first (second ∷ groups) ascend = ascend.1
+ascend_after lives first [] ascend = tt
+ascend_after lives first (second ∷ groups) ascend = ascend.1
 
 pub in_order : (lives : List GroupLife) (groups : List GroupReading) →
     Ascend (map (path_of lives) groups) → Pairs (IsBefore lives) groups
 in_order lives [] ascend = tt
 in_order lives (first ∷ groups) ascend = (
   before_all lives first groups ascend,
-  in_order lives groups (ascend_behind lives first groups ascend),
+  in_order lives groups (ascend_after lives first groups ascend),
 )
 
 -- ---- the walk finds the choice
@@ -166,22 +166,22 @@ choice_is : (Beats : GroupReading → GroupReading → Type 0)
     ((x y : GroupReading) → beats x y ≡ true → beats y x ≡ false) →
     (first : GroupReading) (groups : List GroupReading) (best : GroupReading) →
     IsBest beats (first ∷ groups) best → IsChoice Beats (first ∷ groups) (Some best)
-choice_is Beats beats tells told one_way first groups best is = record {
+choice_is Beats beats shows known one_way first groups best is = record {
   none = (λ nothing. not_none _ best nothing, λ empty. not_empty _ first groups empty);
   some = λ group. (
     (λ same. subst (IsUnbeaten Beats (first ∷ groups)) (same_some best group same) (record {
       one = contains_at (first ∷ groups) best is.0;
       by_none = λ other there over. ⊎_elim
-          (λ itself. false≢true (sym (rw itself at (one_way other best (told other best over))) ∙
-          rw itself at (told other best over)))
-          (λ beaten. false≢true (sym (one_way best other beaten) ∙ told other best over))
+          (λ itself. false≢true (sym (rw itself at (one_way other best (known other best over))) ∙
+          rw itself at (known other best over)))
+          (λ beaten. false≢true (sym (one_way best other beaten) ∙ known other best over))
           (each_at (IsBelow beats best) (first ∷ groups) other is.1
           (has_at (first ∷ groups) other there));
     })),
     (λ alone. ⊎_elim
         (λ same. ap Some (sym same))
         (λ beaten. absurd (alone.by_none best (contains_at (first ∷ groups) best is.0)
-        (tells best group beaten)))
+        (shows best group beaten)))
         (each_at (IsBelow beats best) (first ∷ groups) group is.1
         (has_at (first ∷ groups) group alone.one))),
   );
@@ -200,51 +200,51 @@ unbeaten_choice : (lives : List GroupLife) (Beats : GroupReading → GroupReadin
     ((x y : GroupReading) → Beats x y → beats x y ≡ true) →
     (groups : List GroupReading) → Ascend (map (path_of lives) groups) →
     IsChoice Beats groups (unbeaten beats groups)
-unbeaten_choice lives Beats beats leads order tells told [] ascend = no_choice Beats
-unbeaten_choice lives Beats beats leads order tells told (first ∷ groups) ascend =
+unbeaten_choice lives Beats beats leads order shows known [] ascend = no_choice Beats
+unbeaten_choice lives Beats beats leads order shows known (first ∷ groups) ascend =
     let pairs = in_order lives (first ∷ groups) ascend in
     let best = walk_best (λ group. Unit {0}) (IsBefore lives) beats leads order first groups tt
     (each_unit groups) pairs.0 pairs.1 in
     subst (IsChoice Beats (first ∷ groups)) (sym
     (best_unbeaten beats order.one_way (first ∷ groups) (foremost_of leads first groups) best))
-    (choice_is Beats beats tells told order.one_way first groups (foremost_of leads first groups)
+    (choice_is Beats beats shows known order.one_way first groups (foremost_of leads first groups)
     best)
 
 -- ---- the results of the tests
 
-pub then_tells : (a b : ℕ) (f : Bool) (F : Type 0) → (f ≡ true → F) →
+pub then_shows : (a b : ℕ) (f : Bool) (F : Type 0) → (f ≡ true → F) →
     (nat_lt b a || (a == b && f)) ≡ true → (b < a) ⊎ ((a ≡ b) × F)
-then_tells a b true F tells over = by_test _ (nat_lt b a)
+then_shows a b true F shows over = by_test _ (nat_lt b a)
     (λ holds. inl (grind (arith, nat_tests)))
-    (λ fails. inr (grind (arith, nat_tests), tells refl))
-then_tells a b false F tells over = inl (grind (arith, nat_tests))
+    (λ fails. inr (grind (arith, nat_tests), shows refl))
+then_shows a b false F shows over = inl (grind (arith, nat_tests))
 
-pub then_told : (a b : ℕ) (f : Bool) (F : Type 0) → (F → f ≡ true) → (b < a) ⊎ ((a ≡ b) × F) →
+pub then_known : (a b : ℕ) (f : Bool) (F : Type 0) → (F → f ≡ true) → (b < a) ⊎ ((a ≡ b) × F) →
     (nat_lt b a || (a == b && f)) ≡ true
-then_told a b f F told (inl less) = grind (arith, nat_tests)
-then_told a b f F told (inr (same, so)) = rw (told so) (grind (arith, nat_tests))
+then_known a b f F known (inl less) = grind (arith, nat_tests)
+then_known a b f F known (inr (same, so)) = rw (known so) (grind (arith, nat_tests))
 
-greater_tells : (lives : List GroupLife) (measure : GroupReading → ℕ) (x y : GroupReading) →
+greater_shows : (lives : List GroupLife) (measure : GroupReading → ℕ) (x y : GroupReading) →
     is_greater_by lives measure x y ≡ true → IsGreaterBy lives measure x y
-greater_tells lives measure x y over = then_tells (measure x) (measure y)
+greater_shows lives measure x y over = then_shows (measure x) (measure y)
     (has_path_before lives x y) (IsBefore lives x y) (λ is. less_is _ is) over
 
-greater_told : (lives : List GroupLife) (measure : GroupReading → ℕ) (x y : GroupReading) →
+greater_known : (lives : List GroupLife) (measure : GroupReading → ℕ) (x y : GroupReading) →
     IsGreaterBy lives measure x y → is_greater_by lives measure x y ≡ true
-greater_told lives measure x y over = then_told (measure x) (measure y) (has_path_before lives x y)
+greater_known lives measure x y over = then_known (measure x) (measure y) (has_path_before lives x y)
     (IsBefore lives x y) (λ is. ap is_less is) over
 
 pub unbeaten_is_choice : UnbeatenIsChoice
 unbeaten_is_choice lives measure groups ascend =
     unbeaten_choice lives (BeatsBy lives measure) (beats_by lives measure) (leads_by measure)
     (beats_order lives measure)
-    (λ x y over. then_tells (rank_of x) (rank_of y) (is_greater_by lives measure x y)
-    (IsGreaterBy lives measure x y) (greater_tells lives measure x y) over)
-    (λ x y over. then_told (rank_of x) (rank_of y) (is_greater_by lives measure x y)
-    (IsGreaterBy lives measure x y) (greater_told lives measure x y) over)
+    (λ x y over. then_shows (rank_of x) (rank_of y) (is_greater_by lives measure x y)
+    (IsGreaterBy lives measure x y) (greater_shows lives measure x y) over)
+    (λ x y over. then_known (rank_of x) (rank_of y) (is_greater_by lives measure x y)
+    (IsGreaterBy lives measure x y) (greater_known lives measure x y) over)
     groups ascend
 
 pub largest_is_choice : LargestIsChoice
 largest_is_choice lives groups ascend = unbeaten_choice lives (IsGreaterBy lives memory_in_use)
     (is_larger lives) (leads_larger memory_in_use) (greater_order lives memory_in_use)
-    (greater_tells lives memory_in_use) (greater_told lives memory_in_use) groups ascend
+    (greater_shows lives memory_in_use) (greater_known lives memory_in_use) groups ascend

@@ -5,7 +5,7 @@ use Rattle.std.proofs.lemmas.Bool.{leb-true, le-leb}
 use Rattle.std.proofs.lemmas.List.Elements.{All-cons, All-nil}
 use Rattle.kill_spec.specs.Readings.{Reading}
 use Rattle.kill_spec.specs.Detectors.{held_for, of_seconds}
-use Rattle.kill_spec.specs.Laws.{HeldFor, BreakStartsAnew, HeldForTells, LongerIsLater}
+use Rattle.kill_spec.specs.Laws.{HeldFor, BreakStartsAnew, HeldForShows, LongerIsLater}
 
 -- ---- tests
 
@@ -54,14 +54,14 @@ held_now condition duration at reading past holds long = record {
   long = long;
 }
 
-told : (condition : Reading → Bool) (duration at : ℕ) (readings : List Reading) → held_for condition duration at readings ≡ true →
+known : (condition : Reading → Bool) (duration at : ℕ) (readings : List Reading) → held_for condition duration at readings ≡ true →
     HeldFor condition duration at readings
-told condition duration at [] is = absurd cc
-told condition duration at (reading ∷ past) is =
+known condition duration at [] is = absurd cc
+known condition duration at (reading ∷ past) is =
     let parts = either (condition reading) (nat_le duration (at - reading.at)) (held_for condition duration at past) is in
     ⊎_elim
     (λ long. held_now condition duration at reading past parts.0 (leb-true duration (at - reading.at) long))
-    (λ held. held_more condition duration at reading past parts.0 (told condition duration at past held))
+    (λ held. held_more condition duration at reading past parts.0 (known condition duration at past held))
     parts.1
 
 -- it has held since the first of readings at all of which it holds
@@ -76,9 +76,9 @@ since_holds condition duration at (reading ∷ since) first earlier each starts 
     (each 0 reading (omega arith))
     (since_holds condition duration at since first earlier (λ k d below. each (suc k) d (omega (arith, below))) starts long)
 
-pub tells : HeldForTells
-tells condition duration at readings = (
-  told condition duration at readings,
+pub shows : HeldForShows
+shows condition duration at readings = (
+  known condition duration at readings,
   λ held. ap (held_for condition duration at) held.all
       ∙ since_holds condition duration at held.since held.first held.earlier held.each held.starts held.long,
 )
@@ -98,16 +98,16 @@ anew condition duration_s now broken newer older fails =
 
 -- ---- longer durations
 
-shorter_held : (condition : Reading → Bool) (shorter longer at : ℕ) (readings : List Reading) → shorter ≤ longer →
+shorter_buffered : (condition : Reading → Bool) (shorter longer at : ℕ) (readings : List Reading) → shorter ≤ longer →
     held_for condition longer at readings ≡ true → held_for condition shorter at readings ≡ true
-shorter_held condition shorter longer at [] short is = is
-shorter_held condition shorter longer at (reading ∷ past) short is =
+shorter_buffered condition shorter longer at [] short is = is
+shorter_buffered condition shorter longer at (reading ∷ past) short is =
     weakened (condition reading) (nat_le longer (at - reading.at)) (held_for condition longer at past)
     (nat_le shorter (at - reading.at)) (held_for condition shorter at past)
     (λ long. le-leb shorter (at - reading.at) (omega (arith, leb-true longer (at - reading.at) long)))
-    (shorter_held condition shorter longer at past short)
+    (shorter_buffered condition shorter longer at past short)
     is
 
 pub later : LongerIsLater
 later condition shorter_s longer_s now past short is =
-    shorter_held condition (of_seconds shorter_s) (of_seconds longer_s) now.at (now ∷ past) (omega arith) is
+    shorter_buffered condition (of_seconds shorter_s) (of_seconds longer_s) now.at (now ∷ past) (omega arith) is

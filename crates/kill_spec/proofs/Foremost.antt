@@ -109,7 +109,7 @@ find_one p (first ∷ groups) group there passes each = by_test _ (p first)
     (λ holds. rw holds (ap Some (each.0 holds)))
     (λ fails. rw fails (⊎_elim
     (λ is. absurd (true≢false (sym passes ∙ ap p (sym is) ∙ fails)))
-    (λ behind. find_one p groups group behind passes each.1)
+    (λ suffix. find_one p groups group suffix passes each.1)
     there))
 
 -- ---- the walk

@@ -35,17 +35,17 @@ find_found test (first ∷ xs) x is =
 -- ---- chains
 
 -- actions that are in a list from a number on
-abbrev StandsFrom : List Action → ℕ → List Action → Type 0
-StandsFrom actions act rest = (i : ℕ) → slice_get actions (act + i) ≡ slice_get rest i
+abbrev IsPlacedFrom : List Action → ℕ → List Action → Type 0
+IsPlacedFrom actions act rest = (i : ℕ) → slice_get actions (act + i) ≡ slice_get rest i
 
-stands_next : (actions : List Action) (act : ℕ) (first : Action) (rest : List Action) → StandsFrom actions act (first ∷ rest) → StandsFrom actions (act + 1) rest
-stands_next actions act first rest here i = let e : act + 1 + i ≡ act + suc i = omega arith in rw e (here (suc i))
+is_next_in : (actions : List Action) (act : ℕ) (first : Action) (rest : List Action) → IsPlacedFrom actions act (first ∷ rest) → IsPlacedFrom actions (act + 1) rest
+is_next_in actions act first rest here i = let e : act + 1 + i ≡ act + suc i = omega arith in rw e (here (suc i))
 
-stands_here : (actions : List Action) (act : ℕ) (first : Action) (rest : List Action) → StandsFrom actions act (first ∷ rest) → slice_get actions act ≡ Some first
-stands_here actions act first rest here = let e : act ≡ act + 0 = omega arith in rw e (here 0)
+here_in : (actions : List Action) (act : ℕ) (first : Action) (rest : List Action) → IsPlacedFrom actions act (first ∷ rest) → slice_get actions act ≡ Some first
+here_in actions act first rest here = let e : act ≡ act + 0 = omega arith in rw e (here 0)
 
-all_stand : (actions : List Action) → StandsFrom actions 0 actions
-all_stand actions i = let e : 0 + i ≡ i = omega arith in rw e refl
+all_represent : (actions : List Action) → IsPlacedFrom actions 0 actions
+all_represent actions i = let e : 0 + i ≡ i = omega arith in rw e refl
 
 -- a kill of a chain: by whom, and whom
 record IsOfChain (lives : List GroupLife) (number : ℕ) (actions : List Action) (now : Reading) (past : List Reading) (kill : Kill) : Type 0 where
@@ -57,33 +57,33 @@ record IsOfChain (lives : List GroupLife) (number : ℕ) (actions : List Action)
   pub chosen : victim lives act now past ≡ Some group
   pub slot : kill.victim ≡ group.slot
 
-chain_kills : (lives : List GroupLife) (number act : ℕ) (actions rest : List Action) (now : Reading) (past : List Reading) (kill : Kill) → StandsFrom actions act rest → Contains (chain lives number act rest now past) kill → IsOfChain lives number actions now past kill
+chain_kills : (lives : List GroupLife) (number act : ℕ) (actions rest : List Action) (now : Reading) (past : List Reading) (kill : Kill) → IsPlacedFrom actions act rest → Contains (chain lives number act rest now past) kill → IsOfChain lives number actions now past kill
 chain_kills lives number act actions [] now past kill here has = contains_none kill _ has
 chain_kills lives number act actions (first ∷ rest) now past kill here has =
     let next : List Kill = chain lives number (act + 1) rest now past in
-    let later = chain_kills lives number (act + 1) actions rest now past kill (stands_next actions act first rest here) in
+    let later = chain_kills lives number (act + 1) actions rest now past kill (is_next_in actions act first rest here) in
     elim (victim lives first now past) as (λ v. victim lives first now past ≡ v → Contains (and_then (after_of first).always_continue (kill_by number act now v) next) kill → IsOfChain lives number actions now past kill) [
       | None ↦ λ _ c. later c
       | Some group ↦ λ chosen c. ⊎_elim
           (λ same. subst (λ k. IsOfChain lives number actions now past k) same
-          (record { at = refl; rule_is = refl; act = first; by = stands_here actions act first rest here; group = group; chosen = chosen; slot = refl }))
-          (λ behind. elim (after_of first).always_continue as (λ b. Contains (if b then next else []) kill → IsOfChain lives number actions now past kill) [
+          (record { at = refl; rule_is = refl; act = first; by = here_in actions act first rest here; group = group; chosen = chosen; slot = refl }))
+          (λ suffix. elim (after_of first).always_continue as (λ b. Contains (if b then next else []) kill → IsOfChain lives number actions now past kill) [
             | true ↦ λ c. later c
             | false ↦ λ c. contains_none kill _ c
-          ] behind)
+          ] suffix)
           (contains_cons _ _ kill c)
     ] refl has
 
 -- a chain has one kill that ends it, and the first such kill is it
-one_ending : (lives : List GroupLife) (number act : ℕ) (actions rest : List Action) (now : Reading) (past : List Reading) (kill : Kill) → StandsFrom actions act rest → Contains (chain lives number act rest now past) kill → ends_chain actions kill ≡ true → find (ends_chain actions) (chain lives number act rest now past) ≡ Some kill
+one_ending : (lives : List GroupLife) (number act : ℕ) (actions rest : List Action) (now : Reading) (past : List Reading) (kill : Kill) → IsPlacedFrom actions act rest → Contains (chain lives number act rest now past) kill → ends_chain actions kill ≡ true → find (ends_chain actions) (chain lives number act rest now past) ≡ Some kill
 one_ending lives number act actions [] now past kill here has ends = contains_none kill _ has
 one_ending lives number act actions (first ∷ rest) now past kill here has ends =
     let next : List Kill = chain lives number (act + 1) rest now past in
-    let later : Contains next kill → find (ends_chain actions) next ≡ Some kill = λ c. one_ending lives number (act + 1) actions rest now past kill (stands_next actions act first rest here) c ends in
+    let later : Contains next kill → find (ends_chain actions) next ≡ Some kill = λ c. one_ending lives number (act + 1) actions rest now past kill (is_next_in actions act first rest here) c ends in
     elim (victim lives first now past) as (λ v. Contains (and_then (after_of first).always_continue (kill_by number act now v) next) kill → find (ends_chain actions) (and_then (after_of first).always_continue (kill_by number act now v) next) ≡ Some kill) [
       | None ↦ λ c. later c
       | Some group ↦ λ c.
-          let mine : ends_chain actions (kill_of now.at number act group) ≡ not (after_of first).always_continue = rw (stands_here actions act first rest here) refl in
+          let mine : ends_chain actions (kill_of now.at number act group) ≡ not (after_of first).always_continue = rw (here_in actions act first rest here) refl in
           elim (after_of first).always_continue as (λ b. ends_chain actions (kill_of now.at number act group) ≡ not b → Contains (kill_of now.at number act group ∷ (if b then next else [])) kill → find (ends_chain actions) (kill_of now.at number act group ∷ (if b then next else [])) ≡ Some kill) [
             | true ↦ λ mine c. rw mine (⊎_elim
                 (λ same. let not_mine : ends_chain actions kill ≡ false = subst (λ k. ends_chain actions k ≡ false) same mine in absurd (cc (ends, not_mine)))
@@ -117,7 +117,7 @@ pub of_actions : KillsAreOfActions
 unfolding kills_of
 of_actions lives number rule now past kill has =
     let t = taken lives number rule now past (kills_of lives number rule past) kill has in
-    let k = chain_kills lives number 0 rule.actions rule.actions now past kill (all_stand rule.actions) t.has in
+    let k = chain_kills lives number 0 rule.actions rule.actions now past kill (all_represent rule.actions) t.has in
     record { at = k.at; rule_is = k.rule_is; act = k.act; by = k.by; group = k.group; chosen = k.chosen; slot = k.slot; fired = t.fired }
 
 -- ---- rests
@@ -143,7 +143,7 @@ outlasted lives number rule (now ∷ past) kill ((zero, kills, few, is, has), en
     let earlier : List (List Kill) = kills_of lives number rule past in
     let here : Contains (kills_at lives number rule now past earlier) kill = subst (λ k. Contains k kill) (sym is) has in
     let t = taken lives number rule now past earlier kill here in
-    let found = one_ending lives number 0 rule.actions rule.actions now past kill (all_stand rule.actions) t.has ends in
+    let found = one_ending lives number 0 rule.actions rule.actions now past kill (all_represent rule.actions) t.has ends in
     record { last = kill; is_last = rw (t.whole, found) refl; longer = omega arith }
 outlasted lives number rule (now ∷ past) kill ((suc i, kills, few, is, has), ends) =
     let earlier : List (List Kill) = kills_of lives number rule past in
@@ -152,7 +152,7 @@ outlasted lives number rule (now ∷ past) kill ((suc i, kills, few, is, has), e
       | None ↦ λ none. record { last = before.last; is_last = rw (none, before.is_last) refl; longer = before.longer }
       | Some newest ↦ λ found.
           let t = taken lives number rule now past earlier newest (find_found _ _ newest found).0 in
-          let k = chain_kills lives number 0 rule.actions rule.actions now past newest (all_stand rule.actions) t.has in
+          let k = chain_kills lives number 0 rule.actions rule.actions now past newest (all_represent rule.actions) t.has in
           let free : is_resting rule.actions now.at (Some before.last) ≡ false = subst (λ l. is_resting rule.actions now.at l ≡ false) before.is_last t.rests in
           let past_it = over rule.actions now.at before.last free in
           record { last = newest; is_last = rw found refl; longer = omega (arith, past_it, before.longer, k.at) }
@@ -162,7 +162,7 @@ pub apart : EndingsApart
 apart lives number rule now past first second are ended has ends =
     let before = outlasted lives number rule past first ended in
     let t = taken lives number rule now past (kills_of lives number rule past) second has in
-    let k = chain_kills lives number 0 rule.actions rule.actions now past second (all_stand rule.actions) t.has in
+    let k = chain_kills lives number 0 rule.actions rule.actions now past second (all_represent rule.actions) t.has in
     let free : is_resting rule.actions now.at (Some before.last) ≡ false = subst (λ l. is_resting rule.actions now.at l ≡ false) before.is_last t.rests in
     let past_it = over rule.actions now.at before.last free in
     omega (arith, past_it, before.longer, k.at)
@@ -172,6 +172,6 @@ unfolding kills_of
 once lives number rule now past first second has_first has_second first_ends second_ends =
     let t = taken lives number rule now past (kills_of lives number rule past) first has_first in
     let u = taken lives number rule now past (kills_of lives number rule past) second has_second in
-    let found_first = one_ending lives number 0 rule.actions rule.actions now past first (all_stand rule.actions) t.has first_ends in
-    let found_second = one_ending lives number 0 rule.actions rule.actions now past second (all_stand rule.actions) u.has second_ends in
+    let found_first = one_ending lives number 0 rule.actions rule.actions now past first (all_represent rule.actions) t.has first_ends in
+    let found_second = one_ending lives number 0 rule.actions rule.actions now past second (all_represent rule.actions) u.has second_ends in
     cc (found_first, found_second)

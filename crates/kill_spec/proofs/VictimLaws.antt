@@ -38,7 +38,7 @@ filter_has p [] group there = absurd there
 filter_has p (first ∷ groups) group there = by_test _ (p first)
     (λ holds. ⊎_elim
     (λ is. (inl is, subst (λ x. p x ≡ true) is holds))
-    (λ behind. let rest = filter_has p groups group behind in (inr rest.0, rest.1))
+    (λ suffix. let rest = filter_has p groups group suffix in (inr rest.0, rest.1))
     (rw holds at there))
     (λ fails. let rest = filter_has p groups group (rw fails at there) in (inr rest.0, rest.1))
 

@@ -12,7 +12,7 @@ use Rattle.psi_spec.specs.declared.machine.GroupLife.{GroupLife}
 use Rattle.psi_spec.specs.World.{World, first_world, after, up_to}
 use Rattle.psi_spec.specs.Stall.{parents_of, is_under}
 use Rattle.psi_spec.specs.Groups.{live_groups}
-use Rattle.psi_spec.specs.Told.{slot_named, told_from}
+use Rattle.psi_spec.specs.Collected.{slot_named, values_from}
 use Rattle.pressure_spec.specs.Ticks.{is_evaluation, tick_moment, ticks_of}
 use Rattle.pressure_spec.specs.Samples.{group_averages}
 use Rattle.pressure_spec.specs.Share.{irq_quantity}
@@ -38,37 +38,37 @@ abbrev pub no_memory_sample : MemorySample
 no_memory_sample = record { current = 0; swap = 0; scan = 0 }
 
 -- the memory sample of an act for the group in a slot, as a list of one element or none
-abbrev pub memory_told : ℕ → List GroupLife → Act → List MemorySample
-memory_told slot groups (act.Mem path current swap scan) =
+abbrev pub memory_known : ℕ → List GroupLife → Act → List MemorySample
+memory_known slot groups (act.Mem path current swap scan) =
     if (slot_named groups path).0 == slot then record { current = current; swap = swap; scan = scan } ∷ [] else []
-memory_told slot groups _ = []
+memory_known slot groups _ = []
 
 -- the last memory sample of the group in a slot, or zeros if there is none
 abbrev pub memory_of : ℕ → List Event → MemorySample
 memory_of slot events =
-    last_or no_memory_sample (told_from (λ (w : World) (event : Event). memory_told slot w.groups event.act) first_world events)
+    last_or no_memory_sample (values_from (λ (w : World) (event : Event). memory_known slot w.groups event.act) first_world events)
 
 -- the kill preference that an act sets for the group in a slot, as a list of one element or none
-abbrev pub preference_told : ℕ → List GroupLife → Act → List Preference
-preference_told slot groups (act.Prefer path preference) =
+abbrev pub preference_known : ℕ → List GroupLife → Act → List Preference
+preference_known slot groups (act.Prefer path preference) =
     if (slot_named groups path).0 == slot then preference ∷ [] else []
-preference_told slot groups _ = []
+preference_known slot groups _ = []
 
 -- the last kill preference of the group in a slot; initially it is neither preferred nor avoided
 abbrev pub preference_of : ℕ → List Event → Preference
 preference_of slot events =
-    last_or Plain (told_from (λ (w : World) (event : Event). preference_told slot w.groups event.act) first_world events)
+    last_or Plain (values_from (λ (w : World) (event : Event). preference_known slot w.groups event.act) first_world events)
 
 -- the host memory sample of an act, as a list of one element or none
-abbrev pub host_told : Act → List HostReading
-host_told (act.Host mem_total swap_total swap_free) =
+abbrev pub host_known : Act → List HostReading
+host_known (act.Host mem_total swap_total swap_free) =
     record { mem_total = mem_total; swap_total = swap_total; swap_free = swap_free } ∷ []
-host_told _ = []
+host_known _ = []
 
 -- the last sample of the host's memory, or zeros if there is none
 abbrev pub host_of : List Event → HostReading
 host_of events =
-    last_or no_host (told_from (λ (w : World) (event : Event). host_told event.act) first_world events)
+    last_or no_host (values_from (λ (w : World) (event : Event). host_known event.act) first_world events)
 
 -- some live task is in the group in a slot, or below it
 abbrev pub is_populated : World → ℕ → Bool

@@ -28,8 +28,8 @@ pub record HeldFor (condition : Reading → Bool) (duration at : ℕ) (readings 
   pub long : duration ≤ at - first.at
 
 -- The Boolean test agrees with the relation.
-abbrev pub HeldForTells : Type 0
-HeldForTells = (condition : Reading → Bool) (duration at : ℕ) (readings : List Reading) →
+abbrev pub HeldForShows : Type 0
+HeldForShows = (condition : Reading → Bool) (duration at : ℕ) (readings : List Reading) →
     (held_for condition duration at readings ≡ true) ↔ HeldFor condition duration at readings
 
 -- For a duration of 0 a condition counts if it is true at the current reading.

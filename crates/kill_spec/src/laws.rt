@@ -1,12 +1,12 @@
 //! Laws of the definitions. Each function has an empty body: its contract is the law.
 ghost use Rattle.kill_spec.specs.Choices.{LargestIsChoice, UnbeatenIsChoice};
-ghost use Rattle.kill_spec.specs.Laws.{BreakStartsAnew, HeldForTells, HoldsAtOnce, LongerIsLater, EndingsApart, EndsOnce, KillsAreOfActions, DescentEnds, VictimsMatch};
+ghost use Rattle.kill_spec.specs.Laws.{BreakStartsAnew, HeldForShows, HoldsAtOnce, LongerIsLater, EndingsApart, EndsOnce, KillsAreOfActions, DescentEnds, VictimsMatch};
 
 /// When a condition has been true for a duration: it was true at some reading at least that much
 /// earlier and at every one since. For a duration of 0 it is the condition itself; a reading at
 /// which it is false restarts it; and a longer duration is never reached earlier.
 pub fn law_durations()
-    ensures tells { HeldForTells }
+    ensures shows { HeldForShows }
     ensures at_once { HoldsAtOnce }
     ensures anew { BreakStartsAnew }
     ensures later { LongerIsLater }

@@ -8,12 +8,12 @@ use Rattle.clock_row.specs.declared.view.ReaderView.{ReaderView}
 use Rattle.clock_row.specs.Ends.{ReaderEnd}
 use Rattle.observer_log.specs.Watch.{WatcherView, named_by, no_reader, reader_at}
 use Rattle.observe_core.specs.Observing.{last_at, no_sample}
-use Rattle.observe_core.specs.Driving.{AreLasts, HasMet, IsReadied}
+use Rattle.observe_core.specs.Driving.{AreLasts, HasMet, ArePreparedChanges}
 use Rattle.observe_core.proofs.LookLaws.{field_kept}
 
 -- no processor is prepared yet
-pub readied_none : (made : ℕ → ℕ) (watcher : WatcherView) → IsReadied made 0 watcher watcher
-readied_none made watcher = record {
+pub prepared_none : (made : ℕ → ℕ) (watcher : WatcherView) → ArePreparedChanges made 0 watcher watcher
+prepared_none made watcher = record {
   observer_is = refl;
   plans_are = refl;
   own_is = refl;
@@ -33,8 +33,8 @@ seen_met : (made : ℕ) (old new : ReaderView) → old.seen ≤ made → new.see
 seen_met made old new before is = is ∙ grind (arith, before)
 
 -- one more processor
-pub readied_more : (made : ℕ → ℕ) (k : ℕ) (first old new : WatcherView) → IsReadied made k first old → HasMet k (made k) old new → k < length first.readers → IsReadied made (k + 1) first new
-readied_more made k first old new all one inside =
+pub prepared_more : (made : ℕ → ℕ) (k : ℕ) (first old new : WatcherView) → ArePreparedChanges made k first old → HasMet k (made k) old new → k < length first.readers → ArePreparedChanges made (k + 1) first new
+prepared_more made k first old new all one inside =
     let many : length old.readers ≡ length first.readers = all.readers_are in
     let within : k < length old.readers = omega (arith, many, inside) in
     let are : new.readers ≡ set old.readers k one.reader = ap (λ (w : WatcherView). w.readers) one.are in
@@ -97,7 +97,7 @@ each_next R start now place x inside before here k d below =
     (either_next k place below)
 
 pub left_next : {X : Type 0} → (start now : List X) (place : ℕ) (x : X) → ((k : ℕ) (d : X) → place ≤ k → get_or now k d ≡ get_or start k d) → (k : ℕ) (d : X) → place + 1 ≤ k → get_or (set now place x) k d ≡ get_or start k d
-left_next start now place x left k d behind = get_or-set_other now place k x d (λ same. omega (arith, same, behind)) ∙ left k d (omega (arith, behind))
+left_next start now place x left k d suffix = get_or-set_other now place k x d (λ same. omega (arith, same, suffix)) ∙ left k d (omega (arith, suffix))
 
 -- one more element at the end
 push_at : {X : Type 0} → (xs : List X) (x : X) (k : ℕ) (d : X) → k < length xs → get_or (xs ++ x ∷ []) k d ≡ get_or xs k d

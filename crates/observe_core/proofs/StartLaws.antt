@@ -7,11 +7,11 @@ use Rattle.atomic_table.specs.Seated.{TableId}
 use Rattle.psi_spec.specs.Header.{version_of}
 use Rattle.psi_spec.specs.Trace.{Trace}
 use Rattle.run_spec.specs.declared.command.Options.{Options}
-use Rattle.run_spec.specs.Outputs.{pace_of, watch_of}
+use Rattle.run_spec.specs.Outputs.{timing_of, watch_of}
 use Rattle.proc_plan.specs.Plans.{PlansView}
 use Rattle.replay_rules.specs.Planned.{IsPlanned}
-use Rattle.replay_ticks.specs.Replays.{IsReplay, ReplayView, asked_by}
-use Rattle.observe_spec.specs.Run.{options_on, pace_on}
+use Rattle.replay_ticks.specs.Replays.{IsReplay, ReplayView, requested_by}
+use Rattle.observe_spec.specs.Run.{options_on, timing_on}
 use Rattle.observe_core.specs.Observing.{ObserverView}
 use Rattle.observe_core.specs.Driving.{AreCounted, HaveObserved, IsNew, IsObserved, IsReached, MayBegin, Setting}
 use Rattle.observe_core.specs.Results.{IsPlannedFor}
@@ -19,17 +19,17 @@ use Rattle.observe_core.proofs.TickLaws.{observed_first}
 
 -- the setting of a new replay of a trace, with a board
 abbrev pub setting_of : PlansView → ReplayView → TableId → Trace → List ℕ → Setting
-setting_of plans replay board trace path = record { plans = plans; rows = replay.crew.rows; board = board; trace = trace; pace = pace_on path; path = path }
+setting_of plans replay board trace path = record { plans = plans; rows = replay.crew.rows; board = board; trace = trace; timing = timing_on path; path = path }
 
 -- samples are requested
-pub some_asked : (options : Options) (path : List ℕ) → options ≡ options_on (Some path) → 0 < asked_by (watch_of options)
-some_asked options path is = subst (λ (o : Options). 0 < asked_by (watch_of o)) (sym is) (omega arith)
+pub some_requested : (options : Options) (path : List ℕ) → options ≡ options_on (Some path) → 0 < requested_by (watch_of options)
+some_requested options path is = subst (λ (o : Options). 0 < requested_by (watch_of o)) (sym is) (omega arith)
 
 -- a new replay is at the state before the first tick
 pub reached_first : (options : Options) (replay : ReplayView) (plans : PlansView) (board : TableId) (trace : Trace) (version : ℕ) (path : List ℕ) → options ≡ options_on (Some path) → replay.plans ≡ plans → IsPlannedFor plans trace version path
-    → ((trace : Trace) → IsPlanned plans trace (pace_of options) → version_of version ≡ trace.version → IsReplay replay trace (pace_of options) [] 0) → IsReached (setting_of plans replay board trace path) replay 0
+    → ((trace : Trace) → IsPlanned plans trace (timing_of options) → version_of version ≡ trace.version → IsReplay replay trace (timing_of options) [] 0) → IsReached (setting_of plans replay board trace path) replay 0
 reached_first options replay plans board trace version path is same planned new =
-    let made = subst (λ (o : Options). IsPlanned plans trace (pace_of o) → version_of version ≡ trace.version → IsReplay replay trace (pace_of o) [] 0) is (new trace) in
+    let made = subst (λ (o : Options). IsPlanned plans trace (timing_of o) → version_of version ≡ trace.version → IsReplay replay trace (timing_of o) [] 0) is (new trace) in
     record {
       plans_are = same;
       rows_are = refl;
@@ -39,7 +39,7 @@ reached_first options replay plans board trace version path is same planned new 
 
 -- n new observers have observed nothing yet, if creating them left the replay unchanged
 pub begun : (options : Options) (old new : ReplayView) (plans : PlansView) (board : TableId) (trace : Trace) (version : ℕ) (path : List ℕ) (observers : List ObserverView) (count : ℕ) → options ≡ options_on (Some path) → old.plans ≡ plans
-    → IsPlannedFor plans trace version path → ((trace : Trace) → IsPlanned plans trace (pace_of options) → version_of version ≡ trace.version → IsReplay old trace (pace_of options) [] 0) → new ≡ old → length observers ≡ count
+    → IsPlannedFor plans trace version path → ((trace : Trace) → IsPlanned plans trace (timing_of options) → version_of version ≡ trace.version → IsReplay old trace (timing_of options) [] 0) → new ≡ old → length observers ≡ count
     → ((set : Setting) → MayBegin set old → set.board ≡ board → (number : ℕ) (d : ObserverView) → number < count → IsNew set number (slice_index_or observers number d)) → IsObserved (setting_of plans old board trace path) new observers 0
 begun options old new plans board trace version path observers count is same planned first stays many each =
     let set = setting_of plans old board trace path in

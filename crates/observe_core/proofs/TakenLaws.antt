@@ -14,7 +14,7 @@ use Rattle.observer_log.specs.declared.entry.Entry.{Entry}
 use Rattle.observer_log.specs.Entries.{AreBy}
 use Rattle.observer_log.specs.Watch.{IsTakenBy, WatcherView, reader_at}
 use Rattle.observe_core.specs.Observing.{HaveLooked, last_at}
-use Rattle.observe_core.specs.Driving.{AreLasts, AreOn, HasTaken, IsReadied, Setting, due_in, due_until, look_of, looks_of, slot_in}
+use Rattle.observe_core.specs.Driving.{AreLasts, AreOn, HasTaken, ArePreparedChanges, Setting, due_in, due_until, look_of, looks_of, slot_in}
 
 -- ---- lists
 
@@ -127,13 +127,13 @@ from_none : (observer : ℕ) (plans : PlansView) (slot : ℕ) (lasts : List Samp
 from_none observer plans slot lasts cpu k [] from out = refl
 from_none observer plans slot lasts cpu k (entry ∷ taken) from out =
     go (is_of observer cpu (look_of entry)) refl (from_none observer plans slot lasts cpu (k + 1) taken (from_rest observer plans slot lasts k entry taken from)
-    (⊎_elim (λ (before : cpu < k). inl (omega (arith, before))) (λ (behind : k + length (entry ∷ taken) ≤ cpu). inr (omega (arith, behind))) out))
+    (⊎_elim (λ (before : cpu < k). inl (omega (arith, before))) (λ (suffix : k + length (entry ∷ taken) ≤ cpu). inr (omega (arith, suffix))) out))
   where
     go : (b : Bool) → is_of observer cpu (look_of entry) ≡ b → counts_by observer cpu (looks_of taken) ≡ [] → counts_by observer cpu (looks_of (entry ∷ taken)) ≡ []
     go true is rest =
         let here = of_cpu observer cpu (look_of entry) is in
         let first = (from_first observer plans slot lasts k entry taken from).cpu_is in
-        absurd (⊎_elim (λ (before : cpu < k). let no : ⊥ = omega (arith, here, first, before) in no) (λ (behind : k + length (entry ∷ taken) ≤ cpu). let no : ⊥ = omega (arith, here, first, behind) in no) out)
+        absurd (⊎_elim (λ (before : cpu < k). let no : ⊥ = omega (arith, here, first, before) in no) (λ (suffix : k + length (entry ∷ taken) ≤ cpu). let no : ⊥ = omega (arith, here, first, suffix) in no) out)
     go false is rest =
         ap (λ b. map (λ (look : Look). look.count) (cond b (look_of entry ∷ filter (is_of observer cpu) (looks_of taken)) (filter (is_of observer cpu) (looks_of taken)))) is
         ∙ rest
@@ -167,7 +167,7 @@ pub record Took (set : Setting) (slot number : ℕ) (made : ℕ → ℕ) (lasts 
   pub number_is : old.observer ≡ number
   pub plans_are : old.plans ≡ set.plans
   pub many : length lasts ≡ length set.plans.plans
-  pub readied : IsReadied made (length lasts) old mid
+  pub prepared_changes : ArePreparedChanges made (length lasts) old mid
   pub lasts_are : AreLasts set.plans slot made (length lasts) lasts
   pub looked : HaveLooked slot lasts (length lasts) mid new
 
@@ -175,8 +175,8 @@ pub record Took (set : Setting) (slot number : ℕ) (made : ℕ → ℕ) (lasts 
 took_from : (set : Setting) (slot number : ℕ) (made : ℕ → ℕ) (lasts : List Sample) (old mid new : WatcherView) (took : Took set slot number made lasts old mid new) → AreFrom number set.plans slot lasts 0 took.looked.taken
 took_from set slot number made lasts old mid new took = λ j entry at.
     let same : j ≡ 0 + j = omega arith in
-    let plans : mid.plans ≡ set.plans = took.readied.plans_are ∙ took.plans_are in
-    let observer : mid.observer ≡ number = took.readied.observer_is ∙ took.number_is in
+    let plans : mid.plans ≡ set.plans = took.prepared_changes.plans_are ∙ took.plans_are in
+    let observer : mid.observer ≡ number = took.prepared_changes.observer_is ∙ took.number_is in
     subst (λ (n : ℕ). IsTakenBy number set.plans n slot (last_at lasts n).count entry) same
     (subst (λ (p : ℕ × PlansView). IsTakenBy p.0 p.1 j slot (last_at lasts j).count entry) (λ x. (observer x, plans x)) (took.looked.taken_are.each j entry at))
 
@@ -194,7 +194,7 @@ rise_more set i slot number made lasts old mid new took cpu rise =
     let zero_plus : 0 + cpu ≡ cpu = omega arith in
     let one = from_one number set.plans slot lasts cpu 0 taken found.0 from cpu zero_plus found.1 in
     let seen = took.looked.seen cpu found.0 found.1 in
-    let before = took.readied.before cpu below in
+    let before = took.prepared_changes.before cpu below in
     let count = took.lasts_are.counts cpu below in
     let later : (last_at lasts cpu).count ≤ found.0.count = subst (λ (n : ℕ). (last_at lasts n).count ≤ found.0.count) zero_plus (from cpu found.0 found.1).later in
     let low : (reader_at old.readers cpu).knows.seen ≤ found.0.count = omega (arith, before, count, later) in
@@ -203,7 +203,7 @@ rise_more set i slot number made lasts old mid new took cpu rise =
     (rise_append 0 (reader_at old.readers cpu).knows.seen found.0.count (counts_by number cpu (looks_of old.own)) (found.0.count ∷ []) rise (low, omega arith))))
     (λ (past : length lasts ≤ cpu).
     let none = from_none number set.plans slot lasts cpu 0 taken from (inr (omega (arith, past, many))) in
-    let same = took.looked.later cpu past ∙ took.readied.later cpu past in
+    let same = took.looked.later cpu past ∙ took.prepared_changes.later cpu past in
     subst (λ (more : List ℕ). RiseWithin 0 (counts_by number cpu (looks_of old.own) ++ more) (reader_at new.readers cpu).knows.seen) (sym none)
     (subst (λ (numbers : List ℕ). RiseWithin 0 numbers (reader_at new.readers cpu).knows.seen) (sym (append-nil (counts_by number cpu (looks_of old.own))))
     (subst (λ reader. RiseWithin 0 (counts_by number cpu (looks_of old.own)) reader.knows.seen) (sym same) rise)))
@@ -211,7 +211,7 @@ rise_more set i slot number made lasts old mid new took cpu rise =
 
 -- the samples due at the tick were taken
 done_more : (set : Setting) (i slot number : ℕ) (made : ℕ → ℕ) (lasts : List Sample) (old mid new : WatcherView) (took : Took set slot number made lasts old mid new)
-    → slot_in set (i + 1) ≡ Some slot → length set.plans.plans ≡ set.trace.cpus → ((cpu : ℕ) → cpu < set.trace.cpus → made cpu ≡ changes_until set.trace set.pace.length cpu i)
+    → slot_in set (i + 1) ≡ Some slot → length set.plans.plans ≡ set.trace.cpus → ((cpu : ℕ) → cpu < set.trace.cpus → made cpu ≡ changes_until set.trace set.timing.length cpu i)
     → AreDone (due_in set (i + 1)) (looks_of took.looked.taken)
 done_more set i slot number made lasts old mid new took here cpus reached =
     let taken = took.looked.taken in
@@ -219,24 +219,24 @@ done_more set i slot number made lasts old mid new took here cpus reached =
     let many : length taken ≡ length lasts = took.looked.taken_are.many in
     let all : length taken ≡ set.trace.cpus = many ∙ took.many ∙ cpus in
     let back : i ≡ i + 1 - 1 = omega arith in
-    let due = from_done number set.plans slot lasts (λ cpu. changes_until set.trace set.pace.length cpu (i + 1 - 1)) 0 taken from
+    let due = from_done number set.plans slot lasts (λ cpu. changes_until set.trace set.timing.length cpu (i + 1 - 1)) 0 taken from
     (λ cpu below.
     let inside : cpu < set.trace.cpus = omega (arith, below, all) in
     let count = took.lasts_are.counts cpu (omega (arith, below, many)) in
-    let made_is = reached cpu inside ∙ ap (changes_until set.trace set.pace.length cpu) back in
+    let made_is = reached cpu inside ∙ ap (changes_until set.trace set.timing.length cpu) back in
     omega (arith, count, made_is)) in
-    subst (λ (s : Option ℕ). AreDone (due_at set.trace set.pace.length (i + 1) s) (looks_of taken)) (sym here)
-    (subst (λ (n : ℕ). AreDone (map (λ cpu. record { cpu = cpu; slot = slot; least = changes_until set.trace set.pace.length cpu (i + 1 - 1) }) (range_with_len 0 n)) (looks_of taken)) all due)
+    subst (λ (s : Option ℕ). AreDone (due_at set.trace set.timing.length (i + 1) s) (looks_of taken)) (sym here)
+    (subst (λ (n : ℕ). AreDone (map (λ cpu. record { cpu = cpu; slot = slot; least = changes_until set.trace set.timing.length cpu (i + 1 - 1) }) (range_with_len 0 n)) (looks_of taken)) all due)
 
 -- What an observer has taken after one more tick, at which it watched.
 pub taken_more : (set : Setting) (i slot number : ℕ) (made : ℕ → ℕ) (lasts : List Sample) (old mid new : WatcherView) → Took set slot number made lasts old mid new
-    → slot_in set (i + 1) ≡ Some slot → length set.plans.plans ≡ set.trace.cpus → ((cpu : ℕ) → cpu < set.trace.cpus → made cpu ≡ changes_until set.trace set.pace.length cpu i)
+    → slot_in set (i + 1) ≡ Some slot → length set.plans.plans ≡ set.trace.cpus → ((cpu : ℕ) → cpu < set.trace.cpus → made cpu ≡ changes_until set.trace set.timing.length cpu i)
     → HasTaken set i number old.readers old.own → HasTaken set (i + 1) number new.readers new.own
 taken_more set i slot number made lasts old mid new took here cpus reached was =
     let taken = took.looked.taken in
     let from = took_from set slot number made lasts old mid new took in
     let many : length taken ≡ length lasts = took.looked.taken_are.many in
-    let own : new.own ≡ old.own ++ taken = took.looked.own_is ∙ ap (λ (l : List Entry). l ++ taken) took.readied.own_is in
+    let own : new.own ≡ old.own ++ taken = took.looked.own_is ∙ ap (λ (l : List Entry). l ++ taken) took.prepared_changes.own_is in
     let looks : looks_of new.own ≡ looks_of old.own ++ looks_of taken = ap looks_of own ∙ map-append look_of old.own taken in
     let room = took.many in
     record {
@@ -251,7 +251,7 @@ taken_more set i slot number made lasts old mid new took here cpus reached was =
 -- after one more tick at which the path isn't live, as before
 pub taken_still : (set : Setting) (i number : ℕ) (watcher : WatcherView) → slot_in set (i + 1) ≡ None → HasTaken set i number watcher.readers watcher.own → HasTaken set (i + 1) number watcher.readers watcher.own
 taken_still set i number watcher none was =
-    let no_more : due_in set (i + 1) ≡ [] = ap (due_at set.trace set.pace.length (i + 1)) none in
+    let no_more : due_in set (i + 1) ≡ [] = ap (due_at set.trace set.timing.length (i + 1)) none in
     let same : due_until set i ≡ due_until set (i + 1) = sym (due_more set i ∙ ap (λ (dues : List Due). due_until set i ++ dues) no_more ∙ append-nil (due_until set i)) in
     record {
       by = was.by;

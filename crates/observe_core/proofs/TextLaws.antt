@@ -12,7 +12,7 @@ use Rattle.plan_laws.specs.Plan.{PlanView, last_change, plan_of, planned}
 use Rattle.plan_laws.proofs.PlanLaws.{changes_are_numbered}
 use Rattle.plan_laws.proofs.PlanPlanned.{planned_after}
 use Rattle.run_spec.specs.Lines.{labelled, line_of}
-use Rattle.run_spec.specs.Replay.{Pace, signals_until, tick_count}
+use Rattle.run_spec.specs.Replay.{Timing, signals_until, tick_count}
 use Rattle.run_spec.specs.Text.{end_of}
 use Rattle.proc_plan.specs.Plans.{PlansView, plan_at, plans_view}
 use Rattle.proc_plan.proofs.Finishing.{standing_plans}
@@ -75,13 +75,13 @@ record IsRight (trace : Trace) (entry : Entry) : Type 0 where
   times : entry.seven ≡ times_of trace (look_of entry)
   within : entry.count ≤ length (changes_of entry.cpu.0 trace.events)
 
-right : (plans : PlansView) (trace : Trace) (pace : Pace) (entry : Entry) → IsPlanned plans trace pace → IsOn plans entry → IsRight trace entry
-right plans trace pace entry stands on =
+right : (plans : PlansView) (trace : Trace) (timing : Timing) (entry : Entry) → IsPlanned plans trace timing → IsOn plans entry → IsRight trace entry
+right plans trace timing entry stands on =
     let cpu = entry.cpu.0 in
-    let each = stands.stand.each in
+    let each = stands.word_state.each in
     let there = on.cpu in
     let below : cpu < trace.cpus = omega (arith, there, each) in
-    let own : entry.plan.now ≡ plan_of cpu trace.events = on.plan ∙ standing_plans plans trace.cpus trace.events stands.stand cpu below in
+    let own : entry.plan.now ≡ plan_of cpu trace.events = on.plan ∙ standing_plans plans trace.cpus trace.events stands.word_state cpu below in
     let many = (changes_are_numbered cpu trace.events).2 in
     let count : entry.count ≤ length (plan_of cpu trace.events).changes = subst (λ (plan : PlanView). entry.count ≤ length plan.changes) own entry.within in
     let within : entry.count ≤ length (changes_of cpu trace.events) = omega (arith, count, many) in
@@ -91,7 +91,7 @@ right plans trace pace entry stands on =
     record {
       at = at;
       times = entry.times ∙ ap (λ (plan : PlanView). planned plan entry.slot.0 entry.count entry.at) own
-          ∙ planned_after (limits_of pace.length trace.cpus) trace.events stands.accepted.legal cpu entry.slot.0 entry.count entry.at within past
+          ∙ planned_after (limits_of timing.length trace.cpus) trace.events stands.accepted.legal cpu entry.slot.0 entry.count entry.at within past
           ∙ ap (times_after cpu entry.slot.0 trace.events entry.count) at;
       within = within;
     }
@@ -105,35 +105,35 @@ right_line trace entry is =
 
 -- ---- all lines
 
-entries_lines : (plans : PlansView) (trace : Trace) (pace : Pace) (entries : List Entry) → IsPlanned plans trace pace → AreOn plans entries → flat_map entry_line entries ≡ flat_map (sample_line trace) (looks_of entries)
-entries_lines plans trace pace [] planned on = refl
-entries_lines plans trace pace (entry ∷ entries) planned on =
-    ap (λ (line : List ℕ). line ++ flat_map entry_line entries) (right_line trace entry (right plans trace pace entry planned on.0))
-    ∙ ap (λ (lines : List ℕ). sample_line trace (look_of entry) ++ lines) (entries_lines plans trace pace entries planned on.1)
+entries_lines : (plans : PlansView) (trace : Trace) (timing : Timing) (entries : List Entry) → IsPlanned plans trace timing → AreOn plans entries → flat_map entry_line entries ≡ flat_map (sample_line trace) (looks_of entries)
+entries_lines plans trace timing [] planned on = refl
+entries_lines plans trace timing (entry ∷ entries) planned on =
+    ap (λ (line : List ℕ). line ++ flat_map entry_line entries) (right_line trace entry (right plans trace timing entry planned on.0))
+    ∙ ap (λ (lines : List ℕ). sample_line trace (look_of entry) ++ lines) (entries_lines plans trace timing entries planned on.1)
 
 -- all states are the state of the last tick
-abbrev pub AreLast : Trace → Pace → List BoardState → Type 0
-AreLast trace pace [] = Unit {0}
-AreLast trace pace (state ∷ states) = (state ≡ state_at trace pace (tick_count trace pace)) × AreLast trace pace states
+abbrev pub AreLast : Trace → Timing → List BoardState → Type 0
+AreLast trace timing [] = Unit {0}
+AreLast trace timing (state ∷ states) = (state ≡ state_at trace timing (tick_count trace timing)) × AreLast trace timing states
 
-states_lines : (trace : Trace) (pace : Pace) (observer : ℕ) (states : List BoardState) → AreLast trace pace states → states_text observer states ≡ flat_map (board_line trace pace) (range_with_len observer (length states))
-states_lines trace pace observer [] last = refl
-states_lines trace pace observer (state ∷ states) last =
+states_lines : (trace : Trace) (timing : Timing) (observer : ℕ) (states : List BoardState) → AreLast trace timing states → states_text observer states ≡ flat_map (board_line trace timing) (range_with_len observer (length states))
+states_lines trace timing observer [] last = refl
+states_lines trace timing observer (state ∷ states) last =
     ap (λ (s : BoardState). state_line observer s ++ states_text (observer + 1) states) last.0
-    ∙ ap (λ (lines : List ℕ). board_line trace pace observer ++ lines) (states_lines trace pace (observer + 1) states last.1)
+    ∙ ap (λ (lines : List ℕ). board_line trace timing observer ++ lines) (states_lines trace timing (observer + 1) states last.1)
 
 length-looks : (entries : List Entry) → length (looks_of entries) ≡ length entries
 length-looks entries = length-map entries look_of
 
-pub text_is : (plans : PlansView) (trace : Trace) (pace : Pace) (observers : ℕ) (entries : List Entry) (states : List BoardState) → IsPlanned plans trace pace → AreOn plans entries → AreLast trace pace states → length states ≡ observers
-    → printed entries states plans.finish ≡ observed_text trace pace observers (looks_of entries)
+pub text_is : (plans : PlansView) (trace : Trace) (timing : Timing) (observers : ℕ) (entries : List Entry) (states : List BoardState) → IsPlanned plans trace timing → AreOn plans entries → AreLast trace timing states → length states ≡ observers
+    → printed entries states plans.finish ≡ observed_text trace timing observers (looks_of entries)
 unfolding observed_text
-text_is plans trace pace observers entries states planned on last many =
-    ap (λ (lines : List ℕ). lines ++ states_text 0 states ++ end_line plans.finish (length entries)) (entries_lines plans trace pace entries planned on)
+text_is plans trace timing observers entries states planned on last many =
+    ap (λ (lines : List ℕ). lines ++ states_text 0 states ++ end_line plans.finish (length entries)) (entries_lines plans trace timing entries planned on)
     ∙ ap (λ (lines : List ℕ). flat_map (sample_line trace) (looks_of entries) ++ lines ++ end_line plans.finish (length entries))
-    (states_lines trace pace 0 states last ∙ ap (λ (n : ℕ). flat_map (board_line trace pace) (range_with_len 0 n)) many)
-    ∙ ap (λ (n : ℕ). flat_map (sample_line trace) (looks_of entries) ++ flat_map (board_line trace pace) (range_with_len 0 observers) ++ end_line plans.finish n) (sym (length-looks entries))
-    ∙ ap (λ (finish : ℕ). flat_map (sample_line trace) (looks_of entries) ++ flat_map (board_line trace pace) (range_with_len 0 observers) ++ end_line finish (length (looks_of entries))) planned.stand.finish
+    (states_lines trace timing 0 states last ∙ ap (λ (n : ℕ). flat_map (board_line trace timing) (range_with_len 0 n)) many)
+    ∙ ap (λ (n : ℕ). flat_map (sample_line trace) (looks_of entries) ++ flat_map (board_line trace timing) (range_with_len 0 observers) ++ end_line plans.finish n) (sym (length-looks entries))
+    ∙ ap (λ (finish : ℕ). flat_map (sample_line trace) (looks_of entries) ++ flat_map (board_line trace timing) (range_with_len 0 observers) ++ end_line finish (length (looks_of entries))) planned.word_state.finish
 
 -- ---- whose samples they are
 
@@ -175,17 +175,17 @@ Rises observer cpu low entry own b top =
     RiseWithin low (map (λ (look : Look). look.count) (cond b (look_of entry ∷ filter (is_of observer cpu) (looks_of own)) (filter (is_of observer cpu) (looks_of own)))) top
 
 -- the counts are at most the number of changes
-counts_within : (plans : PlansView) (trace : Trace) (pace : Pace) (observer cpu low high : ℕ) (own : List Entry) → IsPlanned plans trace pace → AreOn plans own → low ≤ length (changes_of cpu trace.events)
+counts_within : (plans : PlansView) (trace : Trace) (timing : Timing) (observer cpu low high : ℕ) (own : List Entry) → IsPlanned plans trace timing → AreOn plans own → low ≤ length (changes_of cpu trace.events)
     → RiseWithin low (counts_by observer cpu (looks_of own)) high → RiseWithin low (counts_by observer cpu (looks_of own)) (length (changes_of cpu trace.events))
-counts_within plans trace pace observer cpu low high [] planned on below rise = below
-counts_within plans trace pace observer cpu low high (entry ∷ own) planned on below rise =
-    go (is_of observer cpu (look_of entry)) refl (λ from within rising. counts_within plans trace pace observer cpu from high own planned on.1 within rising)
+counts_within plans trace timing observer cpu low high [] planned on below rise = below
+counts_within plans trace timing observer cpu low high (entry ∷ own) planned on below rise =
+    go (is_of observer cpu (look_of entry)) refl (λ from within rising. counts_within plans trace timing observer cpu from high own planned on.1 within rising)
   where
     go : (b : Bool) → is_of observer cpu (look_of entry) ≡ b → ((from : ℕ) → from ≤ length (changes_of cpu trace.events) → RiseWithin from (counts_by observer cpu (looks_of own)) high → RiseWithin from (counts_by observer cpu (looks_of own)) (length (changes_of cpu trace.events)))
         → Rises observer cpu low entry own (is_of observer cpu (look_of entry)) (length (changes_of cpu trace.events))
     go true is rest =
         let here : entry.cpu.0 ≡ cpu = grind (arith, is) in
-        let within : entry.count ≤ length (changes_of cpu trace.events) = subst (λ (n : ℕ). entry.count ≤ length (changes_of n trace.events)) here (right plans trace pace entry planned on.0).within in
+        let within : entry.count ≤ length (changes_of cpu trace.events) = subst (λ (n : ℕ). entry.count ≤ length (changes_of n trace.events)) here (right plans trace timing entry planned on.0).within in
         let all : Rises observer cpu low entry own true high = subst (λ b. Rises observer cpu low entry own b high) is rise in
         subst (λ b. Rises observer cpu low entry own b (length (changes_of cpu trace.events))) (sym is) (all.0, rest entry.count within all.1)
     go false is rest =
@@ -241,21 +241,21 @@ lists_on set i observers all number =
 own_looks : (lists : List (List Entry)) (entries : List Entry) → ((observer : ℕ) → by observer entries ≡ list_of lists observer) → (number : ℕ) → looks_by number (looks_of entries) ≡ looks_of (list_of lists number)
 own_looks lists entries same number = looks_by-of number entries ∙ ap looks_of (same number)
 
-pub are_observed : (set : Setting) (observers : List ObserverView) (entries : List Entry) → IsPlanned set.plans set.trace set.pace → HaveObserved set (tick_count set.trace set.pace) observers
-    → ((observer : ℕ) → by observer entries ≡ list_of (lists_of observers) observer) → AreObserved set.trace set.pace set.path (length observers) (looks_of entries)
+pub are_observed : (set : Setting) (observers : List ObserverView) (entries : List Entry) → IsPlanned set.plans set.trace set.timing → HaveObserved set (tick_count set.trace set.timing) observers
+    → ((observer : ℕ) → by observer entries ≡ list_of (lists_of observers) observer) → AreObserved set.trace set.timing set.path (length observers) (looks_of entries)
 are_observed set observers entries planned all same =
     let lists = lists_of observers in
     let many = length-map observers (λ (observer : ObserverView). observer.watcher.own) in
     let own = own_looks lists entries same in
     record {
-      done = λ number below. subst (AreDone (all_due set.trace set.pace set.path)) (sym (own number ∙ ap looks_of (list_is observers number below))) (all number no_observer below).taken.done;
+      done = λ number below. subst (AreDone (all_due set.trace set.timing set.path)) (sym (own number ∙ ap looks_of (list_is observers number below))) (all number no_observer below).taken.done;
       none = λ number past. own number ∙ ap looks_of (list_past lists number (omega (arith, past, many)));
       rise = λ number cpu.
           subst (λ (counts : List ℕ). RiseWithin 0 counts (length (changes_of cpu set.trace.events))) (sym (counts_own number cpu (looks_of entries) ∙ ap (counts_by number cpu) (own number)))
           (⊎_elim (λ (below : number < length observers).
           subst (λ (list : List Entry). RiseWithin 0 (counts_by number cpu (looks_of list)) (length (changes_of cpu set.trace.events))) (sym (list_is observers number below))
           (let taken = (all number no_observer below).taken in
-          counts_within set.plans set.trace set.pace number cpu 0 (reader_at (get_or observers number no_observer).watcher.readers cpu).knows.seen (get_or observers number no_observer).watcher.own planned taken.on (omega arith) (taken.rise cpu)))
+          counts_within set.plans set.trace set.timing number cpu 0 (reader_at (get_or observers number no_observer).watcher.readers cpu).knows.seen (get_or observers number no_observer).watcher.own planned taken.on (omega arith) (taken.rise cpu)))
           (λ (past : length observers ≤ number).
           subst (λ (list : List Entry). RiseWithin 0 (counts_by number cpu (looks_of list)) (length (changes_of cpu set.trace.events))) (sym (list_past lists number (omega (arith, past, many)))) (omega arith))
           (either number (length observers)));
@@ -263,25 +263,25 @@ are_observed set observers entries planned all same =
 
 -- ---- the states that they read last
 
-last_shown : (trace : Trace) (pace : Pace) (i : ℕ) (states : List BoardState) (state : BoardState) → AreShown trace pace i states → IsLast states state → state ≡ state_at trace pace i
-last_shown trace pace i states state shown last =
+last_shown : (trace : Trace) (timing : Timing) (i : ℕ) (states : List BoardState) (state : BoardState) → AreShown trace timing i states → IsLast states state → state ≡ state_at trace timing i
+last_shown trace timing i states state shown last =
     let many = shown.many in
     let place : length states - 1 ≡ i = omega (arith, many) in
-    let there : Some state ≡ Some (state_at trace pace i) = sym last ∙ ap (slice_get states) place ∙ shown.each i (omega arith) in
+    let there : Some state ≡ Some (state_at trace timing i) = sym last ∙ ap (slice_get states) place ∙ shown.each i (omega arith) in
     cc there
 
-pub states_last : (trace : Trace) (pace : Pace) (board states : List BoardState) → AreShown trace pace (tick_count trace pace) board → ((k : ℕ) (d : BoardState) → k < length states → IsLast board (get_or states k d)) → AreLast trace pace states
-states_last trace pace board [] shown last = tt
-states_last trace pace board (state ∷ states) shown last =
-    (last_shown trace pace (tick_count trace pace) board state shown (last 0 state (omega arith)), states_last trace pace board states shown (λ k d below. last (suc k) d (omega (arith, below))))
+pub states_last : (trace : Trace) (timing : Timing) (board states : List BoardState) → AreShown trace timing (tick_count trace timing) board → ((k : ℕ) (d : BoardState) → k < length states → IsLast board (get_or states k d)) → AreLast trace timing states
+states_last trace timing board [] shown last = tt
+states_last trace timing board (state ∷ states) shown last =
+    (last_shown trace timing (tick_count trace timing) board state shown (last 0 state (omega arith)), states_last trace timing board states shown (λ k d below. last (suc k) d (omega (arith, below))))
 
 -- ---- the whole
 
 -- The printed text is the text of an observed trace.
-pub whole_text : (set : Setting) (observers : List ObserverView) (entries : List Entry) (board states : List BoardState) → IsPlanned set.plans set.trace set.pace → HaveObserved set (tick_count set.trace set.pace) observers
-    → AreShown set.trace set.pace (tick_count set.trace set.pace) board → ((observer : ℕ) → by observer entries ≡ list_of (lists_of observers) observer)
+pub whole_text : (set : Setting) (observers : List ObserverView) (entries : List Entry) (board states : List BoardState) → IsPlanned set.plans set.trace set.timing → HaveObserved set (tick_count set.trace set.timing) observers
+    → AreShown set.trace set.timing (tick_count set.trace set.timing) board → ((observer : ℕ) → by observer entries ≡ list_of (lists_of observers) observer)
     → ((k : ℕ) (d : BoardState) → k < length states → IsLast board (get_or states k d)) → length states ≡ length observers
-    → IsObservedText set.trace set.pace set.path (length observers) (printed entries states set.plans.finish)
+    → IsObservedText set.trace set.timing set.path (length observers) (printed entries states set.plans.finish)
 whole_text set observers entries board states planned all shown same last many =
-    let on = all_on set.plans entries (λ observer. subst (AreOn set.plans) (sym (same observer)) (lists_on set (tick_count set.trace set.pace) observers all observer)) in
-    (looks_of entries, are_observed set observers entries planned all same, text_is set.plans set.trace set.pace (length observers) entries states planned on (states_last set.trace set.pace board states shown last) many)
+    let on = all_on set.plans entries (λ observer. subst (AreOn set.plans) (sym (same observer)) (lists_on set (tick_count set.trace set.timing) observers all observer)) in
+    (looks_of entries, are_observed set observers entries planned all same, text_is set.plans set.trace set.timing (length observers) entries states planned on (states_last set.trace set.timing board states shown last) many)

@@ -9,7 +9,7 @@ use Rattle.psi_spec.specs.Stall.{number_of_slot}
 use Rattle.pressure_spec.specs.Ticks.{tick_moment}
 use Rattle.run_spec.specs.Live.{LiveWatch, changes_until}
 use Rattle.psi_spec.specs.Trace.{Trace}
-use Rattle.run_spec.specs.Replay.{Pace, signals_until, tick_count}
+use Rattle.run_spec.specs.Replay.{Timing, signals_until, tick_count}
 use Rattle.plan_laws.specs.Plan.{IsClock, PlanView}
 use Rattle.proc_plan.specs.Plans.{PlansView, plan_at}
 use Rattle.clock_row.specs.declared.reader.Sample.{Sample}
@@ -21,7 +21,7 @@ use Rattle.observer_log.specs.declared.board.BoardState.{BoardState}
 use Rattle.observer_log.specs.Board.{BoardEnd, first_state}
 use Rattle.observer_log.specs.Watch.{AreReaders, WatcherView, named_by, reader_at}
 use Rattle.observe_core.specs.Observing.{CanLook, CanWatch, HasWatched, HaveAllWatched, ObserverView, last_at}
-use Rattle.observe_core.specs.Driving.{AreLasts, AreReady, AreShown, AreWhole, HasObserved, HasPassed, HaveObserved, IsCounted, IsNew, IsObserved, IsPlaced, IsReached, IsReadied, IsReady, MayReady, Setting, made_by, slot_in, state_at}
+use Rattle.observe_core.specs.Driving.{AreLasts, AreReady, AreShown, AreWhole, HasObserved, HasPassed, HaveObserved, IsCounted, IsNew, IsObserved, IsPlaced, IsReached, ArePreparedChanges, IsReady, MayReady, Setting, made_by, slot_in, state_at}
 use Rattle.observe_core.proofs.ReadyLaws.{either_next}
 use Rattle.observe_core.proofs.TakenLaws.{Took, taken_more, taken_none, taken_still}
 
@@ -29,28 +29,28 @@ use Rattle.observe_core.proofs.TakenLaws.{Took, taken_more, taken_none, taken_st
 
 -- it is a replay
 pub some_replay : (set : Setting) (i : ℕ) (replay : ReplayView) → IsReached set replay i → IsSomeReplay replay
-some_replay set i replay is = (set.trace, set.pace, [], i, is.replayed)
+some_replay set i replay is = (set.trace, set.timing, [], i, is.replayed)
 
 -- it may advance if a tick remains
-pub can_pass : (set : Setting) (i : ℕ) (replay : ReplayView) → IsReached set replay i → i < tick_count set.trace set.pace → IsTickLeft replay
-can_pass set i replay is left = (set.trace, set.pace, [], i, is.replayed, left)
+pub can_pass : (set : Setting) (i : ℕ) (replay : ReplayView) → IsReached set replay i → i < tick_count set.trace set.timing → IsTickLeft replay
+can_pass set i replay is left = (set.trace, set.timing, [], i, is.replayed, left)
 
 -- there is a plan for each processor of the trace
 pub as_many : (set : Setting) (i : ℕ) (replay : ReplayView) → IsReached set replay i → length set.plans.plans ≡ set.trace.cpus
-as_many set i replay is = ap (λ (plans : PlansView). length plans.plans) (sym is.plans_are) ∙ is.replayed.planned.stand.each
+as_many set i replay is = ap (λ (plans : PlansView). length plans.plans) (sym is.plans_are) ∙ is.replayed.planned.word_state.each
 
 -- at most 64
 pub few_plans : (set : Setting) (i : ℕ) (replay : ReplayView) → IsReached set replay i → length set.plans.plans ≤ 64
 few_plans set i replay is = let counted = is.replayed.planned.counted.1 in let each = as_many set i replay is in omega (arith, counted, each)
 
 -- its clocks made the changes up to the last tick
-pub made_until : (set : Setting) (i : ℕ) (replay : ReplayView) → IsReached set replay i → (cpu : ℕ) → cpu < set.trace.cpus → made_by replay.crew cpu ≡ changes_until set.trace set.pace.length cpu i
-made_until set i replay is = (by_tick_is replay.crew replay.live set.trace set.pace i (record { path = set.path; count = 1 }) is.watch is.replayed.watching).1
+pub made_until : (set : Setting) (i : ℕ) (replay : ReplayView) → IsReached set replay i → (cpu : ℕ) → cpu < set.trace.cpus → made_by replay.crew cpu ≡ changes_until set.trace set.timing.length cpu i
+made_until set i replay is = (by_tick_is replay.crew replay.live set.trace set.timing i (record { path = set.path; count = 1 }) is.watch is.replayed.watching).1
 
 -- each plan has the groups
 pub plan_groups : (set : Setting) (i : ℕ) (replay : ReplayView) → IsReached set replay i → (cpu : ℕ) → cpu < length set.plans.plans → length (plan_at set.plans cpu).parents ≡ length set.plans.lives
 plan_groups set i replay is = λ cpu below.
-    let on = is.replayed.ahead.behind.on_plans in
+    let on = is.replayed.ahead.not_past.on_plans in
     let each = on.each in
     let same = is.plans_are in
     subst (λ (plans : PlansView). length (plan_at plans cpu).parents ≡ length plans.lives) same
@@ -58,16 +58,16 @@ plan_groups set i replay is = λ cpu below.
 
 -- the slot found for the next tick is the slot that the path has
 pub slot_found : (set : Setting) (i : ℕ) (replay : ReplayView) (slot : Option Slot) → IsReached set replay i
-    → number_of_slot slot ≡ watched_at set.trace (watched_path set.pace.watch) (tick_moment set.pace.length (i + 1)) → slot_in set (i + 1) ≡ number_of_slot slot
+    → number_of_slot slot ≡ watched_at set.trace (watched_path set.timing.watch) (tick_moment set.timing.length (i + 1)) → slot_in set (i + 1) ≡ number_of_slot slot
 slot_found set i replay slot is found =
-    sym (found ∙ ap (λ (watch : Option LiveWatch). watched_at set.trace (watched_path watch) (tick_moment set.pace.length (i + 1))) is.watch)
+    sym (found ∙ ap (λ (watch : Option LiveWatch). watched_at set.trace (watched_path watch) (tick_moment set.timing.length (i + 1))) is.watch)
 
 -- after its next tick it is at the state after that tick
-pub reached_next : (set : Setting) (i : ℕ) (old new : ReplayView) → IsReached set old i → i < tick_count set.trace set.pace → HasPassed old new → IsReached set new (i + 1)
+pub reached_next : (set : Setting) (i : ℕ) (old new : ReplayView) → IsReached set old i → i < tick_count set.trace set.timing → HasPassed old new → IsReached set new (i + 1)
 reached_next set i old new is left passed = record {
   plans_are = passed.plans_are ∙ is.plans_are;
   rows_are = passed.rows_are ∙ is.rows_are;
-  replayed = passed.passed set.trace set.pace [] i is.replayed left;
+  replayed = passed.passed set.trace set.timing [] i is.replayed left;
   watch = is.watch;
 }
 
@@ -93,7 +93,7 @@ may_ready set i number slot replay observer is placed inside =
 pub can_watch : (set : Setting) (i number slot : ℕ) (replay : ReplayView) (old mid : ObserverView) → IsReached set replay i → IsPlaced set number old → slot < length replay.plans.lives
     → IsReady replay.plans slot (made_by replay.crew) old mid → CanWatch set.board slot mid
 can_watch set i number slot replay old mid is placed inside ready =
-    let plans : mid.watcher.plans ≡ set.plans = ready.readied.plans_are ∙ placed.plans_are in
+    let plans : mid.watcher.plans ≡ set.plans = ready.prepared_changes.plans_are ∙ placed.plans_are in
     let many : length mid.watcher.plans.plans ≡ length set.plans.plans = ap (λ (p : PlansView). length p.plans) plans in
     let few = few_plans set i replay is in
     let lasts = placed.lasts_are in
@@ -106,8 +106,8 @@ can_watch set i number slot replay old mid is placed inside ready =
         few = omega (arith, many, few);
         lasts_are = ready.many ∙ lasts ∙ sym many;
         readers_are = subst (λ (p : PlansView). AreReaders p mid.watcher.readers) back (record {
-          many = ready.readied.readers_are ∙ placed.readers_are.many;
-          name = λ cpu below. ready.readied.names cpu ∙ placed.readers_are.name cpu below;
+          many = ready.prepared_changes.readers_are ∙ placed.readers_are.many;
+          name = λ cpu below. ready.prepared_changes.names cpu ∙ placed.readers_are.name cpu below;
         });
         slots = λ cpu below.
             let groups = plan_groups set i replay is cpu (omega (arith, below, many)) in
@@ -118,7 +118,7 @@ can_watch set i number slot replay old mid is placed inside ready =
             subst (λ (p : PlansView). IsClock (last_at mid.lasts cpu).clock (plan_at p cpu) slot (last_at mid.lasts cpu).count) (is.plans_are ∙ back) clock;
         seen = λ cpu below.
             let inside : cpu < length old.lasts = omega (arith, below, many, lasts) in
-            ready.lasts_are.counts cpu inside ∙ sym (ready.readied.seen cpu inside);
+            ready.lasts_are.counts cpu inside ∙ sym (ready.prepared_changes.seen cpu inside);
       };
     }
 
@@ -129,7 +129,7 @@ took set i number slot replay old mid new is placed ready watched whole = record
   number_is = placed.number_is;
   plans_are = placed.plans_are;
   many = ready.many ∙ placed.lasts_are;
-  readied = subst (λ (n : ℕ). IsReadied (made_by replay.crew) n old.watcher mid.watcher) (sym ready.many) ready.readied;
+  prepared_changes = subst (λ (n : ℕ). ArePreparedChanges (made_by replay.crew) n old.watcher mid.watcher) (sym ready.many) ready.prepared_changes;
   lasts_are = subst (λ (n : ℕ). AreLasts set.plans slot (made_by replay.crew) n mid.lasts) (sym ready.many) (subst (λ (plans : PlansView). AreLasts plans slot (made_by replay.crew) (length old.lasts) mid.lasts) is.plans_are ready.lasts_are);
   looked = watched.looked whole;
 }
@@ -139,13 +139,13 @@ placed_next : (set : Setting) (number slot : ℕ) (replay : ReplayView) (old mid
 placed_next set number slot replay old mid new placed ready watched whole =
     let looked = watched.looked whole in
     record {
-      number_is = looked.observer_is ∙ ready.readied.observer_is ∙ placed.number_is;
-      plans_are = looked.plans_are ∙ ready.readied.plans_are ∙ placed.plans_are;
+      number_is = looked.observer_is ∙ ready.prepared_changes.observer_is ∙ placed.number_is;
+      plans_are = looked.plans_are ∙ ready.prepared_changes.plans_are ∙ placed.plans_are;
       readers_are = record {
-        many = looked.readers_are ∙ ready.readied.readers_are ∙ placed.readers_are.many;
-        name = λ cpu below. looked.names cpu ∙ ready.readied.names cpu ∙ placed.readers_are.name cpu below;
+        many = looked.readers_are ∙ ready.prepared_changes.readers_are ∙ placed.readers_are.many;
+        name = λ cpu below. looked.names cpu ∙ ready.prepared_changes.names cpu ∙ placed.readers_are.name cpu below;
       };
-      rows_are = λ cpu below. ap (λ row. Some row) (looked.rows cpu ∙ ready.readied.rows cpu) ∙ placed.rows_are cpu below;
+      rows_are = λ cpu below. ap (λ row. Some row) (looked.rows cpu ∙ ready.prepared_changes.rows cpu) ∙ placed.rows_are cpu below;
       lasts_are = ap length watched.lasts_are ∙ ready.many ∙ placed.lasts_are;
       board_is = watched.board_is ∙ ap (λ (pass : BoardEnd). pass.board) ready.pass_is ∙ placed.board_is;
       backed = watched.parts_are ∙ ready.parts_are ∙ placed.backed;
@@ -159,7 +159,7 @@ counted_next slot plans made old mid new ready watched whole was = λ stood.
     let before = was (sym ready.fell_is ∙ watched.stood stood) in
     let added = watched.added whole stood in
     let amount = ready.amount_is in
-    let same : length mid.watcher.own ≡ length old.watcher.own = ap length ready.readied.own_is in
+    let same : length mid.watcher.own ≡ length old.watcher.own = ap length ready.prepared_changes.own_is in
     let own : length new.watcher.own ≡ length mid.watcher.own + length looked.taken = ap length looked.own_is ∙ length-append mid.watcher.own looked.taken in
     let taken = looked.taken_are.many in
     omega (arith, before, added, amount, same, own, taken)
@@ -194,7 +194,7 @@ all_can_watch set i slot replay old mid is inside ready = λ k d below.
     can_watch set i k slot replay (get_or old k d) (get_or mid k d) is.reached (is.observed k d before).placed inside (ready.each k d before)
 
 -- after one more tick, at which all watched
-pub watched_next : (set : Setting) (i slot : ℕ) (replay passed : ReplayView) (old mid new : List ObserverView) → IsObserved set replay old i → i < tick_count set.trace set.pace → slot_in set (i + 1) ≡ Some slot
+pub watched_next : (set : Setting) (i slot : ℕ) (replay passed : ReplayView) (old mid new : List ObserverView) → IsObserved set replay old i → i < tick_count set.trace set.timing → slot_in set (i + 1) ≡ Some slot
     → AreReady replay.plans slot (made_by replay.crew) old mid → HasPassed replay passed → HaveAllWatched slot mid new → AreWhole new → IsObserved set passed new (i + 1)
 watched_next set i slot replay passed old mid new is left here ready has all whole = record {
   reached = reached_next set i replay passed is.reached left has;
@@ -207,7 +207,7 @@ watched_next set i slot replay passed old mid new is left here ready has all who
 }
 
 -- after one more tick, at which the path isn't live
-pub passed_next : (set : Setting) (i : ℕ) (replay passed : ReplayView) (observers : List ObserverView) → IsObserved set replay observers i → i < tick_count set.trace set.pace → slot_in set (i + 1) ≡ None → HasPassed replay passed → IsObserved set passed observers (i + 1)
+pub passed_next : (set : Setting) (i : ℕ) (replay passed : ReplayView) (observers : List ObserverView) → IsObserved set replay observers i → i < tick_count set.trace set.timing → slot_in set (i + 1) ≡ None → HasPassed replay passed → IsObserved set passed observers (i + 1)
 passed_next set i replay passed observers is left none has = record {
   reached = reached_next set i replay passed is.reached left has;
   observed = λ k d below. record {
@@ -231,14 +231,14 @@ observed_first set replay observers is new = record {
 -- ---- the board
 
 -- it shows the first state before the first tick
-first_shown : (trace : Trace) (pace : Pace) (k : ℕ) → k ≤ 0 → slice_get (first_state ∷ []) k ≡ Some (state_at trace pace k)
-first_shown trace pace zero within = refl
-first_shown trace pace (suc k) within = absurd (omega (arith, within))
+first_shown : (trace : Trace) (timing : Timing) (k : ℕ) → k ≤ 0 → slice_get (first_state ∷ []) k ≡ Some (state_at trace timing k)
+first_shown trace timing zero within = refl
+first_shown trace timing (suc k) within = absurd (omega (arith, within))
 
-pub shown_first : (trace : Trace) (pace : Pace) (states : List BoardState) → states ≡ first_state ∷ [] → AreShown trace pace 0 states
-shown_first trace pace states is = subst (AreShown trace pace 0) (sym is) (record {
+pub shown_first : (trace : Trace) (timing : Timing) (states : List BoardState) → states ≡ first_state ∷ [] → AreShown trace timing 0 states
+shown_first trace timing states is = subst (AreShown trace timing 0) (sym is) (record {
   many = refl;
-  each = first_shown trace pace;
+  each = first_shown trace timing;
 })
 
 state_last : (states : List BoardState) (state : BoardState) → slice_get (states ++ state ∷ []) (length states) ≡ Some state
@@ -251,17 +251,17 @@ state_before (first ∷ states) state zero below = refl
 state_before (first ∷ states) state (suc k) below = state_before states state k (omega (arith, below))
 
 -- and the state of the next tick after the others
-pub shown_next : (trace : Trace) (pace : Pace) (i tick events : ℕ) (old new : List BoardState) → AreShown trace pace i old → tick ≡ i + 1 → events ≡ signals_until trace pace (i + 1) → new ≡ old ++ record { tick = tick; events = events; kills = 0 } ∷ []
-    → AreShown trace pace (i + 1) new
-shown_next trace pace i tick events old new shown ticks signals is =
+pub shown_next : (trace : Trace) (timing : Timing) (i tick events : ℕ) (old new : List BoardState) → AreShown trace timing i old → tick ≡ i + 1 → events ≡ signals_until trace timing (i + 1) → new ≡ old ++ record { tick = tick; events = events; kills = 0 } ∷ []
+    → AreShown trace timing (i + 1) new
+shown_next trace timing i tick events old new shown ticks signals is =
     let state : BoardState = record { tick = tick; events = events; kills = 0 } in
-    let same : state ≡ state_at trace pace (i + 1) =
+    let same : state ≡ state_at trace timing (i + 1) =
     ap (λ (n : ℕ). let s : BoardState = record { tick = n; events = events; kills = 0 } in s) ticks ∙ ap (λ (n : ℕ). let s : BoardState = record { tick = i + 1; events = n; kills = 0 } in s) signals in
     record {
       many = ap length is ∙ length-append old (state ∷ []) ∙ ap (λ (n : ℕ). n + 1) shown.many;
       each = λ k within. ap (λ (l : List BoardState). slice_get l k) is ∙ ⊎_elim
           (λ (before : k < i + 1). state_before old state k (let many = shown.many in omega (arith, before, many)) ∙ shown.each k (omega (arith, before)))
           (λ (last : k ≡ i + 1).
-          ap (slice_get (old ++ state ∷ [])) (last ∙ sym shown.many) ∙ state_last old state ∙ ap (λ (s : BoardState). Some s) (same ∙ ap (state_at trace pace) (sym last)))
+          ap (slice_get (old ++ state ∷ [])) (last ∙ sym shown.many) ∙ state_last old state ∙ ap (λ (s : BoardState). Some s) (same ∙ ap (state_at trace timing) (sym last)))
           (either_next k (i + 1) (omega (arith, within)));
     }

@@ -9,7 +9,7 @@ use Rattle.psi_spec.specs.Trace.{Trace}
 use Rattle.plan_laws.specs.Plan.{IsClock}
 use Rattle.pressure_spec.specs.Ticks.{tick_moment}
 use Rattle.run_spec.specs.Live.{LiveWatch, live_slot_at}
-use Rattle.run_spec.specs.Replay.{Pace, signals_until, tick_count}
+use Rattle.run_spec.specs.Replay.{Timing, signals_until, tick_count}
 use Rattle.observe_spec.specs.Samples.{AreDone, Due, Look, counts_by, due_at}
 use Rattle.proc_plan.specs.Plans.{PlansView, plan_at}
 use Rattle.clock_row.specs.declared.reader.Sample.{Sample}
@@ -63,7 +63,7 @@ pub record HasMet (cpu made : ℕ) (old new : WatcherView) : Type 0 where
 
 -- A watcher is prepared on the first `cpus` processors: its readers there have seen the changes
 -- that were made, at least as many as they saw before. Nothing else of it changed.
-pub record IsReadied (made : ℕ → ℕ) (cpus : ℕ) (old new : WatcherView) : Type 0 where
+pub record ArePreparedChanges (made : ℕ → ℕ) (cpus : ℕ) (old new : WatcherView) : Type 0 where
   pub observer_is : new.observer ≡ old.observer
   pub plans_are : new.plans ≡ old.plans
   pub own_is : new.own ≡ old.own
@@ -88,7 +88,7 @@ pub record IsReady (plans : PlansView) (slot : ℕ) (made : ℕ → ℕ) (old ne
   pub fell_is : new.fell ≡ old.fell
   pub failed_is : new.failed ≡ old.failed
   pub many : length new.lasts ≡ length old.lasts
-  pub readied : IsReadied made (length old.lasts) old.watcher new.watcher
+  pub prepared_changes : ArePreparedChanges made (length old.lasts) old.watcher new.watcher
   pub lasts_are : AreLasts plans slot made (length old.lasts) new.lasts
 
 -- all observers are ready
@@ -124,16 +124,16 @@ pub record Setting : Type 0 where
   pub rows : List (Option TableId)
   pub board : TableId
   pub trace : Trace
-  pub pace : Pace
+  pub timing : Timing
   pub path : List ℕ
 
 -- the slot that the path has at a tick
 abbrev pub slot_in : Setting → ℕ → Option ℕ
-slot_in set i = live_slot_at set.trace.events set.path (tick_moment set.pace.length i)
+slot_in set i = live_slot_at set.trace.events set.path (tick_moment set.timing.length i)
 
 -- the samples that are due for each observer at a tick
 abbrev pub due_in : Setting → ℕ → List Due
-due_in set i = due_at set.trace set.pace.length i (slot_in set i)
+due_in set i = due_at set.trace set.timing.length i (slot_in set i)
 
 -- the samples that are due at the first n ticks
 abbrev pub due_until : Setting → ℕ → List Due
@@ -203,8 +203,8 @@ pub record MayBegin (set : Setting) (replay : ReplayView) : Type 0 where
 pub record IsReached (set : Setting) (replay : ReplayView) (i : ℕ) : Type 0 where
   pub plans_are : replay.plans ≡ set.plans
   pub rows_are : replay.crew.rows ≡ set.rows
-  pub replayed : IsReplay replay set.trace set.pace [] i
-  pub watch : set.pace.watch ≡ Some (record { path = set.path; count = 1 })
+  pub replayed : IsReplay replay set.trace set.timing [] i
+  pub watch : set.timing.watch ≡ Some (record { path = set.path; count = 1 })
 
 -- A replay after its first `i` ticks, during which observers have taken their samples.
 pub record IsObserved (set : Setting) (replay : ReplayView) (observers : List ObserverView) (i : ℕ) : Type 0 where
@@ -218,7 +218,7 @@ IsToBegin board replay observers = (set : Setting) × (set.board ≡ board) × I
 -- observers with this board, and at least one tick remains
 abbrev pub IsToGo : TableId → ReplayView → List ObserverView → Type 0
 IsToGo board replay observers =
-    (set : Setting) × (i : ℕ) × (set.board ≡ board) × IsObserved set replay observers i × (i < tick_count set.trace set.pace)
+    (set : Setting) × (i : ℕ) × (set.board ≡ board) × IsObserved set replay observers i × (i < tick_count set.trace set.timing)
 
 -- no observer ran out of memory
 abbrev pub AreWhole : List ObserverView → Type 0
@@ -227,13 +227,13 @@ AreWhole observers = All (λ (observer : ObserverView). observer.failed ≡ fals
 -- ---- the board
 
 -- the state after a tick
-abbrev pub state_at : Trace → Pace → ℕ → BoardState
-state_at trace pace i = record { tick = i; events = signals_until trace pace i; kills = 0 }
+abbrev pub state_at : Trace → Timing → ℕ → BoardState
+state_at trace timing i = record { tick = i; events = signals_until trace timing i; kills = 0 }
 
 -- the board showed the states of tick 0 and of the first `i` ticks, in order
-pub record AreShown (trace : Trace) (pace : Pace) (i : ℕ) (states : List BoardState) : Type 0 where
+pub record AreShown (trace : Trace) (timing : Timing) (i : ℕ) (states : List BoardState) : Type 0 where
   pub many : length states ≡ i + 1
-  pub each : (k : ℕ) → k ≤ i → slice_get states k ≡ Some (state_at trace pace k)
+  pub each : (k : ℕ) → k ≤ i → slice_get states k ≡ Some (state_at trace timing k)
 
 -- ---- one tick of the replay
 
@@ -241,5 +241,6 @@ pub record AreShown (trace : Trace) (pace : Pace) (i : ℕ) (states : List Board
 pub record HasPassed (old new : ReplayView) : Type 0 where
   pub plans_are : new.plans ≡ old.plans
   pub rows_are : new.crew.rows ≡ old.crew.rows
-  pub passed : (trace : Trace) (pace : Pace) (rules : List Rule) (i : ℕ) → IsReplay old trace pace rules i → i < tick_count trace pace →
-      IsReplay new trace pace rules (i + 1)
+  pub passed : (trace : Trace) (timing : Timing) (rules : List Rule) (i : ℕ) → IsReplay old trace timing rules i
+      → i < tick_count trace timing →
+      IsReplay new trace timing rules (i + 1)

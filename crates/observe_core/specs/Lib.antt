@@ -1,4 +1,4 @@
-pub mod Asked
+pub mod Requested
 pub mod Printed
 pub mod Observing
 pub mod Driving

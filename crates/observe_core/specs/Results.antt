@@ -1,7 +1,7 @@
 -- The status of a run, from the results of reading a trace, observing it and writing.
 use Rattle.std.specs.Prelude.{◌≡◌, ℕ, ◌<◌, ◌≤◌, List, Option}
 use Rattle.std.specs.Io.KnownBytes.{Appends, Keeps}
-use Rattle.outside.specs.Outside.{AppendsFront, Rose}
+use Rattle.outside.specs.Outside.{AppendsPrefix, Increased}
 use Rattle.psi_spec.specs.Header.{IsVersion, version_of}
 use Rattle.psi_spec.specs.Trace.{Trace}
 use Rattle.proc_plan.specs.Plans.{PlansView}
@@ -11,7 +11,7 @@ use Rattle.replay_rules.specs.Planned.{IsPlanned}
 use Rattle.observe_spec.specs.declared.status.ObserveStatus.{ObserveStatus}
 use Rattle.observe_spec.specs.declared.status.ObserveStatus.TheVariants as status
 use Rattle.observe_spec.specs.Observed.{IsObservedText}
-use Rattle.observe_spec.specs.Run.{most_samples, pace_on, samples_asked}
+use Rattle.observe_spec.specs.Run.{most_samples, timing_on, samples_requested}
 use Rattle.observe_spec.specs.Words.{Request}
 
 -- plans represent an accepted trace of the version with this number, which is to be replayed with
@@ -19,7 +19,7 @@ use Rattle.observe_spec.specs.Words.{Request}
 pub record IsPlannedFor (plans : PlansView) (trace : Trace) (number : ℕ) (path : List ℕ) : Type 0 where
   pub numbered : IsVersion number
   pub version : version_of number ≡ trace.version
-  pub planned : IsPlanned plans trace (pace_on path)
+  pub planned : IsPlanned plans trace (timing_on path)
 
 -- the status of a trace that can't be read
 abbrev pub IsStatusOf : TraceFault → ObserveStatus → Type 0
@@ -32,7 +32,7 @@ IsStatusOf (fault.NoMemory none) result = result ≡ status.NoMemory none
 -- count of failed writes increased if one failed, and is unchanged otherwise.
 abbrev pub WritesText : List ℕ → ℕ → ℕ → Option (List ℕ) → Option (List ℕ) → ObserveStatus → Type 0
 WritesText text before now had has status.Done = Appends had has text × (now ≡ before)
-WritesText text before now had has status.WriteFault = AppendsFront had has text × Rose before now
+WritesText text before now had has status.WriteFault = AppendsPrefix had has text × Increased before now
 WritesText text before now had has _ = ⊥
 
 -- The result of observing a trace as requested, and of writing what was observed: the result of
@@ -40,9 +40,9 @@ WritesText text before now had has _ = ⊥
 -- because there would be more samples, or memory ran out.
 abbrev pub WritesObserved : Request → Trace → ℕ → ℕ → Option (List ℕ) → Option (List ℕ) → ObserveStatus → Type 0
 WritesObserved request trace before now had has (status.TooManySamples samples) =
-    Keeps had has × (now ≡ before) × (samples ≡ samples_asked request trace) × (most_samples < samples)
+    Keeps had has × (now ≡ before) × (samples ≡ samples_requested request trace) × (most_samples < samples)
 WritesObserved request trace before now had has (status.NoMemory _) = Keeps had has × (now ≡ before)
 WritesObserved request trace before now had has result =
-    (samples_asked request trace ≤ most_samples)
-    × ((text : List ℕ) × IsObservedText trace (pace_on request.path) request.path request.observers text
+    (samples_requested request trace ≤ most_samples)
+    × ((text : List ℕ) × IsObservedText trace (timing_on request.path) request.path request.observers text
     × WritesText text before now had has result)

@@ -1,15 +1,13 @@
 //! The public call of `psi_observe`, with all that is promised about it.
-ghost use Rattle.std.specs.Prelude.{◌≡◌, ◌⊎◌, ◌≢◌, ◌↔◌, ◌+◌, ◌≤◌, ◌<◌, ℕ, List, Some, None, Ok, Err, map, string_bytes};
+ghost use Rattle.std.specs.Prelude.{◌≡◌, ◌≢◌, ◌↔◌, ◌+◌, ◌≤◌, ℕ, List, Some, None, Ok, map, string_bytes};
 ghost use Rattle.std.specs.Io.KnownBytes.{Appends, Keeps};
-ghost use Rattle.psi_base.specs.Memory.{no_memory};
-ghost use Rattle.outside.specs.Outside.{AppendsFront, Rose, told};
-ghost use Rattle.psi_base.specs.declared.event.Refusal.{Refusal};
+ghost use Rattle.outside.specs.Outside.{AppendsPrefix, Increased, content_of};
 ghost use Rattle.psi_spec.specs.Trace.{Trace, trace_of};
 ghost use Rattle.run_spec.specs.MostRead.{most_of_trace};
 ghost use Rattle.run_spec.specs.Run.{run_counts};
 ghost use Rattle.observe_spec.specs.declared.status.ObserveStatus.{ObserveStatus};
 ghost use Rattle.observe_spec.specs.Observed.{IsObservedText};
-ghost use Rattle.observe_spec.specs.Run.{ObserverFailuresAreCounted, Observes, StopsObserving, accepts, most_samples, pace_on, samples_asked};
+ghost use Rattle.observe_spec.specs.Run.{ObserverFailuresAreCounted, Observes, ObservesAll, ReadsTraceInOrder, RejectsManySamples, RejectsTrace, StopsObserving, accepts, timing_on};
 ghost use Rattle.observe_spec.specs.Status.{observe_status_text};
 ghost use Rattle.observe_spec.specs.Words.{Request, request_of};
 
@@ -40,7 +38,7 @@ pub fn observe<R: Threads + Wait + Sync, S: Shelf, K: Sink, N: Sink, G: Gate>(
     gate: &G,
 ) -> ObserveStatus
     // Files are unchanged.
-    ensures kept { S.holds shelf.new ≡ S.holds shelf.old }
+    ensures unchanged { S.holds shelf.new ≡ S.holds shelf.old }
 
     // The result is Usage exactly if the words aren't a name, a number from 1 to 8 and a path.
     ensures usage { (result ≡ ObserveStatus.Usage)
@@ -58,41 +56,35 @@ pub fn observe<R: Threads + Wait + Sync, S: Shelf, K: Sink, N: Sink, G: Gate>(
     // of the path may print for the trace.
     ensures observed { (request : Request) (bytes : List ℕ) →
         request_of (map string_bytes words.now) ≡ Some request →
-        told (S.holds shelf.old) request.trace ≡ Some bytes →
+        content_of (S.holds shelf.old) request.trace ≡ Some bytes →
         result ≡ ObserveStatus.Done →
         (trace : Trace) × (trace_of accepts bytes ≡ Ok trace)
         × ((text : List ℕ)
-        × IsObservedText trace (pace_on request.path) request.path request.observers text
+        × IsObservedText trace (timing_on request.path) request.path request.observers text
         × Appends (K.has out.old) (K.has out.new) text) }
 
     // An accepted trace with at most a million samples gives the whole output, unless a read or
     // write failed or memory ran out.
-    ensures complete { (request : Request) (bytes : List ℕ) (trace : Trace) →
+    ensures complete { (request : Request) →
         request_of (map string_bytes words.now) ≡ Some request →
-        told (S.holds shelf.old) request.trace ≡ Some bytes →
-        trace_of accepts bytes ≡ Ok trace → samples_asked request trace ≤ most_samples →
-        (Rose (S.faults shelf.old) (S.faults shelf.new) → ⊥) →
-        (Rose (K.faults out.old) (K.faults out.new) → ⊥) →
-        (result ≡ ObserveStatus.Done) ⊎ (result ≡ ObserveStatus.NoMemory no_memory) }
+        ObservesAll request (S.holds shelf.old)
+        (run_counts (S.faults shelf.old) (S.absent shelf.old) (K.faults out.old))
+        (run_counts (S.faults shelf.new) (S.absent shelf.new) (K.faults out.new)) result }
 
     // More samples of an accepted trace are too many, unless a read failed or memory ran out.
-    ensures many { (request : Request) (bytes : List ℕ) (trace : Trace) →
+    ensures many { (request : Request) →
         request_of (map string_bytes words.now) ≡ Some request →
-        told (S.holds shelf.old) request.trace ≡ Some bytes →
-        trace_of accepts bytes ≡ Ok trace → most_samples < samples_asked request trace →
-        (Rose (S.faults shelf.old) (S.faults shelf.new) → ⊥) →
-        (result ≡ ObserveStatus.TooManySamples (samples_asked request trace))
-        ⊎ (result ≡ ObserveStatus.NoMemory no_memory) }
+        RejectsManySamples request (S.holds shelf.old)
+        (run_counts (S.faults shelf.old) (S.absent shelf.old) (K.faults out.old))
+        (run_counts (S.faults shelf.new) (S.absent shelf.new) (K.faults out.new)) result }
 
     // A rejected trace gives its first rejected line with the cause, unless a read failed or memory
     // ran out.
-    ensures refuses { (request : Request) (bytes : List ℕ) (refusal : Refusal) →
+    ensures refuses { (request : Request) →
         request_of (map string_bytes words.now) ≡ Some request →
-        told (S.holds shelf.old) request.trace ≡ Some bytes →
-        trace_of accepts bytes ≡ Err refusal →
-        (Rose (S.faults shelf.old) (S.faults shelf.new) → ⊥) →
-        (result ≡ ObserveStatus.Trace refusal.line refusal.cause)
-        ⊎ (result ≡ ObserveStatus.NoMemory no_memory) }
+        RejectsTrace request (S.holds shelf.old)
+        (run_counts (S.faults shelf.old) (S.absent shelf.old) (K.faults out.old))
+        (run_counts (S.faults shelf.new) (S.absent shelf.new) (K.faults out.new)) result }
 
     // A failure count increased exactly if the status reports that failure.
     ensures counts { ObserverFailuresAreCounted
@@ -101,16 +93,24 @@ pub fn observe<R: Threads + Wait + Sync, S: Shelf, K: Sink, N: Sink, G: Gate>(
 
     // Whatever the size of the trace's file, at most this many bytes are read; none if the words
     // aren't a request.
-    ensures reads { S.given shelf.new ≤ S.given shelf.old + most_of_trace }
+    ensures reads { S.bytes_read shelf.new ≤ S.bytes_read shelf.old + most_of_trace }
     ensures unread { request_of (map string_bytes words.now) ≡ None →
-        S.given shelf.new ≡ S.given shelf.old }
+        S.bytes_read shelf.new ≡ S.bytes_read shelf.old }
+    ensures no_reads { request_of (map string_bytes words.now) ≡ None →
+        S.reads shelf.new ≡ S.reads shelf.old }
+
+    // The trace is read in order, from its first byte without gaps, and nothing is read after a
+    // failed read.
+    ensures order { (request : Request) →
+        request_of (map string_bytes words.now) ≡ Some request →
+        ReadsTraceInOrder request (S.reads shelf.old) (S.reads shelf.new) result }
 
     // Reading stops at the first rejected line of the trace. If that line is the result, at most
     // the lines before it and the buffered bytes were read. A failed read is the result only if
     // that line was incomplete.
     ensures stops { (request : Request) →
         request_of (map string_bytes words.now) ≡ Some request →
-        StopsObserving request (S.holds shelf.old) (S.given shelf.old) (S.given shelf.new)
+        StopsObserving request (S.holds shelf.old) (S.bytes_read shelf.old) (S.bytes_read shelf.new)
         result }
 
     // Only Done and WriteFault write to the output.
@@ -118,10 +118,10 @@ pub fn observe<R: Threads + Wait + Sync, S: Shelf, K: Sink, N: Sink, G: Gate>(
         Keeps (K.has out.old) (K.has out.new) }
 
     // The message of the status was written to `note`: all of it, or a prefix if a write failed.
-    ensures note { (Rose (N.faults note.old) (N.faults note.new) → ⊥) →
+    ensures note { (Increased (N.faults note.old) (N.faults note.new) → ⊥) →
         Appends (N.has note.old) (N.has note.new)
         (observe_status_text (request_of (map string_bytes words.now)) result) }
-    ensures note_front { AppendsFront (N.has note.old) (N.has note.new)
+    ensures note_prefix { AppendsPrefix (N.has note.old) (N.has note.new)
         (observe_status_text (request_of (map string_bytes words.now)) result) }
 {
     match read_request(alloc, words) {

@@ -61,7 +61,7 @@ pub(crate) fn tick<'j, 'a, L: Ledger + Send + Sync, R: Threads + Wait + Sync, G:
     ensures many { length result.1.items ≡ length observers.entry.items }
     ensures observed { (set : Setting) (i : ℕ) → set.board ≡ board.now →
         IsObserved set replay.entry observers.entry.items i →
-        i < tick_count set.trace set.pace → AreWhole result.1.items →
+        i < tick_count set.trace set.timing → AreWhole result.1.items →
         IsObserved set result.0 result.1.items (i + 1) }
 {
     match replay.next_slot() {

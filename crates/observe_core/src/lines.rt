@@ -1,7 +1,7 @@
 //! Writes the printed lines.
 ghost use Rattle.std.specs.Prelude.{◌≤◌, length};
 ghost use Rattle.std.specs.List.{flat_map};
-ghost use Rattle.outside.specs.Outside.{HasCause, StaysOver};
+ghost use Rattle.outside.specs.Outside.{HasCause, SameInner};
 ghost use Rattle.outside.specs.Calls.{PutsAll};
 ghost use Rattle.observe_core.specs.Printed.{end_line, entry_line, printed, state_line, states_text};
 
@@ -16,7 +16,7 @@ use psi_base::Ns;
 fn put_entry<K: Sink>(out: &mut K, entry: &Entry<'_>) -> Result<(), WriteFailed>
     ensures bytes { PutsAll (K.has out.old) (K.has out.new) result (entry_line entry.now) }
     ensures cause { HasCause (K.faults out.old) (K.faults out.new) result }
-    ensures below { StaysOver (K.below out.old) (K.below out.new) }
+    ensures below { SameInner (K.below out.old) (K.below out.new) }
 {
     put_timed(
         out,
@@ -40,7 +40,7 @@ fn put_state<K: Sink>(out: &mut K, observer: u32, state: &BoardState) -> Result<
     ensures bytes { PutsAll (K.has out.old) (K.has out.new) result
         (state_line observer state.now) }
     ensures cause { HasCause (K.faults out.old) (K.faults out.new) result }
-    ensures below { StaysOver (K.below out.old) (K.below out.new) }
+    ensures below { SameInner (K.below out.old) (K.below out.new) }
 {
     put_pieces(
         out,
@@ -62,7 +62,7 @@ fn put_state<K: Sink>(out: &mut K, observer: u32, state: &BoardState) -> Result<
 fn put_end<K: Sink>(out: &mut K, finish: Ns, samples: u64) -> Result<(), WriteFailed>
     ensures bytes { PutsAll (K.has out.old) (K.has out.new) result (end_line finish samples) }
     ensures cause { HasCause (K.faults out.old) (K.faults out.new) result }
-    ensures below { StaysOver (K.below out.old) (K.below out.new) }
+    ensures below { SameInner (K.below out.old) (K.below out.new) }
 {
     put_pieces(
         out,
@@ -81,7 +81,7 @@ fn put_entries<K: Sink>(out: &mut K, entries: &[Entry<'_>]) -> Result<(), WriteF
     ensures bytes { PutsAll (K.has out.old) (K.has out.new) result
         (flat_map entry_line entries.now) }
     ensures cause { HasCause (K.faults out.old) (K.faults out.new) result }
-    ensures below { StaysOver (K.below out.old) (K.below out.new) }
+    ensures below { SameInner (K.below out.old) (K.below out.new) }
 {
     'entries: for entry in entries {
         put_entry(out, entry)?;
@@ -95,7 +95,7 @@ fn put_states<K: Sink>(out: &mut K, states: &[BoardState]) -> Result<(), WriteFa
     requires { length states.now ≤ 8 }
     ensures bytes { PutsAll (K.has out.old) (K.has out.new) result (states_text 0 states.now) }
     ensures cause { HasCause (K.faults out.old) (K.faults out.new) result }
-    ensures below { StaysOver (K.below out.old) (K.below out.new) }
+    ensures below { SameInner (K.below out.old) (K.below out.new) }
 {
     'states: for observer in 0..states.len() {
         put_state(out, observer as u32, &states[observer])?;
@@ -116,7 +116,7 @@ pub(crate) fn put_observed<K: Sink>(
     ensures bytes { PutsAll (K.has out.old) (K.has out.new) result
         (printed entries.now states.now finish) }
     ensures cause { HasCause (K.faults out.old) (K.faults out.new) result }
-    ensures below { StaysOver (K.below out.old) (K.below out.new) }
+    ensures below { SameInner (K.below out.old) (K.below out.new) }
 {
     put_entries(out, entries)?;
     put_states(out, states)?;

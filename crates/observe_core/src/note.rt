@@ -3,7 +3,7 @@ ghost use Rattle.std.specs.Prelude.{◌≡◌};
 ghost use Rattle.outside.specs.Outside.{HasCause};
 ghost use Rattle.outside.specs.Calls.{PutsAll};
 ghost use Rattle.observe_spec.specs.Status.{observe_status_text, trace_text};
-ghost use Rattle.observe_core.specs.Asked.{asked_in};
+ghost use Rattle.observe_core.specs.Requested.{requested_in};
 
 use crate::words::Request;
 use observe_spec::ObserveStatus;
@@ -12,7 +12,7 @@ use trace_file::put_refusal;
 
 // The name of the trace's file, if there is a request.
 fn trace_name<'a>(request: Option<&Request<'a>>) -> &'a [u8]
-    ensures { result.now ≡ trace_text (asked_in request.entry) }
+    ensures { result.now ≡ trace_text (requested_in request.entry) }
 {
     match request {
         Some(request) => request.trace.as_bytes(),
@@ -27,7 +27,7 @@ pub(crate) fn put_status<N: Sink>(
     status: ObserveStatus,
 ) -> Result<(), WriteFailed>
     ensures bytes { PutsAll (N.has note.old) (N.has note.new) result
-        (observe_status_text (asked_in request.entry) status) }
+        (observe_status_text (requested_in request.entry) status) }
     ensures cause { HasCause (N.faults note.old) (N.faults note.new) result }
 {
     match status {

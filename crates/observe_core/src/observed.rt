@@ -2,13 +2,13 @@
 ghost use Rattle.std.specs.Prelude.{◌≡◌, [], Some, IfOk, length};
 ghost use Rattle.psi_spec.specs.Header.{version_of};
 ghost use Rattle.psi_spec.specs.Trace.{Trace};
-ghost use Rattle.run_spec.specs.Outputs.{pace_of};
+ghost use Rattle.run_spec.specs.Outputs.{timing_of};
 ghost use Rattle.run_spec.specs.LegalCommand.{IsWithin};
 ghost use Rattle.replay_rules.specs.Planned.{IsPlanned};
 ghost use Rattle.replay_ticks.specs.Replays.{IsReplay};
 ghost use Rattle.replay_workers.specs.Crew.{AreInRows};
 ghost use Rattle.observe_spec.specs.Observed.{IsObservedText};
-ghost use Rattle.observe_spec.specs.Run.{options_on, pace_on};
+ghost use Rattle.observe_spec.specs.Run.{options_on, timing_on};
 ghost use Rattle.observe_core.specs.Printed.{printed};
 ghost use Rattle.observe_core.specs.Results.{IsPlannedFor};
 
@@ -61,9 +61,9 @@ fn prepared<'a>(
 ) -> Result<Replay<'a>, NoMemory>
     requires { (trace : Trace) × IsPlannedFor plans.now trace version path.now }
     ensures replay { IfOk result (λ replay. (trace : Trace) →
-        IsPlanned plans.now trace (pace_of (options_on (Some path.now))) →
+        IsPlanned plans.now trace (timing_of (options_on (Some path.now))) →
         version_of version ≡ trace.version →
-        IsReplay replay trace (pace_of (options_on (Some path.now))) [] 0) }
+        IsReplay replay trace (timing_of (options_on (Some path.now))) [] 0) }
     ensures plans { IfOk result (λ replay. replay.plans ≡ plans.now) }
     ensures rows { IfOk result (λ replay. AreInRows replay.plans replay.crew.rows) }
 {
@@ -90,7 +90,7 @@ pub(crate) fn observe_trace<'a, L: Ledger + Send + Sync, R: Threads + Wait + Syn
         length observed.states.items ≡ request.now.observers) }
     ensures observed { IfOk result (λ observed. (trace : Trace) →
         IsPlannedFor plans.now trace version request.now.path →
-        IsObservedText trace (pace_on request.now.path) request.now.path request.now.observers
+        IsObservedText trace (timing_on request.now.path) request.now.path request.now.observers
         (printed observed.entries.items observed.states.items plans.now.finish)) }
 {
     let (board, mut driver) = Board::make(alloc)?;

@@ -5,7 +5,7 @@ ghost use Rattle.std.specs.List.{All};
 ghost use Rattle.replay_ticks.specs.Replays.{IsSomeReplay};
 ghost use Rattle.replay_workers.specs.Crew.{row_at};
 ghost use Rattle.observer_log.specs.Watch.{reader_at};
-ghost use Rattle.observe_core.specs.Driving.{AreLasts, AreReady, HasMet, IsReadied, IsReady, MayReady, made_by};
+ghost use Rattle.observe_core.specs.Driving.{AreLasts, AreReady, HasMet, ArePreparedChanges, IsReady, MayReady, made_by};
 ghost use Rattle.observe_core.specs.Observing.{ObserverView};
 
 use crate::observer::Observer;
@@ -35,7 +35,7 @@ fn meet(replay: &mut Replay<'_>, watcher: &mut Watcher<'_>, cpu: Cpu)
 fn ready(replay: &mut Replay<'_>, watcher: &mut Watcher<'_>, lasts: &mut Vec<Sample>, slot: Slot)
     requires { MayReady replay.old slot.0 watcher.old lasts.old.items }
     ensures same { replay.new ≡ replay.old }
-    ensures readied { IsReadied (made_by replay.old.crew) (length lasts.old.items)
+    ensures prepared_changes { ArePreparedChanges (made_by replay.old.crew) (length lasts.old.items)
         watcher.old watcher.new }
     ensures many { length lasts.new.items ≡ length lasts.old.items }
     ensures lasts { AreLasts replay.old.plans slot.0 (made_by replay.old.crew)

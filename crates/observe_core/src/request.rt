@@ -7,8 +7,8 @@ ghost use Rattle.psi_spec.specs.Within.{last_moment};
 ghost use Rattle.run_spec.specs.MostRead.{most_of_trace};
 ghost use Rattle.run_spec.specs.Run.{run_counts};
 ghost use Rattle.run_spec.specs.LegalCommand.{IsWithin};
-ghost use Rattle.observe_spec.specs.Run.{Observes, StopsObserving};
-ghost use Rattle.observe_core.specs.Asked.{request_in};
+ghost use Rattle.observe_spec.specs.Run.{Observes, ReadsTraceInOrder, StopsObserving};
+ghost use Rattle.observe_core.specs.Requested.{request_in};
 ghost use Rattle.observe_core.specs.Printed.{printed};
 ghost use Rattle.observe_core.specs.Results.{IsPlannedFor, IsStatusOf, WritesObserved, WritesText};
 
@@ -19,16 +19,13 @@ use observe_spec::ObserveStatus;
 use observer_log::{BoardState, Entry};
 use outside::{BufferedSink, Gate, Pending, Shelf, Sink, WriteFailed};
 use proc_plan::Plans;
-use psi_base::Ns;
+use psi_base::{DEFAULT_TICK, Ns};
 use std::alloc::Global;
 use std::marker::Brand;
 use std::sync::Wait;
 use std::sync::ledger::Blank;
 use std::thread::Threads;
 use trace_file::{TraceFault, read_plans};
-
-/// The length of a tick (ns).
-const TICK: Ns = 2_000_000_000;
 
 /// The maximum number of samples.
 const MOST_SAMPLES: u64 = 1_000_000;
@@ -50,13 +47,13 @@ fn fault_status(fault: TraceFault) -> ObserveStatus
 
 // The maximum number of samples that `observers` observers of a trace take: one per tick, observer
 // and processor.
-fn samples_asked(plans: &Plans, observers: u32) -> u64
+fn samples_requested(plans: &Plans, observers: u32) -> u64
     requires early { plans.now.finish ≤ last_moment }
     requires few { length plans.now.plans ≤ 64 }
     requires within { observers ≤ 8 }
     ensures { result ≡ plans.now.finish / 2000000000 * observers * length plans.now.plans }
 {
-    plans.finish() / TICK * u64::from(observers) * u64::from(plans.cpus())
+    plans.finish() / DEFAULT_TICK * u64::from(observers) * u64::from(plans.cpus())
 }
 
 // Writes all lines in large pieces.
@@ -116,7 +113,7 @@ fn write_observed<R: Threads + Wait + Sync, K: Sink, G: Gate>(
         WritesObserved (request_in request.now) trace (K.faults out.old) (K.faults out.new)
         (K.has out.old) (K.has out.new) result }
 {
-    let samples = samples_asked(plans, request.observers);
+    let samples = samples_requested(plans, request.observers);
     if samples > MOST_SAMPLES {
         return ObserveStatus::TooManySamples { samples };
     }
@@ -141,16 +138,18 @@ pub(crate) fn run_request<R: Threads + Wait + Sync, S: Shelf, K: Sink, G: Gate>(
     gate: &G,
 ) -> ObserveStatus
     requires within { IsWithin 1 8 request.now.observers }
-    ensures kept { S.holds shelf.new ≡ S.holds shelf.old }
+    ensures unchanged { S.holds shelf.new ≡ S.holds shelf.old }
     ensures runs { Observes (request_in request.now) (S.holds shelf.old)
         (run_counts (S.faults shelf.old) (S.absent shelf.old) (K.faults out.old))
         (run_counts (S.faults shelf.new) (S.absent shelf.new) (K.faults out.new))
         (K.has out.old) (K.has out.new) result }
-    ensures reads { S.given shelf.new ≤ S.given shelf.old + most_of_trace }
+    ensures reads { S.bytes_read shelf.new ≤ S.bytes_read shelf.old + most_of_trace }
     ensures stops { StopsObserving (request_in request.now) (S.holds shelf.old)
-        (S.given shelf.old) (S.given shelf.new) result }
+        (S.bytes_read shelf.old) (S.bytes_read shelf.new) result }
+    ensures order { ReadsTraceInOrder (request_in request.now)
+        (S.reads shelf.old) (S.reads shelf.new) result }
 {
-    match read_plans(alloc, request.trace, shelf, TICK) {
+    match read_plans(alloc, request.trace, shelf, DEFAULT_TICK) {
         Ok((version, plans)) => write_observed(rt, alloc, version, &plans, request, out, gate),
         Err(fault) => fault_status(fault),
     }

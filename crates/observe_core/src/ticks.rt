@@ -43,10 +43,10 @@ pub(crate) fn all_ticks<'j, 'a, L: Ledger + Send + Sync, R: Threads + Wait + Syn
     ensures many { IfOk result (λ after. length after.items ≡ length observers.entry.items) }
     ensures observed { IfOk result (λ after. (set : Setting) → set.board ≡ board.now →
         IsObserved set replay.entry observers.entry.items 0 →
-        HaveObserved set (tick_count set.trace set.pace) after.items) }
+        HaveObserved set (tick_count set.trace set.timing) after.items) }
     ensures shown { IfOk result (λ _. (set : Setting) → set.board ≡ board.now →
         IsObserved set replay.entry observers.entry.items 0 →
-        AreShown set.trace set.pace (tick_count set.trace set.pace) driver.new.states) }
+        AreShown set.trace set.timing (tick_count set.trace set.timing) driver.new.states) }
 {
     let last = replay.ticks();
     'passes: for made in 0..last {

@@ -3,7 +3,7 @@ ghost use Rattle.std.specs.Prelude.{◌≡◌, IfOk, IfSome, MatchResult, Some, 
 ghost use Rattle.observe_spec.specs.Words.{is_trace_name, request_of};
 ghost use Rattle.run_spec.specs.Words.{number_within};
 ghost use Rattle.run_spec.specs.LegalCommand.{IsWithin};
-ghost use Rattle.observe_core.specs.Asked.{RefusesWords, request_in};
+ghost use Rattle.observe_core.specs.Requested.{RefusesWords, request_in};
 
 use psi_base::{Fault, NoMemory, Path, read_number};
 use std::alloc::Global;

@@ -2,23 +2,23 @@
 use Rattle.std.proofs.Common.{◌≡◌, ◌⊎◌, inl, inr, ℕ, Bool, true, false, true≢false, List, [], ◌∷◌, refl, sym, ◌∙◌, Option, None, Some}
 use Rattle.std.specs.Prelude.{codes, ◌==◌, ◌&&◌, not}
 use Rattle.psi_base.specs.Memory.{no_memory}
-use Rattle.outside.specs.Outside.{Files, Lacks}
+use Rattle.outside.specs.Outside.{Files, IsAbsent}
 use Rattle.run_spec.specs.declared.command.Command.TheVariants.{Replay}
 use Rattle.run_spec.specs.Words.{command_of, is_name, options_of, replay_of}
 use Rattle.observe_spec.specs.declared.status.ObserveStatus.{ObserveStatus}
 use Rattle.observe_spec.specs.declared.status.ObserveStatus.TheVariants as status
 use Rattle.observe_spec.specs.Run.{ObservingEnds, options_on}
-use Rattle.observe_spec.specs.Laws.{MissingTraceTells, ReplayHasThese, TracesAreThoseOfReplay}
+use Rattle.observe_spec.specs.Laws.{MissingTraceShows, ReplayHasThese, TracesAreThoseOfReplay}
 
-pub missing_trace_tells : MissingTraceTells
-missing_trace_tells request files old new status.Done ends lacks = absurd (ends.2 lacks)
-missing_trace_tells request files old new status.WriteFault ends lacks = absurd (ends.2 lacks)
-missing_trace_tells request files old new (status.Trace line why) ends lacks = absurd (ends.1 lacks)
-missing_trace_tells request files old new (status.TooManySamples samples) ends lacks = absurd (ends.1 lacks)
-missing_trace_tells request files old new status.NoFile ends lacks = inl refl
-missing_trace_tells request files old new status.ReadFault ends lacks = inr (inl refl)
-missing_trace_tells request files old new (status.NoMemory _) ends lacks = inr (inr refl)
-missing_trace_tells request files old new status.Usage ends lacks = absurd ends
+pub missing_trace_shows : MissingTraceShows
+missing_trace_shows request files old new status.Done ends lacks = absurd (ends.2 lacks)
+missing_trace_shows request files old new status.WriteFault ends lacks = absurd (ends.2 lacks)
+missing_trace_shows request files old new (status.Trace line why) ends lacks = absurd (ends.1 lacks)
+missing_trace_shows request files old new (status.TooManySamples samples) ends lacks = absurd (ends.1 lacks)
+missing_trace_shows request files old new status.NoFile ends lacks = inl refl
+missing_trace_shows request files old new status.ReadFault ends lacks = inr (inl refl)
+missing_trace_shows request files old new (status.NoMemory _) ends lacks = inr (inr refl)
+missing_trace_shows request files old new status.Usage ends lacks = absurd ends
 
 pub traces_are_those_of_replay : TracesAreThoseOfReplay
 traces_are_those_of_replay name bytes = refl

@@ -32,7 +32,7 @@ chosen_within chosen (x ∷ xs) (suc k) look at is low high rise = go (chosen x)
         let all = subst (λ b. RiseWithin low (counts (cond b (x ∷ filter chosen xs) (filter chosen xs))) high) e rise in within low all
 
 pub counts_of_changes : CountsAreOfChanges
-counts_of_changes trace pace path observers looks all k look at =
+counts_of_changes trace timing path observers looks all k look at =
     chosen_within (is_of look.observer look.cpu) looks k look at (search rules) 0 _ (all.rise look.observer look.cpu)
 
 -- as many samples were taken as were due
@@ -43,4 +43,4 @@ done_all (due ∷ dues) [] done = absurd done
 done_all (due ∷ dues) (look ∷ looks) done = ap suc (done_all dues looks done.3)
 
 pub each_takes_its_share : EachTakesItsShare
-each_takes_its_share trace pace path observers looks all observer there = done_all _ _ (all.done observer there)
+each_takes_its_share trace timing path observers looks all observer there = done_all _ _ (all.done observer there)

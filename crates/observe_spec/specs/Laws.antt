@@ -2,11 +2,11 @@
 use Rattle.std.specs.Prelude.{◌≡◌, ℕ, ◌<◌, ◌≤◌, List, [], ◌∷◌, length, slice_get, Option, None, Some, ◌⊎◌, codes, true}
 use Rattle.psi_spec.specs.Changes.{changes_of}
 use Rattle.psi_spec.specs.Trace.{Trace, trace_of}
-use Rattle.run_spec.specs.Replay.{Pace}
+use Rattle.run_spec.specs.Replay.{Timing}
 use Rattle.psi_base.specs.Memory.{no_memory}
-use Rattle.outside.specs.Outside.{Files, Lacks}
+use Rattle.outside.specs.Outside.{Files, IsAbsent}
 use Rattle.run_spec.specs.declared.command.Command.TheVariants.{Replay}
-use Rattle.run_spec.specs.Outputs.{or_refused_trace, taken_of}
+use Rattle.run_spec.specs.Outputs.{or_refused_trace, parse_of}
 use Rattle.run_spec.specs.Words.{command_of}
 use Rattle.observe_spec.specs.declared.status.ObserveStatus.{ObserveStatus}
 use Rattle.observe_spec.specs.Words.{Request, is_trace_name}
@@ -18,15 +18,15 @@ use Rattle.observe_spec.specs.declared.status.ObserveStatus.TheVariants as statu
 
 -- Each sample is taken after at most as many changes as its processor has.
 abbrev pub CountsAreOfChanges : Type 0
-CountsAreOfChanges = (trace : Trace) (pace : Pace) (path : List ℕ) (observers : ℕ) (looks : List Look) →
-    AreObserved trace pace path observers looks → (k : ℕ) (look : Look) → slice_get looks k ≡ Some look →
+CountsAreOfChanges = (trace : Trace) (timing : Timing) (path : List ℕ) (observers : ℕ) (looks : List Look) →
+    AreObserved trace timing path observers looks → (k : ℕ) (look : Look) → slice_get looks k ≡ Some look →
     look.count ≤ length (changes_of look.cpu trace.events)
 
 -- Each observer took exactly the samples that were due.
 abbrev pub EachTakesItsShare : Type 0
-EachTakesItsShare = (trace : Trace) (pace : Pace) (path : List ℕ) (observers : ℕ) (looks : List Look) →
-    AreObserved trace pace path observers looks → (observer : ℕ) → observer < observers →
-    length (looks_by observer looks) ≡ length (all_due trace pace path)
+EachTakesItsShare = (trace : Trace) (timing : Timing) (path : List ℕ) (observers : ℕ) (looks : List Look) →
+    AreObserved trace timing path observers looks → (observer : ℕ) → observer < observers →
+    length (looks_by observer looks) ≡ length (all_due trace timing path)
 
 -- ---- runs
 
@@ -38,10 +38,10 @@ ReplayHasThese = (name : List ℕ) → is_trace_name name ≡ true →
 -- The trace is the same as for `replay` without options, and is rejected in the same cases with the
 -- same status.
 abbrev pub TracesAreThoseOfReplay : Type 0
-TracesAreThoseOfReplay = (name bytes : List ℕ) → or_refused_trace (trace_of accepts bytes) ≡ taken_of (Replay name (options_on None)) bytes
+TracesAreThoseOfReplay = (name bytes : List ℕ) → or_refused_trace (trace_of accepts bytes) ≡ parse_of (Replay name (options_on None)) bytes
 
 -- If the trace's file is known to be missing, a run reports that, or another failure.
-abbrev pub MissingTraceTells : Type 0
-MissingTraceTells = (request : Request) (files : Option Files) (old new : Option (List ℕ)) (result : ObserveStatus) →
-    ObservingEnds request files old new result → Lacks files request.trace →
+abbrev pub MissingTraceShows : Type 0
+MissingTraceShows = (request : Request) (files : Option Files) (old new : Option (List ℕ)) (result : ObserveStatus) →
+    ObservingEnds request files old new result → IsAbsent files request.trace →
     (result ≡ status.NoFile) ⊎ (result ≡ status.ReadFault) ⊎ (result ≡ status.NoMemory no_memory)

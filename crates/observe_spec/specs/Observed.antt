@@ -6,7 +6,7 @@ use Rattle.psi_base.specs.declared.event.Event.{Event}
 use Rattle.psi_spec.specs.Changes.{event_of_change, times_after}
 use Rattle.psi_spec.specs.Trace.{Trace}
 use Rattle.run_spec.specs.Lines.{labelled, line_of}
-use Rattle.run_spec.specs.Replay.{Pace, signals_until, tick_count}
+use Rattle.run_spec.specs.Replay.{Timing, signals_until, tick_count}
 use Rattle.run_spec.specs.Text.{end_of}
 use Rattle.observe_spec.specs.Samples.{AreObserved, Look}
 
@@ -33,10 +33,10 @@ sample_line trace look =
 
 -- the line of an observer's last read of the board: the last tick, the signals up to it, and 0
 -- kills
-abbrev pub board_line : Trace → Pace → ℕ → List ℕ
-board_line trace pace observer =
-    line_of (codes "board" ∷ labelled (codes "observer=") observer ∷ labelled (codes "tick=") (tick_count trace pace)
-    ∷ labelled (codes "events=") (signals_until trace pace (tick_count trace pace)) ∷ labelled (codes "kills=") 0 ∷ [])
+abbrev pub board_line : Trace → Timing → ℕ → List ℕ
+board_line trace timing observer =
+    line_of (codes "board" ∷ labelled (codes "observer=") observer ∷ labelled (codes "tick=") (tick_count trace timing)
+    ∷ labelled (codes "events=") (signals_until trace timing (tick_count trace timing)) ∷ labelled (codes "kills=") 0 ∷ [])
 
 -- the last line: the end time (ns), and the number of samples
 abbrev pub observed_last_line : Trace → List Look → List ℕ
@@ -44,12 +44,12 @@ observed_last_line trace looks =
     line_of (codes "end" ∷ decimal (end_of trace.events) ∷ labelled (codes "samples=") (length looks) ∷ [])
 
 -- the text of samples that n observers took
-unfoldable pub observed_text : Trace → Pace → ℕ → List Look → List ℕ
-observed_text trace pace observers looks =
-    flat_map (sample_line trace) looks ++ flat_map (board_line trace pace) (range_with_len 0 observers) ++ observed_last_line trace looks
+unfoldable pub observed_text : Trace → Timing → ℕ → List Look → List ℕ
+observed_text trace timing observers looks =
+    flat_map (sample_line trace) looks ++ flat_map (board_line trace timing) (range_with_len 0 observers) ++ observed_last_line trace looks
 
 -- A text is valid output of n observers of the group with a path: it has samples that they may have
 -- taken.
-abbrev pub IsObservedText : Trace → Pace → List ℕ → ℕ → List ℕ → Type 0
-IsObservedText trace pace path observers text =
-    (looks : List Look) × AreObserved trace pace path observers looks × (text ≡ observed_text trace pace observers looks)
+abbrev pub IsObservedText : Trace → Timing → List ℕ → ℕ → List ℕ → Type 0
+IsObservedText trace timing path observers text =
+    (looks : List Look) × AreObserved trace timing path observers looks × (text ≡ observed_text trace timing observers looks)

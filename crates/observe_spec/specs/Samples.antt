@@ -6,7 +6,7 @@ use Rattle.psi_spec.specs.Changes.{RiseWithin, changes_of}
 use Rattle.psi_spec.specs.Trace.{Trace}
 use Rattle.pressure_spec.specs.Ticks.{tick_moment}
 use Rattle.run_spec.specs.Live.{changes_until, live_slot_at}
-use Rattle.run_spec.specs.Replay.{Pace, tick_count}
+use Rattle.run_spec.specs.Replay.{Timing, tick_count}
 
 -- a sample: the number of the observer that took it, the processor, the slot, and after how many
 -- changes of the processor
@@ -46,10 +46,10 @@ due_at trace tick i (Some slot) =
 
 -- all samples that are due for each observer: those of the ticks at which the path is live, in
 -- order
-abbrev pub all_due : Trace → Pace → List ℕ → List Due
-all_due trace pace path =
-    flat_map (λ i. due_at trace pace.length i (live_slot_at trace.events path (tick_moment pace.length i)))
-    (range_with_len 1 (tick_count trace pace))
+abbrev pub all_due : Trace → Timing → List ℕ → List Due
+all_due trace timing path =
+    flat_map (λ i. due_at trace timing.length i (live_slot_at trace.events path (tick_moment timing.length i)))
+    (range_with_len 1 (tick_count trace timing))
 
 -- these samples are those that were due, in order
 abbrev pub AreDone : List Due → List Look → Type 0
@@ -63,7 +63,7 @@ AreDone (due ∷ dues) (look ∷ looks) =
 -- there are no others. The counts of an observer's samples of a processor never fall, and are at
 -- most the number of the processor's changes. The order of different observers' samples and the
 -- exact counts are left open.
-pub record AreObserved (trace : Trace) (pace : Pace) (path : List ℕ) (observers : ℕ) (looks : List Look) : Type 0 where
-  pub done : (observer : ℕ) → observer < observers → AreDone (all_due trace pace path) (looks_by observer looks)
+pub record AreObserved (trace : Trace) (timing : Timing) (path : List ℕ) (observers : ℕ) (looks : List Look) : Type 0 where
+  pub done : (observer : ℕ) → observer < observers → AreDone (all_due trace timing path) (looks_by observer looks)
   pub none : (observer : ℕ) → observers ≤ observer → looks_by observer looks ≡ []
   pub rise : (observer cpu : ℕ) → RiseWithin 0 (counts_by observer cpu looks) (length (changes_of cpu trace.events))

@@ -1,5 +1,5 @@
 //! Laws of the definitions. Each function has an empty body: its contract is the law.
-ghost use Rattle.observe_spec.specs.Laws.{MissingTraceTells, ReplayHasThese, TracesAreThoseOfReplay, CountsAreOfChanges, EachTakesItsShare};
+ghost use Rattle.observe_spec.specs.Laws.{MissingTraceShows, ReplayHasThese, TracesAreThoseOfReplay, CountsAreOfChanges, EachTakesItsShare};
 
 /// A sample's number of changes is at most the processor's, and each observer takes all samples
 /// that are due for it.
@@ -17,5 +17,5 @@ pub fn law_as_replay()
 
 /// If the trace's file is known to be missing, a run reports that, or another failure.
 pub fn law_missing_trace()
-    ensures { MissingTraceTells }
+    ensures { MissingTraceShows }
 {}

@@ -38,14 +38,14 @@ fn traces_that_are_refused(rt: HostRuntime) {
 
 /// Checks a run with this status and note, with some failing calls and one byte a call, and that it
 /// prints a prefix of the output: all of it if the status is `Done`.
-fn assert_front(rt: &impl Host, failing: Failing, status: ObserveStatus, length: u64, note: &str) {
+fn assert_prefix(rt: &impl Host, failing: Failing, status: ObserveStatus, length: u64, note: &str) {
     let ran = run_failing(rt, "t 2 /a/b", TWO_TICKS, 1, failing);
-    let front = PRINTED
+    let prefix = PRINTED
         .as_bytes()
         .get(..length as usize)
         .unwrap_or(b"".as_slice());
-    let is_told = ran.note.as_slice() == note.as_bytes();
-    let is_right = ran.status == status && ran.output.as_slice() == front && is_told;
+    let is_reported = ran.note.as_slice() == note.as_bytes();
+    let is_right = ran.status == status && ran.output.as_slice() == prefix && is_reported;
     assert!(rt;
         is_right,
         "{failing:?}: {ran} in place of {status:?}, {length} bytes, {note:?}"
@@ -54,16 +54,16 @@ fn assert_front(rt: &impl Host, failing: Failing, status: ObserveStatus, length:
 
 #[test]
 fn each_call_fails_in_turn(rt: HostRuntime) {
-    assert_front(&rt, NO_FAULT, ObserveStatus::Done, WRITES, "");
+    assert_prefix(&rt, NO_FAULT, ObserveStatus::Done, WRITES, "");
     let fault = ObserveStatus::ReadFault;
     for read in 0..READS {
         let failing = Failing { read, ..NO_FAULT };
-        assert_front(&rt, failing, fault, 0, "read fault\n");
+        assert_prefix(&rt, failing, fault, 0, "read fault\n");
     }
     let fault = ObserveStatus::WriteFault;
     for write in 0..WRITES {
         let failing = Failing { write, ..NO_FAULT };
-        assert_front(&rt, failing, fault, write, "write fault\n");
+        assert_prefix(&rt, failing, fault, write, "write fault\n");
     }
 }
 

@@ -10,6 +10,8 @@ mod faults;
 #[cfg(test)]
 mod gates;
 #[cfg(test)]
+mod known;
+#[cfg(test)]
 mod limits;
 #[cfg(test)]
 mod lives;
@@ -17,7 +19,5 @@ mod lives;
 mod runs;
 #[cfg(test)]
 mod shares;
-#[cfg(test)]
-mod told;
 #[cfg(test)]
 mod words;

@@ -8,7 +8,7 @@ use std::alloc::Global;
 use std::process::Abort;
 
 /// Command lines that aren't a name, a number from 1 to 8 and a path.
-const NOTHING_ASKED: [&str; 14] = [
+const NOTHING_REQUESTED: [&str; 14] = [
     "t 9 /",
     "t 0 /",
     "t 01 /",
@@ -26,27 +26,27 @@ const NOTHING_ASKED: [&str; 14] = [
 ];
 
 /// Checks that a command line prints nothing, and ends with this status and note.
-fn assert_told(rt: &impl Host, line: &str, status: ObserveStatus, note: &str) {
+fn assert_reported(rt: &impl Host, line: &str, status: ObserveStatus, note: &str) {
     assert_prints_nothing(rt, line, ONE_PROCESSOR, status, note);
 }
 
 #[test]
 fn words_that_ask_for_nothing(rt: HostRuntime) {
     let usage = "usage: psi_observe TRACE OBSERVERS PATH\n";
-    for line in &NOTHING_ASKED {
-        assert_told(&rt, line, ObserveStatus::Usage, usage);
+    for line in &NOTHING_REQUESTED {
+        assert_reported(&rt, line, ObserveStatus::Usage, usage);
     }
 }
 
 // The shelf has only the file `t`.
 #[test]
 fn names_that_are_not_held(rt: HostRuntime) {
-    assert_told(&rt, "u 1 /", ObserveStatus::NoFile, "no file: u\n");
-    assert_told(&rt, "- 8 /a", ObserveStatus::NoFile, "no file: -\n");
+    assert_reported(&rt, "u 1 /", ObserveStatus::NoFile, "no file: u\n");
+    assert_reported(&rt, "- 8 /a", ObserveStatus::NoFile, "no file: -\n");
 }
 
 // An out-of-memory failure, as returned by an allocation that always fails.
-fn wanting(rt: &impl Abort, alloc: Global) -> NoMemory {
+fn short_of_memory(rt: &impl Abort, alloc: Global) -> NoMemory {
     match Vec::<u8>::with_capacity(alloc, usize::MAX) {
         Ok(_) => panic!(rt; "there is room for all bytes that can be named"),
         Err(refused) => NoMemory::from(refused),
@@ -63,7 +63,7 @@ fn codes_of_statuses(rt: HostRuntime) {
         ObserveStatus::NoFile.code(),
         ObserveStatus::ReadFault.code(),
         ObserveStatus::WriteFault.code(),
-        ObserveStatus::NoMemory(wanting(&rt, rt.alloc())).code(),
+        ObserveStatus::NoMemory(short_of_memory(&rt, rt.alloc())).code(),
         ObserveStatus::TooManySamples { samples: 1 }.code(),
     ];
     assert!(rt; codes == [0, 1, 2, 4, 5, 6, 7, 8]);

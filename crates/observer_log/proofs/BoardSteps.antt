@@ -7,7 +7,7 @@ use Rattle.std.proofs.lemmas.List.{append-nil, append_assoc}
 use Rattle.std.proofs.lemmas.Option.{slice_get_within}
 use Rattle.crossbeam_utils.specs.Register.{Turns, Forks, Merges}
 use Rattle.atomic_table.proofs.Lists.{at_set, at_snoc, at_longer, set_again, set_else}
-use Rattle.observer_log.specs.Board.{HoldsBoard, IsBoard, Knows, LastReadIsLast, IsPublished, ArePublished, Begins, HasPublished, HasRead, HasCompared, admitted, note_of, with_note, newcomer, after_read, after_told, first_state, first_view, as_driver, as_observer}
+use Rattle.observer_log.specs.Board.{HoldsBoard, IsBoard, Knows, LastReadIsLast, IsPublished, ArePublished, Begins, HasPublished, HasRead, HasCompared, admitted, note_of, with_note, newcomer, after_read, after_known, first_state, first_view, as_driver, as_observer}
 use Rattle.observer_log.specs.declared.board.BoardState.{BoardState}
 use Rattle.observer_log.specs.declared.board.Publishing.{Publishing}
 use Rattle.observer_log.specs.declared.board.Watching.{Watching}
@@ -21,10 +21,10 @@ there_set [] i a b e = absurd (some-ne-none a (sym e))
 there_set (x ∷ xs) zero a b e = refl
 there_set (x ∷ xs) (suc i) a b e = there_set xs i a b e
 
-get_front : (xs ys : List BoardState) (k : ℕ) (s : BoardState) → slice_get xs k ≡ Some s → slice_get (xs ++ ys) k ≡ Some s
-get_front [] ys k s e = absurd (cc)
-get_front (x ∷ xs) ys zero s e = e
-get_front (x ∷ xs) ys (suc k) s e = get_front xs ys k s e
+get_prefix : (xs ys : List BoardState) (k : ℕ) (s : BoardState) → slice_get xs k ≡ Some s → slice_get (xs ++ ys) k ≡ Some s
+get_prefix [] ys k s e = absurd (cc)
+get_prefix (x ∷ xs) ys zero s e = e
+get_prefix (x ∷ xs) ys (suc k) s e = get_prefix xs ys k s e
 
 get_end : (xs : List BoardState) (k : ℕ) (s : BoardState) → k ≡ length xs → slice_get (xs ++ s ∷ []) k ≡ Some s
 get_end [] zero s e = refl
@@ -34,13 +34,13 @@ get_end (x ∷ xs) (suc k) s e = get_end xs k s (omega arith)
 
 still_published : (states rest read : List BoardState) → ArePublished states read → ArePublished (states ++ rest) read
 still_published states rest [] all = tt
-still_published states rest (s ∷ more) all = (get_front states rest s.tick s all.0, still_published states rest more all.1)
+still_published states rest (s ∷ more) all = (get_prefix states rest s.tick s all.0, still_published states rest more all.1)
 
-still_begins : (states rest front : List BoardState) → Begins states front → Begins (states ++ rest) front
-still_begins states rest front b = (b.0 ++ rest, ap (λ l. l ++ rest) b.1 ∙ append_assoc front b.0 rest)
+still_begins : (states rest prefix : List BoardState) → Begins states prefix → Begins (states ++ rest) prefix
+still_begins states rest prefix b = (b.0 ++ rest, ap (λ l. l ++ rest) b.1 ∙ append_assoc prefix b.0 rest)
 
-length_of_front : (states front : List BoardState) → Begins states front → length front ≤ length states
-length_of_front states front b = let e : length states ≡ length front + length b.0 = ap length b.1 ∙ length-append front b.0 in omega arith
+length_of_prefix : (states prefix : List BoardState) → Begins states prefix → length prefix ≤ length states
+length_of_prefix states prefix b = let e : length states ≡ length prefix + length b.0 = ap length b.1 ∙ length-append prefix b.0 in omega arith
 
 -- ---- the views of a board
 
@@ -198,13 +198,13 @@ pub observer_hears : (id : ℕ) (v : View) (o : Watching) (other : ℕ) (u : Vie
 observer_hears id v o other u shown is note x views b at apart there =
     let guest_here = guest x views b id v o is at in
     let states = b.1.states in
-    let w : Watching = after_told shown o in
+    let w : Watching = after_known shown o in
     let view : with_note v u ≡ Observer w = ap (λ z. with_note z u) is ∙ ap (with_note (Observer o)) note in
     let was : get_elem? views other ≡ some u = sym (set_else views id other (with_note v u) apart) ∙ there in
     let begun = subst (Knows b.0 states other) note (b.2.each other u was) in
     let known = subst (Knows b.0 states id) is (b.2.each id v at) in
     let below : o.least < length states = known.0 in
-    let short : length shown ≤ length states = length_of_front states shown begun in
+    let short : length shown ≤ length states = length_of_prefix states shown begun in
     let here : get_elem? views b.0 ≡ some (Driver b.1) = b.2.here in
     let note_apart : other ≢ b.0 = λ e. cc in
     subst (λ (z : View). HoldsBoard x (set (set views id z) other Spent)) (sym view) (
@@ -231,7 +231,7 @@ is_observer v o is = is ∙ ap Observer (sym (ap as_observer is))
 pub driver_heard : (v u w : View) (d : Publishing) (read : List BoardState) → w ≡ with_note v u → v ≡ Driver d → u ≡ Seen read → w ≡ Driver (record { states = d.states; heard = read })
 driver_heard v u w d read made is note = made ∙ (ap (λ z. with_note z u) is ∙ ap (with_note (Driver d)) note)
 
-pub observer_heard : (v u w : View) (o : Watching) (states : List BoardState) → w ≡ with_note v u → v ≡ Observer o → u ≡ Shown states → w ≡ Observer (after_told states o)
+pub observer_heard : (v u w : View) (o : Watching) (states : List BoardState) → w ≡ with_note v u → v ≡ Observer o → u ≡ Shown states → w ≡ Observer (after_known states o)
 observer_heard v u w o states made is note = made ∙ (ap (λ z. with_note z u) is ∙ ap (with_note (Observer o)) note)
 
 -- ---- the last read

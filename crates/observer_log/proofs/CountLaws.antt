@@ -6,7 +6,7 @@ use Rattle.std.proofs.lemmas.Grind.{common_steps}
 use Rattle.std.proofs.lemmas.Bool.{eqb-true}
 use Rattle.std.proofs.lemmas.List.{map-append, take-append-drop}
 use Rattle.std.proofs.lemmas.List.Elements.{filter-append}
-use Rattle.observer_log.specs.Entries.{AreBy, AreOwn, by, counts_of, is_by, is_of, list_of, said}
+use Rattle.observer_log.specs.Entries.{AreBy, AreOwn, by, counts_of, is_by, is_of, list_of, parsed_from}
 use Rattle.observer_log.specs.Journal.{Agrees, IsBefore, IsGood, IsNotBefore, RiseFrom, joined, last_of}
 use Rattle.observer_log.specs.declared.entry.Entry.{Entry}
 
@@ -43,9 +43,9 @@ pub last_here : (entries : List Entry) (i : ℕ) (e : Entry) (o cpu : ℕ) → i
     → last_of (counts_of o cpu entries) ≡ Some e.count
 last_here entries i e o cpu inside at is none =
     let p = is_of o cpu in
-    let behind : drop i entries ≡ e ∷ drop (suc i) entries = drop-cons entries i e inside ∙ ap (λ (x : Entry). x ∷ drop (suc i) entries) (sym at) in
+    let suffix : drop i entries ≡ e ∷ drop (suc i) entries = drop-cons entries i e inside ∙ ap (λ (x : Entry). x ∷ drop (suc i) entries) (sym at) in
     let one : filter p (e ∷ drop (suc i) entries) ≡ e ∷ [] = rw is (ap (λ l. e ∷ l) none) in
-    let all : filter p entries ≡ filter p (take i entries) ++ e ∷ [] = ap (filter p) (sym (take-append-drop i entries)) ∙ (filter-append p (take i entries) (drop i entries) ∙ ap (λ l. filter p (take i entries) ++ l) (ap (filter p) behind ∙ one)) in
+    let all : filter p entries ≡ filter p (take i entries) ++ e ∷ [] = ap (filter p) (sym (take-append-drop i entries)) ∙ (filter-append p (take i entries) (drop i entries) ∙ ap (λ l. filter p (take i entries) ++ l) (ap (filter p) suffix ∙ one)) in
     let counts : counts_of o cpu entries ≡ map (λ (x : Entry). x.count) (filter p (take i entries)) ++ e.count ∷ [] = ap (map (λ (x : Entry). x.count)) all ∙ map-append (λ (x : Entry). x.count) (filter p (take i entries)) (e ∷ []) in
     ap last_of counts ∙ last_push (map (λ (x : Entry). x.count) (filter p (take i entries))) e.count
 

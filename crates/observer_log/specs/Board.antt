@@ -37,7 +37,7 @@ IsLast states state = slice_get states (length states - 1) ≡ Some state
 
 -- a list has another as a prefix
 abbrev pub Begins : List BoardState → List BoardState → Type 0
-Begins states front = (rest : List BoardState) × (states ≡ front ++ rest)
+Begins states prefix = (rest : List BoardState) × (states ≡ prefix ++ rest)
 
 -- ---- what a pass knows
 
@@ -50,8 +50,8 @@ abbrev pub after_read : BoardState → Watching → Watching
 after_read state watching = record { least = state.tick; read = state ∷ watching.read }
 
 -- an observer after it was notified of these states
-abbrev pub after_told : List BoardState → Watching → Watching
-after_told states watching = record { least = max watching.least (length states - 1); read = watching.read }
+abbrev pub after_known : List BoardState → Watching → Watching
+after_known states watching = record { least = max watching.least (length states - 1); read = watching.read }
 
 -- the driver's view of a new board
 abbrev pub first_view : View
@@ -71,7 +71,7 @@ note_of view = Spent
 -- a view that takes a note
 abbrev pub with_note : View → View → View
 with_note (Driver driver) (Seen read) = Driver (record { states = driver.states; heard = read })
-with_note (Observer watching) (Shown states) = Observer (after_told states watching)
+with_note (Observer watching) (Shown states) = Observer (after_known states watching)
 with_note view note = view
 
 -- ---- the rule
@@ -156,5 +156,5 @@ IsObserver seat = cell_view seat ≡ Observer (as_observer (cell_view seat))
 -- An observer that was notified of all published states, then read a state, and whose reads are all
 -- published ones, has read the last state.
 abbrev pub LastReadIsLast : Type 0
-LastReadIsLast = (states : List BoardState) (state : BoardState) (before : Watching) → (after_told states before).least ≤ state.tick →
-    ArePublished states (after_read state (after_told states before)).read → IsLast states state
+LastReadIsLast = (states : List BoardState) (state : BoardState) (before : Watching) → (after_known states before).least ≤ state.tick →
+    ArePublished states (after_read state (after_known states before)).read → IsLast states state

@@ -12,8 +12,8 @@ pub record Said : Type 0 where
   pub at : ℕ
   pub seven : List ℕ
 
-abbrev pub said : Entry → Said
-said entry =
+abbrev pub parsed_from : Entry → Said
+parsed_from entry =
     record { observer = entry.observer; cpu = entry.cpu.0; slot = entry.slot.0; count = entry.count; at = entry.at; seven = entry.seven }
 
 -- the entry is an observer's

@@ -1,6 +1,6 @@
 //! The tick board: one driver publishes, and observers read without a lock.
 ghost use Rattle.std.specs.Prelude.{◌≡◌, ◌≤◌, [], ◌∷◌, ◌++◌, length, IfOk, IsOk, Ok};
-ghost use Rattle.observer_log.specs.Board.{ArePublished, after_read, after_told, first_state, newcomer};
+ghost use Rattle.observer_log.specs.Board.{ArePublished, after_read, after_known, first_state, newcomer};
 
 use atomic_table::{Join, Split};
 use crossbeam_utils::atomic::seq_cell::{Pass, RuledSeqCell, Words};
@@ -119,9 +119,9 @@ impl Split<View> for Admits {
 }
 
 // 3 and 4, a split and a join: one pass creates a note of what it knows, and the other takes it.
-struct Tells;
+struct Shows;
 
-impl Split<View> for Tells {
+impl Split<View> for Shows {
     ghost use Rattle.observer_log.specs.Board.{note_of};
 
     ghost left = { λ view. view };
@@ -129,7 +129,7 @@ impl Split<View> for Tells {
     ghost right = { note_of };
 }
 
-impl Join<View> for Tells {
+impl Join<View> for Shows {
     ghost use Rattle.observer_log.specs.declared.board.View.TheVariants.{Spent};
     ghost use Rattle.observer_log.specs.Board.{with_note};
 
@@ -241,7 +241,7 @@ impl Board {
 
     /// Notifies a pass of all published states, and checks what it has read: each such state is the
     /// published state of its tick. Always returns Ok.
-    pub fn tell<R: Wait>(
+    pub fn notify<R: Wait>(
         &self,
         rt: &R,
         driver: &mut DriverPass,
@@ -252,14 +252,14 @@ impl Board {
         ensures ok { result ≡ Ok tt }
         ensures same { driver.new ≡ driver.old }
         ensures board { pass.new.board ≡ pass.old.board }
-        ensures told { pass.new.knows ≡ after_told driver.old.states pass.old.knows }
+        ensures known { pass.new.knows ≡ after_known driver.old.states pass.old.knows }
         ensures read { ArePublished driver.old.states pass.old.knows.read }
     {
-        let seen = self.cell.split_pass::<Tells>(&mut pass.seat);
-        self.cell.join_pass::<Tells>(&mut driver.seat, seen);
+        let seen = self.cell.split_pass::<Shows>(&mut pass.seat);
+        self.cell.join_pass::<Shows>(&mut driver.seat, seen);
         self.cell.load_as::<Compares, R>(rt, &mut driver.seat);
-        let shown = self.cell.split_pass::<Tells>(&mut driver.seat);
-        self.cell.join_pass::<Tells>(&mut pass.seat, shown);
+        let shown = self.cell.split_pass::<Shows>(&mut driver.seat);
+        self.cell.join_pass::<Shows>(&mut pass.seat, shown);
         Ok(())
     }
 }

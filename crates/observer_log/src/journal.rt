@@ -111,7 +111,7 @@ impl<'a, L: Ledger> Journal<'a, L> {
         requires { 0 < share.old.parts }
         ensures added { IfOk result (λ _. self.new ≡ self.old ++ entry.entry ∷ []) }
         ensures counted { IfOk result (λ _. share.new.amount ≡ share.old.amount + 1) }
-        ensures kept { IfErr result (λ _.
+        ensures unchanged { IfErr result (λ _.
             (self.new ≡ self.old) × (share.new.amount ≡ share.old.amount)) }
         ensures parts { share.new.parts ≡ share.old.parts }
         ensures falls { (last : ℕ) →

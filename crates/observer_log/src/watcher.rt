@@ -108,7 +108,7 @@ impl<'a> Watcher<'a> {
         requires seen { last.now.count ≡ (reader_at self.old.readers cpu.0).knows.seen }
         ensures looked { IfOk result (λ _.
             HasLooked cpu.0 slot.0 last.now.count self.old self.new) }
-        ensures kept { IfErr result (λ _. self.new ≡ self.old) }
+        ensures unchanged { IfErr result (λ _. self.new ≡ self.old) }
     {
         self.own.entries.reserve(1)?;
         let entry = take_one(

@@ -8,7 +8,7 @@ use Rattle.std.proofs.lemmas.Grind.{flat_map-append}
 use Rattle.std.specs.List.{flat_map}
 use Rattle.std.proofs.Math.Seq.{take-append_seam}
 use Rattle.std.proofs.lemmas.List.{take-append-drop, drop_more}
-use Rattle.outside.specs.Outside.{AppendsFront}
+use Rattle.outside.specs.Outside.{AppendsPrefix}
 use Rattle.outside.specs.Calls.{PutsAll}
 
 -- nothing was sent
@@ -29,57 +29,57 @@ Appends-more old mid new bytes piece at n a same b =
     rw (take-add at n bytes) (Appends-then old mid new (take at bytes) (take n (drop at bytes)) a (rw same at b))
 
 -- the rest after the first bytes, if these grew by a prefix of all
-front_of : (had front rest has : List ℕ) → has ≡ had ++ front → has ≡ had ++ take (length has - length had) (front ++ rest)
-front_of had front rest has same =
-    let long : length has - length had ≡ length front = omega (arith, length-append had front, ap length same) in
+prefix_of : (had prefix rest has : List ℕ) → has ≡ had ++ prefix → has ≡ had ++ take (length has - length had) (prefix ++ rest)
+prefix_of had prefix rest has same =
+    let long : length has - length had ≡ length prefix = omega (arith, length-append had prefix, ap length same) in
     rw long (rw take-append_seam same)
 
 -- known bytes that grew by a prefix of the bytes
-pub AppendsFront-of : (old new : Option (List ℕ)) (front rest whole : List ℕ) → Appends old new front → whole ≡ front ++ rest → AppendsFront old new whole
-AppendsFront-of None new front rest whole a same = tt
-AppendsFront-of (Some had) None front rest whole a same = absurd a
-AppendsFront-of (Some had) (Some has) front rest whole a same = rw same (front_of had front rest has a)
+pub AppendsPrefix-of : (old new : Option (List ℕ)) (prefix rest whole : List ℕ) → Appends old new prefix → whole ≡ prefix ++ rest → AppendsPrefix old new whole
+AppendsPrefix-of None new prefix rest whole a same = tt
+AppendsPrefix-of (Some had) None prefix rest whole a same = absurd a
+AppendsPrefix-of (Some had) (Some has) prefix rest whole a same = rw same (prefix_of had prefix rest has a)
 
 -- a prefix of the rest after the first bytes makes a prefix of all
-pub front_after : (had xs ys rest has : List ℕ) → has ≡ (had ++ xs) ++ take (length has - length (had ++ xs)) ys → has ≡ had ++ take (length has - length had) ((xs ++ ys) ++ rest)
-front_after had xs ys rest has grew =
+pub prefix_after : (had xs ys rest has : List ℕ) → has ≡ (had ++ xs) ++ take (length has - length (had ++ xs)) ys → has ≡ had ++ take (length has - length had) ((xs ++ ys) ++ rest)
+prefix_after had xs ys rest has grew =
     let n = length has - length (had ++ xs) in
     let split : (xs ++ ys) ++ rest ≡ (xs ++ take n ys) ++ (drop n ys ++ rest) =
     ap (λ zs. (xs ++ zs) ++ rest) (sym (take-append-drop n ys)) ∙ simp append_assoc in
-    rw split (front_of had (xs ++ take n ys) (drop n ys ++ rest) has (grew ∙ append_assoc had xs (take n ys)))
+    rw split (prefix_of had (xs ++ take n ys) (drop n ys ++ rest) has (grew ∙ append_assoc had xs (take n ys)))
 
 -- the part that was sent first, followed by a prefix of the rest, is a prefix of all
-pub AppendsFront-then : (old mid new : Option (List ℕ)) (xs ys rest : List ℕ) → Appends old mid xs → AppendsFront mid new ys → AppendsFront old new (xs ++ (ys ++ rest))
-AppendsFront-then None mid new xs ys rest a front = tt
-AppendsFront-then (Some had) None new xs ys rest a front = absurd a
-AppendsFront-then (Some had) (Some mid) None xs ys rest a front = absurd front
-AppendsFront-then (Some had) (Some mid) (Some has) xs ys rest a front =
-    let moved : has ≡ (had ++ xs) ++ take (length has - length (had ++ xs)) ys = rw a at front in
-    rw (sym (append_assoc xs ys rest)) (front_after had xs ys rest has moved)
+pub AppendsPrefix-then : (old mid new : Option (List ℕ)) (xs ys rest : List ℕ) → Appends old mid xs → AppendsPrefix mid new ys → AppendsPrefix old new (xs ++ (ys ++ rest))
+AppendsPrefix-then None mid new xs ys rest a prefix = tt
+AppendsPrefix-then (Some had) None new xs ys rest a prefix = absurd a
+AppendsPrefix-then (Some had) (Some mid) None xs ys rest a prefix = absurd prefix
+AppendsPrefix-then (Some had) (Some mid) (Some has) xs ys rest a prefix =
+    let moved : has ≡ (had ++ xs) ++ take (length has - length (had ++ xs)) ys = rw a at prefix in
+    rw (sym (append_assoc xs ys rest)) (prefix_after had xs ys rest has moved)
 
 -- a prefix of the first bytes is a prefix of all
-pub front_first : (had ys rest has : List ℕ) → has ≡ had ++ take (length has - length had) ys → has ≡ had ++ take (length has - length had) (ys ++ rest)
-front_first had ys rest has grew =
+pub prefix_first : (had ys rest has : List ℕ) → has ≡ had ++ take (length has - length had) ys → has ≡ had ++ take (length has - length had) (ys ++ rest)
+prefix_first had ys rest has grew =
     let n = length has - length had in
     let split : ys ++ rest ≡ take n ys ++ (drop n ys ++ rest) =
     ap (λ zs. zs ++ rest) (sym (take-append-drop n ys)) ∙ simp append_assoc in
-    rw split (front_of had (take n ys) (drop n ys ++ rest) has grew)
+    rw split (prefix_of had (take n ys) (drop n ys ++ rest) has grew)
 
 -- the first bytes followed by a prefix of the last bytes are a prefix of all
-pub front_last : (had xs ys has : List ℕ) → has ≡ (had ++ xs) ++ take (length has - length (had ++ xs)) ys → has ≡ had ++ take (length has - length had) (xs ++ ys)
-front_last had xs ys has grew =
-    rw (sym (append-nil (xs ++ ys))) (front_after had xs ys [] has grew)
+pub prefix_last : (had xs ys has : List ℕ) → has ≡ (had ++ xs) ++ take (length has - length (had ++ xs)) ys → has ≡ had ++ take (length has - length had) (xs ++ ys)
+prefix_last had xs ys has grew =
+    rw (sym (append-nil (xs ++ ys))) (prefix_after had xs ys [] has grew)
 
 -- the part that was sent first, followed by a prefix of the remaining bytes, is a prefix of all
-pub AppendsFront-last : (old mid new : Option (List ℕ)) (xs ys : List ℕ) → Appends old mid xs → AppendsFront mid new ys → AppendsFront old new (xs ++ ys)
-AppendsFront-last old mid new xs ys a front =
-    let all : AppendsFront old new (xs ++ (ys ++ [])) = AppendsFront-then old mid new xs ys [] a front in
+pub AppendsPrefix-last : (old mid new : Option (List ℕ)) (xs ys : List ℕ) → Appends old mid xs → AppendsPrefix mid new ys → AppendsPrefix old new (xs ++ ys)
+AppendsPrefix-last old mid new xs ys a prefix =
+    let all : AppendsPrefix old new (xs ++ (ys ++ [])) = AppendsPrefix-then old mid new xs ys [] a prefix in
     rw (append-nil ys) at all
 
 -- the state after a failed call
-pub PutsAll-failed : {T E : Type 0} → (old new : Option (List ℕ)) (result : Result T E) (bytes : List ℕ) → IsErr result → AppendsFront old new bytes → PutsAll old new result bytes
-PutsAll-failed old new (Ok value) bytes failed front = cc
-PutsAll-failed old new (Err fault) bytes failed front = front
+pub PutsAll-failed : {T E : Type 0} → (old new : Option (List ℕ)) (result : Result T E) (bytes : List ℕ) → IsErr result → AppendsPrefix old new bytes → PutsAll old new result bytes
+PutsAll-failed old new (Ok value) bytes failed prefix = cc
+PutsAll-failed old new (Err fault) bytes failed prefix = prefix
 
 -- the pieces before one, that piece, and the pieces after it
 pub flat_map-at : {X : Type 0} → (f : X → List ℕ) (xs : List X) (i : ℕ) (d : X) → i < length xs → flat_map f xs ≡ flat_map f (take i xs) ++ (f (get_or xs i d) ++ flat_map f (drop (i + 1) xs))
@@ -91,4 +91,4 @@ pub ruleset growth = (Appends-none, Appends-more)
 
 -- for calls in order: `put_all(..)?; put_number(..)?; put_each(..)`, whose text is that of the
 -- calls, joined
-pub ruleset chain = (append_assoc, front_first, front_after, front_last)
+pub ruleset chain = (append_assoc, prefix_first, prefix_after, prefix_last)

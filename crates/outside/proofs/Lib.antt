@@ -1,5 +1,5 @@
 pub mod Grows
 pub mod Buffered
 pub mod Walks
-pub mod Behind
+pub mod Suffix
 pub mod ReadOrder

@@ -1,8 +1,8 @@
 -- How reads of files in order are combined.
-use Rattle.std.proofs.Common.{◌≡◌, inl, inr, ℕ, zero, suc, ◌+◌, ◌<◌, List, [], ◌∷◌, ◌++◌, refl, sym, ap, ◌∙◌, subst, append_assoc, arith, Option, None, Some, Result, Ok, Err}
+use Rattle.std.proofs.Common.{◌≡◌, ℕ, zero, suc, ◌+◌, ◌<◌, List, [], ◌∷◌, ◌++◌, refl, sym, ap, ◌∙◌, subst, append_assoc, arith, Option, None, Some, Result, Ok, Err}
 use Rattle.std.proofs.lemmas.List.{append-nil}
 use Rattle.outside.specs.declared.shelf.ShelfFault.{ShelfFault}
-use Rattle.outside.specs.Reads.{AreReads, Progress, ReadCall, ReadFailure, ReadsFile, ReadsEach, ReadsFrom, after_read, failure_in, fault_in, read_call}
+use Rattle.outside.specs.Reads.{AreReads, Progress, ReadCall, ReadsFile, ReadsEach, ReadsFrom, after_read, fault_in, read_call}
 use Rattle.outside.specs.Reads.Progress.{Next, Over}
 
 -- ---- one file
@@ -72,23 +72,19 @@ file_unread name at log = file_read name at log log (Next at) (no_reads name (Ne
 -- ---- several files
 
 -- nothing is read of any file
-pub none_read : (names : List (List ℕ)) (log : List ReadCall) → ReadsEach names log log None
-none_read [] log = (refl, refl)
-none_read (name ∷ names) log = inl (log, file_unread name 0 log, none_read names log)
+pub none_read : (names : List (List ℕ)) (log : List ReadCall) → ReadsEach names log log
+none_read [] log = refl
+none_read (name ∷ names) log = (log, file_unread name 0 log, none_read names log)
 
 -- one file was read, and nothing of later files
-pub file_stops : (name : List ℕ) (names : List (List ℕ)) (before now : List ReadCall) (fault : Option ShelfFault) → ReadsFile name 0 before now fault → ReadsEach (name ∷ names) before now (failure_in name fault)
-file_stops name names before now None reads = inl (now, reads, none_read names now)
-file_stops name names before now (Some fault) reads = inr (fault, reads, refl)
+pub file_stops : (name : List ℕ) (names : List (List ℕ)) (before now : List ReadCall) → ReadsFile name 0 before now None → ReadsEach (name ∷ names) before now
+file_stops name names before now reads = (now, reads, none_read names now)
 
--- files after files that had no fault
-pub files_then : (xs ys : List (List ℕ)) (before between now : List ReadCall) (failure : Option ReadFailure) → ReadsEach xs before between None → ReadsEach ys between now failure → ReadsEach (xs ++ ys) before now failure
-files_then [] ys before between now failure first then = subst (λ log. ReadsEach ys log now failure) first.0 then
-files_then (name ∷ xs) ys before between now failure (inl (middle, reads, rest)) then = inl (middle, reads, files_then xs ys middle between now failure rest then)
-files_then (name ∷ xs) ys before between now failure (inr (fault, reads, is)) then = absurd (let no : ⊥ = cc is in no)
+-- files after files
+pub files_then : (xs ys : List (List ℕ)) (before between now : List ReadCall) → ReadsEach xs before between → ReadsEach ys between now → ReadsEach (xs ++ ys) before now
+files_then [] ys before between now first then = subst (λ log. ReadsEach ys log now) first then
+files_then (name ∷ xs) ys before between now first then = (first.0, first.1, files_then xs ys first.0 between now first.2 then)
 
 -- nothing is read of later files
-pub files_stop : (xs ys : List (List ℕ)) (before now : List ReadCall) (failure : Option ReadFailure) → ReadsEach xs before now failure → ReadsEach (xs ++ ys) before now failure
-files_stop [] ys before now failure first = subst (λ f. ReadsEach ys before now f) (sym first.1) (subst (λ log. ReadsEach ys before log None) (sym first.0) (none_read ys before))
-files_stop (name ∷ xs) ys before now failure (inl (middle, reads, rest)) = inl (middle, reads, files_stop xs ys middle now failure rest)
-files_stop (name ∷ xs) ys before now failure (inr (fault, reads, is)) = inr (fault, reads, is)
+pub files_stop : (xs ys : List (List ℕ)) (before now : List ReadCall) → ReadsEach xs before now → ReadsEach (xs ++ ys) before now
+files_stop xs ys before now reads = files_then xs ys before now now reads (none_read ys now)

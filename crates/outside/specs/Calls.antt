@@ -1,7 +1,7 @@
 -- Results of the calls of this crate's own types, beyond what every shelf and sink does.
 use Rattle.std.specs.Prelude.{◌≡◌, ℕ, ◌+◌, ◌-◌, ◌^◌, ◌≤◌, min, List, Option, Result, MatchResult}
 use Rattle.std.specs.Io.KnownBytes.{Appends}
-use Rattle.outside.specs.Outside.{AppendsFront}
+use Rattle.outside.specs.Outside.{AppendsPrefix}
 
 -- a 64-bit count plus 1; it stays at its maximum
 abbrev pub one_more : ℕ → ℕ
@@ -17,4 +17,4 @@ pub record CountsWhere (Happened : Type 0) (before now : ℕ) : Type 0 where
 abbrev pub PutsAll :
     {T E : Type 0} → Option (List ℕ) → Option (List ℕ) → Result T E → List ℕ → Type 0
 PutsAll old new result bytes =
-    MatchResult result (λ _. Appends old new bytes) (λ _. AppendsFront old new bytes)
+    MatchResult result (λ _. Appends old new bytes) (λ _. AppendsPrefix old new bytes)

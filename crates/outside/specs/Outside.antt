@@ -12,24 +12,24 @@ bytes_of [] name = None
 bytes_of (file ∷ files) name = if bytes_eq file.0 name then Some file.1 else bytes_of files name
 
 -- a 64-bit count increased: it is greater than before, or at its maximum
-abbrev pub Rose : ℕ → ℕ → Type 0
-Rose before now = (before < now) ⊎ (now ≡ 2 ^ 64 - 1)
+abbrev pub Increased : ℕ → ℕ → Type 0
+Increased before now = (before < now) ⊎ (now ≡ 2 ^ 64 - 1)
 
 -- a count never falls: it increased if the result is a failure, and is unchanged otherwise
 pub record HasCause {T E : Type 0} (before now : ℕ) (result : Result T E) : Type 0 where
   pub later : before ≤ now
-  pub failed : OnErr result (Rose before now)
+  pub failed : OnErr result (Increased before now)
   pub same : OnOk result (now ≡ before)
 
 -- the bytes of a name, if the shelf's contents are known
-abbrev pub told : Option Files → List ℕ → Option (List ℕ)
-told None name = None
-told (Some files) name = bytes_of files name
+abbrev pub content_of : Option Files → List ℕ → Option (List ℕ)
+content_of None name = None
+content_of (Some files) name = bytes_of files name
 
 -- the shelf's contents are known, and don't include the name
-abbrev pub Lacks : Option Files → List ℕ → Type 0
-Lacks None name = ⊥
-Lacks (Some files) name = bytes_of files name ≡ None
+abbrev pub IsAbsent : Option Files → List ℕ → Type 0
+IsAbsent None name = ⊥
+IsAbsent (Some files) name = bytes_of files name ≡ None
 
 -- n bytes from this place were read into the start of this buffer; n is 0 only at the end
 pub record ReadsBytes (bytes : List ℕ) (at n : ℕ) (before into : List ℕ) : Type 0 where
@@ -39,9 +39,9 @@ pub record ReadsBytes (bytes : List ℕ) (at n : ℕ) (before into : List ℕ) :
   pub rest : drop n into ≡ drop n before
 
 -- the number of bytes that a read returned: 0 if it failed
-abbrev pub given_by : {E : Type 0} → Result ℕ E → ℕ
-given_by (Ok n) = n
-given_by (Err fault) = 0
+abbrev pub count_read : {E : Type 0} → Result ℕ E → ℕ
+count_read (Ok n) = n
+count_read (Err fault) = 0
 
 -- the counts of a shelf: failed reads, and names that were missing
 pub record ShelfCounts : Type 0 where
@@ -57,16 +57,16 @@ counts_of faults absent = record { faults = faults; absent = absent }
 pub record HasCauses (before now : ShelfCounts) (HasFailed HasMissed : Type 0) : Type 0 where
   pub faults_later : before.faults ≤ now.faults
   pub absent_later : before.absent ≤ now.absent
-  pub failed : HasFailed → Rose before.faults now.faults
-  pub missed : HasMissed → Rose before.absent now.absent
+  pub failed : HasFailed → Increased before.faults now.faults
+  pub missed : HasMissed → Increased before.absent now.absent
   pub faults_same : ¬ HasFailed → now.faults ≡ before.faults
   pub absent_same : ¬ HasMissed → now.absent ≡ before.absent
 
 -- known bytes grew by a prefix of the bytes
-abbrev pub AppendsFront : Option (List ℕ) → Option (List ℕ) → List ℕ → Type 0
-AppendsFront None new bytes = ⊤
-AppendsFront (Some had) None bytes = ⊥
-AppendsFront (Some had) (Some has) bytes = has ≡ had ++ take (length has - length had) bytes
+abbrev pub AppendsPrefix : Option (List ℕ) → Option (List ℕ) → List ℕ → Type 0
+AppendsPrefix None new bytes = ⊤
+AppendsPrefix (Some had) None bytes = ⊥
+AppendsPrefix (Some had) (Some has) bytes = has ≡ had ++ take (length has - length had) bytes
 
 -- the number of known bytes
 abbrev pub known_count : Option (List ℕ) → ℕ
@@ -75,19 +75,19 @@ known_count (Some bytes) = length bytes
 
 -- the inner sink of a sink that forwards its bytes: the name of its borrow, and how many bytes it
 -- is known to have
-pub record Below : Type 0 where
+pub record Inner : Type 0 where
   pub name : ℕ
   pub count : ℕ
 
 -- the inner sink, from the name of its borrow and its bytes, if they are known
-abbrev pub below_of : ℕ → Option (List ℕ) → Below
-below_of name has = record { name = name; count = known_count has }
+abbrev pub inner_of : ℕ → Option (List ℕ) → Inner
+inner_of name has = record { name = name; count = known_count has }
 
 -- no inner sink
-abbrev pub nothing_below : Below
-nothing_below = below_of 0 None
+abbrev pub no_inner : Inner
+no_inner = inner_of 0 None
 
 -- the inner sink is the same as before, and has no fewer bytes
-pub record StaysOver (before now : Below) : Type 0 where
+pub record SameInner (before now : Inner) : Type 0 where
   pub same : now.name ≡ before.name
   pub more : before.count ≤ now.count

@@ -1,5 +1,5 @@
 -- The log of a shelf's reads, and a definition of reading files in order.
-use Rattle.std.specs.Prelude.{◌≡◌, ◌⊎◌, ℕ, zero, suc, ◌+◌, ◌<◌, List, [], ◌∷◌, ◌++◌, Option, None, Some, Result, Ok, Err}
+use Rattle.std.specs.Prelude.{◌≡◌, ℕ, zero, suc, ◌+◌, ◌<◌, List, [], ◌∷◌, ◌++◌, Option, None, Some, Result, Ok, Err}
 use Rattle.outside.specs.declared.shelf.ShelfFault.{ShelfFault}
 
 -- one read: the name, its first byte's place (in bytes), how many bytes it requests, and how many
@@ -56,24 +56,8 @@ pub record ReadsFile (name : List ℕ) (at : ℕ) (before now : List ReadCall) (
 
 -- ---- several files
 
--- the fault of a read, and the name that was read
-pub record ReadFailure : Type 0 where
-  pub name : List ℕ
-  pub fault : ShelfFault
-
--- a read of this name had this fault
-abbrev pub failure_at : List ℕ → ShelfFault → ReadFailure
-failure_at name fault = record { name = name; fault = fault }
-
--- the failure of the reads of a name, if they ended with a fault
-abbrev pub failure_in : List ℕ → Option ShelfFault → Option ReadFailure
-failure_in name None = None
-failure_in name (Some fault) = Some (failure_at name fault)
-
--- A log grew by reads of files in order, each from its first byte. If one has a fault, nothing more
--- is read.
-abbrev pub ReadsEach : List (List ℕ) → List ReadCall → List ReadCall → Option ReadFailure → Type 0
-ReadsEach [] before now failure = (now ≡ before) × (failure ≡ None)
-ReadsEach (name ∷ names) before now failure =
-    ((middle : List ReadCall) × ReadsFile name 0 before middle None × ReadsEach names middle now failure)
-    ⊎ ((fault : ShelfFault) × ReadsFile name 0 before now (Some fault) × (failure ≡ Some (failure_at name fault)))
+-- a log grew by reads of files in order, each from its first byte, and no read had a fault
+abbrev pub ReadsEach : List (List ℕ) → List ReadCall → List ReadCall → Type 0
+ReadsEach [] before now = now ≡ before
+ReadsEach (name ∷ names) before now =
+    (middle : List ReadCall) × ReadsFile name 0 before middle None × ReadsEach names middle now

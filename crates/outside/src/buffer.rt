@@ -1,7 +1,7 @@
 //! A sink that buffers bytes for another sink.
 ghost use Rattle.std.specs.Prelude.{◌≡◌, ◌+◌, ◌++◌, ◌≤◌, ℕ, List, length, drop, IfOk, OnOk, []};
 ghost use Rattle.std.specs.Io.KnownBytes.{Keeps, append_known};
-ghost use Rattle.outside.specs.Outside.{HasCause, StaysOver, below_of};
+ghost use Rattle.outside.specs.Outside.{HasCause, SameInner, inner_of};
 
 use crate::put::send;
 use crate::sink::{Sink, WriteFailed};
@@ -63,7 +63,7 @@ impl Pending {
     }
 
     // Removes the first `count` bytes.
-    fn remove_front(&mut self, count: usize)
+    fn remove_prefix(&mut self, count: usize)
         requires { count ≤ length self.old }
         ensures { self.new ≡ drop count self.old }
     {
@@ -103,11 +103,11 @@ impl<'a, K: Sink> BufferedSink<'a, K> {
             (append_known (K.has self.new.out.now) self.new.pending.now) }
         ensures all { OnOk result (self.new.pending.now ≡ []) }
         ensures cause { HasCause (K.faults self.old.out.now) (K.faults self.new.out.now) result }
-        ensures below { StaysOver (below_of self.old.out.ghost_name (K.has self.old.out.now))
-            (below_of self.new.out.ghost_name (K.has self.new.out.now)) }
+        ensures below { SameInner (inner_of self.old.out.ghost_name (K.has self.old.out.now))
+            (inner_of self.new.out.ghost_name (K.has self.new.out.now)) }
     {
         let (sent, result) = send(&mut *self.out, self.pending.bytes());
-        self.pending.remove_front(sent);
+        self.pending.remove_prefix(sent);
         result
     }
 }
@@ -117,7 +117,7 @@ impl<K: Sink> Sink for BufferedSink<'_, K> {
 
     ghost faults = { λ b. K.faults b.out.now };
 
-    ghost below = { λ b. below_of b.out.ghost_name (K.has b.out.now) };
+    ghost below = { λ b. inner_of b.out.ghost_name (K.has b.out.now) };
 
     fn write(&mut self, piece: &[u8]) -> Result<usize, WriteFailed> {
         if piece.len() > self.pending.room() {

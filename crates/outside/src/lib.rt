@@ -2,7 +2,7 @@
 //! traits are implemented elsewhere: for real files in `host_files`, for tests in `outside_fakes`.
 //!
 //! [`Shelf`] (files by name), [`Sink`] (places to write to) and [`Gate`] (points at which a test
-//! may pause a thread); [`BufferedSink`], which buffers bytes for another sink; [`read_behind`];
+//! may pause a thread); [`BufferedSink`], which buffers bytes for another sink; [`read_after`];
 //! [`put_all`], [`put_each`] and [`put_number`]; and [`Tally`] and [`ReadLog`], a count and a log
 //! that only proofs read.
 #![tactic(auto)]
@@ -18,7 +18,7 @@ mod tally;
 pub use buffer::{BufferedSink, Pending};
 pub use gate::{Gate, OpenGate};
 pub use put::{put_all, put_each, put_number};
-pub use read::read_behind;
+pub use read::read_after;
 pub use shelf::{Shelf, ShelfFault};
 pub use sink::{Sink, WriteFailed};
 pub use tally::{Call, ReadLog, Tally};

@@ -2,7 +2,7 @@
 ghost use Rattle.std.specs.Prelude.{◌≡◌, ◌≤◌, length, take, OnOk, decimal};
 ghost use Rattle.std.specs.Io.KnownBytes.{Appends};
 ghost use Rattle.std.specs.List.{flat_map};
-ghost use Rattle.outside.specs.Outside.{HasCause, StaysOver};
+ghost use Rattle.outside.specs.Outside.{HasCause, SameInner};
 ghost use Rattle.outside.specs.Calls.{PutsAll};
 
 use crate::sink::{Sink, WriteFailed};
@@ -15,7 +15,7 @@ pub(crate) fn send<K: Sink>(out: &mut K, bytes: &[u8]) -> (usize, Result<(), Wri
     ensures all { OnOk result.1 (result.0 ≡ length bytes.now) }
     ensures bytes { Appends (K.has out.old) (K.has out.new) (take result.0 bytes.now) }
     ensures cause { HasCause (K.faults out.old) (K.faults out.new) result.1 }
-    ensures below { StaysOver (K.below out.old) (K.below out.new) }
+    ensures below { SameInner (K.below out.old) (K.below out.new) }
 {
     let mut sent = 0;
     while sent < bytes.len() {
@@ -32,7 +32,7 @@ pub(crate) fn send<K: Sink>(out: &mut K, bytes: &[u8]) -> (usize, Result<(), Wri
 pub fn put_all<K: Sink>(out: &mut K, bytes: &[u8]) -> Result<(), WriteFailed>
     ensures bytes { PutsAll (K.has out.old) (K.has out.new) result bytes.now }
     ensures cause { HasCause (K.faults out.old) (K.faults out.new) result }
-    ensures below { StaysOver (K.below out.old) (K.below out.new) }
+    ensures below { SameInner (K.below out.old) (K.below out.new) }
 {
     let (_, result) = send(out, bytes);
     result
@@ -44,7 +44,7 @@ pub fn put_each<K: Sink>(out: &mut K, pieces: &[&[u8]]) -> Result<(), WriteFaile
     ensures bytes { PutsAll (K.has out.old) (K.has out.new) result
         (flat_map (λ piece. piece.now) pieces.now) }
     ensures cause { HasCause (K.faults out.old) (K.faults out.new) result }
-    ensures below { StaysOver (K.below out.old) (K.below out.new) }
+    ensures below { SameInner (K.below out.old) (K.below out.new) }
 {
     for piece in pieces {
         put_all(out, piece)?;
@@ -57,7 +57,7 @@ pub fn put_each<K: Sink>(out: &mut K, pieces: &[&[u8]]) -> Result<(), WriteFaile
 pub fn put_number<K: Sink>(out: &mut K, n: u64) -> Result<(), WriteFailed>
     ensures bytes { PutsAll (K.has out.old) (K.has out.new) result (decimal n) }
     ensures cause { HasCause (K.faults out.old) (K.faults out.new) result }
-    ensures below { StaysOver (K.below out.old) (K.below out.new) }
+    ensures below { SameInner (K.below out.old) (K.below out.new) }
 {
     let mut buffer = itoa::Buffer::new();
     put_all(out, buffer.format(n).as_bytes())

@@ -1,6 +1,6 @@
 //! Files by name.
 ghost use Rattle.std.specs.Prelude.{◌≡◌, ◌⊎◌, ◌+◌, ◌++◌, ◌∷◌, [], ℕ, List, Option, Some, None, length, IfOk, IsErrOf, ◌≤◌};
-ghost use Rattle.outside.specs.Outside.{Files, HasCauses, Lacks, ReadsBytes, counts_of, given_by, told};
+ghost use Rattle.outside.specs.Outside.{Files, HasCauses, IsAbsent, ReadsBytes, counts_of, count_read, content_of};
 ghost use Rattle.outside.specs.Reads.{ReadCall, read_call};
 
 /// Why a shelf returned no bytes.
@@ -26,7 +26,7 @@ pub trait Shelf {
     ghost absent: { Self → ℕ };
 
     /// The number of bytes returned by all reads.
-    ghost given: { Self → ℕ };
+    ghost bytes_read: { Self → ℕ };
 
     /// All its reads, in order.
     ghost reads: { Self → List ReadCall };
@@ -37,18 +37,18 @@ pub trait Shelf {
     /// If the contents are known, the result is `NoFile` only for a name that doesn't exist, and
     /// for such a name it is always `NoFile` or `Failed`.
     fn read_at(&mut self, name: &str, at: u64, into: &mut [u8]) -> Result<usize, ShelfFault>
-        ensures kept { holds self.new ≡ holds self.old }
+        ensures unchanged { holds self.new ≡ holds self.old }
         ensures bound { IfOk result (λ n. n ≤ length into.new) }
-        ensures bytes { (bytes : List ℕ) → told (holds self.old) name.now ≡ Some bytes
+        ensures bytes { (bytes : List ℕ) → content_of (holds self.old) name.now ≡ Some bytes
             → IfOk result (λ n. ReadsBytes bytes at n into.old into.new) }
         ensures cause { HasCauses (counts_of (faults self.old) (absent self.old))
             (counts_of (faults self.new) (absent self.new))
             (IsErrOf result ShelfFault.Failed) (IsErrOf result ShelfFault.NoFile) }
-        ensures given { given self.new ≡ given self.old + given_by result }
+        ensures bytes_read { bytes_read self.new ≡ bytes_read self.old + count_read result }
         ensures log { reads self.new
             ≡ reads self.old ++ read_call name.now at (length into.old) result ∷ [] }
         ensures missed { IsErrOf result ShelfFault.NoFile →
-            told (holds self.old) name.now ≡ None }
-        ensures lacking { Lacks (holds self.old) name.now → IsErrOf result ShelfFault.NoFile
+            content_of (holds self.old) name.now ≡ None }
+        ensures lacking { IsAbsent (holds self.old) name.now → IsErrOf result ShelfFault.NoFile
             ⊎ IsErrOf result ShelfFault.Failed };
 }

@@ -2,7 +2,7 @@
 ghost use Rattle.std.specs.Prelude.{◌+◌, ℕ, List, Option, length, IfOk, ◌<◌};
 ghost use Rattle.std.specs.Io.KnownBytes.{WriteAppends};
 ghost use Rattle.std.specs.Io.{WritesAtMost};
-ghost use Rattle.outside.specs.Outside.{Below, HasCause, StaysOver, nothing_below};
+ghost use Rattle.outside.specs.Outside.{Inner, HasCause, SameInner, no_inner};
 
 /// A sink took nothing, and counts it as a fault.
 #[derive(Clone, Copy, Debug, PartialEq, Eq)]
@@ -20,7 +20,7 @@ pub trait Sink {
     /// The inner sink of a sink that forwards its bytes to another, which it borrows. No call
     /// replaces it or removes bytes from it: so a caller knows what the inner sink contains in the
     /// end.
-    ghost below: { Self → Below } = { λ _. nothing_below };
+    ghost below: { Self → Inner } = { λ _. no_inner };
 
     /// Takes a prefix of the piece, at least one byte unless the piece is empty, and returns its
     /// length. After `WriteFailed` nothing was taken.
@@ -29,5 +29,5 @@ pub trait Sink {
         ensures progress { IfOk result (λ n. 0 < length piece.now → 0 < n) }
         ensures bytes { WriteAppends (has self.old) (has self.new) result piece.now }
         ensures cause { HasCause (faults self.old) (faults self.new) result }
-        ensures below { StaysOver (below self.old) (below self.new) };
+        ensures below { SameInner (below self.old) (below self.new) };
 }

@@ -3,7 +3,7 @@
 ghost use Rattle.std.specs.Prelude.{◌≡◌, ◌+◌, ◌-◌, ◌<◌, ◌≤◌, Some, length, min, IfOk, IsErr, vec_capacity, vec_len, IsErrOf, ◌↔◌, [], ◌++◌, ◌∷◌};
 ghost use Rattle.std.specs.Io.KnownBytes.{WriteAppends};
 ghost use Rattle.outside_fakes.specs.Memory.{GivesOf};
-ghost use Rattle.outside.specs.Outside.{given_by};
+ghost use Rattle.outside.specs.Outside.{count_read};
 ghost use Rattle.outside.specs.Calls.{CountsWhere};
 ghost use Rattle.outside.specs.Reads.{read_call};
 
@@ -22,7 +22,7 @@ pub struct HonestShelf {
     /// The number of calls with a missing name.
     pub absent: u64,
     /// The number of bytes that its calls returned.
-    pub given: Tally,
+    pub bytes_read: Tally,
     /// Its calls.
     pub reads: ReadLog,
     ghost gives: { 0 < most },
@@ -33,13 +33,13 @@ impl HonestShelf {
     pub fn new(files: Vec<(Text, Text)>, most: usize) -> HonestShelf
         requires { 0 < most }
         ensures { (result.files ≡ files) × (result.most ≡ most) × (result.absent ≡ 0)
-            × (result.given.count ≡ 0) × (result.reads.calls ≡ []) }
+            × (result.bytes_read.count ≡ 0) × (result.reads.calls ≡ []) }
     {
         HonestShelf {
             files,
             most,
             absent: 0,
-            given: Tally::new(),
+            bytes_read: Tally::new(),
             reads: ReadLog::new(),
         }
     }
@@ -52,15 +52,16 @@ impl Shelf for HonestShelf {
 
     ghost absent = { λ s. s.absent };
 
-    ghost given = { λ s. s.given.count };
+    ghost bytes_read = { λ s. s.bytes_read.count };
 
     ghost reads = { λ s. s.reads.calls };
 
     /// A missing name is `NoFile`. For an existing name it returns the bytes from `at` (in bytes)
     /// on, at most `most`, and at most the length of `into`.
     fn read_at(&mut self, name: &str, at: u64, into: &mut [u8]) -> Result<usize, ShelfFault>
-        ensures kept { (self.new.files ≡ self.old.files) × (self.new.most ≡ self.old.most) }
-        ensures given { self.new.given.count ≡ self.old.given.count + given_by result }
+        ensures unchanged { (self.new.files ≡ self.old.files) × (self.new.most ≡ self.old.most) }
+        ensures bytes_read { self.new.bytes_read.count
+            ≡ self.old.bytes_read.count + count_read result }
         ensures log { self.new.reads.calls ≡ self.old.reads.calls
             ++ read_call name.now at (length into.old) result ∷ [] }
         ensures gives { GivesOf self.old.files.items name.now at
@@ -77,7 +78,7 @@ impl Shelf for HonestShelf {
             at,
             into,
             &mut self.absent,
-            &mut self.given,
+            &mut self.bytes_read,
         );
         self.reads = self.reads.and(&Call {
             name,
@@ -126,7 +127,7 @@ impl Sink for HonestSink {
 
     /// A call with a nonempty piece fails if the sink is full. Otherwise it takes what fits.
     fn write(&mut self, piece: &[u8]) -> Result<usize, WriteFailed>
-        ensures kept { self.new.room ≡ self.old.room }
+        ensures unchanged { self.new.room ≡ self.old.room }
         ensures bytes { WriteAppends (Some self.old.bytes.items)
             (Some self.new.bytes.items) result piece.now }
         ensures failed { IsErr result ↔ ((0 < length piece.now)

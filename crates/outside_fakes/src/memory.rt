@@ -3,7 +3,7 @@
 ghost use Rattle.std.specs.Prelude.{◌≡◌, ◌⊎◌, ◌+◌, ◌-◌, ◌<◌, ◌≤◌, Some, None, length, take, drop, min, IfOk, IsErr, IsTrue, MatchOption, vec_capacity, vec_len, Contains, IsErrOf, ◌↔◌, [], ◌++◌, ◌∷◌};
 ghost use Rattle.std.specs.Io.KnownBytes.{WriteAppends};
 ghost use Rattle.outside_fakes.specs.Memory.{GivesOf};
-ghost use Rattle.outside.specs.Outside.{bytes_of, given_by};
+ghost use Rattle.outside.specs.Outside.{bytes_of, count_read};
 ghost use Rattle.outside.specs.Calls.{CountsWhere, one_more};
 ghost use Rattle.outside.specs.Reads.{read_call};
 
@@ -48,18 +48,18 @@ pub(crate) fn give(
     at: u64,
     into: &mut [u8],
     absent: &mut u64,
-    given: &mut Tally,
+    bytes_read: &mut Tally,
 ) -> Result<usize, ShelfFault>
     requires { 0 < most }
     ensures gives { GivesOf files.now name.now at most into.old into.new result }
     ensures failed { IsErrOf result ShelfFault.Failed → ⊥ }
     ensures absent { CountsWhere (IsErrOf result ShelfFault.NoFile) absent.old absent.new }
-    ensures given { given.new.count ≡ given.old.count + given_by result }
+    ensures bytes_read { bytes_read.new.count ≡ bytes_read.old.count + count_read result }
 {
     match find(files, name.as_bytes()) {
         Some(bytes) => {
             let count = copy_part(bytes, at, most, into);
-            *given = given.and(count);
+            *bytes_read = bytes_read.and(count);
             Ok(count)
         }
         None => {
@@ -115,7 +115,7 @@ pub struct MemShelf {
     /// The number of calls with a missing name.
     pub absent: u64,
     /// The number of bytes that its calls returned.
-    pub given: Tally,
+    pub bytes_read: Tally,
     /// Its calls.
     pub reads: ReadLog,
     ghost gives: { 0 < most },
@@ -127,7 +127,7 @@ impl MemShelf {
         requires { 0 < most }
         ensures { (result.files ≡ files) × (result.most ≡ most) × (result.fails ≡ fails)
             × (result.calls ≡ 0) × (result.faults ≡ 0) × (result.absent ≡ 0)
-            × (result.given.count ≡ 0) × (result.reads.calls ≡ []) }
+            × (result.bytes_read.count ≡ 0) × (result.reads.calls ≡ []) }
     {
         MemShelf {
             files,
@@ -136,7 +136,7 @@ impl MemShelf {
             calls: 0,
             faults: 0,
             absent: 0,
-            given: Tally::new(),
+            bytes_read: Tally::new(),
             reads: ReadLog::new(),
         }
     }
@@ -149,7 +149,7 @@ impl Shelf for MemShelf {
 
     ghost absent = { λ s. s.absent };
 
-    ghost given = { λ s. s.given.count };
+    ghost bytes_read = { λ s. s.bytes_read.count };
 
     ghost reads = { λ s. s.reads.calls };
 
@@ -157,9 +157,10 @@ impl Shelf for MemShelf {
     /// existing name it returns the bytes from `at` (in bytes) on, at most `most`, and at most the
     /// length of `into`.
     fn read_at(&mut self, name: &str, at: u64, into: &mut [u8]) -> Result<usize, ShelfFault>
-        ensures kept { (self.new.files ≡ self.old.files) × (self.new.most ≡ self.old.most)
+        ensures unchanged { (self.new.files ≡ self.old.files) × (self.new.most ≡ self.old.most)
             × (self.new.fails ≡ self.old.fails) }
-        ensures given { self.new.given.count ≡ self.old.given.count + given_by result }
+        ensures bytes_read { self.new.bytes_read.count
+            ≡ self.old.bytes_read.count + count_read result }
         ensures log { self.new.reads.calls ≡ self.old.reads.calls
             ++ read_call name.now at (length into.old) result ∷ [] }
         ensures calls { self.new.calls ≡ one_more self.old.calls }
@@ -193,7 +194,7 @@ impl Shelf for MemShelf {
             at,
             into,
             &mut self.absent,
-            &mut self.given,
+            &mut self.bytes_read,
         );
         self.reads = self.reads.and(&Call {
             name,
@@ -259,7 +260,7 @@ impl Sink for MemSink {
     /// A call fails if its number is in `fails`, or if its piece isn't empty and the sink is full.
     /// Otherwise it takes what fits, at most `most` bytes.
     fn write(&mut self, piece: &[u8]) -> Result<usize, WriteFailed>
-        ensures kept { (self.new.room ≡ self.old.room) × (self.new.most ≡ self.old.most)
+        ensures unchanged { (self.new.room ≡ self.old.room) × (self.new.most ≡ self.old.most)
             × (self.new.fails ≡ self.old.fails) }
         ensures bytes { WriteAppends (Some self.old.bytes.items)
             (Some self.new.bytes.items) result piece.now }

@@ -7,7 +7,7 @@ use Rattle.std.proofs.lemmas.Slice.Eq.{bytes_eq-Decides}
 use Rattle.psi_base.specs.Path.{parts_at, is_path, is_path_byte, is_component}
 use Rattle.path_match.specs.Match.{components, is_component_match, are_matches, begins}
 use Rattle.path_match.specs.Laws.{PathMatchesItself}
-use Rattle.path_match.proofs.MatchLaws.{components-root, pattern_tells}
+use Rattle.path_match.proofs.MatchLaws.{components-root, pattern_shows}
 use Rattle.path_match.proofs.JoinedParts.{joined_by-parts}
 use Rattle.path_match.proofs.PatternLaws.{components-slash}
 
@@ -38,8 +38,8 @@ has_components path is = ⊎_elim
     (λ root. of_root path ((bytes_eq-Decides path (codes "/")).0 root))
     (λ other.
     let last = and_parts _ _ other in
-    let front = and_parts _ _ last.0 in
-    let first = and_parts _ _ front.0 in
+    let prefix = and_parts _ _ last.0 in
+    let first = and_parts _ _ prefix.0 in
     of_parts path (eqb-true (slice_index path 0) 47 first.0) last.1)
     (or_cases _ _ is)
 
@@ -88,9 +88,9 @@ pub path_matches_itself : PathMatchesItself
 path_matches_itself text path is_text is_path =
     let mine = has_components text is_text in
     let other = has_components path is_path in
-    let tells = pattern_tells (components text) path in (
+    let shows = pattern_shows (components text) path in (
       λ matches.
-          let same = same_parts (components text) (components path) mine.formed (tells.1 matches) in
+          let same = same_parts (components text) (components path) mine.formed (shows.1 matches) in
           sym other.text ∙ ap (λ parts. 47 ∷ join_with_byte 47 parts) (sym same) ∙ mine.text,
-      λ is. tells.0 (rw is (themselves (components text) mine.formed)),
+      λ is. shows.0 (rw is (themselves (components text) mine.formed)),
     )

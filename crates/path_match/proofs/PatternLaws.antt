@@ -51,13 +51,13 @@ slash_is_free byte bytes other = components-slash byte bytes ∙ sym (components
 -- a component of a pattern has bytes of the kind alone
 pub formed_bytes : (part : List ℕ) → is_pattern_component part ≡ true → list_all is_pattern_byte part ≡ true
 formed_bytes part formed =
-    let front = (and_parts _ _ (and_parts _ _ formed).0).0 in
-    (and_parts (nat_lt 0 (length part)) (list_all is_pattern_byte part) front).1
+    let prefix = (and_parts _ _ (and_parts _ _ formed).0).0 in
+    (and_parts (nat_lt 0 (length part)) (list_all is_pattern_byte part) prefix).1
 
 some_bytes : (part : List ℕ) → is_pattern_component part ≡ true → 0 < length part
 some_bytes part formed =
-    let front = (and_parts _ _ (and_parts _ _ formed).0).0 in
-    ltb-true 0 (length part) (and_parts (nat_lt 0 (length part)) (list_all is_pattern_byte part) front).0
+    let prefix = (and_parts _ _ (and_parts _ _ formed).0).0 in
+    ltb-true 0 (length part) (and_parts (nat_lt 0 (length part)) (list_all is_pattern_byte part) prefix).0
 
 -- a text whose first byte is no slash
 record StartsPlain (text : List ℕ) : Type 0 where
@@ -104,7 +104,7 @@ components-slashed (component ∷ pattern) some formed =
 pub spelled_components : (text : List ℕ) (pattern : Pattern) → list_all is_pattern_component pattern ≡ true → SpellsPattern text pattern → components text ≡ pattern
 spelled_components text pattern formed spells = ⊎_elim
     (λ own. ap components own ∙ components-text pattern formed)
-    (λ behind. ap components behind.1 ∙ components-slashed pattern behind.0 formed)
+    (λ suffix. ap components suffix.1 ∙ components-slashed pattern suffix.0 formed)
     spells
 
 pattern_text-parts : (parts : List (List ℕ)) → HasFirst parts → pattern_text parts ≡ join_with_byte 47 parts

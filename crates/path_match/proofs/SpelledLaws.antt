@@ -29,7 +29,7 @@ formed_text (component ∷ pattern) formed =
 spelled_text : (text : List ℕ) (pattern : Pattern) → list_all is_pattern_component pattern ≡ true → SpellsPattern text pattern → list_all is_text_byte text ≡ true
 spelled_text text pattern formed spells = ⊎_elim
     (λ own. rw own (formed_text pattern formed))
-    (λ behind. rw behind.1 (formed_text pattern formed))
+    (λ suffix. rw suffix.1 (formed_text pattern formed))
     spells
 
 -- ---- parts that spell patterns
@@ -38,8 +38,8 @@ spelled_text text pattern formed spells = ⊎_elim
 abbrev pub SpellAll : List (List ℕ) → List Pattern → Type 0
 SpellAll parts patterns = (length parts ≡ length patterns) × All (λ pair. SpellsPattern pair.0 pair.1) (zip parts patterns)
 
-all_behind : (part : List ℕ) (parts : List (List ℕ)) (pattern : Pattern) (patterns : List Pattern) → SpellAll (part ∷ parts) (pattern ∷ patterns) → SpellAll parts patterns
-all_behind part parts pattern patterns all = (omega (arith, all.0), λ k d below. all.1 (suc k) d (omega arith))
+all_after : (part : List ℕ) (parts : List (List ℕ)) (pattern : Pattern) (patterns : List Pattern) → SpellAll (part ∷ parts) (pattern ∷ patterns) → SpellAll parts patterns
+all_after part parts pattern patterns all = (omega (arith, all.0), λ k d below. all.1 (suc k) d (omega arith))
 
 all_components : (parts : List (List ℕ)) (patterns : List Pattern) → SpellAll parts patterns → list_all (λ pattern. list_all is_pattern_component pattern) patterns ≡ true → map components parts ≡ patterns
 all_components [] [] all formed = refl
@@ -48,7 +48,7 @@ all_components (part ∷ parts) [] all formed = absurd (omega (arith, all.0))
 all_components (part ∷ parts) (pattern ∷ patterns) all formed =
     let both = and_parts (list_all is_pattern_component pattern) (list_all (λ p. list_all is_pattern_component p) patterns) formed in
     let first = spelled_components part pattern both.0 (all.1 0 (part, pattern) (omega arith)) in
-    let rest = all_components parts patterns (all_behind part parts pattern patterns all) both.1 in cc
+    let rest = all_components parts patterns (all_after part parts pattern patterns all) both.1 in cc
 
 all_texts : (parts : List (List ℕ)) (patterns : List Pattern) → SpellAll parts patterns → list_all (λ pattern. list_all is_pattern_component pattern) patterns ≡ true → list_all (list_all is_text_byte) parts ≡ true
 all_texts [] [] all formed = refl
@@ -58,7 +58,7 @@ all_texts (part ∷ parts) (pattern ∷ patterns) all formed =
     let both = and_parts (list_all is_pattern_component pattern) (list_all (λ p. list_all is_pattern_component p) patterns) formed in
     and_from (list_all is_text_byte part) (list_all (list_all is_text_byte) parts)
     (spelled_text part pattern both.0 (all.1 0 (part, pattern) (omega arith)))
-    (all_texts parts patterns (all_behind part parts pattern patterns all) both.1)
+    (all_texts parts patterns (all_after part parts pattern patterns all) both.1)
 
 -- parts that are patterns spell their components
 each_spells : (parts : List (List ℕ)) → list_all is_pattern parts ≡ true → All (λ pair. SpellsPattern pair.0 pair.1) (zip parts (map components parts))

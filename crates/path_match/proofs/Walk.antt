@@ -31,8 +31,8 @@ some_end-step test (byte ∷ bytes) = refl
 some_end-here : (test : List ℕ → Bool) (bytes : List ℕ) → test bytes ≡ true → some_end test bytes ≡ true
 some_end-here test bytes passes = some_end-step test bytes ∙ or_left (test bytes) (some_end test (drop 1 bytes)) passes
 
-some_end-behind : (test : List ℕ → Bool) (bytes : List ℕ) → some_end test (drop 1 bytes) ≡ true → some_end test bytes ≡ true
-some_end-behind test bytes passes = some_end-step test bytes ∙ or_right (test bytes) (some_end test (drop 1 bytes)) passes
+some_end-suffix : (test : List ℕ → Bool) (bytes : List ℕ) → some_end test (drop 1 bytes) ≡ true → some_end test bytes ≡ true
+some_end-suffix test bytes passes = some_end-step test bytes ∙ or_right (test bytes) (some_end test (drop 1 bytes)) passes
 
 -- an end of an end is an end
 pub some_end-twice : (test : List ℕ → Bool) (bytes : List ℕ) → some_end (some_end test) bytes ≡ true → some_end test bytes ≡ true
@@ -40,7 +40,7 @@ some_end-twice test [] passes = passes
 some_end-twice test (byte ∷ bytes) passes =
     ⊎_elim
     (λ here. here)
-    (λ later. some_end-behind test (byte ∷ bytes) (some_end-twice test bytes later))
+    (λ later. some_end-suffix test (byte ∷ bytes) (some_end-twice test bytes later))
     (or_cases (some_end test (byte ∷ bytes)) (some_end (some_end test) bytes) passes)
 
 -- ---- bytes that aren't stars
@@ -79,23 +79,23 @@ some_passed n pattern (byte ∷ bytes) inside none matched =
     (λ later.
     let less : some_end test (drop n bytes) ≡ true = some_passed n pattern bytes inside none later in
     let same : drop 1 (drop n (byte ∷ bytes)) ≡ drop n bytes = drop-drop 1 n (byte ∷ bytes) ∙ rw add-one refl in
-    some_end-behind test (drop n (byte ∷ bytes)) (ap (some_end test) same ∙ less))
+    some_end-suffix test (drop n (byte ∷ bytes)) (ap (some_end test) same ∙ less))
     (or_cases (is_component_match pattern (byte ∷ bytes)) (some_end (is_component_match pattern) bytes) matched)
 
 -- ---- the steps
 
 -- After a star was passed: the bytes of the pattern from there on are no stars and match as many
 -- bytes after the star's run, and the whole matches if the rest does, or if the run is longer.
-pub record AfterStar (pattern bytes : List ℕ) (at next behind end : ℕ) : Type 0 where
-  pub inside : behind ≤ at
-  pub as_many : end + (at - behind) ≡ next
-  pub none : HasNoStar (at - behind) (drop behind pattern)
-  pub whole : is_component_match pattern bytes ≡ (is_component_match (drop at pattern) (drop next bytes) || some_end (is_component_match (drop behind pattern)) (drop (end + 1) bytes))
+pub record AfterStar (pattern bytes : List ℕ) (at next suffix end : ℕ) : Type 0 where
+  pub inside : suffix ≤ at
+  pub as_many : end + (at - suffix) ≡ next
+  pub none : HasNoStar (at - suffix) (drop suffix pattern)
+  pub whole : is_component_match pattern bytes ≡ (is_component_match (drop at pattern) (drop next bytes) || some_end (is_component_match (drop suffix pattern)) (drop (end + 1) bytes))
 
 -- the rest at a step of the walk says whether the whole matches
 abbrev pub Walked : List ℕ → List ℕ → ℕ → ℕ → Option LastStar → Type 0
 Walked pattern bytes at next None = is_component_match pattern bytes ≡ is_component_match (drop at pattern) (drop next bytes)
-Walked pattern bytes at next (Some star) = AfterStar pattern bytes at next star.behind star.end
+Walked pattern bytes at next (Some star) = AfterStar pattern bytes at next star.suffix star.end
 
 or_absorbs : (x y : Bool) → (y ≡ true → x ≡ true) → (x || y) ≡ x
 or_absorbs true y is = refl
@@ -103,16 +103,16 @@ or_absorbs false true is = sym (is refl)
 or_absorbs false false is = refl
 
 -- if a longer run matches, the rest matches some suffix of the remaining bytes
-longer_run : (pattern bytes : List ℕ) (at next behind end : ℕ) → AfterStar pattern bytes at next behind end → at ≤ length pattern →
-    some_end (is_component_match (drop behind pattern)) (drop (end + 1) bytes) ≡ true → some_end (is_component_match (drop at pattern)) (drop next bytes) ≡ true
-longer_run pattern bytes at next behind end after within matched =
-    let n = at - behind in
-    let front : n ≤ length (drop behind pattern) = simp length-drop (omega (arith, after.inside)) in
-    let rest : drop n (drop behind pattern) ≡ drop at pattern = drop-drop n behind pattern ∙ ap (λ k. drop k pattern) (let e : behind + n ≡ at = omega (arith, after.inside) in e) in
+longer_run : (pattern bytes : List ℕ) (at next suffix end : ℕ) → AfterStar pattern bytes at next suffix end → at ≤ length pattern →
+    some_end (is_component_match (drop suffix pattern)) (drop (end + 1) bytes) ≡ true → some_end (is_component_match (drop at pattern)) (drop next bytes) ≡ true
+longer_run pattern bytes at next suffix end after within matched =
+    let n = at - suffix in
+    let prefix : n ≤ length (drop suffix pattern) = simp length-drop (omega (arith, after.inside)) in
+    let rest : drop n (drop suffix pattern) ≡ drop at pattern = drop-drop n suffix pattern ∙ ap (λ k. drop k pattern) (let e : suffix + n ≡ at = omega (arith, after.inside) in e) in
     let ends : drop n (drop (end + 1) bytes) ≡ drop 1 (drop next bytes) =
     drop-drop n (end + 1) bytes ∙ ap (λ k. drop k bytes) (let e : end + 1 + n ≡ next + 1 = omega (arith, after.as_many) in e) ∙ sym (drop-drop 1 next bytes) in
-    let some = some_passed n (drop behind pattern) (drop (end + 1) bytes) front after.none matched in
-    some_end-behind (is_component_match (drop at pattern)) (drop next bytes) (rw (rest, ends) at some)
+    let some = some_passed n (drop suffix pattern) (drop (end + 1) bytes) prefix after.none matched in
+    some_end-suffix (is_component_match (drop at pattern)) (drop next bytes) (rw (rest, ends) at some)
 
 -- if the rest matches whenever it matches some suffix of the remaining bytes, it says whether the
 -- whole matches
@@ -121,8 +121,8 @@ pub settled : (pattern bytes : List ℕ) (at next : ℕ) (star : Option LastStar
     is_component_match pattern bytes ≡ is_component_match (drop at pattern) (drop next bytes)
 settled pattern bytes at next None walked within same = walked
 settled pattern bytes at next (Some star) walked within same =
-    walked.whole ∙ or_absorbs (is_component_match (drop at pattern) (drop next bytes)) (some_end (is_component_match (drop star.behind pattern)) (drop (star.end + 1) bytes))
-    (λ longer. same (longer_run pattern bytes at next star.behind star.end walked within longer))
+    walked.whole ∙ or_absorbs (is_component_match (drop at pattern) (drop next bytes)) (some_end (is_component_match (drop star.suffix pattern)) (drop (star.end + 1) bytes))
+    (λ longer. same (longer_run pattern bytes at next star.suffix star.end walked within longer))
 
 -- the walk ends if no byte remains
 pub ended : (pattern bytes : List ℕ) (at next : ℕ) (star : Option LastStar) → Walked pattern bytes at next star → at ≤ length pattern → length bytes ≤ next →
@@ -166,14 +166,14 @@ pub byte_passed : (pattern bytes : List ℕ) (at next : ℕ) (star : Option Last
     get_or pattern at 0 ≡ get_or bytes next 0 → Walked pattern bytes (at + 1) (next + 1) star
 byte_passed pattern bytes at next None walked inside before other same = walked ∙ byte_matched pattern bytes at next inside before other same
 byte_passed pattern bytes at next (Some star) walked inside before other same =
-    let n = at - star.behind in
-    let place : star.behind + n ≡ at = omega (arith, walked.inside) in
-    let more : at + 1 - star.behind ≡ n + 1 = omega (arith, walked.inside) in
+    let n = at - star.suffix in
+    let place : star.suffix + n ≡ at = omega (arith, walked.inside) in
+    let more : at + 1 - star.suffix ≡ n + 1 = omega (arith, walked.inside) in
     record {
       inside = omega (arith, walked.inside);
       as_many = omega (arith, walked.inside, walked.as_many);
-      none = rw more (none_more n (drop star.behind pattern) walked.none (rw (get_or-drop star.behind pattern n 0, place) other));
-      whole = walked.whole ∙ ap (λ b. b || some_end (is_component_match (drop star.behind pattern)) (drop (star.end + 1) bytes)) (byte_matched pattern bytes at next inside before other same);
+      none = rw more (none_more n (drop star.suffix pattern) walked.none (rw (get_or-drop star.suffix pattern n 0, place) other));
+      whole = walked.whole ∙ ap (λ b. b || some_end (is_component_match (drop star.suffix pattern)) (drop (star.end + 1) bytes)) (byte_matched pattern bytes at next inside before other same);
     }
 
 -- no byte of the pattern remains, or the next one is no star and isn't the next byte
@@ -187,10 +187,10 @@ fails pattern bytes at next before other = ⊎_elim
     (cases_lt at (length pattern))
 
 -- the run of the last star takes one byte more
-pub run_grows : (pattern bytes : List ℕ) (at next behind end : ℕ) → AfterStar pattern bytes at next behind end → next < length bytes → Fails pattern bytes at next →
-    AfterStar pattern bytes behind (end + 1) behind (end + 1)
-run_grows pattern bytes at next behind end after before other =
-    let test = is_component_match (drop behind pattern) in
+pub run_grows : (pattern bytes : List ℕ) (at next suffix end : ℕ) → AfterStar pattern bytes at next suffix end → next < length bytes → Fails pattern bytes at next →
+    AfterStar pattern bytes suffix (end + 1) suffix (end + 1)
+run_grows pattern bytes at next suffix end after before other =
+    let test = is_component_match (drop suffix pattern) in
     record {
       inside = omega arith;
       as_many = omega arith;

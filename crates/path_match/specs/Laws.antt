@@ -8,8 +8,8 @@ use Rattle.path_match.specs.Answers.{ArePatterns, Matches, MatchesComponent, Mat
 -- ---- matching
 
 -- The Boolean test agrees with the relation: some pattern matches.
-abbrev pub TestTells : Type 0
-TestTells = (patterns : List Pattern) (path : List ℕ) → (is_match patterns path ≡ true) ↔ MatchesSome patterns path
+abbrev pub TestShows : Type 0
+TestShows = (patterns : List Pattern) (path : List ℕ) → (is_match patterns path ≡ true) ↔ MatchesSome patterns path
 
 -- The root's pattern matches only the root.
 abbrev pub RootAlone : Type 0

@@ -11,13 +11,13 @@ abbrev pub Pattern : Type 0
 Pattern = List (List ℕ)
 
 -- the text without the one slash that may come first
-abbrev pub behind_slash : List ℕ → List ℕ
-behind_slash [] = []
-behind_slash (byte ∷ bytes) = if byte == 47 then bytes else byte ∷ bytes
+abbrev pub after_slash : List ℕ → List ℕ
+after_slash [] = []
+after_slash (byte ∷ bytes) = if byte == 47 then bytes else byte ∷ bytes
 
 -- the components of a path or pattern, separated by slashes; the root has none
 unfoldable pub components : List ℕ → List (List ℕ)
-components text = if bytes_eq text (codes "/") then [] else parts_at 47 (behind_slash text)
+components text = if bytes_eq text (codes "/") then [] else parts_at 47 (after_slash text)
 
 -- a byte of a path's component, or a star
 abbrev pub is_pattern_byte : ℕ → Bool
@@ -66,7 +66,7 @@ are_matches (component ∷ pattern) [] = false
 are_matches (component ∷ pattern) (part ∷ parts) = is_component_match component part && are_matches pattern parts
 
 -- Whether some pattern matches a path, as a search. Detectors and actions use this one. The law
--- `TestTells` ties it to `Matches`: it is true if and only if `MatchesSome` is.
+-- `TestShows` ties it to `Matches`: it is true if and only if `MatchesSome` is.
 unfoldable pub is_match : List Pattern → List ℕ → Bool
 is_match patterns path = list_any (λ pattern. are_matches pattern (components path)) patterns
 

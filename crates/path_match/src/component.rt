@@ -4,14 +4,14 @@ ghost use Rattle.std.specs.List.{list_all};
 ghost use Rattle.psi_base.specs.Path.{parts_at};
 ghost use Rattle.path_match.specs.Match.{are_matches, components, is_component_match};
 
-use crate::form::behind_slash;
+use crate::form::after_slash;
 use psi_base::Parts;
 
 /// The last star that the search has passed.
 #[derive(Clone, Copy)]
 struct LastStar {
     /// The index at which the pattern continues after it.
-    behind: usize,
+    suffix: usize,
     /// The end of the bytes that it matches.
     end: usize,
 }
@@ -30,17 +30,17 @@ fn matches_component(pattern: &[u8], bytes: &[u8]) -> bool
         if at < pattern.len() && pattern[at] == b'*' {
             at += 1;
             star = Some(LastStar {
-                behind: at,
+                suffix: at,
                 end: next,
             });
         } else if at < pattern.len() && pattern[at] == bytes[next] {
             at += 1;
             next += 1;
         } else if let Some(last) = star {
-            at = last.behind;
+            at = last.suffix;
             next = last.end + 1;
             star = Some(LastStar {
-                behind: last.behind,
+                suffix: last.suffix,
                 end: next,
             });
         } else {
@@ -87,5 +87,5 @@ pub fn matches_pattern(pattern: &[u8], path: &[u8]) -> bool
     if path == b"/".as_slice() {
         return false;
     }
-    matches_components(behind_slash(pattern), behind_slash(path))
+    matches_components(after_slash(pattern), after_slash(path))
 }

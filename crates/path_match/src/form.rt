@@ -2,7 +2,7 @@
 ghost use Rattle.std.specs.Prelude.{◌≡◌, length, nat_le};
 ghost use Rattle.std.specs.List.{list_all};
 ghost use Rattle.psi_base.specs.Path.{parts_at};
-ghost use Rattle.path_match.specs.Match.{behind_slash, is_pattern, is_pattern_byte, is_pattern_component};
+ghost use Rattle.path_match.specs.Match.{after_slash, is_pattern, is_pattern_byte, is_pattern_component};
 
 use psi_base::Parts;
 
@@ -47,8 +47,8 @@ fn are_components(text: &[u8]) -> bool
 }
 
 /// The text without the one slash that may come first.
-pub fn behind_slash(text: &[u8]) -> &[u8]
-    ensures { result.now ≡ behind_slash text.now }
+pub fn after_slash(text: &[u8]) -> &[u8]
+    ensures { result.now ≡ after_slash text.now }
 {
     match text {
         [b'/', rest @ ..] => rest,
@@ -64,7 +64,7 @@ fn is_pattern(text: &[u8]) -> bool
     if text == b"/".as_slice() {
         return true;
     }
-    are_components(behind_slash(text))
+    are_components(after_slash(text))
 }
 
 /// Each part between commas is a pattern.

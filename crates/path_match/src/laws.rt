@@ -1,10 +1,10 @@
 //! Laws of patterns. Each function has an empty body: its contract is the law.
-ghost use Rattle.path_match.specs.Laws.{PathMatchesItself, ReadAgain, ReadsPatterns, RootAlone, SlashIsFree, StarMatchesAny, TestTells};
+ghost use Rattle.path_match.specs.Laws.{PathMatchesItself, ReadAgain, ReadsPatterns, RootAlone, SlashIsFree, StarMatchesAny, TestShows};
 
 /// Laws of matching: the test agrees with the relation, the root's pattern matches only the root, a
 /// path matches only itself, and a star matches any component.
 pub fn law_matching()
-    ensures tells { TestTells }
+    ensures shows { TestShows }
     ensures root { RootAlone }
     ensures itself { PathMatchesItself }
     ensures star { StarMatchesAny }

@@ -3,7 +3,7 @@ ghost use Rattle.std.specs.Prelude.{◌≡◌, ◌↔◌, ◌++◌, Err, IsTrue,
 ghost use Rattle.psi_base.specs.Path.{parts_at};
 ghost use Rattle.path_match.specs.Match.{components, is_match, patterns_of, patterns_text};
 ghost use Rattle.path_match.specs.Answers.{ArePatterns, MatchesSome};
-ghost use Rattle.psi_base.specs.Gives.{Gives, lacks_memory};
+ghost use Rattle.psi_base.specs.Gives.{Gives, out_of_memory};
 
 use crate::component::matches_pattern;
 use crate::fault::PatternFault;
@@ -56,7 +56,7 @@ impl Patterns {
     #[tactic(auto, unfolding(crate::specs::Match::patterns_of))]
     pub fn read(alloc: Global, text: &str) -> Result<Patterns, Fault<PatternFault>>
         ensures exact { Gives result (patterns_of text.now) }
-        ensures memory { result ≡ Err lacks_memory → IsOk (patterns_of text.now) }
+        ensures memory { result ≡ Err out_of_memory → IsOk (patterns_of text.now) }
     {
         let bytes = text.as_bytes();
         if !are_patterns(bytes) {
@@ -91,7 +91,7 @@ impl Patterns {
     /// the first component of others. After `NoMemory` the bytes are unchanged.
     pub fn write(&self, to: &mut Vec<u8>) -> Result<(), NoMemory>
         ensures text { OnOk result (to.new.items ≡ to.old.items ++ patterns_text self.now) }
-        ensures kept { OnErr result (to.new.items ≡ to.old.items) }
+        ensures unchanged { OnErr result (to.new.items ≡ to.old.items) }
         ensures patterns { ArePatterns self.now }
     {
         write_patterns(self.text.bytes(), to)

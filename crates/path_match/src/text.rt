@@ -3,7 +3,7 @@ ghost use Rattle.std.specs.Prelude.{◌≡◌, ◌++◌, length, map, take, OnEr
 ghost use Rattle.psi_base.specs.Path.{parts_at};
 ghost use Rattle.path_match.specs.Match.{components, pattern_text, patterns_text};
 
-use crate::form::behind_slash;
+use crate::form::after_slash;
 use psi_base::{NoMemory, Parts};
 
 // The text of a pattern, without the slash that may come before its first component.
@@ -14,16 +14,16 @@ fn slashless(pattern: &[u8]) -> &[u8]
     if pattern == b"/".as_slice() {
         return pattern;
     }
-    behind_slash(pattern)
+    after_slash(pattern)
 }
 
 // Appends the patterns of a text that are separated by commas. A part of them stays if memory runs
 // out.
-#[tactic(auto, using(crate::proofs::Texts::front_more))]
+#[tactic(auto, using(crate::proofs::Texts::prefix_more))]
 fn put_patterns(text: &[u8], to: &mut Vec<u8>) -> Result<(), NoMemory>
     ensures text { OnOk result (to.new.items
         ≡ to.old.items ++ patterns_text (map components (parts_at 44 text.now))) }
-    ensures front { take (length to.old.items) to.new.items ≡ to.old.items }
+    ensures prefix { take (length to.old.items) to.new.items ≡ to.old.items }
 {
     let mut parts: Parts<'_, b','> = Parts::new(text);
     let Some(first) = parts.next_part() else {
@@ -41,7 +41,7 @@ fn put_patterns(text: &[u8], to: &mut Vec<u8>) -> Result<(), NoMemory>
 pub fn write_patterns(text: &[u8], to: &mut Vec<u8>) -> Result<(), NoMemory>
     ensures text { OnOk result (to.new.items
         ≡ to.old.items ++ patterns_text (map components (parts_at 44 text.now))) }
-    ensures kept { OnErr result (to.new.items ≡ to.old.items) }
+    ensures unchanged { OnErr result (to.new.items ≡ to.old.items) }
 {
     let held = to.len();
     let written = put_patterns(text, to);

@@ -10,7 +10,7 @@ pub mod MomentsEvents
 pub mod MomentsStall
 pub mod MomentsLives
 pub mod MomentsOrder
-pub mod MomentsTold
+pub mod MomentsKnown
 pub mod MomentsTriggers
 pub mod PlanPlanned
 pub mod PlanIrqs

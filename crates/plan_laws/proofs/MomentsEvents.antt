@@ -8,7 +8,7 @@ use Rattle.psi_base.specs.declared.event.Event.{Event}
 use Rattle.psi_spec.specs.World.{World, Limits, after, first_world, up_to}
 use Rattle.psi_spec.specs.Refusal.{AreLegal}
 use Rattle.plan_laws.proofs.PlanLaws.{after-push, by_last}
-use Rattle.plan_laws.proofs.PlanStates.{legal_front, legal_last}
+use Rattle.plan_laws.proofs.PlanStates.{legal_prefix, legal_last}
 use Rattle.plan_laws.proofs.PlanStalls.{in_turn}
 
 -- ---- legal events, one by one
@@ -16,7 +16,7 @@ use Rattle.plan_laws.proofs.PlanStalls.{in_turn}
 -- induction over legal events: from no events, and from legal events to one more legal event
 pub by_legal : (limits : Limits) (P : List Event → Type 0) → P [] → ((es : List Event) (event : Event) → AreLegal limits first_world (es ++ event ∷ []) → P es → P (es ++ event ∷ [])) → (events : List Event) → AreLegal limits first_world events → P events
 by_legal limits P none step events =
-    by_last (λ es. AreLegal limits first_world es → P es) (λ _. none) (λ es event before legal. step es event legal (before (legal_front limits first_world es (event ∷ []) legal))) events
+    by_last (λ es. AreLegal limits first_world es → P es) (λ _. none) (λ es event before legal. step es event legal (before (legal_prefix limits first_world es (event ∷ []) legal))) events
 
 -- the last time is that of the last event
 pub last-push : (events : List Event) (event : Event) → (after (events ++ event ∷ [])).last ≡ event.at

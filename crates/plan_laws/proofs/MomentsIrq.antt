@@ -9,10 +9,10 @@ use Rattle.psi_base.specs.declared.event.Event.{Event}
 use Rattle.psi_counts.specs.declared.changes.Change.{Change}
 use Rattle.psi_spec.specs.World.{World, Limits, after, first_world, irqs_after, is_on, most_cpus, up_to, longest_irq}
 use Rattle.psi_spec.specs.Refusal.{AreLegal, cause_of}
-use Rattle.psi_spec.specs.Stall.{has_running, irq_told, irq_time}
+use Rattle.psi_spec.specs.Stall.{has_running, irq_time_by, irq_time}
 use Rattle.psi_spec.specs.Changes.{until_change}
 use Rattle.psi_counts.specs.Legal.{changes_from}
-use Rattle.psi_spec.proofs.RefusalLaws.{none_stands}
+use Rattle.psi_spec.proofs.RefusalLaws.{none_found_in}
 use Rattle.psi_spec.proofs.StallLaws.{irq_by_event}
 use Rattle.psi_counts.proofs.IrqLaws.{at_most, not_too_long, short}
 use Rattle.plan_laws.specs.Moments.{IrqGrows, IrqIsWithin, NoIrqAtFirst}
@@ -20,8 +20,8 @@ use Rattle.plan_laws.specs.Plan.{IrqsFit, plan_of}
 use Rattle.plan_laws.proofs.MomentsEvents.{after_others, by_legal, come_or_not, last-push}
 use Rattle.plan_laws.proofs.PlanIrqs.{sum-push}
 use Rattle.plan_laws.proofs.PlanLaws.{after-push, as_many, by_last, changes_same, changes_grow, touched_or_not, until_is}
-use Rattle.plan_laws.proofs.PlanStates.{legal_front, legal_last, until_legal}
-use Rattle.plan_laws.proofs.PlanUpTo.{ends_by, past_it, up_to_front}
+use Rattle.plan_laws.proofs.PlanStates.{legal_prefix, legal_last, until_legal}
+use Rattle.plan_laws.proofs.PlanUpTo.{ends_by, past_it, up_to_prefix}
 
 -- ---- the times of the last interrupts
 
@@ -44,22 +44,22 @@ many_irqs events =
 
 -- either an event has no interrupt time of a processor
 record IsQuiet (w : World) (at : ℕ) (a : Act) (cpu : ℕ) : Type 0 where
-  none : irq_told cpu a ≡ 0
+  none : irq_time_by cpu a ≡ 0
   last : slice_index_or (irqs_after at w.irqs a) cpu 0 ≡ last_irq w cpu
 
 -- or it has interrupt time since the processor's previous `irq` line
-record Tells (w : World) (at : ℕ) (a : Act) (cpu : ℕ) : Type 0 where
-  second : irq_told cpu a ≤ longest_irq
-  since : irq_told cpu a ≤ at - last_irq w cpu
+record Shows (w : World) (at : ℕ) (a : Act) (cpu : ℕ) : Type 0 where
+  second : irq_time_by cpu a ≤ longest_irq
+  since : irq_time_by cpu a ≤ at - last_irq w cpu
   last : slice_index_or (irqs_after at w.irqs a) cpu 0 ≡ at
 
-quiet_or_tells : (limits : Limits) (w : World) (at : ℕ) (a : Act) → cause_of limits w (record { at = at; act = a }) ≡ None → limits.cpus ≤ length w.irqs → (cpu : ℕ) → IsQuiet w at a cpu ⊎ Tells w at a cpu
-quiet_or_tells limits w at (act.Irq named ns) legal many cpu =
+quiet_or_shows : (limits : Limits) (w : World) (at : ℕ) (a : Act) → cause_of limits w (record { at = at; act = a }) ≡ None → limits.cpus ≤ length w.irqs → (cpu : ℕ) → IsQuiet w at a cpu ⊎ Shows w at a cpu
+quiet_or_shows limits w at (act.Irq named ns) legal many cpu =
     let bounds = short w.irqs at named.0 ns (not_too_long limits w _ legal) in
-    let there = (none_stands limits w _ legal).bad_cpu in
+    let there = (none_found_in limits w _ legal).bad_cpu in
     let room : named.0 < length w.irqs = grind (arith, nat_tests, there, many) in
     ⊎_elim
-    (λ same. inr (subst (Tells w at (act.Irq named ns)) same.1 (record {
+    (λ same. inr (subst (Shows w at (act.Irq named ns)) same.1 (record {
       second = at_most (named.0 == named.0) ns longest_irq bounds.second;
       since = at_most (named.0 == named.0) ns (at - last_irq w named.0) bounds.since;
       last = get_or-set_same w.irqs named.0 at 0 room;
@@ -69,12 +69,12 @@ quiet_or_tells limits w at (act.Irq named ns) legal many cpu =
       last = get_or-set_other w.irqs named.0 cpu at 0 (λ is. other.1 (sym is));
     }))
     (eqb_tells named.0 cpu)
-quiet_or_tells limits w at _ legal many cpu = inl (record { none = refl; last = refl })
+quiet_or_shows limits w at _ legal many cpu = inl (record { none = refl; last = refl })
 
 -- after legal events
-event_tells : (limits : Limits) (events : List Event) (event : Event) → AreLegal limits first_world (events ++ event ∷ []) → limits.cpus ≤ most_cpus → (cpu : ℕ) → IsQuiet (after events) event.at event.act cpu ⊎ Tells (after events) event.at event.act cpu
-event_tells limits events event legal few cpu =
-    quiet_or_tells limits (after events) event.at event.act (legal_last limits first_world events event legal) (omega (arith, few, many_irqs events)) cpu
+event_shows : (limits : Limits) (events : List Event) (event : Event) → AreLegal limits first_world (events ++ event ∷ []) → limits.cpus ≤ most_cpus → (cpu : ℕ) → IsQuiet (after events) event.at event.act cpu ⊎ Shows (after events) event.at event.act cpu
+event_shows limits events event legal few cpu =
+    quiet_or_shows limits (after events) event.at event.act (legal_last limits first_world events event legal) (omega (arith, few, many_irqs events)) cpu
 
 -- the time of the last interrupts after one more event
 last_irq-push : (events : List Event) (event : Event) (cpu : ℕ) → last_irq (after (events ++ event ∷ [])) cpu ≡ slice_index_or (irqs_after event.at (after events).irqs event.act) cpu 0
@@ -89,7 +89,7 @@ record EndsBy (time : ℕ) (w : World) (cpu : ℕ) : Type 0 where
 
 -- totals that start at 0 and grow by at most each event's interrupt time satisfy this
 all_end : (limits : Limits) → limits.cpus ≤ most_cpus → (cpu : ℕ) (time : List Event → ℕ) → time [] ≡ 0
-    → ((es : List Event) (event : Event) → AreLegal limits first_world (es ++ event ∷ []) → time (es ++ event ∷ []) ≤ time es + irq_told cpu event.act)
+    → ((es : List Event) (event : Event) → AreLegal limits first_world (es ++ event ∷ []) → time (es ++ event ∷ []) ≤ time es + irq_time_by cpu event.act)
     → (events : List Event) → AreLegal limits first_world events → EndsBy (time events) (after events) cpu
 all_end limits few cpu time none grows = by_legal limits (λ es. EndsBy (time es) (after es) cpu) first push
   where
@@ -115,16 +115,16 @@ all_end limits few cpu time none grows = by_legal limits (λ es. EndsBy (time es
           sum = omega (arith, before.sum, grown, now, quiet.none, quiet.last);
           last = omega (arith, before.last, now, quiet.last, turn, end);
         })
-        (λ tells. record {
-          sum = omega (arith, before.sum, before.last, grown, now, tells.since, tells.last, turn);
-          last = omega (arith, now, tells.last, end);
+        (λ shows. record {
+          sum = omega (arith, before.sum, before.last, grown, now, shows.since, shows.last, turn);
+          last = omega (arith, now, shows.last, end);
         })
-        (event_tells limits es event legal few cpu)
+        (event_shows limits es event legal few cpu)
 
 -- an event adds at most its own interrupt time
-grows_by : (cpu slot : ℕ) (events : List Event) (event : Event) → irq_time cpu slot (events ++ event ∷ []) ≤ irq_time cpu slot events + irq_told cpu event.act
+grows_by : (cpu slot : ℕ) (events : List Event) (event : Event) → irq_time cpu slot (events ++ event ∷ []) ≤ irq_time cpu slot events + irq_time_by cpu event.act
 grows_by cpu slot events event =
-    let part = at_most (is_on (after events).groups slot && has_running cpu slot (after events)) (irq_told cpu event.act) (irq_told cpu event.act) (omega arith) in
+    let part = at_most (is_on (after events).groups slot && has_running cpu slot (after events)) (irq_time_by cpu event.act) (irq_time_by cpu event.act) (omega arith) in
     omega (arith, irq_by_event cpu slot events event, part)
 
 no_irq : (cpu slot : ℕ) → irq_time cpu slot [] ≡ 0
@@ -136,9 +136,9 @@ irq_ends limits events legal few cpu slot = all_end limits few cpu (irq_time cpu
 
 pub irq_is_within : IrqIsWithin
 irq_is_within limits events legal few cpu slot at =
-    let parts = up_to_front limits first_world events at legal in
-    let front = legal_front limits first_world (up_to events at) parts.0 (subst (AreLegal limits first_world) parts.1 legal) in
-    let ends = irq_ends limits (up_to events at) front few cpu slot in
+    let parts = up_to_prefix limits first_world events at legal in
+    let prefix = legal_prefix limits first_world (up_to events at) parts.0 (subst (AreLegal limits first_world) parts.1 legal) in
+    let ends = irq_ends limits (up_to events at) prefix few cpu slot in
     omega (arith, ends.sum, ends.last, ends_by first_world events at (omega arith))
 
 pub no_irq_at_first : NoIrqAtFirst
@@ -147,11 +147,11 @@ no_irq_at_first limits events legal few cpu slot = omega (arith, irq_is_within l
 -- ---- all interrupt time of a plan
 
 -- the interrupt time (ns) of a processor
-abbrev told_all : ℕ → List Event → ℕ
-told_all cpu events = sum (map (λ (change : Change). change.irq) (changes_from cpu first_world events))
+abbrev known_all : ℕ → List Event → ℕ
+known_all cpu events = sum (map (λ (change : Change). change.irq) (changes_from cpu first_world events))
 
-told_all-push : (cpu : ℕ) (events : List Event) (event : Event) → told_all cpu (events ++ event ∷ []) ≤ told_all cpu events + irq_told cpu event.act
-told_all-push cpu events event =
+known_all-push : (cpu : ℕ) (events : List Event) (event : Event) → known_all cpu (events ++ event ∷ []) ≤ known_all cpu events + irq_time_by cpu event.act
+known_all-push cpu events event =
     ⊎_elim
     (λ off. let same = ap (λ cs. sum (map (λ (change : Change). change.irq) cs)) (changes_same cpu events event off) in omega (arith, same))
     (λ on.
@@ -162,7 +162,7 @@ told_all-push cpu events event =
 pub plan_irqs_fit : (limits : Limits) (events : List Event) → AreLegal limits first_world events → limits.cpus ≤ most_cpus → (cpu : ℕ) → IrqsFit (plan_of cpu events)
 plan_irqs_fit limits events legal few cpu k low =
     let until = until_is cpu events k (omega (arith, low, as_many cpu events)) in
-    let ends = all_end limits few cpu (told_all cpu) refl (λ es event _. told_all-push cpu es event) (until_change cpu events k) (until_legal limits cpu events k legal) in
+    let ends = all_end limits few cpu (known_all cpu) refl (λ es event _. known_all-push cpu es event) (until_change cpu events k) (until_legal limits cpu events k legal) in
     let sum = ap (λ cs. sum (map (λ (change : Change). change.irq) cs)) until.changes in
     omega (arith, sum, ends.sum, ends.last, until.last)
 
@@ -182,8 +182,8 @@ grew_quietly : (before now next at last later : ℕ) → next ≡ now → later 
 grew_quietly before now next at last later same still grew = rw (same, still) grew
 
 -- by an event with interrupt time
-grew_more : (before now next told at last moment : ℕ) → Grew before now at last → now ≤ next → next ≤ now + told → told ≤ longest_irq → told ≤ moment - last → last ≤ moment → at ≤ moment → Grew before next at moment
-grew_more before now next told at last moment grew rises most second since turn past = record {
+grew_more : (before now next known at last moment : ℕ) → Grew before now at last → now ≤ next → next ≤ now + known → known ≤ longest_irq → known ≤ moment - last → last ≤ moment → at ≤ moment → Grew before next at moment
+grew_more before now next known at last moment grew rises most second since turn past = record {
   least = omega (arith, grew.least, rises);
   most = inr (
     past,
@@ -199,7 +199,7 @@ GrewSince cpu slot at events = Grew (irq_time cpu slot (up_to events at)) (irq_t
 
 grew-push : (limits : Limits) → limits.cpus ≤ most_cpus → (cpu slot at : ℕ) (events : List Event) (event : Event) → AreLegal limits first_world (events ++ event ∷ []) → GrewSince cpu slot at events → GrewSince cpu slot at (events ++ event ∷ [])
 grew-push limits few cpu slot at events event legal before =
-    let first = legal_front limits first_world events (event ∷ []) legal in
+    let first = legal_prefix limits first_world events (event ∷ []) legal in
     let now = last_irq-push events event cpu in
     let time = irq_by_event cpu slot events event in
     let turn = after_others limits events event legal in
@@ -209,12 +209,12 @@ grew-push limits few cpu slot at events event legal before =
     (λ not. rw not.others (
     ⊎_elim
     (λ quiet.
-    let part = at_most (is_on (after events).groups slot && has_running cpu slot (after events)) (irq_told cpu event.act) 0 (omega (arith, quiet.none)) in
+    let part = at_most (is_on (after events).groups slot && has_running cpu slot (after events)) (irq_time_by cpu event.act) 0 (omega (arith, quiet.none)) in
     grew_quietly _ (irq_time cpu slot events) _ at (last_irq (after events) cpu) _ (omega (arith, time, part)) (now ∙ quiet.last) before)
-    (λ tells.
-    subst (Grew _ _ at) (sym (now ∙ tells.last))
-    (grew_more _ (irq_time cpu slot events) _ (irq_told cpu event.act) at (last_irq (after events) cpu) event.at before (omega (arith, time)) (grows_by cpu slot events event) tells.second tells.since (omega (arith, ends.last, turn)) (omega (arith, not.late))))
-    (event_tells limits events event legal few cpu)))
+    (λ shows.
+    subst (Grew _ _ at) (sym (now ∙ shows.last))
+    (grew_more _ (irq_time cpu slot events) _ (irq_time_by cpu event.act) at (last_irq (after events) cpu) event.at before (omega (arith, time)) (grows_by cpu slot events event) shows.second shows.since (omega (arith, ends.last, turn)) (omega (arith, not.late))))
+    (event_shows limits events event legal few cpu)))
     (come_or_not limits events event legal at)
 
 -- the events up to a time are among those up to a later one
@@ -232,12 +232,12 @@ up_to_both (event ∷ events) at later from =
 
 pub irq_grows : IrqGrows
 irq_grows limits events legal few cpu slot at later from =
-    let front : List Event = up_to events later in
-    let parts = up_to_front limits first_world events later legal in
-    let legally : AreLegal limits first_world front = legal_front limits first_world front parts.0 (subst (AreLegal limits first_world) parts.1 legal) in
+    let prefix : List Event = up_to events later in
+    let parts = up_to_prefix limits first_world events later legal in
+    let legally : AreLegal limits first_world prefix = legal_prefix limits first_world prefix parts.0 (subst (AreLegal limits first_world) parts.1 legal) in
     let start : GrewSince cpu slot at [] = grew_not (irq_time cpu slot []) at (last_irq first_world cpu) in
-    let grew = by_legal limits (GrewSince cpu slot at) start (grew-push limits few cpu slot at) front legally in
-    let ends = irq_ends limits front legally few cpu slot in
+    let grew = by_legal limits (GrewSince cpu slot at) start (grew-push limits few cpu slot at) prefix legally in
+    let ends = irq_ends limits prefix legally few cpu slot in
     let by = ends_by first_world events later (omega arith) in
     let same = ap (irq_time cpu slot) (up_to_both events at later from) in (
       omega (arith, grew.least, same),

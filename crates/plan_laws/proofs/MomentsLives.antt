@@ -23,10 +23,10 @@ use Rattle.psi_spec.specs.LegalGroups.{is_live_in}
 use Rattle.psi_spec.proofs.Following.{after_from-append}
 use Rattle.psi_spec.proofs.RefusalLaws.{first_true}
 use Rattle.psi_spec.proofs.SwitchLaws.{all_left, switched_leaves}
-use Rattle.plan_laws.specs.Moments.{IsLife, AreFirstOf, LivesAreInOrder, LivesTellLive, GroupsKeepSlots}
+use Rattle.plan_laws.specs.Moments.{IsLife, AreFirstOf, LivesAreInOrder, LivesShowLive, GroupsKeepSlots}
 use Rattle.plan_laws.proofs.PlanLaws.{after-push}
 use Rattle.plan_laws.proofs.PlanStates.{legal_after}
-use Rattle.plan_laws.proofs.PlanUpTo.{up_to_front}
+use Rattle.plan_laws.proofs.PlanUpTo.{up_to_prefix}
 use Rattle.plan_laws.proofs.MomentsEvents.{by_legal, last-push, after_others, come_or_not}
 
 -- ---- what an act does to groups, seen by some part of them
@@ -43,30 +43,30 @@ stays_all part stays path at (life ∷ groups) =
     cc (here, rest)
 
 -- a list is a prefix of another
-abbrev Front : {X : Type 0} → List X → List X → Type 0
-Front {X} some all = (more : List X) × (all ≡ some ++ more)
+abbrev Prefix : {X : Type 0} → List X → List X → Type 0
+Prefix {X} some all = (more : List X) × (all ≡ some ++ more)
 
-front_same : {X : Type 0} (some all : List X) → all ≡ some → Front some all
-front_same some all same = ([], same ∙ sym (append-nil some))
+prefix_same : {X : Type 0} (some all : List X) → all ≡ some → Prefix some all
+prefix_same some all same = ([], same ∙ sym (append-nil some))
 
 -- a field that doesn't depend on whether the accounting is on
 abbrev Unswitched : {X : Type 0} → (GroupLife → X) → Type 0
 Unswitched {X} part = (life : GroupLife) (on : Bool) → part (record life { on = on }) ≡ part life
 
 -- an act doesn't change this field of existing groups
-front_act : {X : Type 0} (part : GroupLife → X) → Stays part → Unswitched part → (at : ℕ) (groups : List GroupLife) (a : Act) → Front (map part groups) (map part (groups_after at groups a))
-front_act part stays left at groups (act.Group path) = (part (new_group groups path at) ∷ [], map-append part groups (new_group groups path at ∷ []))
-front_act part stays left at groups (act.Remove path) = front_same _ _ (stays_all part stays path at groups)
-front_act part stays left at groups (act.Pressure path on) = front_same _ _ (all_left part left path on groups)
-front_act part stays left at groups _ = front_same _ _ refl
+prefix_act : {X : Type 0} (part : GroupLife → X) → Stays part → Unswitched part → (at : ℕ) (groups : List GroupLife) (a : Act) → Prefix (map part groups) (map part (groups_after at groups a))
+prefix_act part stays left at groups (act.Group path) = (part (new_group groups path at) ∷ [], map-append part groups (new_group groups path at ∷ []))
+prefix_act part stays left at groups (act.Remove path) = prefix_same _ _ (stays_all part stays path at groups)
+prefix_act part stays left at groups (act.Pressure path on) = prefix_same _ _ (all_left part left path on groups)
+prefix_act part stays left at groups _ = prefix_same _ _ refl
 
-front_more : {X : Type 0} (few some all : List X) → Front few some → Front some all → Front few all
-front_more few some all first later = (first.0 ++ later.0, later.1 ∙ ap (λ xs. xs ++ later.0) first.1 ∙ append_assoc few first.0 later.0)
+prefix_more : {X : Type 0} (few some all : List X) → Prefix few some → Prefix some all → Prefix few all
+prefix_more few some all first later = (first.0 ++ later.0, later.1 ∙ ap (λ xs. xs ++ later.0) first.1 ∙ append_assoc few first.0 later.0)
 
 -- and so do events
-front_from : {X : Type 0} (part : GroupLife → X) → Stays part → Unswitched part → (w : World) (events : List Event) → Front (map part w.groups) (map part (after_from w events).groups)
-front_from part stays left w [] = front_same _ _ refl
-front_from part stays left w (event ∷ events) = front_more _ _ _ (front_act part stays left event.at w.groups event.act) (front_from part stays left (after_event w event) events)
+prefix_from : {X : Type 0} (part : GroupLife → X) → Stays part → Unswitched part → (w : World) (events : List Event) → Prefix (map part w.groups) (map part (after_from w events).groups)
+prefix_from part stays left w [] = prefix_same _ _ refl
+prefix_from part stays left w (event ∷ events) = prefix_more _ _ _ (prefix_act part stays left event.at w.groups event.act) (prefix_from part stays left (after_event w event) events)
 
 -- ---- a group that may be removed
 
@@ -86,26 +86,26 @@ made_stays path at life = without_is (λ l. l.made ≡ life.made) path at life r
 -- ---- the groups created up to a time are a prefix
 
 -- a field of the first groups, for as many as there are
-first_parts : {X : Type 0} (part : GroupLife → X) (some all : List GroupLife) → Front (map part some) (map part all) → map part some ≡ take (length some) (map part all)
-first_parts part some all front =
-    sym (take-append_seam (map part some) front.0) ∙ ap (λ n. take n (map part some ++ front.0)) (length-map some part) ∙ ap (take (length some)) (sym front.1)
+first_parts : {X : Type 0} (part : GroupLife → X) (some all : List GroupLife) → Prefix (map part some) (map part all) → map part some ≡ take (length some) (map part all)
+first_parts part some all prefix =
+    sym (take-append_seam (map part some) prefix.0) ∙ ap (λ n. take n (map part some ++ prefix.0)) (length-map some part) ∙ ap (take (length some)) (sym prefix.1)
 
-no_fewer : {X : Type 0} (part : GroupLife → X) (some all : List GroupLife) → Front (map part some) (map part all) → length some ≤ length all
-no_fewer part some all front =
-    let each = sym (length-map all part) ∙ ap length front.1 ∙ length-append (map part some) front.0 in
+no_fewer : {X : Type 0} (part : GroupLife → X) (some all : List GroupLife) → Prefix (map part some) (map part all) → length some ≤ length all
+no_fewer part some all prefix =
+    let each = sym (length-map all part) ∙ ap length prefix.1 ∙ length-append (map part some) prefix.0 in
     let same = length-map some part in
     omega (arith, each, same)
 
 pub groups_keep_slots : GroupsKeepSlots
 groups_keep_slots limits events legal at =
     let some : List GroupLife = (after (up_to events at)).groups in
-    let parts = up_to_front limits first_world events at legal in
+    let parts = up_to_prefix limits first_world events at legal in
     let whole : (after_from (after (up_to events at)) parts.0).groups ≡ (after events).groups = ap (λ (w : World). w.groups) (sym (after_from-append first_world (up_to events at) parts.0) ∙ ap after (sym parts.1)) in
     subst (λ all. AreFirstOf all some) whole (record {
-      few = no_fewer (λ (life : GroupLife). life.path) some _ (front_from (λ (life : GroupLife). life.path) path_stays (λ _ _. refl) (after (up_to events at)) parts.0);
-      paths = first_parts (λ (life : GroupLife). life.path) some _ (front_from (λ (life : GroupLife). life.path) path_stays (λ _ _. refl) (after (up_to events at)) parts.0);
-      parents = first_parts (λ (life : GroupLife). number_of_slot life.parent) some _ (front_from (λ (life : GroupLife). number_of_slot life.parent) parent_stays (λ _ _. refl) (after (up_to events at)) parts.0);
-      made = first_parts (λ (life : GroupLife). life.made) some _ (front_from (λ (life : GroupLife). life.made) made_stays (λ _ _. refl) (after (up_to events at)) parts.0);
+      few = no_fewer (λ (life : GroupLife). life.path) some _ (prefix_from (λ (life : GroupLife). life.path) path_stays (λ _ _. refl) (after (up_to events at)) parts.0);
+      paths = first_parts (λ (life : GroupLife). life.path) some _ (prefix_from (λ (life : GroupLife). life.path) path_stays (λ _ _. refl) (after (up_to events at)) parts.0);
+      parents = first_parts (λ (life : GroupLife). number_of_slot life.parent) some _ (prefix_from (λ (life : GroupLife). number_of_slot life.parent) parent_stays (λ _ _. refl) (after (up_to events at)) parts.0);
+      made = first_parts (λ (life : GroupLife). life.made) some _ (prefix_from (λ (life : GroupLife). life.made) made_stays (λ _ _. refl) (after (up_to events at)) parts.0);
     })
 
 -- ---- groups up to the last time
@@ -130,8 +130,8 @@ pub record InTurn (last : ℕ) (groups : List GroupLife) : Type 0 where
 turn_later : (last at : ℕ) → last ≤ at → (groups : List GroupLife) → InTurn last groups → InTurn at groups
 turn_later last at low groups are = record { order = are.order; each = All-weaker (IsLife last) (IsLife at) (life_later last at low) groups are.each }
 
-turn_behind : (last at : ℕ) → last ≤ at → (groups : List GroupLife) (life : GroupLife) → life.made ≡ at → life.gone ≡ None → InTurn last groups → InTurn at (groups ++ life ∷ [])
-turn_behind last at low groups life made live are = record {
+turn_following : (last at : ℕ) → last ≤ at → (groups : List GroupLife) (life : GroupLife) → life.made ≡ at → life.gone ≡ None → InTurn last groups → InTurn at (groups ++ life ∷ [])
+turn_following last at low groups life made live are = record {
   order = IsNonDecreasingBy-push (λ (l : GroupLife). l.made) groups life are.order (λ d some. let other = (are.each (length groups - 1) d (omega (arith, some))).made in omega (arith, other, low, made));
   each = All-push (IsLife at) groups life (turn_later last at low groups are).each (record { made = omega (arith, made); gone = subst (λ o. IfSome o (λ gone. (life.made ≤ gone) × (gone ≤ at))) (sym live) tt });
 }
@@ -177,7 +177,7 @@ turn_switched last at low path on groups are =
     }
 
 turn_act : (last at : ℕ) → last ≤ at → (groups : List GroupLife) → InTurn last groups → (a : Act) → InTurn at (groups_after at groups a)
-turn_act last at low groups are (act.Group path) = turn_behind last at low groups (new_group groups path at) refl refl are
+turn_act last at low groups are (act.Group path) = turn_following last at low groups (new_group groups path at) refl refl are
 turn_act last at low groups are (act.Remove path) = turn_without last at low path groups are
 turn_act last at low groups are (act.Pressure path on) = turn_switched last at low path on groups are
 turn_act last at low groups are _ = turn_later last at low groups are
@@ -229,11 +229,11 @@ live_in_now last at low groups each slot None is = refl
 live_in_now last at low groups each slot (Some life) is = live_now last at low life (each_got (IsLife last) groups each slot life is)
 
 -- a group that is created later isn't live yet
-behind_not_yet : (at : ℕ) (groups : List GroupLife) (life : GroupLife) (slot : ℕ) → is_live_at life at ≡ false → is_some_and (slice_get (groups ++ life ∷ []) slot) (λ l. is_live_at l at) ≡ is_some_and (slice_get groups slot) (λ l. is_live_at l at)
-behind_not_yet at [] life zero off = off
-behind_not_yet at [] life (suc slot) off = refl
-behind_not_yet at (first ∷ groups) life zero off = refl
-behind_not_yet at (first ∷ groups) life (suc slot) off = behind_not_yet at groups life slot off
+after_not_yet : (at : ℕ) (groups : List GroupLife) (life : GroupLife) (slot : ℕ) → is_live_at life at ≡ false → is_some_and (slice_get (groups ++ life ∷ []) slot) (λ l. is_live_at l at) ≡ is_some_and (slice_get groups slot) (λ l. is_live_at l at)
+after_not_yet at [] life zero off = off
+after_not_yet at [] life (suc slot) off = refl
+after_not_yet at (first ∷ groups) life zero off = refl
+after_not_yet at (first ∷ groups) life (suc slot) off = after_not_yet at groups life slot off
 
 -- a group that is removed later still exists
 still_there : (at moment : ℕ) → at < moment → (o : Option ℕ) → not (is_some o) ≡ true → not (nat_le moment at) ≡ not (is_gone_by o at)
@@ -258,17 +258,17 @@ switched_or_none at path on (Some life) = switched_leaves (λ l. is_live_at l at
 
 -- an act doesn't change which groups were live before it
 live_before : (at moment : ℕ) → at < moment → (groups : List GroupLife) (slot : ℕ) (a : Act) → is_some_and (slice_get (groups_after moment groups a) slot) (λ l. is_live_at l at) ≡ is_some_and (slice_get groups slot) (λ l. is_live_at l at)
-live_before at moment past groups slot (act.Group path) = behind_not_yet at groups (new_group groups path moment) slot (ap (λ b. b && not (is_gone_by None at)) (to_come at moment past))
+live_before at moment past groups slot (act.Group path) = after_not_yet at groups (new_group groups path moment) slot (ap (λ b. b && not (is_gone_by None at)) (to_come at moment past))
 live_before at moment past groups slot (act.Remove path) = ap (λ o. is_some_and o (λ l. is_live_at l at)) (slice_get-map (marked_removed path moment) groups slot) ∙ removed_or_none at moment past path (slice_get groups slot)
 live_before at moment past groups slot (act.Pressure path on) = ap (λ o. is_some_and o (λ l. is_live_at l at)) (slice_get-map (marked_switched path on) groups slot) ∙ switched_or_none at path on (slice_get groups slot)
 live_before at moment past groups slot _ = refl
 
 -- the groups of a trace show which slots are live at a time
-abbrev TellsLive : List Event → Type 0
-TellsLive events = (at slot : ℕ) → is_live_in (after (up_to events at)).groups slot ≡ is_some_and (slice_get (after events).groups slot) (λ life. is_live_at life at)
+abbrev ShowsLive : List Event → Type 0
+ShowsLive events = (at slot : ℕ) → is_live_in (after (up_to events at)).groups slot ≡ is_some_and (slice_get (after events).groups slot) (λ life. is_live_at life at)
 
-tells-push : (limits : Limits) (events : List Event) (event : Event) → AreLegal limits first_world (events ++ event ∷ []) → TellsLive events → TellsLive (events ++ event ∷ [])
-tells-push limits events event legal before at slot =
+shows-push : (limits : Limits) (events : List Event) (event : Event) → AreLegal limits first_world (events ++ event ∷ []) → ShowsLive events → ShowsLive (events ++ event ∷ [])
+shows-push limits events event legal before at slot =
     ⊎_elim
     (λ come.
     let all : List GroupLife = (after (events ++ event ∷ [])).groups in
@@ -282,7 +282,7 @@ tells-push limits events event legal before at slot =
     ∙ ap (λ (w : World). is_some_and (slice_get w.groups slot) (λ life. is_live_at life at)) (sym (after-push events event)))
     (come_or_not limits events event legal at)
 
-pub lives_tell_live : LivesTellLive
-lives_tell_live limits events legal = by_legal limits TellsLive
+pub lives_show_live : LivesShowLive
+lives_show_live limits events legal = by_legal limits ShowsLive
     (λ at slot. live_in_now 0 at (omega arith) (root ∷ []) turn_first.each slot (slice_get (root ∷ []) slot) refl)
-    (tells-push limits) events legal
+    (shows-push limits) events legal

@@ -29,10 +29,10 @@ use Rattle.psi_spec.specs.LegalGroups.{IsPathOrder, is_live_in}
 use Rattle.psi_spec.proofs.GroupLaws.{bytes_itself, found_below, found_group, same_bytes}
 use Rattle.psi_spec.proofs.RefusalLaws.{first_true, second_true}
 use Rattle.psi_counts.specs.Legal.{IsLegalWorld}
-use Rattle.plan_laws.specs.Moments.{AreFirstOf, is_live_slot, with_path, OrderTellsLive, OrderTellsSlots}
-use Rattle.plan_laws.proofs.PlanStates.{legal_after, legal_front}
-use Rattle.plan_laws.proofs.PlanUpTo.{up_to_front}
-use Rattle.plan_laws.proofs.MomentsLives.{groups_keep_slots, lives_tell_live}
+use Rattle.plan_laws.specs.Moments.{AreFirstOf, is_live_slot, with_path, OrderShowsLive, OrderShowsSlots}
+use Rattle.plan_laws.proofs.PlanStates.{legal_after, legal_prefix}
+use Rattle.plan_laws.proofs.PlanUpTo.{up_to_prefix}
+use Rattle.plan_laws.proofs.MomentsLives.{groups_keep_slots, lives_show_live}
 
 -- ---- paths and their order
 
@@ -201,12 +201,12 @@ passing (Some life) on = (life, refl, on)
 
 -- How the groups after legal events and those at a time are related: the path of a live slot leads
 -- to it, and a path leads only to a live slot that has it.
-record TellsOf (now all : List GroupLife) (test : ℕ → Bool) : Type 0 where
+record ShowsOf (now all : List GroupLife) (test : ℕ → Bool) : Type 0 where
   finds : (slot : ℕ) → slot < length all → test slot ≡ true → slot_of now (path_at all slot) ≡ Some slot
   found : (path : List ℕ) (slot : ℕ) → slot_of now path ≡ Some slot → (slot < length all) × (test slot ≡ true) × (path_at all slot ≡ path)
 
-tells_of : (limits : Limits) (events : List Event) → AreLegal limits first_world events → (at : ℕ) → TellsOf (after (up_to events at)).groups (after events).groups (is_live_slot (after events).groups at)
-tells_of limits events legal at = record {
+shows_rest_of : (limits : Limits) (events : List Event) → AreLegal limits first_world events → (at : ℕ) → ShowsOf (after (up_to events at)).groups (after events).groups (is_live_slot (after events).groups at)
+shows_rest_of limits events legal at = record {
   finds = λ slot room on.
       let live = passing (slice_get now slot) (same_live slot room ∙ on) in
       let within = slice_get_within now slot live.0 live.1 in
@@ -229,14 +229,14 @@ tells_of limits events legal at = record {
 
     world : IsLegalWorld limits (after (up_to events at))
     world =
-        let parts = up_to_front limits first_world events at legal in
-        legal_after limits (up_to events at) (legal_front limits first_world (up_to events at) parts.0 (subst (AreLegal limits first_world) parts.1 legal))
+        let parts = up_to_prefix limits first_world events at legal in
+        legal_after limits (up_to events at) (legal_prefix limits first_world (up_to events at) parts.0 (subst (AreLegal limits first_world) parts.1 legal))
 
     kept : AreFirstOf all now
     kept = groups_keep_slots limits events legal at
 
     same_live : (slot : ℕ) → slot < length all → is_live_in now slot ≡ is_live_slot all at slot
-    same_live slot room = lives_tell_live limits events legal at slot ∙ ap (λ o. is_some_and o (λ life. is_live_at life at)) (got_there all slot room)
+    same_live slot room = lives_show_live limits events legal at slot ∙ ap (λ o. is_some_and o (λ life. is_live_at life at)) (got_there all slot room)
 
     same_path : (slot : ℕ) → slot < length now → path_at all slot ≡ path_at now slot
     same_path slot within = sym (ap (λ paths. slice_index_or paths slot []) kept.paths ∙ get_or-take (length now) (map (λ (l : GroupLife). l.path) all) slot [] within)
@@ -258,11 +258,11 @@ record IsAscending (now all : List GroupLife) (slots : List ℕ) : Type 0 where
   finds : All (λ slot. slot_of now (path_at all slot) ≡ Some slot) slots
   ascend : AllPairs (Ascends all) slots
 
-live_ascend : (now all : List GroupLife) (test : ℕ → Bool) (order : List ℕ) → TellsOf now all test → IsPathOrder all order → IsAscending now all (filter test order)
-live_ascend now all test order tells is =
+live_ascend : (now all : List GroupLife) (test : ℕ → Bool) (order : List ℕ) → ShowsOf now all test → IsPathOrder all order → IsAscending now all (filter test order)
+live_ascend now all test order shows is =
     let passes = filter_passes test order in
     let below = All-filter test (λ slot. slot < length all) order (has_no_other all order is) in
-    let finds : All (λ slot. slot_of now (path_at all slot) ≡ Some slot) (filter test order) = λ k d room. tells.finds (slice_index_or (filter test order) k d) (below k d room) (passes k d room) in
+    let finds : All (λ slot. slot_of now (path_at all slot) ≡ Some slot) (filter test order) = λ k d room. shows.finds (slice_index_or (filter test order) k d) (below k d room) (passes k d room) in
     let once = AllPairs-filter (λ x y. x ≢ y) test order (has_once all order is) in
     let in_turn = AllPairs-filter (NoneBefore all) test order (has_in_order all order is) in
     record {
@@ -273,33 +273,33 @@ live_ascend now all test order tells is =
     }
 
 -- a path finds the same live slot in both
-same_found : (now all : List GroupLife) (test : ℕ → Bool) (order : List ℕ) → TellsOf now all test → IsPathOrder all order → IsAscending now all (filter test order) → (path : List ℕ) (o : Option ℕ) → fin.find (slice_cmp nat_cmp) path (map (with_path all) (filter test order)) ≡ o → slot_of now path ≡ o
-same_found now all test order tells is live path (Some slot) found =
+same_found : (now all : List GroupLife) (test : ℕ → Bool) (order : List ℕ) → ShowsOf now all test → IsPathOrder all order → IsAscending now all (filter test order) → (path : List ℕ) (o : Option ℕ) → fin.find (slice_cmp nat_cmp) path (map (with_path all) (filter test order)) ≡ o → slot_of now path ≡ o
+same_found now all test order shows is live path (Some slot) found =
     let it = found_slot all (λ s. slot_of now (path_at all s) ≡ Some s) path (filter test order) slot (recursion_from_All _ (filter test order) live.finds) found in
     ap (slot_of now) (sym it.1) ∙ it.0
-same_found now all test order tells is live path None found = none_found (slot_of now path) refl
+same_found now all test order shows is live path None found = none_found (slot_of now path) refl
   where
     none_found : (o : Option ℕ) → slot_of now path ≡ o → o ≡ None
     none_found None none = refl
     none_found (Some slot) some =
-        let it = tells.found path slot some in
+        let it = shows.found path slot some in
         let none = All-contains (λ s. test s ≡ true → path_at all s ≢ path) order slot (All-from_recursion _ order (none_has all test path order found)) (has_each all order is slot it.0) in
         absurd (none it.1 it.2)
 
-pub order_tells_live : OrderTellsLive
-order_tells_live limits events legal order is at =
+pub order_shows_live : OrderShowsLive
+order_shows_live limits events legal order is at =
     let now : List GroupLife = (after (up_to events at)).groups in
     let all : List GroupLife = (after events).groups in
     let test : ℕ → Bool = is_live_slot all at in
-    let tells = tells_of limits events legal at in
-    let live = live_ascend now all test order tells is in
+    let shows = shows_rest_of limits events legal at in
+    let live = live_ascend now all test order shows is in
     let sorted = are_a_map all (filter test order) live.ascend in
     let pairs : List (List ℕ × ℕ) = map (with_path all) (filter test order) in
     let same : fin.from_entries {R = slice_cmp nat_cmp} (live_from 0 now) ≡ fin.from_sorted {R = slice_cmp nat_cmp} pairs =
     fin.same_map nat_list_cmp_total (fin.slice_cmp-IsAntisymmetric fin.nat_cmp-IsAntisymmetric) _ _ (λ path.
     fin.get-from_entries nat_list_cmp_total (live_from 0 now) path
     ∙ live_found 0 now path
-    ∙ same_found now all test order tells is live path (fin.find (slice_cmp nat_cmp) path pairs) refl
+    ∙ same_found now all test order shows is live path (fin.find (slice_cmp nat_cmp) path pairs) refl
     ∙ sym (fin.get-from_sorted (slice_cmp nat_cmp) pairs path sorted)) in
     in_order_is (live_from 0 now) ∙ ap fin.entries same ∙ fin.entries-from_sorted (slice_cmp nat_cmp) pairs sorted
 
@@ -307,7 +307,7 @@ slots_alone : (groups : List GroupLife) (slots : List ℕ) → map (λ (pair : L
 slots_alone groups [] = refl
 slots_alone groups (slot ∷ slots) = ap (λ rest. slot ∷ rest) (slots_alone groups slots)
 
-pub order_tells_slots : OrderTellsSlots
-order_tells_slots limits events legal order is at =
-    ap (map (λ (pair : List ℕ × ℕ). pair.1)) (order_tells_live limits events legal order is at)
+pub order_shows_slots : OrderShowsSlots
+order_shows_slots limits events legal order is at =
+    ap (map (λ (pair : List ℕ × ℕ). pair.1)) (order_shows_live limits events legal order is at)
     ∙ slots_alone (after events).groups (filter (is_live_slot (after events).groups at) order)

@@ -9,8 +9,8 @@ use Rattle.psi_spec.specs.Stall.{holds, stall}
 use Rattle.psi_spec.proofs.StallLaws.{by_event, with_time}
 use Rattle.plan_laws.specs.Moments.{StallGrows, StallIsWithin, NoStallAtFirst}
 use Rattle.plan_laws.proofs.PlanStalls.{no_time}
-use Rattle.plan_laws.proofs.PlanStates.{legal_front}
-use Rattle.plan_laws.proofs.PlanUpTo.{ends_by, up_to_front}
+use Rattle.plan_laws.proofs.PlanStates.{legal_prefix}
+use Rattle.plan_laws.proofs.PlanUpTo.{ends_by, up_to_prefix}
 use Rattle.plan_laws.proofs.MomentsEvents.{by_legal, last-push, up_to_all, after_others, come_or_not}
 
 -- ---- the time that is added
@@ -55,7 +55,7 @@ grows-push limits state cpu slot events event legal before at later from =
     (λ not.
     ⊎_elim
     (λ come.
-    let others = up_to_all limits events (legal_front limits first_world events (event ∷ []) legal) event.at (after_others limits events event legal) in
+    let others = up_to_all limits events (legal_prefix limits first_world events (event ∷ []) legal) event.at (after_others limits events event legal) in
     rw (not.others, come.all) (grows_between limits state cpu slot events event at later others before (omega (arith, not.late)) come.early))
     (λ still. rw (not.others, still.others) (before at later from))
     (come_or_not limits events event legal later))
@@ -80,9 +80,9 @@ all_within limits state cpu slot events legal = by_legal limits (λ es. (at : �
 
 pub stall_is_within : StallIsWithin
 stall_is_within limits events legal state cpu slot at =
-    let parts = up_to_front limits first_world events at legal in
-    let front = legal_front limits first_world (up_to events at) parts.0 (subst (AreLegal limits first_world) parts.1 legal) in
-    all_within limits state cpu slot (up_to events at) front at (ends_by first_world events at (omega arith))
+    let parts = up_to_prefix limits first_world events at legal in
+    let prefix = legal_prefix limits first_world (up_to events at) parts.0 (subst (AreLegal limits first_world) parts.1 legal) in
+    all_within limits state cpu slot (up_to events at) prefix at (ends_by first_world events at (omega arith))
 
 pub no_stall_at_first : NoStallAtFirst
 no_stall_at_first limits events legal state cpu slot = omega (arith, stall_is_within limits events legal state cpu slot 0)

@@ -14,18 +14,18 @@ use Rattle.psi_base.specs.declared.event.Cause.TheVariants as cause
 use Rattle.psi_spec.specs.declared.machine.GroupLife.{GroupLife}
 use Rattle.psi_spec.specs.World.{World, Limits, root, is_live, is_trigger, new_group, marked_removed, marked_switched, groups_after, slot_of, after, after_event, first_world}
 use Rattle.psi_spec.specs.Refusal.{cause_of, applies, cause_order, is_window, AreLegal}
-use Rattle.psi_spec.specs.Told.{trigger_by, triggers_of}
+use Rattle.psi_spec.specs.Collected.{trigger_by, triggers_of}
 use Rattle.psi_spec.specs.Within.{IsTriggerWithin}
 use Rattle.psi_spec.proofs.GroupLaws.{found_below, found_group}
 use Rattle.psi_spec.proofs.RefusalLaws.{first_true, passed}
 use Rattle.plan_laws.specs.Moments.{IsThere, TriggersAreWithin, TriggersAreInOrder, TriggersUpTo, TriggersAreOnGroups}
 use Rattle.psi_counts.proofs.LegalLaws.{more_groups}
 use Rattle.plan_laws.proofs.PlanLaws.{after-push}
-use Rattle.plan_laws.proofs.PlanStates.{legal_after, legal_front, legal_last}
+use Rattle.plan_laws.proofs.PlanStates.{legal_after, legal_prefix, legal_last}
 use Rattle.plan_laws.proofs.MomentsEvents.{by_legal, after_others}
 use Rattle.plan_laws.proofs.MomentsLives.{InTurn, switched_is, turn_after, without_is}
 use Rattle.plan_laws.proofs.MomentsOrder.{got_there}
-use Rattle.plan_laws.proofs.MomentsTold.{TellsAtOnce, told-push, told_in_order, told_until}
+use Rattle.plan_laws.proofs.MomentsKnown.{ShowsAtOnce, known-push, known_in_order, known_until}
 
 -- ---- the triggers of an event
 
@@ -37,14 +37,14 @@ at_once : (at : ℕ) (groups : List GroupLife) (a : Act) → AllByRecursion (λ 
 at_once at groups (act.Trigger path res level threshold_us window_us) = (refl, tt)
 at_once at groups _ = tt
 
-tells_at_once : TellsAtOnce by_event (λ (trigger : TriggerSpec). trigger.at)
-tells_at_once w event = at_once event.at w.groups event.act
+shows_at_once : ShowsAtOnce by_event (λ (trigger : TriggerSpec). trigger.at)
+shows_at_once w event = at_once event.at w.groups event.act
 
 pub triggers_are_in_order : TriggersAreInOrder
-triggers_are_in_order limits events legal = (told_in_order by_event (λ (trigger : TriggerSpec). trigger.at) tells_at_once limits events legal).order
+triggers_are_in_order limits events legal = (known_in_order by_event (λ (trigger : TriggerSpec). trigger.at) shows_at_once limits events legal).order
 
 pub triggers_up_to : TriggersUpTo
-triggers_up_to limits events legal at = told_until by_event (λ (trigger : TriggerSpec). trigger.at) tells_at_once limits first_world events at legal
+triggers_up_to limits events legal at = known_until by_event (λ (trigger : TriggerSpec). trigger.at) shows_at_once limits first_world events at legal
 
 -- ---- a group that is there
 
@@ -137,7 +137,7 @@ sets-push limits events event legal before =
     let w : World = after events in
     let new : List TriggerSpec = by_event w event in
     let low = after_others limits events event legal in
-    let turn = turn_after limits events (legal_front limits first_world events (event ∷ []) legal) in
+    let turn = turn_after limits events (legal_prefix limits first_world events (event ∷ []) legal) in
     let now = set_now limits w event.at event.act (legal_last limits first_world events event legal) low turn in
     let old = All-weaker (IsSet limits.latest w.last w.groups) (IsSet limits.latest event.at (groups_after event.at w.groups event.act)) (set_later limits.latest w.last event.at low w.groups event.act (more_groups w event)) (triggers_of events) before.each in
     let len = length-append (triggers_of events) new in
@@ -147,7 +147,7 @@ sets-push limits events event legal before =
       each = All-append (IsSet limits.latest event.at (groups_after event.at w.groups event.act)) (triggers_of events) new old (All-from_recursion (IsSet limits.latest event.at (groups_after event.at w.groups event.act)) new now);
     } in
     subst (λ (v : World). AreSet limits.latest v (triggers_of (events ++ event ∷ []))) (sym (after-push events event))
-    (subst (AreSet limits.latest (after_event w event)) (sym (told-push by_event first_world events event)) all)
+    (subst (AreSet limits.latest (after_event w event)) (sym (known-push by_event first_world events event)) all)
 
 all_set : (limits : Limits) (events : List Event) → AreLegal limits first_world events → AreSet limits.latest (after events) (triggers_of events)
 all_set limits events legal = by_legal limits (λ es. AreSet limits.latest (after es) (triggers_of es))

@@ -6,7 +6,7 @@ use Rattle.psi_base.specs.declared.event.State.TheVariants.{IoSome, IoFull, MemS
 use Rattle.psi_spec.specs.Stall.{state_number}
 use Rattle.psi_counts.specs.Counts.{mask_holds}
 use Rattle.psi_counts.specs.Clock.{ClockView, zero_clock, opened_time}
-use Rattle.plan_laws.specs.Plan.{AreInOrder, ClockIsInTime, ClockTellsPlanned, PlanView, holds_after, last_change, planned_time, FollowedIsClock, KeptIsClock, ZeroIsClock}
+use Rattle.plan_laws.specs.Plan.{AreInOrder, ClockIsInTime, ClockShowsPlanned, PlanView, holds_after, last_change, planned_time, FollowedIsClock, KeptIsClock, ZeroIsClock}
 use Rattle.psi_counts.proofs.ClockLaws.{clock_stays, map_states, zero_time}
 use Rattle.plan_laws.proofs.PlanTimes.{planned_by_change}
 
@@ -88,5 +88,5 @@ clock_is_in_time clock plan slot k at plan_is is from to = record {
 
 -- ---- the times of a clock
 
-pub clock_tells_planned : ClockTellsPlanned
-clock_tells_planned clock plan slot k at is from = map_states (opened_time clock at) (λ state. planned_time state plan slot k at) (λ state. is.times state at from)
+pub clock_shows_planned : ClockShowsPlanned
+clock_shows_planned clock plan slot k at is from = map_states (opened_time clock at) (λ state. planned_time state plan slot k at) (λ state. is.times state at from)

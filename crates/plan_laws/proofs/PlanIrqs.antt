@@ -8,7 +8,7 @@ use Rattle.psi_base.specs.declared.event.Event.{Event}
 use Rattle.psi_counts.specs.declared.changes.Change.{Change}
 use Rattle.psi_spec.specs.World.{World, Limits, after, first_world, is_on, up_to}
 use Rattle.psi_spec.specs.Refusal.{AreLegal}
-use Rattle.psi_spec.specs.Stall.{has_running, irq_told, irq_time, parents_of, runs, tasks_in}
+use Rattle.psi_spec.specs.Stall.{has_running, irq_time_by, irq_time, parents_of, runs, tasks_in}
 use Rattle.psi_spec.specs.Changes.{changes_of, count_at, until_change}
 use Rattle.psi_counts.specs.Legal.{IsLegalWorld, changes_from}
 use Rattle.psi_counts.specs.Touch.{on_with, irq_in, is_current_in}
@@ -17,12 +17,12 @@ use Rattle.psi_spec.proofs.StallLaws.{irq_by_event}
 use Rattle.psi_counts.proofs.IrqLaws.{at_most}
 use Rattle.psi_counts.proofs.LegalLaws.{same_tasks_later}
 use Rattle.psi_counts.proofs.TouchLaws.{stays_untouched}
-use Rattle.psi_counts.proofs.TouchWithin.{change_tells}
+use Rattle.psi_counts.proofs.TouchWithin.{change_shows}
 use Rattle.plan_laws.proofs.PlanLaws.{as_many, by_last, changes_same, changes_grow, touched_or_not, until_is}
 use Rattle.plan_laws.proofs.PlanStalls.{fewer_before}
-use Rattle.plan_laws.proofs.PlanStates.{Prolongs, on_as_told, legal_after, legal_front, legal_last, until_legal, until_prolongs}
+use Rattle.plan_laws.proofs.PlanStates.{Prolongs, on_as_known, legal_after, legal_prefix, legal_last, until_legal, until_prolongs}
 use Rattle.plan_laws.proofs.PlanSteps.{one_more}
-use Rattle.plan_laws.proofs.PlanUpTo.{counts_by_plan, until_of_front, up_to_front}
+use Rattle.plan_laws.proofs.PlanUpTo.{counts_by_plan, until_of_prefix, up_to_prefix}
 
 -- ---- sums over changes
 
@@ -85,17 +85,17 @@ unfolding has_running
 running_later limits w world parents more cpu slot = ap (λ ps. list_any runs (tasks_in ps cpu slot w.tasks)) more.1 ∙ ap (list_any runs) (same_tasks_later limits w world more.0 cpu slot)
 
 -- all changes of some events give the interrupt time of these events
-abbrev TellsIrq : Limits → ℕ → ℕ → List Event → Type 0
-TellsIrq limits cpu slot events = AreLegal limits first_world events → (parents : List (Option ℕ)) → Prolongs (parents_of (after events).groups) parents →
+abbrev ShowsIrq : Limits → ℕ → ℕ → List Event → Type 0
+ShowsIrq limits cpu slot events = AreLegal limits first_world events → (parents : List (Option ℕ)) → Prolongs (parents_of (after events).groups) parents →
     irq_over parents slot true (changes_from cpu first_world events) ≡ irq_time cpu slot events
 
-tells-none : (limits : Limits) (cpu slot : ℕ) → TellsIrq limits cpu slot []
+shows-none : (limits : Limits) (cpu slot : ℕ) → ShowsIrq limits cpu slot []
 unfolding irq_time
-tells-none limits cpu slot legal parents more = refl
+shows-none limits cpu slot legal parents more = refl
 
-tells-push : (limits : Limits) (cpu slot : ℕ) (events : List Event) (event : Event) → TellsIrq limits cpu slot events → TellsIrq limits cpu slot (events ++ event ∷ [])
-tells-push limits cpu slot events event before legal parents more =
-    let first = legal_front limits first_world events (event ∷ []) legal in
+shows-push : (limits : Limits) (cpu slot : ℕ) (events : List Event) (event : Event) → ShowsIrq limits cpu slot events → ShowsIrq limits cpu slot (events ++ event ∷ [])
+shows-push limits cpu slot events event before legal parents more =
+    let first = legal_prefix limits first_world events (event ∷ []) legal in
     let allowed = legal_last limits first_world events event legal in
     let world = legal_after limits events first in
     let fewer = fewer_before events event parents more in
@@ -105,21 +105,21 @@ tells-push limits cpu slot events event before legal parents more =
     (λ off.
     let same = ap (irq_over parents slot true) (changes_same cpu events event off) in
     let none = (stays_untouched limits (after events) event allowed cpu off.none parents slot).2 in
-    let part = at_most (is_on (after events).groups slot && has_running cpu slot (after events)) (irq_told cpu event.act) 0 (omega (arith, none)) in
+    let part = at_most (is_on (after events).groups slot && has_running cpu slot (after events)) (irq_time_by cpu event.act) 0 (omega (arith, none)) in
     omega (arith, same, sums, time, part))
     (λ on.
     let grown = ap (irq_over parents slot true) (changes_grow cpu events event on) ∙ over-push parents slot true (changes_from cpu first_world events) on.change in
-    let told = (change_tells limits (after events) event allowed world.once cpu on.change on.one parents slot).2 in
-    let part = told ∙ ap (λ b. if b then irq_told cpu event.act else 0) (running_later limits (after events) world parents fewer cpu slot) in
+    let known = (change_shows limits (after events) event allowed world.once cpu on.change on.one parents slot).2 in
+    let part = known ∙ ap (λ b. if b then irq_time_by cpu event.act else 0) (running_later limits (after events) world parents fewer cpu slot) in
     let account : Bool = is_on (after events).groups slot in
-    let whole = ap (λ b. if b then irq_in parents slot on.change else 0) (on_as_told limits cpu slot events first)
+    let whole = ap (λ b. if b then irq_in parents slot on.change else 0) (on_as_known limits cpu slot events first)
     ∙ ap (λ n. if account then n else 0) part
-    ∙ both_tests account (has_running cpu slot (after events)) (irq_told cpu event.act) in
+    ∙ both_tests account (has_running cpu slot (after events)) (irq_time_by cpu event.act) in
     omega (arith, grown, sums, whole, time))
     (touched_or_not (after events) event cpu)
 
-tells_irq : (limits : Limits) (cpu slot : ℕ) (events : List Event) → TellsIrq limits cpu slot events
-tells_irq limits cpu slot events = by_last (TellsIrq limits cpu slot) (tells-none limits cpu slot) (tells-push limits cpu slot) events
+shows_irq : (limits : Limits) (cpu slot : ℕ) (events : List Event) → ShowsIrq limits cpu slot events
+shows_irq limits cpu slot events = by_last (ShowsIrq limits cpu slot) (shows-none limits cpu slot) (shows-push limits cpu slot) events
 
 pub planned_irq_is_irq : PlannedIrqIsIrq
 unfolding planned_irq
@@ -127,7 +127,7 @@ planned_irq_is_irq limits events legal cpu slot k low =
     let parents : List (Option ℕ) = parents_of (after events).groups in
     let until = until_is cpu events k low in
     ap (irq_over parents slot true) (sym until.changes)
-    ∙ tells_irq limits cpu slot (until_change cpu events k) (until_legal limits cpu events k legal) parents (until_prolongs cpu events k)
+    ∙ shows_irq limits cpu slot (until_change cpu events k) (until_legal limits cpu events k legal) parents (until_prolongs cpu events k)
 
 -- ---- up to a time
 
@@ -138,17 +138,17 @@ irq_by_own_changes limits events legal cpu slot =
     let parents : List (Option ℕ) = parents_of (after events).groups in
     let changes : List Change = changes_from cpu first_world events in
     let all : take (length (changes_of cpu events)) changes ≡ changes = take_all (length (changes_of cpu events)) changes (omega (arith, as_many cpu events)) in
-    sym (tells_irq limits cpu slot events legal parents ([], sym (append-nil parents)))
+    sym (shows_irq limits cpu slot events legal parents ([], sym (append-nil parents)))
     ∙ ap (irq_over parents slot true) (sym all)
     ∙ planned_irq_is_irq limits events legal cpu slot (length (changes_of cpu events)) (omega arith)
 
 irq_up_to : (limits : Limits) (events : List Event) → AreLegal limits first_world events → (cpu slot at : ℕ) → irq_time cpu slot (up_to events at) ≡ irq_time cpu slot (until_change cpu events (count_at cpu events at))
 irq_up_to limits events legal cpu slot at =
-    let front : List Event = up_to events at in
-    let parts = up_to_front limits first_world events at legal in
-    let legally : AreLegal limits first_world front = legal_front limits first_world front parts.0 (subst (AreLegal limits first_world) parts.1 legal) in
-    irq_by_own_changes limits front legally cpu slot
-    ∙ ap (irq_time cpu slot) (sym (until_of_front cpu front parts.0 (count_at cpu events at) (omega arith)) ∙ ap (λ es. until_change cpu es (count_at cpu events at)) (sym parts.1))
+    let prefix : List Event = up_to events at in
+    let parts = up_to_prefix limits first_world events at legal in
+    let legally : AreLegal limits first_world prefix = legal_prefix limits first_world prefix parts.0 (subst (AreLegal limits first_world) parts.1 legal) in
+    irq_by_own_changes limits prefix legally cpu slot
+    ∙ ap (irq_time cpu slot) (sym (until_of_prefix cpu prefix parts.0 (count_at cpu events at) (omega arith)) ∙ ap (λ es. until_change cpu es (count_at cpu events at)) (sym parts.1))
 
 pub planned_irq_until : PlannedIrqUntil
 planned_irq_until limits events legal cpu slot at =

@@ -8,7 +8,7 @@ use Rattle.std.proofs.Math.Seq.{get_or-append_seam, take-append_seam}
 use Rattle.psi_base.specs.declared.event.Event.{Event}
 use Rattle.psi_counts.specs.declared.changes.Change.{Change}
 use Rattle.psi_spec.specs.World.{World, after, after_event, after_from, first_world, tasks_after}
-use Rattle.psi_spec.specs.Stall.{irq_told, moment_of}
+use Rattle.psi_spec.specs.Stall.{irq_time_by, moment_of}
 use Rattle.psi_counts.specs.Touch.{change_of, change_on, account_of, task_after}
 use Rattle.psi_spec.specs.Changes.{before, changes_of, event_of_change, is_change, touched, touches, until_change}
 use Rattle.psi_counts.specs.Legal.{changes_from, with_change}
@@ -19,9 +19,9 @@ use Rattle.psi_spec.proofs.StallLaws.{get_left, get_seam}
 -- ---- lists from their ends
 
 -- induction over prefixes: from the empty prefix, and from each prefix to one more element
-by_last_from : {A : Type 0} (P : List A → Type 0) → ((xs : List A) (x : A) → P xs → P (xs ++ x ∷ [])) → (front rest : List A) → P front → P (front ++ rest)
-by_last_from P step front [] is = subst P (sym (append-nil front)) is
-by_last_from P step front (x ∷ rest) is = subst P (append_assoc front (x ∷ []) rest) (by_last_from P step (front ++ x ∷ []) rest (step front x is))
+by_last_from : {A : Type 0} (P : List A → Type 0) → ((xs : List A) (x : A) → P xs → P (xs ++ x ∷ [])) → (prefix rest : List A) → P prefix → P (prefix ++ rest)
+by_last_from P step prefix [] is = subst P (sym (append-nil prefix)) is
+by_last_from P step prefix (x ∷ rest) is = subst P (append_assoc prefix (x ∷ []) rest) (by_last_from P step (prefix ++ x ∷ []) rest (step prefix x is))
 
 -- so it is from the empty list on
 pub by_last : {A : Type 0} (P : List A → Type 0) → P [] → ((xs : List A) (x : A) → P xs → P (xs ++ x ∷ [])) → (xs : List A) → P xs
@@ -68,11 +68,11 @@ changes_from-push cpu w (first ∷ events) event =
     let rest = changes_from-push cpu (after_event w first) events event in
     ap (with_change (change_of w first cpu)) rest ∙ sym (with_change-append (change_of w first cpu) (changes_from cpu (after_event w first) events) (with_change (change_of (after_from (after_event w first) events) event cpu) []))
 
-is_change-front : (cpu : ℕ) (events : List Event) (event : Event) (i : ℕ) → 1 ≤ i → i < 1 + length events → is_change cpu (events ++ event ∷ []) i ≡ is_change cpu events i
-is_change-front cpu events event i low high =
-    let front : take (i - 1) (events ++ event ∷ []) ≡ take (i - 1) events = take-append-le (i - 1) events (event ∷ []) (omega (arith, low, high)) in
+is_change-prefix : (cpu : ℕ) (events : List Event) (event : Event) (i : ℕ) → 1 ≤ i → i < 1 + length events → is_change cpu (events ++ event ∷ []) i ≡ is_change cpu events i
+is_change-prefix cpu events event i low high =
+    let prefix : take (i - 1) (events ++ event ∷ []) ≡ take (i - 1) events = take-append-le (i - 1) events (event ∷ []) (omega (arith, low, high)) in
     let here : slice_get (events ++ event ∷ []) (i - 1) ≡ slice_get events (i - 1) = get_left events (event ∷ []) (i - 1) (omega (arith, low, high)) in
-    rw (front, here) refl
+    rw (prefix, here) refl
 
 is_change-last : (cpu : ℕ) (events : List Event) (event : Event) → is_change cpu (events ++ event ∷ []) (1 + length events) ≡ touches (after events) (Some event) cpu
 is_change-last cpu events event =
@@ -85,13 +85,13 @@ unfolding changes_of
 changes_of-push cpu events event =
     let len : length (events ++ event ∷ []) ≡ suc (length events) = omega (arith, length-append events (event ∷ [])) in
     let more = range_more 1 (length events) in
-    let front = filter_same (is_change cpu (events ++ event ∷ [])) (is_change cpu events) 1 (length events) (is_change-front cpu events event) in
+    let prefix = filter_same (is_change cpu (events ++ event ∷ [])) (is_change cpu events) 1 (length events) (is_change-prefix cpu events event) in
     let split = filter-append (is_change cpu (events ++ event ∷ [])) (range_with_len 1 (length events)) ((1 + length events) ∷ []) in
     let last : filter (is_change cpu (events ++ event ∷ [])) ((1 + length events) ∷ []) ≡ cond (touches (after events) (Some event) cpu) ((1 + length events) ∷ []) [] = ap (λ b. cond b ((1 + length events) ∷ []) []) (is_change-last cpu events event) in
     ap (λ n. filter (is_change cpu (events ++ event ∷ [])) (range_with_len 1 n)) len
     ∙ ap (filter (is_change cpu (events ++ event ∷ []))) more
     ∙ split
-    ∙ ap (λ is. is ++ filter (is_change cpu (events ++ event ∷ [])) ((1 + length events) ∷ [])) front
+    ∙ ap (λ is. is ++ filter (is_change cpu (events ++ event ∷ [])) ((1 + length events) ∷ [])) prefix
     ∙ ap (λ is. filter (is_change cpu events) (range_with_len 1 (length events)) ++ is) last
 
 -- ---- events that touch a processor, and events that don't
@@ -105,7 +105,7 @@ pub record TouchedBy (w : World) (event : Event) (cpu : ℕ) : Type 0 where
   pub turns : touches w (Some event) cpu ≡ true
   pub one : change_of w event cpu ≡ Some change
   pub moment : change.at ≡ event.at
-  pub irq : change.irq ≡ irq_told cpu event.act
+  pub irq : change.irq ≡ irq_time_by cpu event.act
   pub account : change.account ≡ account_of w.groups event.act
 
 touch_cases : (b : Bool) (made : Change) → ((b ≡ false) × ((if b then Some made else None) ≡ None)) ⊎ ((b ≡ true) × ((if b then Some made else None) ≡ Some made))
@@ -140,19 +140,19 @@ moments changes = map (λ (change : Change). change.at) changes
 abbrev times : List Event → List ℕ
 times events = map (λ (event : Event). event.at) events
 
-change_at-front : (cpu : ℕ) (events : List Event) (event : Event) (i : ℕ) → 1 ≤ i → i < 1 + length events → change_at cpu (events ++ event ∷ []) i ≡ change_at cpu events i
-change_at-front cpu events event i low high =
-    let front : take (i - 1) (events ++ event ∷ []) ≡ take (i - 1) events = take-append-le (i - 1) events (event ∷ []) (omega (arith, low, high)) in
+change_at-prefix : (cpu : ℕ) (events : List Event) (event : Event) (i : ℕ) → 1 ≤ i → i < 1 + length events → change_at cpu (events ++ event ∷ []) i ≡ change_at cpu events i
+change_at-prefix cpu events event i low high =
+    let prefix : take (i - 1) (events ++ event ∷ []) ≡ take (i - 1) events = take-append-le (i - 1) events (event ∷ []) (omega (arith, low, high)) in
     let here : slice_get (events ++ event ∷ []) (i - 1) ≡ slice_get events (i - 1) = get_left events (event ∷ []) (i - 1) (omega (arith, low, high)) in
-    rw (front, here) refl
+    rw (prefix, here) refl
 
 change_at-last : (cpu : ℕ) (events : List Event) (event : Event) → change_at cpu (events ++ event ∷ []) (1 + length events) ≡ change_of (after events) event cpu
 change_at-last cpu events event =
     let place : 1 + length events - 1 ≡ length events = omega arith in
     rw (place, take-append_seam events (event ∷ []), get_seam events event) refl
 
-moment-front : (events : List Event) (event : Event) (i : ℕ) → 1 ≤ i → i < 1 + length events → moment_of (events ++ event ∷ []) 0 i ≡ moment_of events 0 i
-moment-front events event i low high =
+moment-prefix : (events : List Event) (event : Event) (i : ℕ) → 1 ≤ i → i < 1 + length events → moment_of (events ++ event ∷ []) 0 i ≡ moment_of events 0 i
+moment-prefix events event i low high =
     let len : length (times events) ≡ length events = length-map events (λ (e : Event). e.at) in
     rw (map-append (λ (e : Event). e.at) events (event ∷ [])) (get_or_append_left (times events) (event.at ∷ []) 0 (i - 1) (omega (arith, len, low, high)))
 
@@ -162,9 +162,9 @@ moment-last events event =
     rw (place, map-append (λ (e : Event). e.at) events (event ∷ [])) (get_or-append_seam (times events) event.at [] 0)
 
 -- what is read by numbers of events before an event is read so with the event
-mapped-front : {X : Type 0} (cpu : ℕ) (events : List Event) (f g : ℕ → X) → ((i : ℕ) → 1 ≤ i → i < 1 + length events → f i ≡ g i) → map f (changes_of cpu events) ≡ map g (changes_of cpu events)
+mapped-prefix : {X : Type 0} (cpu : ℕ) (events : List Event) (f g : ℕ → X) → ((i : ℕ) → 1 ≤ i → i < 1 + length events → f i ≡ g i) → map f (changes_of cpu events) ≡ map g (changes_of cpu events)
 unfolding changes_of
-mapped-front cpu events f g same = map_filtered f g (is_change cpu events) 1 (length events) same
+mapped-prefix cpu events f g same = map_filtered f g (is_change cpu events) 1 (length events) same
 
 -- the changes by their numbers
 record AreNumbered (cpu : ℕ) (events : List Event) : Type 0 where
@@ -178,8 +178,8 @@ numbered-none cpu = record { contents = refl; at = refl }
 numbered-push : (cpu : ℕ) (events : List Event) (event : Event) → AreNumbered cpu events → AreNumbered cpu (events ++ event ∷ [])
 numbered-push cpu events event are =
     let numbers = changes_of-push cpu events event in
-    let contents = are.contents ∙ sym (mapped-front cpu events (change_at cpu (events ++ event ∷ [])) (change_at cpu events) (change_at-front cpu events event)) in
-    let at = are.at ∙ sym (mapped-front cpu events (moment_of (events ++ event ∷ []) 0) (moment_of events 0) (moment-front events event)) in
+    let contents = are.contents ∙ sym (mapped-prefix cpu events (change_at cpu (events ++ event ∷ [])) (change_at cpu events) (change_at-prefix cpu events event)) in
+    let at = are.at ∙ sym (mapped-prefix cpu events (moment_of (events ++ event ∷ []) 0) (moment_of events 0) (moment-prefix events event)) in
     ⊎_elim
     (λ off.
     let same_numbers : changes_of cpu (events ++ event ∷ []) ≡ changes_of cpu events = numbers ∙ rw off.leaves (append-nil (changes_of cpu events)) in
@@ -211,9 +211,9 @@ changes_are_numbered cpu events = ((numbered cpu events).contents, (numbered cpu
 -- ---- the events up to a change
 
 -- a prefix of a list of numbers that follow a 0
-pub get-front : (xs ys : List ℕ) (k : ℕ) → k ≤ length xs → slice_index_or (0 ∷ (xs ++ ys)) k 0 ≡ slice_index_or (0 ∷ xs) k 0
-get-front xs ys zero low = refl
-get-front xs ys (suc k) low = get_or_append_left xs ys 0 k (omega (arith, low))
+pub get-prefix : (xs ys : List ℕ) (k : ℕ) → k ≤ length xs → slice_index_or (0 ∷ (xs ++ ys)) k 0 ≡ slice_index_or (0 ∷ xs) k 0
+get-prefix xs ys zero low = refl
+get-prefix xs ys (suc k) low = get_or_append_left xs ys 0 k (omega (arith, low))
 
 -- what the events up to a change are
 pub record IsUntil (cpu : ℕ) (events : List Event) (k : ℕ) : Type 0 where
@@ -227,19 +227,19 @@ until-none cpu zero low = record { within = omega arith; changes = refl; last = 
 until-none cpu (suc k) low = absurd (omega (arith, low))
 
 -- one more event doesn't affect the events up to earlier changes
-until-front : (cpu : ℕ) (events : List Event) (event : Event) (numbers : List ℕ) (changes : List Change) (k : ℕ) → k ≤ length (changes_of cpu events)
+until-prefix : (cpu : ℕ) (events : List Event) (event : Event) (numbers : List ℕ) (changes : List Change) (k : ℕ) → k ≤ length (changes_of cpu events)
     → changes_of cpu (events ++ event ∷ []) ≡ changes_of cpu events ++ numbers → changes_from cpu first_world (events ++ event ∷ []) ≡ changes_from cpu first_world events ++ changes → IsUntil cpu events k → IsUntil cpu (events ++ event ∷ []) k
-until-front cpu events event numbers changes k low more_numbers more_changes is =
-    let number : event_of_change cpu (events ++ event ∷ []) k ≡ event_of_change cpu events k = ap (λ is. slice_index_or (0 ∷ is) k 0) more_numbers ∙ get-front (changes_of cpu events) numbers k low in
+until-prefix cpu events event numbers changes k low more_numbers more_changes is =
+    let number : event_of_change cpu (events ++ event ∷ []) k ≡ event_of_change cpu events k = ap (λ is. slice_index_or (0 ∷ is) k 0) more_numbers ∙ get-prefix (changes_of cpu events) numbers k low in
     let same : until_change cpu (events ++ event ∷ []) k ≡ until_change cpu events k = ap (λ n. take n (events ++ event ∷ [])) number ∙ take-append-le (event_of_change cpu events k) events (event ∷ []) is.within in
     let few : k ≤ length (changes_from cpu first_world events) = omega (arith, low, as_many cpu events) in
-    let front : take k (changes_from cpu first_world (events ++ event ∷ [])) ≡ take k (changes_from cpu first_world events) = ap (take k) more_changes ∙ take-append-le k (changes_from cpu first_world events) changes few in
+    let prefix : take k (changes_from cpu first_world (events ++ event ∷ [])) ≡ take k (changes_from cpu first_world events) = ap (take k) more_changes ∙ take-append-le k (changes_from cpu first_world events) changes few in
     let moment : last_change (plan_of cpu (events ++ event ∷ [])) k ≡ last_change (plan_of cpu events) k =
     ap (λ is. slice_index_or (0 ∷ is) k 0) (ap moments more_changes ∙ map-append (λ (c : Change). c.at) (changes_from cpu first_world events) changes)
-    ∙ get-front (moments (changes_from cpu first_world events)) (moments changes) k (omega (arith, few, length-map (changes_from cpu first_world events) (λ (c : Change). c.at))) in
+    ∙ get-prefix (moments (changes_from cpu first_world events)) (moments changes) k (omega (arith, few, length-map (changes_from cpu first_world events) (λ (c : Change). c.at))) in
     record {
       within = omega (arith, number, is.within, length-append events (event ∷ []));
-      changes = ap (changes_from cpu first_world) same ∙ is.changes ∙ sym front;
+      changes = ap (changes_from cpu first_world) same ∙ is.changes ∙ sym prefix;
       last = ap (λ es. (after es).last) same ∙ is.last ∙ sym moment;
     }
 
@@ -272,14 +272,14 @@ until-push cpu events event so k low =
     let same_numbers : changes_of cpu (events ++ event ∷ []) ≡ changes_of cpu events ++ [] = numbers ∙ rw off.leaves refl in
     let same_changes : changes_from cpu first_world (events ++ event ∷ []) ≡ changes_from cpu first_world events ++ [] = changes_same cpu events event off ∙ sym (append-nil (changes_from cpu first_world events)) in
     let few : k ≤ length (changes_of cpu events) = omega (arith, low, ap length same_numbers, length-append (changes_of cpu events) []) in
-    until-front cpu events event [] [] k few same_numbers same_changes (so k few))
+    until-prefix cpu events event [] [] k few same_numbers same_changes (so k few))
     (λ on.
     let more_numbers : changes_of cpu (events ++ event ∷ []) ≡ changes_of cpu events ++ (1 + length events) ∷ [] = numbers ∙ rw on.turns refl in
     let more_changes : changes_from cpu first_world (events ++ event ∷ []) ≡ changes_from cpu first_world events ++ on.change ∷ [] = changes_grow cpu events event on in
     let most : k ≤ length (changes_of cpu events) + 1 = omega (arith, low, ap length more_numbers, length-append (changes_of cpu events) ((1 + length events) ∷ [])) in
     let case : (k ≤ length (changes_of cpu events)) ⊎ (k ≡ suc (length (changes_of cpu events))) = before_or_last k (length (changes_of cpu events)) most in
     ⊎_elim
-    (λ few. until-front cpu events event ((1 + length events) ∷ []) (on.change ∷ []) k few more_numbers more_changes (so k few))
+    (λ few. until-prefix cpu events event ((1 + length events) ∷ []) (on.change ∷ []) k few more_numbers more_changes (so k few))
     (λ last. until-last cpu events event on.change on.moment k last more_numbers more_changes)
     case)
     (touched_or_not (after events) event cpu)

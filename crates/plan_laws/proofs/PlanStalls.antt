@@ -17,8 +17,8 @@ use Rattle.psi_counts.specs.Legal.{changes_from}
 use Rattle.plan_laws.specs.Plan.{AreInOrder, PlanView, holds_after, last_change, plan_of, planned_after, planned_time, PlannedIsStall, StallByOwnChanges}
 use Rattle.psi_spec.specs.Changes.{changes_of, event_of_change, until_change}
 use Rattle.psi_spec.proofs.Following.{after_from-append}
-use Rattle.plan_laws.proofs.PlanLaws.{after-push, as_many, by_last, changes_same, changes_grow, get-front, touched_or_not, until_is}
-use Rattle.plan_laws.proofs.PlanStates.{Prolongs, holds_by_front, legal_front, legal_last, prolongs_back, told_by, told_by_changes, until_legal, until_prolongs}
+use Rattle.plan_laws.proofs.PlanLaws.{after-push, as_many, by_last, changes_same, changes_grow, get-prefix, touched_or_not, until_is}
+use Rattle.plan_laws.proofs.PlanStates.{Prolongs, holds_by_prefix, legal_prefix, legal_last, prolongs_back, known_by, known_by_changes, until_legal, until_prolongs}
 use Rattle.plan_laws.proofs.PlanTimes.{last_change-next, moments, planned_by_change}
 use Rattle.psi_spec.proofs.StallLaws.{by_event, with_time, map_same}
 use Rattle.psi_spec.proofs.TaskLaws.{no_entries}
@@ -39,18 +39,18 @@ last_rises : (limits : Limits) (w : World) (events : List Event) → AreLegal li
 last_rises limits w [] legal = omega arith
 last_rises limits w (event ∷ events) legal = omega (arith, in_turn limits w event legal.0, last_rises limits (after_event w event) events legal.1)
 
-legal_rest : (limits : Limits) (w : World) (front rest : List Event) → AreLegal limits w (front ++ rest) → AreLegal limits (after_from w front) rest
+legal_rest : (limits : Limits) (w : World) (prefix rest : List Event) → AreLegal limits w (prefix ++ rest) → AreLegal limits (after_from w prefix) rest
 legal_rest limits w [] rest legal = legal
-legal_rest limits w (event ∷ front) rest legal = legal_rest limits (after_event w event) front rest legal.1
+legal_rest limits w (event ∷ prefix) rest legal = legal_rest limits (after_event w event) prefix rest legal.1
 
 -- the events up to a change end no later than all
 pub until_earlier : (limits : Limits) (cpu : ℕ) (events : List Event) (k : ℕ) → AreLegal limits first_world events → (after (until_change cpu events k)).last ≤ (after events).last
 until_earlier limits cpu events k legal =
-    let front : List Event = until_change cpu events k in
+    let prefix : List Event = until_change cpu events k in
     let rest : List Event = drop (event_of_change cpu events k) events in
-    let parts : front ++ rest ≡ events = take-append-drop (event_of_change cpu events k) events in
-    let whole : after events ≡ after_from (after front) rest = ap after (sym parts) ∙ after_from-append first_world front rest in
-    let rises = last_rises limits (after front) rest (legal_rest limits first_world front rest (rw parts legal)) in
+    let parts : prefix ++ rest ≡ events = take-append-drop (event_of_change cpu events k) events in
+    let whole : after events ≡ after_from (after prefix) rest = ap after (sym parts) ∙ after_from-append first_world prefix rest in
+    let rises = last_rises limits (after prefix) rest (legal_rest limits first_world prefix rest (rw parts legal)) in
     omega (arith, rises, ap (λ (w : World). w.last) whole)
 
 -- ---- stall time from the last event on
@@ -119,30 +119,30 @@ taken_twice (change ∷ changes) (suc k) zero low = refl
 taken_twice (change ∷ changes) zero (suc j) low = absurd (omega (arith, low))
 taken_twice (change ∷ changes) (suc k) (suc j) low = ap (λ cs. change ∷ cs) (taken_twice changes k j (omega (arith, low)))
 
-front_after : (state : State) (parents : List (Option ℕ)) (changes : List Change) (slot k at j : ℕ) → k ≤ length changes → j ≤ k → planned_after state (plan_with changes parents) slot k at j ≡ planned_after state (plan_with (take k changes) parents) slot k at j
-front_after state parents changes slot k at j room low =
+prefix_after : (state : State) (parents : List (Option ℕ)) (changes : List Change) (slot k at j : ℕ) → k ≤ length changes → j ≤ k → planned_after state (plan_with changes parents) slot k at j ≡ planned_after state (plan_with (take k changes) parents) slot k at j
+prefix_after state parents changes slot k at j room low =
     let len : length (take k changes) ≡ k = length-take-le k changes room in
     let held : holds_after state (plan_with changes parents) slot j ≡ holds_after state (plan_with (take k changes) parents) slot j =
-    holds_by_front state parents changes slot j (omega (arith, room, low)) ∙ ap (told_by state parents slot) (sym (taken_twice changes k j low)) ∙ sym (holds_by_front state parents (take k changes) slot j (omega (arith, len, low))) in
+    holds_by_prefix state parents changes slot j (omega (arith, room, low)) ∙ ap (known_by state parents slot) (sym (taken_twice changes k j low)) ∙ sym (holds_by_prefix state parents (take k changes) slot j (omega (arith, len, low))) in
     let all : take k (take k changes) ≡ take k changes = taken_twice changes k k (omega arith) in
     rw (held, all) refl
 
 -- planned time doesn't depend on changes after the first k
-pub planned_front : (state : State) (parents : List (Option ℕ)) (changes : List Change) (slot k at : ℕ) → k ≤ length changes → planned_time state (plan_with changes parents) slot k at ≡ planned_time state (plan_with (take k changes) parents) slot k at
+pub planned_prefix : (state : State) (parents : List (Option ℕ)) (changes : List Change) (slot k at : ℕ) → k ≤ length changes → planned_time state (plan_with changes parents) slot k at ≡ planned_time state (plan_with (take k changes) parents) slot k at
 unfolding planned_time
-planned_front state parents changes slot k at room =
-    ap sum (map_same (planned_after state (plan_with changes parents) slot k at) (planned_after state (plan_with (take k changes) parents) slot k at) 1 k (λ j low high. front_after state parents changes slot k at j room (omega (arith, high))))
+planned_prefix state parents changes slot k at room =
+    ap sum (map_same (planned_after state (plan_with changes parents) slot k at) (planned_after state (plan_with (take k changes) parents) slot k at) 1 k (λ j low high. prefix_after state parents changes slot k at j room (omega (arith, high))))
 
 -- ---- planned time is stall time
 
 -- all changes of some events give the stall time of these events
-abbrev TellsStall : Limits → State → ℕ → ℕ → List Event → Type 0
-TellsStall limits state cpu slot events = AreLegal limits first_world events → (parents : List (Option ℕ)) → Prolongs (parents_of (after events).groups) parents → (at : ℕ) → (after events).last ≤ at →
+abbrev ShowsStall : Limits → State → ℕ → ℕ → List Event → Type 0
+ShowsStall limits state cpu slot events = AreLegal limits first_world events → (parents : List (Option ℕ)) → Prolongs (parents_of (after events).groups) parents → (at : ℕ) → (after events).last ≤ at →
     planned_time state (plan_with (changes_from cpu first_world events) parents) slot (length (changes_from cpu first_world events)) at ≡ stall state cpu slot events at
 
-tells-none : (limits : Limits) (state : State) (cpu slot : ℕ) → TellsStall limits state cpu slot []
+shows-none : (limits : Limits) (state : State) (cpu slot : ℕ) → ShowsStall limits state cpu slot []
 unfolding planned_time stall
-tells-none limits state cpu slot legal parents more at from = refl
+shows-none limits state cpu slot legal parents more at from = refl
 
 -- a list that prolongs the parents after one more event prolongs those before it
 pub fewer_before : (events : List Event) (event : Event) (parents : List (Option ℕ)) → Prolongs (parents_of (after (events ++ event ∷ [])).groups) parents → Prolongs (parents_of (after events).groups) parents
@@ -152,14 +152,14 @@ fewer_before events event parents more = prolongs_back (after events) event pare
 pub held_on : (limits : Limits) (events : List Event) (event : Event) → AreLegal limits first_world (events ++ event ∷ []) → (parents : List (Option ℕ)) → Prolongs (parents_of (after (events ++ event ∷ [])).groups) parents → (state : State) (cpu slot : ℕ)
     → changes_from cpu first_world (events ++ event ∷ []) ≡ changes_from cpu first_world events → holds state cpu slot (after (events ++ event ∷ [])) ≡ holds state cpu slot (after events)
 held_on limits events event legal parents more state cpu slot same =
-    sym (told_by_changes limits (events ++ event ∷ []) legal parents more state cpu slot)
-    ∙ ap (told_by state parents slot) same
-    ∙ told_by_changes limits events (legal_front limits first_world events (event ∷ []) legal) parents (fewer_before events event parents more) state cpu slot
+    sym (known_by_changes limits (events ++ event ∷ []) legal parents more state cpu slot)
+    ∙ ap (known_by state parents slot) same
+    ∙ known_by_changes limits events (legal_prefix limits first_world events (event ∷ []) legal) parents (fewer_before events event parents more) state cpu slot
 
 -- an event that doesn't touch the processor
-tells-untouched : (limits : Limits) (state : State) (cpu slot : ℕ) (events : List Event) (event : Event) → changes_from cpu first_world (events ++ event ∷ []) ≡ changes_from cpu first_world events → TellsStall limits state cpu slot events → TellsStall limits state cpu slot (events ++ event ∷ [])
-tells-untouched limits state cpu slot events event same before legal parents more at from =
-    let first = legal_front limits first_world events (event ∷ []) legal in
+shows-untouched : (limits : Limits) (state : State) (cpu slot : ℕ) (events : List Event) (event : Event) → changes_from cpu first_world (events ++ event ∷ []) ≡ changes_from cpu first_world events → ShowsStall limits state cpu slot events → ShowsStall limits state cpu slot (events ++ event ∷ [])
+shows-untouched limits state cpu slot events event same before legal parents more at from =
+    let first = legal_prefix limits first_world events (event ∷ []) legal in
     let turn = in_turn limits (after events) event (legal_last limits first_world events event legal) in
     let last : (after (events ++ event ∷ [])).last ≡ event.at = ap (λ (w : World). w.last) (after-push events event) in
     let fewer = fewer_before events event parents more in
@@ -177,9 +177,9 @@ last_of_push changes change parents =
     ∙ get_or-append_seam (moments changes) change.at [] 0
 
 -- an event that touches it
-tells-touched : (limits : Limits) (state : State) (cpu slot : ℕ) (events : List Event) (event : Event) (change : Change) → change.at ≡ event.at → changes_from cpu first_world (events ++ event ∷ []) ≡ changes_from cpu first_world events ++ change ∷ [] → TellsStall limits state cpu slot events → TellsStall limits state cpu slot (events ++ event ∷ [])
-tells-touched limits state cpu slot events event change moment grown before legal parents more at from =
-    let first = legal_front limits first_world events (event ∷ []) legal in
+shows-touched : (limits : Limits) (state : State) (cpu slot : ℕ) (events : List Event) (event : Event) (change : Change) → change.at ≡ event.at → changes_from cpu first_world (events ++ event ∷ []) ≡ changes_from cpu first_world events ++ change ∷ [] → ShowsStall limits state cpu slot events → ShowsStall limits state cpu slot (events ++ event ∷ [])
+shows-touched limits state cpu slot events event change moment grown before legal parents more at from =
+    let first = legal_prefix limits first_world events (event ∷ []) legal in
     let turn = in_turn limits (after events) event (legal_last limits first_world events event legal) in
     let fewer = fewer_before events event parents more in
     let old : List Change = changes_from cpu first_world events in
@@ -187,11 +187,11 @@ tells-touched limits state cpu slot events event change moment grown before lega
     let n : ℕ = length old in
     let len : length new ≡ n + 1 = length-append old (change ∷ []) in
     let last : last_change (plan_with new parents) (n + 1) ≡ event.at = last_of_push old change parents ∙ moment in
-    let front : take n new ≡ old = take-append-le n old (change ∷ []) (omega arith) ∙ take_all n old (omega arith) in
+    let prefix : take n new ≡ old = take-append-le n old (change ∷ []) (omega arith) ∙ take_all n old (omega arith) in
     let up_to : planned_time state (plan_with new parents) slot n event.at ≡ stall state cpu slot events event.at =
-    planned_front state parents new slot n event.at (omega (arith, len)) ∙ ap (λ cs. planned_time state (plan_with cs parents) slot n event.at) front ∙ before first parents fewer event.at turn in
+    planned_prefix state parents new slot n event.at (omega (arith, len)) ∙ ap (λ cs. planned_time state (plan_with cs parents) slot n event.at) prefix ∙ before first parents fewer event.at turn in
     let held : holds_after state (plan_with new parents) slot (n + 1) ≡ holds state cpu slot (after (events ++ event ∷ [])) =
-    holds_by_front state parents new slot (n + 1) (omega (arith, len)) ∙ ap (told_by state parents slot) (take_all (n + 1) new (omega (arith, len)) ∙ sym grown) ∙ told_by_changes limits (events ++ event ∷ []) legal parents more state cpu slot in
+    holds_by_prefix state parents new slot (n + 1) (omega (arith, len)) ∙ ap (known_by state parents slot) (take_all (n + 1) new (omega (arith, len)) ∙ sym grown) ∙ known_by_changes limits (events ++ event ∷ []) legal parents more state cpu slot in
     let step = planned_by_change state (plan_with new parents) slot n at (omega (arith, len)) in
     let steps : planned_time state (plan_with new parents) slot (n + 1) at ≡ stall state cpu slot events event.at + (if holds state cpu slot (after (events ++ event ∷ [])) then at - event.at else 0) = step ∙ rw (last, up_to, held) refl in
     ap (λ cs. planned_time state (plan_with cs parents) slot (length cs) at) grown
@@ -199,15 +199,15 @@ tells-touched limits state cpu slot events event change moment grown before lega
     ∙ steps
     ∙ sym (by_event state cpu slot events event at)
 
-tells-push : (limits : Limits) (state : State) (cpu slot : ℕ) (events : List Event) (event : Event) → TellsStall limits state cpu slot events → TellsStall limits state cpu slot (events ++ event ∷ [])
-tells-push limits state cpu slot events event before =
+shows-push : (limits : Limits) (state : State) (cpu slot : ℕ) (events : List Event) (event : Event) → ShowsStall limits state cpu slot events → ShowsStall limits state cpu slot (events ++ event ∷ [])
+shows-push limits state cpu slot events event before =
     ⊎_elim
-    (λ off. tells-untouched limits state cpu slot events event (changes_same cpu events event off) before)
-    (λ on. tells-touched limits state cpu slot events event on.change on.moment (changes_grow cpu events event on) before)
+    (λ off. shows-untouched limits state cpu slot events event (changes_same cpu events event off) before)
+    (λ on. shows-touched limits state cpu slot events event on.change on.moment (changes_grow cpu events event on) before)
     (touched_or_not (after events) event cpu)
 
-tells_stall : (limits : Limits) (state : State) (cpu slot : ℕ) (events : List Event) → TellsStall limits state cpu slot events
-tells_stall limits state cpu slot events = by_last (TellsStall limits state cpu slot) (tells-none limits state cpu slot) (tells-push limits state cpu slot) events
+shows_stall : (limits : Limits) (state : State) (cpu slot : ℕ) (events : List Event) → ShowsStall limits state cpu slot events
+shows_stall limits state cpu slot events = by_last (ShowsStall limits state cpu slot) (shows-none limits state cpu slot) (shows-push limits state cpu slot) events
 
 pub planned_is_stall : PlannedIsStall
 planned_is_stall limits events legal state cpu slot k at low from =
@@ -216,10 +216,10 @@ planned_is_stall limits events legal state cpu slot k at low from =
     let room : k ≤ length changes = omega (arith, low, as_many cpu events) in
     let until = until_is cpu events k low in
     let len : length (changes_from cpu first_world (until_change cpu events k)) ≡ k = ap length until.changes ∙ length-take-le k changes room in
-    planned_front state parents changes slot k at room
+    planned_prefix state parents changes slot k at room
     ∙ ap (λ cs. planned_time state (plan_with cs parents) slot k at) (sym until.changes)
     ∙ ap (λ n. planned_time state (plan_with (changes_from cpu first_world (until_change cpu events k)) parents) slot n at) (sym len)
-    ∙ tells_stall limits state cpu slot (until_change cpu events k) (until_legal limits cpu events k legal) parents (until_prolongs cpu events k) at (omega (arith, until.last, from))
+    ∙ shows_stall limits state cpu slot (until_change cpu events k) (until_legal limits cpu events k legal) parents (until_prolongs cpu events k) at (omega (arith, until.last, from))
 
 pub stall_by_own_changes : StallByOwnChanges
 stall_by_own_changes limits events legal state cpu slot at from =
@@ -227,7 +227,7 @@ stall_by_own_changes limits events legal state cpu slot at from =
     let n : ℕ = length (changes_of cpu events) in
     let until = until_is cpu events n (omega arith) in
     let earlier = until_earlier limits cpu events n legal in
-    sym (tells_stall limits state cpu slot events legal parents ([], sym (append-nil parents)) at from)
+    sym (shows_stall limits state cpu slot events legal parents ([], sym (append-nil parents)) at from)
     ∙ ap (λ k. planned_time state (plan_of cpu events) slot k at) (as_many cpu events)
     ∙ planned_is_stall limits events legal state cpu slot n at (omega arith) (omega (arith, until.last, earlier, from))
 
@@ -248,15 +248,15 @@ order-push : (changes : List Change) (change : Change) (last : ℕ) → last ≤
 order-push changes change last later is =
     let new : List Change = changes ++ change ∷ [] in
     let len : length new ≡ length changes + 1 = length-append changes (change ∷ []) in
-    let front : (k : ℕ) → k ≤ length changes → moment_at new k ≡ moment_at changes k = λ k low.
-    ap (λ is. slice_index_or (0 ∷ is) k 0) (map-append (λ (c : Change). c.at) changes (change ∷ [])) ∙ get-front (moments changes) (change.at ∷ []) k (omega (arith, low, length-map changes (λ (c : Change). c.at))) in
+    let prefix : (k : ℕ) → k ≤ length changes → moment_at new k ≡ moment_at changes k = λ k low.
+    ap (λ is. slice_index_or (0 ∷ is) k 0) (map-append (λ (c : Change). c.at) changes (change ∷ [])) ∙ get-prefix (moments changes) (change.at ∷ []) k (omega (arith, low, length-map changes (λ (c : Change). c.at))) in
     let end : moment_at new (length changes + 1) ≡ change.at = last_of_push changes change [] in
     record {
       order = λ k low.
           let case : (k < length changes) ⊎ (k ≡ length changes) = grind (arith, low, len) in
           ⊎_elim
-          (λ before. omega (arith, front k (omega (arith, before)), front (k + 1) (omega (arith, before)), is.order k before))
-          (λ same. rw same (omega (arith, front (length changes) (omega arith), end, is.end, later)))
+          (λ before. omega (arith, prefix k (omega (arith, before)), prefix (k + 1) (omega (arith, before)), is.order k before))
+          (λ same. rw same (omega (arith, prefix (length changes) (omega arith), end, is.end, later)))
           case;
       end = rw (len, end) (omega arith);
     }
@@ -267,7 +267,7 @@ in_order limits cpu events =
   where
     step : (es : List Event) (event : Event) → (AreLegal limits first_world es → EndsInOrder (changes_from cpu first_world es) (after es).last) → AreLegal limits first_world (es ++ event ∷ []) → EndsInOrder (changes_from cpu first_world (es ++ event ∷ [])) (after (es ++ event ∷ [])).last
     step es event before legal =
-        let is = before (legal_front limits first_world es (event ∷ []) legal) in
+        let is = before (legal_prefix limits first_world es (event ∷ []) legal) in
         let turn = in_turn limits (after es) event (legal_last limits first_world es event legal) in
         let last : (after (es ++ event ∷ [])).last ≡ event.at = ap (λ (w : World). w.last) (after-push es event) in
         ⊎_elim

@@ -13,31 +13,31 @@ use Rattle.psi_counts.specs.declared.changes.Counts.{Counts}
 use Rattle.psi_spec.specs.World.{World, Limits, after, after_event, after_from, first_world, is_on}
 use Rattle.psi_spec.specs.Refusal.{cause_of, AreLegal}
 use Rattle.psi_spec.specs.Stall.{holds, holds_of, is_in, parents_of, tasks_in}
-use Rattle.psi_counts.specs.Counts.{IsRunningTold, tells}
+use Rattle.psi_counts.specs.Counts.{IsRunningKnown, shows}
 use Rattle.psi_spec.specs.LegalGroups.{new_parents}
 use Rattle.psi_counts.specs.Touch.{AreAtMost, Follows, account_of, on_with, is_current_in, is_current_stalled, no_counts}
 use Rattle.psi_counts.specs.Legal.{IsLegalWorld, added, changes_from, taken}
-use Rattle.plan_laws.specs.Plan.{FitsPlan, plan_of, holds_after, on_from, less, Leaves, LeavesFew, PlanTellsStates}
+use Rattle.plan_laws.specs.Plan.{FitsPlan, plan_of, holds_after, on_from, less, Leaves, LeavesFew, PlanShowsStates}
 use Rattle.psi_spec.specs.Changes.{event_of_change, until_change}
 use Rattle.psi_spec.proofs.Following.{after_from-append}
 use Rattle.psi_spec.proofs.GroupChanges.{parents_kept}
 use Rattle.psi_counts.proofs.AccountLaws.{on_by_account}
 use Rattle.psi_counts.proofs.LegalLaws.{counts_are_few, counts_are_sums, legal_first, legal_kept, same_tasks_later}
-use Rattle.psi_counts.proofs.MaskLaws.{counts_tell}
+use Rattle.psi_counts.proofs.MaskLaws.{counts_show}
 use Rattle.plan_laws.proofs.PlanLaws.{after-push, as_many, by_last, changes_same, changes_grow, touched_or_not, until_is}
 use Rattle.psi_spec.proofs.TaskLaws.{no_entries}
 use Rattle.psi_counts.proofs.TouchLaws.{stays_untouched}
-use Rattle.psi_counts.proofs.TouchWithin.{change_tells}
+use Rattle.psi_counts.proofs.TouchWithin.{change_shows}
 
 -- ---- prefixes of legal events
 
-pub legal_front : (limits : Limits) (w : World) (front rest : List Event) → AreLegal limits w (front ++ rest) → AreLegal limits w front
-legal_front limits w [] rest legal = tt
-legal_front limits w (event ∷ front) rest legal = (legal.0, legal_front limits (after_event w event) front rest legal.1)
+pub legal_prefix : (limits : Limits) (w : World) (prefix rest : List Event) → AreLegal limits w (prefix ++ rest) → AreLegal limits w prefix
+legal_prefix limits w [] rest legal = tt
+legal_prefix limits w (event ∷ prefix) rest legal = (legal.0, legal_prefix limits (after_event w event) prefix rest legal.1)
 
-pub legal_last : (limits : Limits) (w : World) (front : List Event) (event : Event) → AreLegal limits w (front ++ event ∷ []) → cause_of limits (after_from w front) event ≡ None
+pub legal_last : (limits : Limits) (w : World) (prefix : List Event) (event : Event) → AreLegal limits w (prefix ++ event ∷ []) → cause_of limits (after_from w prefix) event ≡ None
 legal_last limits w [] event legal = legal.0
-legal_last limits w (first ∷ front) event legal = legal_last limits (after_event w first) front event legal.1
+legal_last limits w (first ∷ prefix) event legal = legal_last limits (after_event w first) prefix event legal.1
 
 legal_from : (limits : Limits) (w : World) (events : List Event) → IsLegalWorld limits w → AreLegal limits w events → IsLegalWorld limits (after_from w events)
 legal_from limits w [] world legal = world
@@ -78,22 +78,22 @@ shown-push changes change =
     ∙ get_or-append_seam (currents changes) change.current [] None
 
 -- the running task in some changes follows from them
-abbrev RunsAsTold : List (Option ℕ) → ℕ → ℕ → List Event → Option (Slot × Bool) → Type 0
-RunsAsTold parents cpu slot events current = IsRunningTold (tasks_in parents cpu slot (after events).tasks) (is_current_in parents slot current) (is_current_stalled current)
+abbrev RunsAsKnown : List (Option ℕ) → ℕ → ℕ → List Event → Option (Slot × Bool) → Type 0
+RunsAsKnown parents cpu slot events current = IsRunningKnown (tasks_in parents cpu slot (after events).tasks) (is_current_in parents slot current) (is_current_stalled current)
 
-nothing_runs : IsRunningTold [] false false
+nothing_runs : IsRunningKnown [] false false
 nothing_runs = record { at_most_one = omega arith; one_runs = refl; it_is_stalled = refl }
 
-runs-none : (parents : List (Option ℕ)) (cpu slot : ℕ) → RunsAsTold parents cpu slot [] None
+runs-none : (parents : List (Option ℕ)) (cpu slot : ℕ) → RunsAsKnown parents cpu slot [] None
 runs-none parents cpu slot =
     let none : tasks_in parents cpu slot first_world.tasks ≡ [] = ap (λ es. filter (is_in parents cpu slot) (map (λ (e : ℕ × Task). e.1) es)) no_entries in
-    subst (λ tasks. IsRunningTold tasks false false) (sym none) nothing_runs
+    subst (λ tasks. IsRunningKnown tasks false false) (sym none) nothing_runs
 
 runs-push : (limits : Limits) (parents : List (Option ℕ)) (cpu slot : ℕ) (events : List Event) (event : Event)
-    → (AreLegal limits first_world events → RunsAsTold parents cpu slot events (shown_last (changes_from cpu first_world events)))
-    → AreLegal limits first_world (events ++ event ∷ []) → RunsAsTold parents cpu slot (events ++ event ∷ []) (shown_last (changes_from cpu first_world (events ++ event ∷ [])))
+    → (AreLegal limits first_world events → RunsAsKnown parents cpu slot events (shown_last (changes_from cpu first_world events)))
+    → AreLegal limits first_world (events ++ event ∷ []) → RunsAsKnown parents cpu slot (events ++ event ∷ []) (shown_last (changes_from cpu first_world (events ++ event ∷ [])))
 runs-push limits parents cpu slot events event before legal =
-    let first = legal_front limits first_world events (event ∷ []) legal in
+    let first = legal_prefix limits first_world events (event ∷ []) legal in
     let allowed = legal_last limits first_world events event legal in
     let world = legal_after limits events first in
     let later : after (events ++ event ∷ []) ≡ after_event (after events) event = after-push events event in
@@ -105,13 +105,13 @@ runs-push limits parents cpu slot events event before legal =
     (λ on.
     let more : changes_from cpu first_world (events ++ event ∷ []) ≡ changes_from cpu first_world events ++ on.change ∷ [] = changes_grow cpu events event on in
     let current : shown_last (changes_from cpu first_world (events ++ event ∷ [])) ≡ on.change.current = ap shown_last more ∙ shown-push (changes_from cpu first_world events) on.change in
-    let turned = (change_tells limits (after events) event allowed world.once cpu on.change on.one parents slot).1 in
+    let turned = (change_shows limits (after events) event allowed world.once cpu on.change on.one parents slot).1 in
     rw (current, later) turned)
     (touched_or_not (after events) event cpu)
 
-runs_as_told : (limits : Limits) (parents : List (Option ℕ)) (cpu slot : ℕ) (events : List Event) → AreLegal limits first_world events → RunsAsTold parents cpu slot events (shown_last (changes_from cpu first_world events))
-runs_as_told limits parents cpu slot events =
-    by_last (λ es. AreLegal limits first_world es → RunsAsTold parents cpu slot es (shown_last (changes_from cpu first_world es))) (λ _. runs-none parents cpu slot) (runs-push limits parents cpu slot) events
+runs_as_known : (limits : Limits) (parents : List (Option ℕ)) (cpu slot : ℕ) (events : List Event) → AreLegal limits first_world events → RunsAsKnown parents cpu slot events (shown_last (changes_from cpu first_world events))
+runs_as_known limits parents cpu slot events =
+    by_last (λ es. AreLegal limits first_world es → RunsAsKnown parents cpu slot es (shown_last (changes_from cpu first_world es))) (λ _. runs-none parents cpu slot) (runs-push limits parents cpu slot) events
 
 -- ---- which accounting is on
 
@@ -121,17 +121,17 @@ on_from-push slot on [] change = refl
 on_from-push slot on (first ∷ changes) change = on_from-push slot (on_with slot on first.account) changes change
 
 -- the changes of any processor determine whether a group's accounting is on
-abbrev OnAsTold : ℕ → ℕ → List Event → Type 0
-OnAsTold cpu slot events = on_from slot true (changes_from cpu first_world events) ≡ is_on (after events).groups slot
+abbrev OnAsKnown : ℕ → ℕ → List Event → Type 0
+OnAsKnown cpu slot events = on_from slot true (changes_from cpu first_world events) ≡ is_on (after events).groups slot
 
-on-none : (cpu slot : ℕ) → OnAsTold cpu slot []
+on-none : (cpu slot : ℕ) → OnAsKnown cpu slot []
 on-none cpu zero = refl
 on-none cpu (suc slot) = refl
 
 on-push : (limits : Limits) (cpu slot : ℕ) (events : List Event) (event : Event)
-    → (AreLegal limits first_world events → OnAsTold cpu slot events) → AreLegal limits first_world (events ++ event ∷ []) → OnAsTold cpu slot (events ++ event ∷ [])
+    → (AreLegal limits first_world events → OnAsKnown cpu slot events) → AreLegal limits first_world (events ++ event ∷ []) → OnAsKnown cpu slot (events ++ event ∷ [])
 on-push limits cpu slot events event before legal =
-    let first = legal_front limits first_world events (event ∷ []) legal in
+    let first = legal_prefix limits first_world events (event ∷ []) legal in
     let allowed = legal_last limits first_world events event legal in
     let groups : List GroupLife = (after events).groups in
     let now : is_on (after (events ++ event ∷ [])).groups slot ≡ on_with slot (is_on groups slot) (account_of groups event.act) =
@@ -148,9 +148,9 @@ on-push limits cpu slot events event before legal =
     ∙ sym now)
     (touched_or_not (after events) event cpu)
 
-pub on_as_told : (limits : Limits) (cpu slot : ℕ) (events : List Event) → AreLegal limits first_world events → OnAsTold cpu slot events
-on_as_told limits cpu slot events =
-    by_last (λ es. AreLegal limits first_world es → OnAsTold cpu slot es) (λ _. on-none cpu slot) (on-push limits cpu slot) events
+pub on_as_known : (limits : Limits) (cpu slot : ℕ) (events : List Event) → AreLegal limits first_world events → OnAsKnown cpu slot events
+on_as_known limits cpu slot events =
+    by_last (λ es. AreLegal limits first_world es → OnAsKnown cpu slot es) (λ _. on-none cpu slot) (on-push limits cpu slot) events
 
 -- ---- states
 
@@ -168,28 +168,28 @@ follows_less taken added new is =
     (less_than new.running taken.running added.running is.running) (less_than new.stalled_running taken.stalled_running added.stalled_running is.stalled_running)
 
 -- a processor's changes determine the states of groups
-abbrev pub told_by : State → List (Option ℕ) → ℕ → List Change → Bool
-told_by state parents slot changes = on_from slot true changes && tells state (less (added parents slot changes) (taken parents slot changes)) (is_current_in parents slot (shown_last changes)) (is_current_stalled (shown_last changes))
+abbrev pub known_by : State → List (Option ℕ) → ℕ → List Change → Bool
+known_by state parents slot changes = on_from slot true changes && shows state (less (added parents slot changes) (taken parents slot changes)) (is_current_in parents slot (shown_last changes)) (is_current_stalled (shown_last changes))
 
-told_by_last : (limits : Limits) (events : List Event) → AreLegal limits first_world events → (more : List (Option ℕ)) (state : State) (cpu slot : ℕ) →
-    told_by state (parents_of (after events).groups ++ more) slot (changes_from cpu first_world events) ≡ holds state cpu slot (after events)
+known_by_last : (limits : Limits) (events : List Event) → AreLegal limits first_world events → (more : List (Option ℕ)) (state : State) (cpu slot : ℕ) →
+    known_by state (parents_of (after events).groups ++ more) slot (changes_from cpu first_world events) ≡ holds state cpu slot (after events)
 unfolding holds
-told_by_last limits events legal more state cpu slot =
+known_by_last limits events legal more state cpu slot =
     let parents : List (Option ℕ) = parents_of (after events).groups ++ more in
     let changes : List Change = changes_from cpu first_world events in
     let counts = follows_less (taken parents slot changes) (added parents slot changes) _ (counts_are_sums limits events legal parents cpu slot) in
-    let states = counts_tell (tasks_in parents cpu slot (after events).tasks) _ _ (runs_as_told limits parents cpu slot events legal) state in
+    let states = counts_show (tasks_in parents cpu slot (after events).tasks) _ _ (runs_as_known limits parents cpu slot events legal) state in
     let same = same_tasks_later limits (after events) (legal_after limits events legal) more cpu slot in
     let on : Bool = on_from slot true changes in
-    ap (λ n. on && tells state n (is_current_in parents slot (shown_last changes)) (is_current_stalled (shown_last changes))) (sym counts)
+    ap (λ n. on && shows state n (is_current_in parents slot (shown_last changes)) (is_current_stalled (shown_last changes))) (sym counts)
     ∙ ap (λ b. on && b) (sym states ∙ ap (holds_of state) same)
-    ∙ ap (λ b. b && holds_of state (tasks_in (parents_of (after events).groups) cpu slot (after events).tasks)) (on_as_told limits cpu slot events legal)
+    ∙ ap (λ b. b && holds_of state (tasks_in (parents_of (after events).groups) cpu slot (after events).tasks)) (on_as_known limits cpu slot events legal)
 
 -- they also do with the parents of later groups
-pub told_by_changes : (limits : Limits) (events : List Event) → AreLegal limits first_world events → (parents : List (Option ℕ)) → Prolongs (parents_of (after events).groups) parents → (state : State) (cpu slot : ℕ) →
-    told_by state parents slot (changes_from cpu first_world events) ≡ holds state cpu slot (after events)
-told_by_changes limits events legal parents more state cpu slot =
-    ap (λ ps. told_by state ps slot (changes_from cpu first_world events)) more.1 ∙ told_by_last limits events legal more.0 state cpu slot
+pub known_by_changes : (limits : Limits) (events : List Event) → AreLegal limits first_world events → (parents : List (Option ℕ)) → Prolongs (parents_of (after events).groups) parents → (state : State) (cpu slot : ℕ) →
+    known_by state parents slot (changes_from cpu first_world events) ≡ holds state cpu slot (after events)
+known_by_changes limits events legal parents more state cpu slot =
+    ap (λ ps. known_by state ps slot (changes_from cpu first_world events)) more.1 ∙ known_by_last limits events legal more.0 state cpu slot
 
 -- ---- a plan after some changes
 
@@ -198,22 +198,22 @@ pub shown-take : (changes : List Change) (k : ℕ) → k ≤ length changes → 
 shown-take changes zero low = refl
 shown-take changes (suc k) low =
     let len : length (take (suc k) changes) ≡ suc k = length-take-le (suc k) changes low in
-    let front : currents (take (suc k) changes) ≡ take (suc k) (currents changes) = sym (take-map (λ (c : Change). c.current) (suc k) changes) in
+    let prefix : currents (take (suc k) changes) ≡ take (suc k) (currents changes) = sym (take-map (λ (c : Change). c.current) (suc k) changes) in
     ap (λ n. slice_index_or (None ∷ currents (take (suc k) changes)) n None) len
-    ∙ ap (λ is. slice_index_or is k None) front
+    ∙ ap (λ is. slice_index_or is k None) prefix
     ∙ get_or-take (suc k) (currents changes) k None (omega arith)
 
 -- after k changes a plan gives what its first k changes give
-pub holds_by_front : (state : State) (parents : List (Option ℕ)) (changes : List Change) (slot k : ℕ) → k ≤ length changes → holds_after state (record { changes = changes; parents = parents }) slot k ≡ told_by state parents slot (take k changes)
+pub holds_by_prefix : (state : State) (parents : List (Option ℕ)) (changes : List Change) (slot k : ℕ) → k ≤ length changes → holds_after state (record { changes = changes; parents = parents }) slot k ≡ known_by state parents slot (take k changes)
 unfolding holds_after
-holds_by_front state parents changes slot k low =
-    ap (λ current. on_from slot true (take k changes) && tells state (less (added parents slot (take k changes)) (taken parents slot (take k changes))) (is_current_in parents slot current) (is_current_stalled current)) (sym (shown-take changes k low))
+holds_by_prefix state parents changes slot k low =
+    ap (λ current. on_from slot true (take k changes) && shows state (less (added parents slot (take k changes)) (taken parents slot (take k changes))) (is_current_in parents slot current) (is_current_stalled current)) (sym (shown-take changes k low))
 
 -- the events up to a change are a prefix of all
 pub until_legal : (limits : Limits) (cpu : ℕ) (events : List Event) (k : ℕ) → AreLegal limits first_world events → AreLegal limits first_world (until_change cpu events k)
 until_legal limits cpu events k legal =
     let parts = take-append-drop (event_of_change cpu events k) events in
-    legal_front limits first_world (until_change cpu events k) (drop (event_of_change cpu events k) events) (rw parts legal)
+    legal_prefix limits first_world (until_change cpu events k) (drop (event_of_change cpu events k) events) (rw parts legal)
 
 -- groups created after a change come after those created before it
 pub until_prolongs : (cpu : ℕ) (events : List Event) (k : ℕ) → Prolongs (parents_of (after (until_change cpu events k)).groups) (parents_of (after events).groups)
@@ -224,14 +224,14 @@ until_prolongs cpu events k =
     let by = prolongs_by (after (until_change cpu events k)) rest in
     (by.0, ap (λ (w : World). parents_of w.groups) whole ∙ by.1)
 
-pub plan_tells_states : PlanTellsStates
-plan_tells_states limits events legal state cpu slot k low =
+pub plan_shows_states : PlanShowsStates
+plan_shows_states limits events legal state cpu slot k low =
     let changes : List Change = changes_from cpu first_world events in
     let parents : List (Option ℕ) = parents_of (after events).groups in
     let until = until_is cpu events k low in
-    holds_by_front state parents changes slot k (omega (arith, low, as_many cpu events))
-    ∙ ap (told_by state parents slot) (sym until.changes)
-    ∙ told_by_changes limits (until_change cpu events k) (until_legal limits cpu events k legal) parents (until_prolongs cpu events k) state cpu slot
+    holds_by_prefix state parents changes slot k (omega (arith, low, as_many cpu events))
+    ∙ ap (known_by state parents slot) (sym until.changes)
+    ∙ known_by_changes limits (until_change cpu events k) (until_legal limits cpu events k legal) parents (until_prolongs cpu events k) state cpu slot
 
 -- ---- counts
 
@@ -250,6 +250,6 @@ pub plan_fits : (limits : Limits) (events : List Event) → AreLegal limits firs
 plan_fits limits events legal cpu slot k low =
     let parents : List (Option ℕ) = parents_of (after events).groups in
     let until = until_is cpu events k (omega (arith, low, as_many cpu events)) in
-    let front = until_legal limits cpu events k legal in
+    let prefix = until_legal limits cpu events k legal in
     subst (λ changes. LeavesFew (taken parents slot changes) (added parents slot changes)) until.changes
-    (leaves_few _ _ _ (counts_are_sums limits (until_change cpu events k) front parents cpu slot) (counts_are_few limits (after (until_change cpu events k)) (legal_after limits (until_change cpu events k) front) parents cpu slot))
+    (leaves_few _ _ _ (counts_are_sums limits (until_change cpu events k) prefix parents cpu slot) (counts_are_few limits (after (until_change cpu events k)) (legal_after limits (until_change cpu events k) prefix) parents cpu slot))

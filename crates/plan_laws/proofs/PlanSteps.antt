@@ -8,7 +8,7 @@ use Rattle.psi_base.specs.declared.event.State.{State}
 use Rattle.psi_base.specs.declared.event.State.TheVariants.{IoSome, IoFull, MemSome, MemFull, CpuSome, CpuFull, Nonidle}
 use Rattle.psi_counts.specs.declared.changes.Change.{Change}
 use Rattle.psi_counts.specs.declared.changes.Counts.{Counts}
-use Rattle.psi_counts.specs.Counts.{tells}
+use Rattle.psi_counts.specs.Counts.{shows}
 use Rattle.psi_counts.specs.Touch.{on_with, is_current_in, is_current_stalled, no_counts, on_chain}
 use Rattle.psi_counts.specs.Legal.{added, both_counts, taken}
 use Rattle.plan_laws.specs.Plan.{PlanView, Leaves, added_after, counts_after, current_after, holds_after, is_account_of, is_part_in, last_change, less, on_after, on_from, taken_after, AsideStays, CountsByChange, CurrentByChange, OnAtFirst, OnByChange, PlaceOfMoment, PlanCountsAreFew}
@@ -112,7 +112,7 @@ nothing_more : (n : Counts) → both_counts n no_counts ≡ n
 nothing_more n = same_counts (both_counts n no_counts) n (omega arith) (omega arith) (omega arith) (omega arith)
 
 -- if no counted task runs it doesn't matter whether the running task is in a stall
-no_current : (state : State) (n : Counts) (one other : Bool) → tells state n false one ≡ tells state n false other
+no_current : (state : State) (n : Counts) (one other : Bool) → shows state n false one ≡ shows state n false other
 no_current IoSome n one other = refl
 no_current IoFull n one other = refl
 no_current MemSome n one other = refl
@@ -121,8 +121,8 @@ no_current CpuSome n one other = refl
 no_current CpuFull n one other = refl
 no_current Nonidle n one other = refl
 
-tells_same : (state : State) (now next : Counts) (on on_next stalled stalled_next : Bool) → next ≡ now → on ≡ false → on_next ≡ false → tells state next on_next stalled_next ≡ tells state now on stalled
-tells_same state now next on on_next stalled stalled_next same off off_next = rw (same, off, off_next) (no_current state now stalled_next stalled)
+shows_the_same : (state : State) (now next : Counts) (on on_next stalled stalled_next : Bool) → next ≡ now → on ≡ false → on_next ≡ false → shows state next on_next stalled_next ≡ shows state now on stalled
+shows_the_same state now next on on_next stalled stalled_next same off off_next = rw (same, off, off_next) (no_current state now stalled_next stalled)
 
 pub aside_stays : AsideStays
 unfolding holds_after
@@ -132,9 +132,9 @@ aside_stays state plan slot k change is aside =
     let counts : counts_after plan slot (k + 1) ≡ counts_after plan slot k = ap (λ n. less n (taken_after plan slot (k + 1))) plus ∙ ap (less (added_after plan slot k)) minus in
     let current = ap (is_current_in plan.parents slot) ((current_by_change plan k change is).0) ∙ aside.current in
     let on = on_by_change plan slot k change is ∙ account_apart slot (on_after plan slot k) change.account aside.account in
-    ap (λ b. b && tells state (counts_after plan slot (k + 1)) (is_current_in plan.parents slot (current_after plan (k + 1))) (is_current_stalled (current_after plan (k + 1)))) on
+    ap (λ b. b && shows state (counts_after plan slot (k + 1)) (is_current_in plan.parents slot (current_after plan (k + 1))) (is_current_stalled (current_after plan (k + 1)))) on
     ∙ ap (λ b. on_after plan slot k && b)
-    (tells_same state (counts_after plan slot k) (counts_after plan slot (k + 1)) (is_current_in plan.parents slot (current_after plan k)) (is_current_in plan.parents slot (current_after plan (k + 1)))
+    (shows_the_same state (counts_after plan slot k) (counts_after plan slot (k + 1)) (is_current_in plan.parents slot (current_after plan k)) (is_current_in plan.parents slot (current_after plan (k + 1)))
     (is_current_stalled (current_after plan k)) (is_current_stalled (current_after plan (k + 1))) counts aside.before current)
 
 -- ---- the number of changes up to a time

@@ -66,9 +66,9 @@ planned_by_change state plan slot k at room =
     let more = sum_by-map-range_with_len_more (λ x. x) (planned_after state plan slot (k + 1) at) 1 k (1 + k) refl in
     let same = map_same (planned_after state plan slot (k + 1) at) (planned_after state plan slot k (last_change plan (k + 1))) 1 k (λ j low high. planned_kept state plan slot k at j room low high) in
     let last = planned_last state plan slot k at room in
-    let front : sum (map (planned_after state plan slot (k + 1) at) (range_with_len 1 k)) ≡ sum (map (planned_after state plan slot k (last_change plan (k + 1))) (range_with_len 1 k)) = ap sum same in
+    let prefix : sum (map (planned_after state plan slot (k + 1) at) (range_with_len 1 k)) ≡ sum (map (planned_after state plan slot k (last_change plan (k + 1))) (range_with_len 1 k)) = ap sum same in
     let goal : sum (map (planned_after state plan slot (k + 1) at) (range_with_len 1 (k + 1))) ≡ sum (map (planned_after state plan slot (k + 1) at) (range_with_len 1 k)) + planned_after state plan slot (k + 1) at (1 + k) = more in
-    goal ∙ ap (λ n. n + planned_after state plan slot (k + 1) at (1 + k)) front ∙ ap (λ n. sum (map (planned_after state plan slot k (last_change plan (k + 1))) (range_with_len 1 k)) + n) last
+    goal ∙ ap (λ n. n + planned_after state plan slot (k + 1) at (1 + k)) prefix ∙ ap (λ n. sum (map (planned_after state plan slot k (last_change plan (k + 1))) (range_with_len 1 k)) + n) last
 
 -- ---- changes up to a time
 
@@ -79,10 +79,10 @@ counts_more : (at later : ℕ) → at ≤ later → (changes : List Change) → 
 counts_more at later forward [] = omega arith
 counts_more at later forward (change ∷ changes) =
     let before = sum_by-cons (λ (change : Change). cond (nat_le change.at at) 1 0) change changes in
-    let behind = sum_by-cons (λ (change : Change). cond (nat_le change.at later) 1 0) change changes in
+    let suffix = sum_by-cons (λ (change : Change). cond (nat_le change.at later) 1 0) change changes in
     let one = one_change change.at at later forward in
     let others = counts_more at later forward changes in
-    omega (arith, before, behind, one, others)
+    omega (arith, before, suffix, one, others)
 
 -- no fewer changes come up to a later time
 pub changes_more : (plan : PlanView) (at later : ℕ) → at ≤ later → changes_up_to plan at ≤ changes_up_to plan later

@@ -13,8 +13,8 @@ use Rattle.psi_counts.specs.Legal.{changes_from, with_change}
 use Rattle.psi_spec.specs.World.{up_to}
 use Rattle.plan_laws.specs.Plan.{CountsByPlan, StallUpTo, StatesStay}
 use Rattle.psi_spec.specs.Changes.{changes_of, count_at, event_of_change, touches, until_change}
-use Rattle.plan_laws.proofs.PlanLaws.{as_many, by_last, changes_same, changes_of-push, get-front, touched_or_not, until_is}
-use Rattle.plan_laws.proofs.PlanStates.{legal_front}
+use Rattle.plan_laws.proofs.PlanLaws.{as_many, by_last, changes_same, changes_of-push, get-prefix, touched_or_not, until_is}
+use Rattle.plan_laws.proofs.PlanStates.{legal_prefix}
 use Rattle.plan_laws.proofs.PlanStalls.{held_on, in_turn, stall_by_own_changes, until_earlier}
 
 -- ---- an event that doesn't touch a processor
@@ -50,11 +50,11 @@ none_later limits w (event ∷ events) at legal past =
     rw off (none_later limits (after_event w event) events at legal.1 (omega (arith, past, turn)))
 
 -- the events up to a time are a prefix of all
-pub up_to_front : (limits : Limits) (w : World) (events : List Event) (at : ℕ) → AreLegal limits w events → (rest : List Event) × (events ≡ up_to events at ++ rest)
-up_to_front limits w [] at legal = ([], refl)
-up_to_front limits w (event ∷ events) at legal =
+pub up_to_prefix : (limits : Limits) (w : World) (events : List Event) (at : ℕ) → AreLegal limits w events → (rest : List Event) × (events ≡ up_to events at ++ rest)
+up_to_prefix limits w [] at legal = ([], refl)
+up_to_prefix limits w (event ∷ events) at legal =
     elim (nat_le event.at at) as (λ b. nat_le event.at at ≡ b → (rest : List Event) × (event ∷ events ≡ cond b (event ∷ up_to events at) (up_to events at) ++ rest)) [
-      | true ↦ λ _. let more = up_to_front limits (after_event w event) events at legal.1 in (more.0, ap (λ es. event ∷ es) more.1)
+      | true ↦ λ _. let more = up_to_prefix limits (after_event w event) events at legal.1 in (more.0, ap (λ es. event ∷ es) more.1)
       | false ↦ λ off. (event ∷ events, ap (λ es. es ++ event ∷ events) (sym (none_later limits (after_event w event) events at legal.1 (past_it at event.at off))))
     ] refl
 
@@ -70,30 +70,30 @@ ends_by w (event ∷ events) at low =
 -- ---- their changes
 
 -- the numbers of changes of a prefix are a prefix of all numbers
-numbers_front : (cpu : ℕ) (front rest : List Event) → (more : List ℕ) × (changes_of cpu (front ++ rest) ≡ changes_of cpu front ++ more)
-numbers_front cpu front rest =
-    by_last (λ es. (more : List ℕ) × (changes_of cpu (front ++ es) ≡ changes_of cpu front ++ more))
-    ([], ap (changes_of cpu) (append-nil front) ∙ sym (append-nil (changes_of cpu front)))
+numbers_prefix : (cpu : ℕ) (prefix rest : List Event) → (more : List ℕ) × (changes_of cpu (prefix ++ rest) ≡ changes_of cpu prefix ++ more)
+numbers_prefix cpu prefix rest =
+    by_last (λ es. (more : List ℕ) × (changes_of cpu (prefix ++ es) ≡ changes_of cpu prefix ++ more))
+    ([], ap (changes_of cpu) (append-nil prefix) ∙ sym (append-nil (changes_of cpu prefix)))
     (λ es event is.
-    let numbers : List ℕ = cond (touches (after (front ++ es)) (Some event) cpu) ((1 + length (front ++ es)) ∷ []) [] in
-    (is.0 ++ numbers, ap (changes_of cpu) (sym (append_assoc front es (event ∷ []))) ∙ changes_of-push cpu (front ++ es) event ∙ ap (λ ns. ns ++ numbers) is.1 ∙ append_assoc (changes_of cpu front) is.0 numbers))
+    let numbers : List ℕ = cond (touches (after (prefix ++ es)) (Some event) cpu) ((1 + length (prefix ++ es)) ∷ []) [] in
+    (is.0 ++ numbers, ap (changes_of cpu) (sym (append_assoc prefix es (event ∷ []))) ∙ changes_of-push cpu (prefix ++ es) event ∙ ap (λ ns. ns ++ numbers) is.1 ∙ append_assoc (changes_of cpu prefix) is.0 numbers))
     rest
 
 -- the events up to an early change are those of the prefix
-pub until_of_front : (cpu : ℕ) (front rest : List Event) (k : ℕ) → k ≤ length (changes_of cpu front) → until_change cpu (front ++ rest) k ≡ until_change cpu front k
-until_of_front cpu front rest k low =
-    let numbers = numbers_front cpu front rest in
-    ap (λ ns. take (slice_index_or (0 ∷ ns) k 0) (front ++ rest)) numbers.1
-    ∙ ap (λ n. take n (front ++ rest)) (get-front (changes_of cpu front) numbers.0 k low)
-    ∙ take-append-le (event_of_change cpu front k) front rest (until_is cpu front k low).within
+pub until_of_prefix : (cpu : ℕ) (prefix rest : List Event) (k : ℕ) → k ≤ length (changes_of cpu prefix) → until_change cpu (prefix ++ rest) k ≡ until_change cpu prefix k
+until_of_prefix cpu prefix rest k low =
+    let numbers = numbers_prefix cpu prefix rest in
+    ap (λ ns. take (slice_index_or (0 ∷ ns) k 0) (prefix ++ rest)) numbers.1
+    ∙ ap (λ n. take n (prefix ++ rest)) (get-prefix (changes_of cpu prefix) numbers.0 k low)
+    ∙ take-append-le (event_of_change cpu prefix k) prefix rest (until_is cpu prefix k low).within
 
 pub stall_up_to : StallUpTo
 stall_up_to limits events legal state cpu slot at =
-    let front : List Event = up_to events at in
-    let parts = up_to_front limits first_world events at legal in
-    let legally : AreLegal limits first_world front = legal_front limits first_world front parts.0 (subst (AreLegal limits first_world) parts.1 legal) in
-    stall_by_own_changes limits front legally state cpu slot at (ends_by first_world events at (omega arith))
-    ∙ ap (λ es. stall state cpu slot es at) (sym (until_of_front cpu front parts.0 (count_at cpu events at) (omega arith)) ∙ ap (λ es. until_change cpu es (count_at cpu events at)) (sym parts.1))
+    let prefix : List Event = up_to events at in
+    let parts = up_to_prefix limits first_world events at legal in
+    let legally : AreLegal limits first_world prefix = legal_prefix limits first_world prefix parts.0 (subst (AreLegal limits first_world) parts.1 legal) in
+    stall_by_own_changes limits prefix legally state cpu slot at (ends_by first_world events at (omega arith))
+    ∙ ap (λ es. stall state cpu slot es at) (sym (until_of_prefix cpu prefix parts.0 (count_at cpu events at) (omega arith)) ∙ ap (λ es. until_change cpu es (count_at cpu events at)) (sym parts.1))
 
 -- ---- the number of changes up to a time
 
@@ -137,13 +137,13 @@ early_changes limits cpu w (event ∷ events) at legal =
 
 pub counts_by_plan : CountsByPlan
 counts_by_plan limits events legal cpu at =
-    let front : List Event = up_to events at in
-    let parts = up_to_front limits first_world events at legal in
-    let numbers = numbers_front cpu front parts.0 in
-    let fewer : length (changes_of cpu events) ≡ length (changes_of cpu front) + length numbers.0 = ap (λ es. length (changes_of cpu es)) parts.1 ∙ ap length numbers.1 ∙ length-append (changes_of cpu front) numbers.0 in
+    let prefix : List Event = up_to events at in
+    let parts = up_to_prefix limits first_world events at legal in
+    let numbers = numbers_prefix cpu prefix parts.0 in
+    let fewer : length (changes_of cpu events) ≡ length (changes_of cpu prefix) + length numbers.0 = ap (λ es. length (changes_of cpu es)) parts.1 ∙ ap length numbers.1 ∙ length-append (changes_of cpu prefix) numbers.0 in
     let low : count_at cpu events at ≤ length (changes_of cpu events) = omega (arith, fewer) in
-    let same : until_change cpu events (count_at cpu events at) ≡ until_change cpu front (count_at cpu events at) = ap (λ es. until_change cpu es (count_at cpu events at)) parts.1 ∙ until_of_front cpu front parts.0 (count_at cpu events at) (omega arith) in
+    let same : until_change cpu events (count_at cpu events at) ≡ until_change cpu prefix (count_at cpu events at) = ap (λ es. until_change cpu es (count_at cpu events at)) parts.1 ∙ until_of_prefix cpu prefix parts.0 (count_at cpu events at) (omega arith) in
     let until = until_is cpu events (count_at cpu events at) low in
-    let earlier = until_earlier limits cpu front (count_at cpu events at) (legal_front limits first_world front parts.0 (subst (AreLegal limits first_world) parts.1 legal)) in
+    let earlier = until_earlier limits cpu prefix (count_at cpu events at) (legal_prefix limits first_world prefix parts.0 (subst (AreLegal limits first_world) parts.1 legal)) in
     let by = ends_by first_world events at (omega arith) in
-    (sym (as_many cpu front) ∙ ap length (early_changes limits cpu first_world events at legal), low, omega (arith, until.last, ap (λ es. (after es).last) same, earlier, by))
+    (sym (as_many cpu prefix) ∙ ap length (early_changes limits cpu first_world events at legal), low, omega (arith, until.last, ap (λ es. (after es).last) same, earlier, by))

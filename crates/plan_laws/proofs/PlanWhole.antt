@@ -17,7 +17,7 @@ use Rattle.psi_counts.proofs.LegalLaws.{parent_each, more_groups}
 use Rattle.plan_laws.proofs.PlanLaws.{after-push, as_many, by_last, changes_same, changes_grow, touched_or_not, until_is}
 use Rattle.plan_laws.proofs.PlanStalls.{plan_is_in_order}
 use Rattle.plan_laws.proofs.MomentsIrq.{plan_irqs_fit}
-use Rattle.plan_laws.proofs.PlanStates.{legal_after, legal_front, legal_last, plan_fits, until_legal}
+use Rattle.plan_laws.proofs.PlanStates.{legal_after, legal_prefix, legal_last, plan_fits, until_legal}
 use Rattle.psi_counts.proofs.TouchWithin.{changes_are_within}
 
 -- ---- each change
@@ -62,12 +62,12 @@ AllGood limits cpu events = AreLegal limits first_world events → AreGood (leng
 
 all_good-push : (limits : Limits) (cpu : ℕ) (events : List Event) (event : Event) → AllGood limits cpu events → AllGood limits cpu (events ++ event ∷ [])
 all_good-push limits cpu events event before legal =
-    let front = legal_front limits first_world events (event ∷ []) legal in
-    let world = legal_after limits events front in
+    let prefix = legal_prefix limits first_world events (event ∷ []) legal in
+    let world = legal_after limits events prefix in
     let groups : length (after (events ++ event ∷ [])).groups ≡ length (after_event (after events) event).groups = ap (λ (w : World). length w.groups) (after-push events event) in
     let more : length (after events).groups ≤ length (after (events ++ event ∷ [])).groups = omega (arith, groups, more_groups (after events) event) in
     let bound : ℕ = length (after (events ++ event ∷ [])).groups in
-    let still = good_later (changes_from cpu first_world events) (length (after events).groups) bound more (before front) in
+    let still = good_later (changes_from cpu first_world events) (length (after events).groups) bound more (before prefix) in
     ⊎_elim
     (λ off. good_moved bound _ _ (changes_same cpu events event off) still)
     (λ on.
@@ -129,16 +129,16 @@ empty_irqs zero low = omega arith
 empty_irqs (suc k) low = absurd (omega (arith, low))
 
 empty_fits : FitsPlan no_plan
-empty_fits slot k low = subst (λ changes. LeavesFew (taken [] slot changes) (added [] slot changes)) (sym (no_front k)) (record {
+empty_fits slot k low = subst (λ changes. LeavesFew (taken [] slot changes) (added [] slot changes)) (sym (no_prefix_of k)) (record {
   io = (omega arith, omega arith);
   stalled = (omega arith, omega arith);
   running = (omega arith, omega arith);
   stalled_running = (omega arith, omega arith);
 })
   where
-    no_front : (k : ℕ) → take {A = Change} k [] ≡ []
-    no_front zero = refl
-    no_front (suc k) = refl
+    no_prefix_of : (k : ℕ) → take {A = Change} k [] ≡ []
+    no_prefix_of zero = refl
+    no_prefix_of (suc k) = refl
 
 empty_older : AreOlder []
 empty_older slot parent is = absurd (cc is)

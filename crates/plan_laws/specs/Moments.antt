@@ -12,7 +12,7 @@ use Rattle.psi_spec.specs.Refusal.{AreLegal}
 use Rattle.psi_spec.specs.Stall.{parents_of, stall, irq_time}
 use Rattle.psi_spec.specs.Groups.{is_live_at, live_groups, path_at}
 use Rattle.psi_spec.specs.LegalGroups.{IsPathOrder, is_live_in}
-use Rattle.psi_spec.specs.Told.{triggers_of}
+use Rattle.psi_spec.specs.Collected.{triggers_of}
 use Rattle.psi_spec.specs.Within.{AreTriggersWithin}
 
 -- ---- stall time
@@ -79,8 +79,8 @@ LivesAreInOrder = (limits : Limits) (events : List Event) → AreLegal limits fi
 
 -- The groups after all events show which groups are live at any time. A group that was created and
 -- removed at one time isn't live then.
-abbrev pub LivesTellLive : Type 0
-LivesTellLive = (limits : Limits) (events : List Event) → AreLegal limits first_world events → (at slot : ℕ) →
+abbrev pub LivesShowLive : Type 0
+LivesShowLive = (limits : Limits) (events : List Event) → AreLegal limits first_world events → (at slot : ℕ) →
     is_live_in (after (up_to events at)).groups slot
     ≡ is_some_and (slice_get (after events).groups slot) (λ life. is_live_at life at)
 
@@ -108,16 +108,16 @@ with_path groups slot = (path_at groups slot, slot)
 
 -- One order of all slots by path gives the live groups sorted by path at every time: those in it
 -- that are live then.
-abbrev pub OrderTellsLive : Type 0
-OrderTellsLive =
+abbrev pub OrderShowsLive : Type 0
+OrderShowsLive =
     (limits : Limits) (events : List Event) → AreLegal limits first_world events → (order : List ℕ)
     → IsPathOrder (after events).groups order → (at : ℕ) →
     live_groups (after (up_to events at)).groups
     ≡ map (with_path (after events).groups) (filter (is_live_slot (after events).groups at) order)
 
 -- The same for their slots alone.
-abbrev pub OrderTellsSlots : Type 0
-OrderTellsSlots =
+abbrev pub OrderShowsSlots : Type 0
+OrderShowsSlots =
     (limits : Limits) (events : List Event) → AreLegal limits first_world events → (order : List ℕ)
     → IsPathOrder (after events).groups order → (at : ℕ) →
     map (λ (pair : List ℕ × ℕ). pair.1) (live_groups (after (up_to events at)).groups)

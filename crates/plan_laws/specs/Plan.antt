@@ -12,7 +12,7 @@ use Rattle.psi_spec.specs.Refusal.{AreLegal}
 use Rattle.psi_spec.specs.Within.{last_moment}
 use Rattle.psi_spec.specs.LegalGroups.{AreOlder, HaveParents}
 use Rattle.psi_spec.specs.Stall.{is_under, parents_of, holds, stall, moment_of, states, irq_time}
-use Rattle.psi_counts.specs.Counts.{tells, mask_holds}
+use Rattle.psi_counts.specs.Counts.{shows, mask_holds}
 use Rattle.psi_counts.specs.Clock.{ClockView, ClockFollows, IsInTime, IsWholeClock, zero_clock, opened, opened_time}
 use Rattle.psi_counts.specs.Touch.{AreAtMost, Follows, HasSlotsBelow, IsOfOne, change_of, on_with, irq_in, is_current_in, is_current_stalled, on_chain}
 use Rattle.psi_spec.specs.Changes.{changes_of, count_at, times_after, touches, until_change}
@@ -102,7 +102,7 @@ on_after plan slot k = on_from slot true (take k plan.changes)
 -- counts and the running task after them
 unfoldable pub holds_after : State → PlanView → ℕ → ℕ → Bool
 holds_after state plan slot k =
-    on_after plan slot k && tells state (counts_after plan slot k) (is_current_in plan.parents slot (current_after plan k))
+    on_after plan slot k && shows state (counts_after plan slot k) (is_current_in plan.parents slot (current_after plan k))
     (is_current_stalled (current_after plan k))
 
 -- ---- planned time
@@ -222,8 +222,8 @@ ChangesUntil = (cpu : ℕ) (events : List Event) (k : ℕ) → k ≤ length (cha
 
 -- After k changes a plan gives the states after the events up to the k-th, although its parents are
 -- those after all events.
-abbrev pub PlanTellsStates : Type 0
-PlanTellsStates =
+abbrev pub PlanShowsStates : Type 0
+PlanShowsStates =
     (limits : Limits) (events : List Event) → AreLegal limits first_world events → (state : State) (cpu slot k : ℕ)
     → k ≤ length (changes_of cpu events) →
     holds_after state (plan_of cpu events) slot k ≡ holds state cpu slot (after (until_change cpu events k))
@@ -352,8 +352,8 @@ abbrev pub planned : PlanView → ℕ → ℕ → ℕ → List ℕ
 planned plan slot k at = map (λ state. planned_time state plan slot k at) states
 
 -- A clock that represents a slot after some changes opens to the planned times.
-abbrev pub ClockTellsPlanned : Type 0
-ClockTellsPlanned =
+abbrev pub ClockShowsPlanned : Type 0
+ClockShowsPlanned =
     (clock : ClockView) (plan : PlanView) (slot k at : ℕ) → IsClock clock plan slot k → last_change plan k ≤ at
     → opened clock at ≡ planned plan slot k at
 

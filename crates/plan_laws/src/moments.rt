@@ -1,5 +1,5 @@
 //! Laws of a trace at a time. Each function has an empty body: its contract is the law.
-ghost use Rattle.plan_laws.specs.Moments.{GroupsKeepSlots, IrqGrows, IrqIsWithin, LivesAreInOrder, LivesTellLive, NoIrqAtFirst, NoStallAtFirst, OrderTellsLive, OrderTellsSlots, StallGrows, StallIsWithin, TriggersAreInOrder, TriggersAreOnGroups, TriggersAreWithin, TriggersUpTo};
+ghost use Rattle.plan_laws.specs.Moments.{GroupsKeepSlots, IrqGrows, IrqIsWithin, LivesAreInOrder, LivesShowLive, NoIrqAtFirst, NoStallAtFirst, OrderShowsLive, OrderShowsSlots, StallGrows, StallIsWithin, TriggersAreInOrder, TriggersAreOnGroups, TriggersAreWithin, TriggersUpTo};
 
 /// From one time to a later one, stall time never decreases, and grows by at most the difference.
 /// At time 0 it is 0.
@@ -22,7 +22,7 @@ pub fn law_irq_growth()
 /// groups created up to then have the same slots, paths and parents. A group lives from its
 /// creation to its removal, which isn't later than the last event.
 pub fn law_lives()
-    ensures live { LivesTellLive }
+    ensures live { LivesShowLive }
     ensures lives { LivesAreInOrder }
     ensures slots { GroupsKeepSlots }
 {}
@@ -31,8 +31,8 @@ pub fn law_lives()
 /// that are live then. At most one live group has a given path, so the order of slots with the same
 /// path doesn't matter.
 pub fn law_path_order()
-    ensures live { OrderTellsLive }
-    ensures slots { OrderTellsSlots }
+    ensures live { OrderShowsLive }
+    ensures slots { OrderShowsSlots }
 {}
 
 /// The triggers of a trace are within the limits, their times never decrease, and each was set on a

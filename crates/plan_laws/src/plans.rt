@@ -1,6 +1,6 @@
 //! Laws of plans: the changes of one processor, and the clocks that follow them alone. Each
 //! function has an empty body: its contract is the law.
-ghost use Rattle.plan_laws.specs.Plan.{AsideStays, ChangesAreNumbered, ChangesUntil, ClockIsInTime, ClockTellsPlanned, CountsByChange, CountsByPlan, CurrentByChange, EmptyIsPlan, FollowedIsClock, KeptIsClock, NoPlannedIrq, OnAtFirst, OnByChange, PlaceOfMoment, PlanCountsAreFew, PlanIsWhole, PlanTellsStates, PlannedAfter, PlannedByChange, PlannedIrqByChange, PlannedIrqFits, PlannedIrqIsIrq, PlannedIrqUntil, PlannedIsStall, PlannedUntil, StallByOwnChanges, StallUpTo, StatesStay, ZeroIsClock};
+ghost use Rattle.plan_laws.specs.Plan.{AsideStays, ChangesAreNumbered, ChangesUntil, ClockIsInTime, ClockShowsPlanned, CountsByChange, CountsByPlan, CurrentByChange, EmptyIsPlan, FollowedIsClock, KeptIsClock, NoPlannedIrq, OnAtFirst, OnByChange, PlaceOfMoment, PlanCountsAreFew, PlanIsWhole, PlanShowsStates, PlannedAfter, PlannedByChange, PlannedIrqByChange, PlannedIrqFits, PlannedIrqIsIrq, PlannedIrqUntil, PlannedIsStall, PlannedUntil, StallByOwnChanges, StallUpTo, StatesStay, ZeroIsClock};
 
 /// A processor's changes are those of the events that touch it, in order and at their times. The
 /// events up to the k-th change have the first k changes, and end with the k-th.
@@ -12,7 +12,7 @@ pub fn law_numbered_changes()
 /// A plan gives the states of each group after each of its changes, and an event that doesn't touch
 /// the processor leaves them unchanged.
 pub fn law_plan_states()
-    ensures states { PlanTellsStates }
+    ensures states { PlanShowsStates }
     ensures stay { StatesStay }
 {}
 
@@ -59,9 +59,9 @@ pub fn law_own_changes()
 pub fn law_plan_clocks()
     ensures zero { ZeroIsClock }
     ensures followed { FollowedIsClock }
-    ensures kept { KeptIsClock }
+    ensures unchanged { KeptIsClock }
     ensures in_time { ClockIsInTime }
-    ensures tells { ClockTellsPlanned }
+    ensures shows { ClockShowsPlanned }
 {}
 
 /// The planned times by the changes up to a time are the stall times of the events up to it.

@@ -42,13 +42,13 @@ history_from-append life slot before totals [] more = refl
 history_from-append life slot before totals (tick ∷ ticks) more =
     let row = row_at tick slot in
     let now = with_shares totals before row in
-    let behind = last_row slot row ticks in
+    let suffix = last_row slot row ticks in
     let there = history_from-append life slot row now ticks more in
     let gone = history_from-append life slot row totals ticks more in
     elim (is_live_at life tick.at) as (λ live.
     (if live then (tick.at, now) ∷ history_from life slot row now (ticks ++ more) else history_from life slot row totals (ticks ++ more))
     ≡ (if live then (tick.at, now) ∷ history_from life slot row now ticks else history_from life slot row totals ticks)
-    ++ history_from life slot behind (last_totals totals (if live then (tick.at, now) ∷ history_from life slot row now ticks else history_from life slot row totals ticks)) more)
+    ++ history_from life slot suffix (last_totals totals (if live then (tick.at, now) ∷ history_from life slot row now ticks else history_from life slot row totals ticks)) more)
     [ true ↦ ap (λ rest. (tick.at, now) ∷ rest) there | false ↦ gone ]
 
 -- the history of a group over more ticks

@@ -14,15 +14,15 @@ hundredths_text n = decimal (n / 100) ++ codes "." ++ two_digits (n % 100)
 
 -- the line of averages over 10, 60 and 300 seconds in hundredths of a percent, and a total
 -- in us
-abbrev pub told_line : Level → List ℕ → ℕ → List ℕ
-told_line level averages total =
+abbrev pub known_line : Level → List ℕ → ℕ → List ℕ
+known_line level averages total =
     level_word level ++ codes " avg10=" ++ hundredths_text (slice_index averages 0)
     ++ codes " avg60=" ++ hundredths_text (slice_index averages 1)
     ++ codes " avg300=" ++ hundredths_text (slice_index averages 2)
     ++ codes " total=" ++ decimal total ++ codes "\n"
 
 -- values that a line can print: three averages from 0.00 to 100.00 percent each, and a 64-bit total
-pub record CanTell (averages : List ℕ) (total : ℕ) : Type 0 where
+pub record CanShow (averages : List ℕ) (total : ℕ) : Type 0 where
   pub three : length averages ≡ 3
   pub most : All (λ average. average ≤ 10000) averages
   pub fits : total < 2 ^ 64

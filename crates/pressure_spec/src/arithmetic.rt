@@ -47,7 +47,7 @@ pub fn law_shares()
 /// apart.
 pub fn law_ticks()
     ensures sum { TotalIsSum }
-    ensures kept { TotalsNeverFall }
+    ensures unchanged { TotalsNeverFall }
     ensures shares { NextSharesWithin }
     ensures within { TotalsWithin }
     ensures bound { IrqTotalBound }

@@ -1,5 +1,5 @@
 //! The engine of ticks.
 mod checks;
+mod known;
 mod machine;
 mod ticks;
-mod told;

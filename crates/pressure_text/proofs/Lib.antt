@@ -1,3 +1,3 @@
 pub mod Puts
 pub mod Taken
-pub mod ToldLaws
+pub mod KnownLaws

@@ -4,9 +4,9 @@ use Rattle.std.specs.Prelude.{codes, decimal, slice_index, Option, Result, Ok, E
 use Rattle.std.specs.List.{flat_map}
 use Rattle.std.specs.Io.KnownBytes.{Appends}
 use Rattle.std.proofs.lemmas.List.{append-nil}
-use Rattle.outside.specs.Outside.{AppendsFront}
+use Rattle.outside.specs.Outside.{AppendsPrefix}
 use Rattle.outside.specs.Calls.{PutsAll}
-use Rattle.outside.proofs.Grows.{Appends-none, Appends-then, AppendsFront-then}
+use Rattle.outside.proofs.Grows.{Appends-none, Appends-then, AppendsPrefix-then}
 use Rattle.psi_base.specs.declared.event.Level.{Level}
 use Rattle.psi_spec.specs.Fields.{level_word}
 use Rattle.psi_spec.specs.Grammar.{joined}
@@ -14,23 +14,23 @@ use Rattle.pressure_spec.specs.File.{file_line, percent_text}
 use Rattle.pressure_text.specs.Pieces.{spaced_number}
 
 -- a prefix of the first text is a prefix of both
-pub front_of_both : (old new : Option (List ℕ)) (xs ys : List ℕ) → AppendsFront old new xs →
-    AppendsFront old new (xs ++ ys)
-front_of_both old new xs ys front = AppendsFront-then old old new [] xs ys (Appends-none old) front
+pub prefix_of_both : (old new : Option (List ℕ)) (xs ys : List ℕ) → AppendsPrefix old new xs →
+    AppendsPrefix old new (xs ++ ys)
+prefix_of_both old new xs ys prefix = AppendsPrefix-then old old new [] xs ys (Appends-none old) prefix
 
 -- the first text, followed by a prefix of the second, is a prefix of both
-pub front_then : (old mid new : Option (List ℕ)) (xs ys : List ℕ) → Appends old mid xs →
-    AppendsFront mid new ys → AppendsFront old new (xs ++ ys)
-front_then old mid new xs ys first front =
+pub prefix_then : (old mid new : Option (List ℕ)) (xs ys : List ℕ) → Appends old mid xs →
+    AppendsPrefix mid new ys → AppendsPrefix old new (xs ++ ys)
+prefix_then old mid new xs ys first prefix =
     let all : xs ++ (ys ++ []) ≡ xs ++ ys = ap (λ zs. xs ++ zs) (append-nil ys) in
-    rw (← all) (AppendsFront-then old mid new xs ys [] first front)
+    rw (← all) (AppendsPrefix-then old mid new xs ys [] first prefix)
 
 -- what is sent after a text is appended as a whole, or as a prefix of both
 pub puts_then : {T E : Type 0} →
     (old mid new : Option (List ℕ)) (result : Result T E) (xs ys : List ℕ) → Appends old mid xs →
     PutsAll mid new result ys → PutsAll old new result (xs ++ ys)
 puts_then old mid new (Ok value) xs ys first put = Appends-then old mid new xs ys first put
-puts_then old mid new (Err fault) xs ys first put = front_then old mid new xs ys first put
+puts_then old mid new (Err fault) xs ys first put = prefix_then old mid new xs ys first put
 
 -- a word, followed by numbers, with one space between them
 pub joined_numbers : (word ns : List ℕ) → joined (word ∷ map decimal ns) ≡ word ++ flat_map spaced_number ns

@@ -20,7 +20,7 @@ use Rattle.psi_base.proofs.NumberLaws.{numerals, number_of-decimal, decimal-numb
 use Rattle.pressure_spec.specs.File.{two_digits}
 use Rattle.pressure_spec.specs.Printed.{hundredths_text}
 use Rattle.psi_base.specs.OptionSteps.{◌>>=◌}
-use Rattle.pressure_text.specs.FileRead.{average_at, behind, number_at, past, two_at}
+use Rattle.pressure_text.specs.FileRead.{average_at, suffix, number_at, past, two_at}
 
 -- ---- steps
 
@@ -48,45 +48,45 @@ found_same x a y b is = parts_same x a y b cc
 
 -- ---- a leading text
 
-pub behind_again : (text rest : List ℕ) → behind text (text ++ rest) ≡ Some rest
-unfolding behind
-behind_again [] rest = refl
-behind_again (byte ∷ text) rest = grind (arith, behind_again text rest)
+pub after_again : (text rest : List ℕ) → suffix text (text ++ rest) ≡ Some rest
+unfolding suffix
+after_again [] rest = refl
+after_again (byte ∷ text) rest = grind (arith, after_again text rest)
 
-behind_if : (test : Bool) (read : Option (List ℕ)) (rest : List ℕ) →
+after_if : (test : Bool) (read : Option (List ℕ)) (rest : List ℕ) →
     (if test then read else None) ≡ Some rest → (test ≡ true) × (read ≡ Some rest)
-behind_if true read rest is = (refl, is)
-behind_if false read rest is = absurd cc
+after_if true read rest is = (refl, is)
+after_if false read rest is = absurd cc
 
-pub behind_is : (text bytes rest : List ℕ) → behind text bytes ≡ Some rest → bytes ≡ text ++ rest
-unfolding behind
-behind_is [] bytes rest is = cc
-behind_is (byte ∷ text) [] rest is = absurd cc
-behind_is (byte ∷ text) (first ∷ bytes) rest is =
-    let both = behind_if (first == byte) (behind text bytes) rest is in
+pub after_is : (text bytes rest : List ℕ) → suffix text bytes ≡ Some rest → bytes ≡ text ++ rest
+unfolding suffix
+after_is [] bytes rest is = cc
+after_is (byte ∷ text) [] rest is = absurd cc
+after_is (byte ∷ text) (first ∷ bytes) rest is =
+    let both = after_if (first == byte) (suffix text bytes) rest is in
     let same = eqb-true first byte both.0 in
-    let more = behind_is text bytes rest both.1 in cc
+    let more = after_is text bytes rest both.1 in cc
 
 -- nothing is found if the bytes don't begin with the text
-behind_none : (text bytes : List ℕ) → ((rest : List ℕ) → bytes ≢ text ++ rest) →
-    behind text bytes ≡ None
-behind_none text bytes other =
-    elim (behind text bytes) as (λ r. behind text bytes ≡ r → r ≡ None) [
+after_none : (text bytes : List ℕ) → ((rest : List ℕ) → bytes ≢ text ++ rest) →
+    suffix text bytes ≡ None
+after_none text bytes other =
+    elim (suffix text bytes) as (λ r. suffix text bytes ≡ r → r ≡ None) [
       | None ↦ λ is. refl
-      | Some rest ↦ λ is. absurd (other rest (behind_is text bytes rest is))
+      | Some rest ↦ λ is. absurd (other rest (after_is text bytes rest is))
     ] refl
 
-found_behind : (text bytes : List ℕ) (r : Option (Bor (List ℕ))) →
+found_in_suffix : (text bytes : List ℕ) (r : Option (Bor (List ℕ))) →
     MatchOption r ((rest : List ℕ) → bytes ≢ text ++ rest) (λ x. bytes ≡ text ++ x.now) →
-    MatchOption r (behind text bytes ≡ None) (λ x. behind text bytes ≡ Some x.now)
-found_behind text bytes None other = behind_none text bytes other
-found_behind text bytes (Some x) is = rw is (behind_again text x.now)
+    MatchOption r (suffix text bytes ≡ None) (λ x. suffix text bytes ≡ Some x.now)
+found_in_suffix text bytes None other = after_none text bytes other
+found_in_suffix text bytes (Some x) is = rw is (after_again text x.now)
 
 -- what std says of a call that strips a text
 pub stripped : (text bytes : List ℕ) (r : Option (Bor (List ℕ))) →
     MatchOption r (pointwise ◌==◌ (take (length text) bytes) text ≡ false) (λ x. (pointwise ◌==◌ (take (length text) bytes) text ≡ true) × (x.now ≡ drop (length text) bytes) × (length x.now + length text ≡ length bytes)) →
-    MatchOption r (behind text bytes ≡ None) (λ x. behind text bytes ≡ Some x.now)
-stripped text bytes r cases = found_behind text bytes r (strip_prefix_is Decides-eqb bytes text r cases)
+    MatchOption r (suffix text bytes ≡ None) (λ x. suffix text bytes ≡ Some x.now)
+stripped text bytes r cases = found_in_suffix text bytes r (strip_prefix_is Decides-eqb bytes text r cases)
 
 -- ---- a leading number
 
@@ -94,12 +94,12 @@ stripped text bytes r cases = found_behind text bytes r (strip_prefix_is Decides
 abbrev pub NoDigit : List ℕ → Type 0
 NoDigit bytes = is_ascii_digit (get_or bytes 0 0) ≡ false
 
-digits_front : (digits rest : List ℕ) → all_ascii_digits digits ≡ true → NoDigit rest →
+digits_prefix : (digits rest : List ℕ) → all_ascii_digits digits ≡ true → NoDigit rest →
     prefix_len is_ascii_digit (digits ++ rest) ≡ length digits
-digits_front [] [] all none = refl
-digits_front [] (byte ∷ rest) all none = grind (arith, none)
-digits_front (digit ∷ digits) rest all none =
-    let more = digits_front digits rest (grind (arith, all)) none in
+digits_prefix [] [] all none = refl
+digits_prefix [] (byte ∷ rest) all none = grind (arith, none)
+digits_prefix (digit ∷ digits) rest all none =
+    let more = digits_prefix digits rest (grind (arith, all)) none in
     let here : is_ascii_digit digit ≡ true = grind (arith, all) in
     rw here (omega (arith, more))
 
@@ -107,8 +107,8 @@ pub number_again : (n : ℕ) (rest : List ℕ) → n < 2 ^ 64 → NoDigit rest �
     number_at (decimal n ++ rest) ≡ Some (n, rest)
 unfolding number_at
 number_again n rest fits none =
-    let front = digits_front (decimal n) rest (digits_decimal numerals n fits) none in
-    rw (front, take-append_seam (decimal n) rest, drop-append_seam (decimal n) rest, number_of-decimal n fits) refl
+    let prefix = digits_prefix (decimal n) rest (digits_decimal numerals n fits) none in
+    rw (prefix, take-append_seam (decimal n) rest, drop-append_seam (decimal n) rest, number_of-decimal n fits) refl
 
 pub number_is : (bytes : List ℕ) (n : ℕ) (rest : List ℕ) → number_at bytes ≡ Some (n, rest) →
     (bytes ≡ decimal n ++ rest) × (n < 2 ^ 64)
@@ -160,7 +160,7 @@ unfolding average_at
 average_again n rest most =
     let part : List ℕ = two_digits (n % 100) ++ rest in
     let number = number_again (n / 100) (codes "." ++ part) (omega arith) refl in
-    let point = behind_again (codes ".") part in
+    let point = after_again (codes ".") part in
     let two = two_again (n % 100) rest (omega arith) in
     let whole : n / 100 * 100 + n % 100 ≡ n = omega arith in
     let fits : nat_le n 10000 ≡ true = grind (arith, nat_tests, most) in
@@ -171,18 +171,18 @@ pub average_is : (bytes : List ℕ) (n : ℕ) (rest : List ℕ) → average_at b
 unfolding average_at
 average_is bytes n rest is =
     let whole = bind_some (number_at bytes) _ (n, rest) is in
-    let point = bind_some (behind (codes ".") whole.0.1) _ (n, rest) whole.2 in
+    let point = bind_some (suffix (codes ".") whole.0.1) _ (n, rest) whole.2 in
     let part = bind_some (two_at point.0) _ (n, rest) point.2 in
     let found = if_some (nat_le (whole.0.0 * 100 + part.0.0) 10000) (whole.0.0 * 100 + part.0.0, part.0.1) (n, rest) part.2 in
     let same = parts_same (whole.0.0 * 100 + part.0.0) n part.0.1 rest found.1 in
     let number = number_is bytes whole.0.0 whole.0.1 whole.1 in
-    let behind_point = behind_is (codes ".") whole.0.1 point.0 point.1 in
+    let after_point = after_is (codes ".") whole.0.1 point.0 point.1 in
     let two = two_is point.0 part.0.0 part.0.1 part.1 in
     let most : n ≤ 10000 = grind (arith, nat_tests, found.0, same.0) in
     let first : whole.0.0 ≡ n / 100 = omega (arith, same.0, two.1) in
     let second : part.0.0 ≡ n % 100 = omega (arith, same.0, two.1) in
     let rest_is : point.0 ≡ two_digits (n % 100) ++ rest = two.0 ∙ ap (λ m. two_digits m ++ part.0.1) second ∙ ap (λ xs. two_digits (n % 100) ++ xs) same.1 in
-    let point_is : whole.0.1 ≡ codes "." ++ (two_digits (n % 100) ++ rest) = behind_point ∙ ap (λ xs. codes "." ++ xs) rest_is in
+    let point_is : whole.0.1 ≡ codes "." ++ (two_digits (n % 100) ++ rest) = after_point ∙ ap (λ xs. codes "." ++ xs) rest_is in
     (number.0 ∙ ap (λ m. decimal m ++ whole.0.1) first ∙ ap (λ xs. decimal (n / 100) ++ xs) point_is ∙ sym (average_parts n rest), most)
 
 -- ---- a piece after its label
@@ -191,5 +191,5 @@ pub past_is : {A : Type 0} (label : List ℕ) (read : List ℕ → Option A) (by
     past label read bytes ≡ Some found →
     (rest : List ℕ) × (bytes ≡ label ++ rest) × (read rest ≡ Some found)
 past_is label read bytes found is =
-    let behind_label = bind_some (behind label bytes) read found is in
-    (behind_label.0, behind_is label bytes behind_label.0 behind_label.1, behind_label.2)
+    let after_label = bind_some (suffix label bytes) read found is in
+    (after_label.0, after_is label bytes after_label.0 after_label.1, after_label.2)

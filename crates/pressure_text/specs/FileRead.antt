@@ -12,10 +12,10 @@ use Rattle.pressure_text.specs.declared.read.PressureLine.{PressureLine}
 use Rattle.pressure_text.specs.declared.read.PressureFile.{PressureFile}
 
 -- the bytes after this prefix, if they begin with it
-unfoldable pub behind : List ℕ → List ℕ → Option (List ℕ)
-behind [] bytes = Some bytes
-behind (byte ∷ text) [] = None
-behind (byte ∷ text) (first ∷ bytes) = if first == byte then behind text bytes else None
+unfoldable pub suffix : List ℕ → List ℕ → Option (List ℕ)
+suffix [] bytes = Some bytes
+suffix (byte ∷ text) [] = None
+suffix (byte ∷ text) (first ∷ bytes) = if first == byte then suffix text bytes else None
 
 -- the number that all leading digits spell, and the remaining bytes
 unfoldable pub number_at : List ℕ → Option (ℕ × List ℕ)
@@ -35,23 +35,23 @@ two_at (tens ∷ ones ∷ bytes) =
 unfoldable pub average_at : List ℕ → Option (ℕ × List ℕ)
 average_at bytes = do
   whole ← number_at bytes
-  point ← behind (codes ".") whole.1
+  point ← suffix (codes ".") whole.1
   part ← two_at point
   if nat_le (whole.0 * 100 + part.0) 10000 then Some (whole.0 * 100 + part.0, part.1) else None
 
 -- what a parser finds after a label
 abbrev pub past : {A : Type 0} → List ℕ → (List ℕ → Option A) → List ℕ → Option A
-past label read bytes = behind label bytes >>= read
+past label read bytes = suffix label bytes >>= read
 
 -- the line of a level at the start, and the remaining bytes
 unfoldable pub line_at : Level → List ℕ → Option (PressureLine × List ℕ)
 line_at level bytes = do
-  start ← behind (level_word level) bytes
+  start ← suffix (level_word level) bytes
   short ← past (codes " avg10=") average_at start
   middle ← past (codes " avg60=") average_at short.1
   long ← past (codes " avg300=") average_at middle.1
   total ← past (codes " total=") number_at long.1
-  end ← behind (codes "\n") total.1
+  end ← suffix (codes "\n") total.1
   Some (record { hundredths = short.0 ∷ middle.0 ∷ long.0 ∷ []; total_us = total.0 }, end)
 
 -- the parsed value, if no bytes remain

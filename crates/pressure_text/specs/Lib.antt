@@ -1,3 +1,3 @@
 pub mod Pieces
 pub mod FileRead
-pub mod Told
+pub mod PrintedLines

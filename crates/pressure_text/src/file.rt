@@ -1,6 +1,6 @@
 //! Pressure files, and reports of them.
 ghost use Rattle.std.specs.Prelude.{[], slice_index_or};
-ghost use Rattle.outside.specs.Outside.{HasCause, StaysOver};
+ghost use Rattle.outside.specs.Outside.{HasCause, SameInner};
 ghost use Rattle.outside.specs.Calls.{PutsAll};
 ghost use Rattle.pressure_spec.specs.File.{file_line, file_text, full_line, state_line};
 ghost use Rattle.pressure_spec.specs.Share.{irq_quantity};
@@ -22,7 +22,7 @@ fn put_line<K: Sink>(
     ensures bytes { PutsAll (K.has out.old) (K.has out.new) result
         (file_line level averages total) }
     ensures cause { HasCause (K.faults out.old) (K.faults out.new) result }
-    ensures below { StaysOver (K.below out.old) (K.below out.new) }
+    ensures below { SameInner (K.below out.old) (K.below out.new) }
 {
     put_pieces(
         out,
@@ -52,7 +52,7 @@ fn put_state<K: Sink>(
     ensures bytes { PutsAll (K.has out.old) (K.has out.new) result
         (state_line res level totals.now averages.now.averages) }
     ensures cause { HasCause (K.faults out.old) (K.faults out.new) result }
-    ensures below { StaysOver (K.below out.old) (K.below out.new) }
+    ensures below { SameInner (K.below out.old) (K.below out.new) }
 {
     let state = State::of(res, level);
     put_line(out, level, averages.get(state), totals[state as usize])
@@ -69,7 +69,7 @@ fn put_full<K: Sink>(
     ensures bytes { PutsAll (K.has out.old) (K.has out.new) result
         (full_line res root totals.now averages.now.averages) }
     ensures cause { HasCause (K.faults out.old) (K.faults out.new) result }
-    ensures below { StaysOver (K.below out.old) (K.below out.new) }
+    ensures below { SameInner (K.below out.old) (K.below out.new) }
 {
     if root && res == Res::Cpu {
         return put_line(out, Level::FullStalled, [0; 3], 0);
@@ -91,7 +91,7 @@ pub fn write_file<K: Sink>(
     ensures bytes { PutsAll (K.has out.old) (K.has out.new) result
         (file_text res root totals averages.now.averages) }
     ensures cause { HasCause (K.faults out.old) (K.faults out.new) result }
-    ensures below { StaysOver (K.below out.old) (K.below out.new) }
+    ensures below { SameInner (K.below out.old) (K.below out.new) }
 {
     put_state(out, res, Level::SomeStalled, &totals, averages)?;
     put_full(out, res, root, &totals, averages)
@@ -108,7 +108,7 @@ fn put_head<'a, K: Sink>(
     ensures bytes { PutsAll (K.has out.old) (K.has out.new) result
         (head_line at path.now word.now) }
     ensures cause { HasCause (K.faults out.old) (K.faults out.new) result }
-    ensures below { StaysOver (K.below out.old) (K.below out.new) }
+    ensures below { SameInner (K.below out.old) (K.below out.new) }
 {
     put_pieces(
         out,
@@ -134,7 +134,7 @@ pub fn write_report_head<K: Sink>(
 ) -> Result<(), WriteFailed>
     ensures bytes { PutsAll (K.has out.old) (K.has out.new) result (report_head at path.now res) }
     ensures cause { HasCause (K.faults out.old) (K.faults out.new) result }
-    ensures below { StaysOver (K.below out.old) (K.below out.new) }
+    ensures below { SameInner (K.below out.old) (K.below out.new) }
 {
     put_head(out, at, path, res.word().as_bytes())
 }
@@ -154,7 +154,7 @@ pub fn write_report<K: Sink>(
     ensures bytes { PutsAll (K.has out.old) (K.has out.new) result
         (report_text at path.now res root totals averages.now.averages) }
     ensures cause { HasCause (K.faults out.old) (K.faults out.new) result }
-    ensures below { StaysOver (K.below out.old) (K.below out.new) }
+    ensures below { SameInner (K.below out.old) (K.below out.new) }
 {
     write_report_head(out, at, path, res)?;
     write_file(out, res, root, totals, averages)
@@ -173,7 +173,7 @@ pub fn write_irq<K: Sink>(
     ensures bytes { PutsAll (K.has out.old) (K.has out.new) result
         (irq_report at path.now (slice_index_or averages.now.averages irq_quantity []) total) }
     ensures cause { HasCause (K.faults out.old) (K.faults out.new) result }
-    ensures below { StaysOver (K.below out.old) (K.below out.new) }
+    ensures below { SameInner (K.below out.old) (K.below out.new) }
 {
     put_head(out, at, path, b"irq")?;
     put_line(out, Level::FullStalled, averages.irq(), total)

@@ -1,6 +1,6 @@
 //! The lines that commands print one by one.
 ghost use Rattle.std.specs.Prelude.{◌-◌, ◌<◌, ◌^◌};
-ghost use Rattle.outside.specs.Outside.{HasCause, StaysOver};
+ghost use Rattle.outside.specs.Outside.{HasCause, SameInner};
 ghost use Rattle.outside.specs.Calls.{PutsAll};
 ghost use Rattle.psi_spec.specs.Fields as fields;
 ghost use Rattle.run_spec.specs.Lines.{check_line, end_line, event_line, kill_line};
@@ -18,7 +18,7 @@ pub fn put_timed<K: Sink>(out: &mut K, head: &[Piece], times: &[Ns]) -> Result<(
     ensures bytes { PutsAll (K.has out.old) (K.has out.new) result
         (with_numbers head.now times.now) }
     ensures cause { HasCause (K.faults out.old) (K.faults out.new) result }
-    ensures below { StaysOver (K.below out.old) (K.below out.new) }
+    ensures below { SameInner (K.below out.old) (K.below out.new) }
 {
     put_pieces(out, head)?;
     put_numbers(out, times)?;
@@ -31,7 +31,7 @@ fn put_stall<K: Sink>(out: &mut K, cpu: Cpu, path: &Path, times: &[Ns]) -> Resul
     ensures bytes { PutsAll (K.has out.old) (K.has out.new) result
         (stall_line cpu.0 path.now times.now) }
     ensures cause { HasCause (K.faults out.old) (K.faults out.new) result }
-    ensures below { StaysOver (K.below out.old) (K.below out.new) }
+    ensures below { SameInner (K.below out.old) (K.below out.new) }
 {
     put_timed(
         out,
@@ -55,7 +55,7 @@ pub fn write_stall<K: Sink>(
     ensures bytes { PutsAll (K.has out.old) (K.has out.new) result
         (stall_line cpu.0 path.now seven) }
     ensures cause { HasCause (K.faults out.old) (K.faults out.new) result }
-    ensures below { StaysOver (K.below out.old) (K.below out.new) }
+    ensures below { SameInner (K.below out.old) (K.below out.new) }
 {
     put_stall(out, cpu, path, &seven)
 }
@@ -71,7 +71,7 @@ pub fn write_stall_irq<K: Sink>(
     ensures bytes { PutsAll (K.has out.old) (K.has out.new) result
         (stall_line cpu.0 path.now eight) }
     ensures cause { HasCause (K.faults out.old) (K.faults out.new) result }
-    ensures below { StaysOver (K.below out.old) (K.below out.new) }
+    ensures below { SameInner (K.below out.old) (K.below out.new) }
 {
     put_stall(out, cpu, path, &eight)
 }
@@ -83,7 +83,7 @@ pub fn write_check<K: Sink>(out: &mut K, events: u64, end: Ns) -> Result<(), Wri
     requires { events < 2 ^ 64 - 1 }
     ensures bytes { PutsAll (K.has out.old) (K.has out.new) result (check_line events end) }
     ensures cause { HasCause (K.faults out.old) (K.faults out.new) result }
-    ensures below { StaysOver (K.below out.old) (K.below out.new) }
+    ensures below { SameInner (K.below out.old) (K.below out.new) }
 {
     put_pieces(
         out,
@@ -113,7 +113,7 @@ pub fn write_live<K: Sink>(
     ensures bytes { PutsAll (K.has out.old) (K.has out.new) result
         (live_line at cpu.0 count seven) }
     ensures cause { HasCause (K.faults out.old) (K.faults out.new) result }
-    ensures below { StaysOver (K.below out.old) (K.below out.new) }
+    ensures below { SameInner (K.below out.old) (K.below out.new) }
 {
     put_timed(
         out,
@@ -142,7 +142,7 @@ pub fn write_fired<K: Sink>(
     ensures bytes { PutsAll (K.has out.old) (K.has out.new) result
         (event_line at index path.now spec.now) }
     ensures cause { HasCause (K.faults out.old) (K.faults out.new) result }
-    ensures below { StaysOver (K.below out.old) (K.below out.new) }
+    ensures below { SameInner (K.below out.old) (K.below out.new) }
 {
     put_pieces(
         out,
@@ -179,7 +179,7 @@ pub fn write_kill<K: Sink>(
     ensures bytes { PutsAll (K.has out.old) (K.has out.new) result
         (kill_line at rule action path.now) }
     ensures cause { HasCause (K.faults out.old) (K.faults out.new) result }
-    ensures below { StaysOver (K.below out.old) (K.below out.new) }
+    ensures below { SameInner (K.below out.old) (K.below out.new) }
 {
     put_pieces(
         out,
@@ -210,7 +210,7 @@ pub fn write_end<K: Sink>(
     ensures bytes { PutsAll (K.has out.old) (K.has out.new) result
         (end_line at ticks events kills) }
     ensures cause { HasCause (K.faults out.old) (K.faults out.new) result }
-    ensures below { StaysOver (K.below out.old) (K.below out.new) }
+    ensures below { SameInner (K.below out.old) (K.below out.new) }
 {
     put_pieces(
         out,

@@ -1,7 +1,7 @@
 //! Text in pieces, each sent as it is produced.
 ghost use Rattle.std.specs.Prelude.{◌≡◌, ◌++◌, codes};
 ghost use Rattle.std.specs.List.{flat_map};
-ghost use Rattle.outside.specs.Outside.{HasCause, StaysOver};
+ghost use Rattle.outside.specs.Outside.{HasCause, SameInner};
 ghost use Rattle.outside.specs.Calls.{PutsAll};
 ghost use Rattle.pressure_spec.specs.File.{hundredths, percent_text, two_digits};
 ghost use Rattle.pressure_text.specs.Pieces.{piece_bytes, spaced_number};
@@ -38,7 +38,7 @@ fn fraction_of(average: u64) -> [u8; 3]
 fn put_percent<K: Sink>(out: &mut K, average: u64) -> Result<(), WriteFailed>
     ensures bytes { PutsAll (K.has out.old) (K.has out.new) result (percent_text average) }
     ensures cause { HasCause (K.faults out.old) (K.faults out.new) result }
-    ensures below { StaysOver (K.below out.old) (K.below out.new) }
+    ensures below { SameInner (K.below out.old) (K.below out.new) }
 {
     put_number(out, average / PERCENT)?;
     put_all(out, &fraction_of(average))
@@ -47,7 +47,7 @@ fn put_percent<K: Sink>(out: &mut K, average: u64) -> Result<(), WriteFailed>
 fn put_piece<K: Sink>(out: &mut K, piece: Piece) -> Result<(), WriteFailed>
     ensures bytes { PutsAll (K.has out.old) (K.has out.new) result (piece_bytes piece.entry) }
     ensures cause { HasCause (K.faults out.old) (K.faults out.new) result }
-    ensures below { StaysOver (K.below out.old) (K.below out.new) }
+    ensures below { SameInner (K.below out.old) (K.below out.new) }
 {
     match piece {
         Piece::Number(n) => put_number(out, n),
@@ -62,7 +62,7 @@ pub fn put_pieces<K: Sink>(out: &mut K, pieces: &[Piece]) -> Result<(), WriteFai
     ensures bytes { PutsAll (K.has out.old) (K.has out.new) result
         (flat_map piece_bytes pieces.now) }
     ensures cause { HasCause (K.faults out.old) (K.faults out.new) result }
-    ensures below { StaysOver (K.below out.old) (K.below out.new) }
+    ensures below { SameInner (K.below out.old) (K.below out.new) }
 {
     for piece in pieces {
         put_piece(out, *piece)?;
@@ -75,7 +75,7 @@ pub fn put_pieces<K: Sink>(out: &mut K, pieces: &[Piece]) -> Result<(), WriteFai
 fn put_spaced<K: Sink>(out: &mut K, number: u64) -> Result<(), WriteFailed>
     ensures bytes { PutsAll (K.has out.old) (K.has out.new) result (spaced_number number) }
     ensures cause { HasCause (K.faults out.old) (K.faults out.new) result }
-    ensures below { StaysOver (K.below out.old) (K.below out.new) }
+    ensures below { SameInner (K.below out.old) (K.below out.new) }
 {
     put_all(out, b" ")?;
     put_number(out, number)
@@ -87,7 +87,7 @@ pub(crate) fn put_numbers<K: Sink>(out: &mut K, numbers: &[u64]) -> Result<(), W
     ensures bytes { PutsAll (K.has out.old) (K.has out.new) result
         (flat_map spaced_number numbers.now) }
     ensures cause { HasCause (K.faults out.old) (K.faults out.new) result }
-    ensures below { StaysOver (K.below out.old) (K.below out.new) }
+    ensures below { SameInner (K.below out.old) (K.below out.new) }
 {
     for number in numbers {
         put_spaced(out, *number)?;

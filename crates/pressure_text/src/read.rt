@@ -6,9 +6,9 @@ ghost use Rattle.std.specs.Prelude.{◌≡◌, ◌↔◌, ◌≤◌, ◌<◌, If
 ghost use Rattle.std.specs.Prelude.{length};
 ghost use Rattle.std.specs.Char.{is_ascii_digit};
 ghost use Rattle.std.specs.List.{prefix_len};
-ghost use Rattle.pressure_text.specs.FileRead.{TakesPiece, average_at, behind, file_at, irq_at};
+ghost use Rattle.pressure_text.specs.FileRead.{TakesPiece, average_at, suffix, file_at, irq_at};
 ghost use Rattle.pressure_text.specs.FileRead.{line_at, number_at, past, two_at};
-ghost use Rattle.pressure_text.specs.Told.{IrqReadsAgain, ReadsAgain, Tells, TellsIrq};
+ghost use Rattle.pressure_text.specs.PrintedLines.{IrqReadsAgain, ReadsAgain, Shows, ShowsIrq};
 ghost use Rattle.pressure_text.specs.declared.read.PressureFile.{PressureFile};
 ghost use Rattle.pressure_text.specs.declared.read.PressureLine.{PressureLine};
 
@@ -64,8 +64,8 @@ impl<'a> Model for Rest<'a> {
 impl<'a> Rest<'a> {
     // Skips a prefix, if the text begins with it.
     fn skip(&mut self, text: &[u8]) -> Option<()>
-        ensures { MatchOption result (behind text.now self.old ≡ None)
-            (λ _. behind text.now self.old ≡ Some self.new) }
+        ensures { MatchOption result (suffix text.now self.old ≡ None)
+            (λ _. suffix text.now self.old ≡ Some self.new) }
     {
         match self.bytes.strip_prefix(text) {
             Some(bytes) => {
@@ -191,8 +191,8 @@ fn irq_of(bytes: &[u8]) -> Option<PressureLine>
 /// after them. Averages are from 0.00 to 100.00 percent with two decimals, totals are below 2^64
 /// us, and numbers have no leading zeros. `None` exactly if the bytes are not such a file.
 pub fn read_file(bytes: &[u8]) -> Option<PressureFile>
-    ensures exact { (file : PressureFile) → (result ≡ Some file) ↔ Tells bytes.now file }
-    ensures none { IsNone result ↔ ((file : PressureFile) → ¬ Tells bytes.now file) }
+    ensures exact { (file : PressureFile) → (result ≡ Some file) ↔ Shows bytes.now file }
+    ensures none { IsNone result ↔ ((file : PressureFile) → ¬ Shows bytes.now file) }
 {
     file_of(bytes)
 }
@@ -200,8 +200,8 @@ pub fn read_file(bytes: &[u8]) -> Option<PressureFile>
 /// Parses the pressure file of interrupts: the `full` line with its newline, and nothing after it,
 /// with numbers as in [`read_file`]. `None` exactly if the bytes are not such a file.
 pub fn read_irq(bytes: &[u8]) -> Option<PressureLine>
-    ensures exact { (line : PressureLine) → (result ≡ Some line) ↔ TellsIrq bytes.now line }
-    ensures none { IsNone result ↔ ((line : PressureLine) → ¬ TellsIrq bytes.now line) }
+    ensures exact { (line : PressureLine) → (result ≡ Some line) ↔ ShowsIrq bytes.now line }
+    ensures none { IsNone result ↔ ((line : PressureLine) → ¬ ShowsIrq bytes.now line) }
 {
     irq_of(bytes)
 }

@@ -39,27 +39,27 @@ took_next old now new events i event x room is before takes = λ limits fresh.
 -- a rejected event is the first one
 pub refused_next : (old now new : PlannerView) (events : List Event) (i : ℕ) (event : Event) (why : Fault Cause) (line : ℕ) (at : Fault Refusal) → i < length events → event ≡ slice_index_or events i event → HasFirst old now (take i events) → PlannerTakes now new event (Err why) → new ≡ now → line ≡ new.table.world.lines → IsFaultAt (line + 2) why at
     → (limits : Limits) → HasTaken old limits [] → IsRefusal limits events at
-refused_next old now new events i event (fault.Refused why) line at room is before takes same counted told = λ limits fresh.
+refused_next old now new events i event (fault.Refused why) line at room is before takes same counted known = λ limits fresh.
     let taken = before limits fresh in
     let lines : line ≡ length (take i events) = counted ∙ ap (λ (p : PlannerView). p.table.world.lines) same ∙ ap (λ (w : World). w.lines) taken.world ∙ lines_of (take i events) in
-    subst (IsRefusal limits events) (sym told) (inl (record {
-      front = take i events;
+    subst (IsRefusal limits events) (sym known) (inl (record {
+      prefix = take i events;
       event = event;
-      behind = drop (suc i) events;
+      suffix = drop (suc i) events;
       events_are = parted events i event room ∙ ap (λ e. take i events ++ e ∷ drop (suc i) events) (sym is);
       legal = taken.legal;
       cause = takes limits (take i events) taken;
       line_is = omega (arith, lines);
     }))
-refused_next old now new events i event (fault.NoMemory _) line at room is before takes same counted told = λ limits fresh. subst (IsRefusal limits events) (sym told) tt
+refused_next old now new events i event (fault.NoMemory _) line at room is before takes same counted known = λ limits fresh. subst (IsRefusal limits events) (sym known) tt
 
 -- all events were taken, and the trace hasn't ended
 pub lacks_end : (old now : PlannerView) (events : List Event) (i line : ℕ) (at : Fault Refusal) → length events ≤ i → HasFirst old now (take i events) → now.table.world.ended ≢ true → line ≡ now.table.world.lines → IsFaultAt (line + 2) (fault.Refused cause.NoEnd) at
     → (limits : Limits) → HasTaken old limits [] → IsRefusal limits events at
-lacks_end old now events i line at all before open_ counted told = λ limits fresh.
+lacks_end old now events i line at all before open_ counted known = λ limits fresh.
     let taken = subst (HasTaken now limits) (take_all i events all) (before limits fresh) in
     let lines : line ≡ length events = counted ∙ ap (λ (w : World). w.lines) taken.world ∙ lines_of events in
-    subst (IsRefusal limits events) (sym told) (inr (record {
+    subst (IsRefusal limits events) (sym known) (inr (record {
       legal = taken.legal;
       open_ = λ ended. open_ (ap (λ (w : World). w.ended) taken.world ∙ ended);
       cause = refl;

@@ -13,7 +13,7 @@ use Rattle.plan_laws.specs.Plan.{IsClock, IsPlan, PlanView, counts_after, curren
 use Rattle.plan_laws.proofs.PlanClocks.{followed_is_clock, zero_is_clock}
 use Rattle.plan_laws.proofs.PlanStates.{counts_are}
 use Rattle.plan_laws.proofs.PlanSteps.{counts_by_change, current_by_change, on_by_change, plan_counts_are_few}
-use Rattle.slot_clocks.specs.Clocks.{AllCanFollow, AllClocksFollow, AllFollow, AllOnWith, AreTold, AreWhole, CanFollow, ClocksView, cell_at, first_clocks, parent_numbers, zero_cell}
+use Rattle.slot_clocks.specs.Clocks.{AllCanFollow, AllClocksFollow, AllFollow, AllOnWith, AreReported, AreWhole, CanFollow, ClocksView, cell_at, first_clocks, parent_numbers, zero_cell}
 use Rattle.slot_clocks.specs.declared.cell.Cell.{Cell}
 use Rattle.proc_plan.specs.Clocks.{AreClocks}
 
@@ -53,9 +53,9 @@ current_below plan (suc k) whole within =
     subst (λ o. IfSome o (λ (running : Slot × Bool). running.0.0 < length plan.parents)) (sym (ap (current_after plan) next ∙ (current_by_change plan k (slice_index_or plan.changes k none) is).0)) (whole.slots k (slice_index_or plan.changes k none) is).current
 
 -- each mask has the states that its counts imply
-pub told : (plan : PlanView) (clocks : ClocksView) (k : ℕ) → AreClocks plan clocks k → AreTold plan.parents clocks
+pub known : (plan : PlanView) (clocks : ClocksView) (k : ℕ) → AreClocks plan clocks k → AreReported plan.parents clocks
 unfolding holds_after
-told plan clocks k are slot state =
+known plan clocks k are slot state =
     (are.each slot).mask state
     ∙ sym (rw (are.counts slot, are.ons slot, are.current) (let same : holds_after state plan slot k ≡ holds_after state plan slot k = refl in same))
 
@@ -101,7 +101,7 @@ pub record AreMade (plan : PlanView) (change : Change) (old new : ClocksView) : 
   pub accounts : AllOnWith change old new
   pub clocks : AllClocksFollow change.at old new
   pub whole : AreWhole new
-  pub told : AreTold plan.parents new
+  pub known : AreReported plan.parents new
   pub current : new.current ≡ change.current
   pub last : new.last ≡ change.at
 
@@ -130,5 +130,5 @@ next_clocks plan old new k change are is made =
       each = λ slot.
           followed_is_clock (cell_at old slot).clock (cell_at new slot).clock plan slot k (are.each slot) room (are.whole.order k room) (made.whole slot)
           (subst (λ at. ClockFollows (cell_at old slot).clock at (cell_at new slot).clock) (sym shown.1) (made.clocks slot))
-          (λ state. made.told slot state ∙ rw (counts slot, ons slot, current) refl);
+          (λ state. made.known slot state ∙ rw (counts slot, ons slot, current) refl);
     }

@@ -16,7 +16,7 @@ use Rattle.plan_laws.proofs.PlanLaws.{changes_are_numbered}
 use Rattle.plan_laws.proofs.PlanStates.{legal_after}
 use Rattle.plan_laws.proofs.PlanWhole.{plan_is_whole}
 use Rattle.psi_spec.proofs.Following.{last_end}
-use Rattle.proc_plan.specs.Plans.{ArePlans, EndedIsAccepted, HasTaken, IsPlanner, PlannerView, PlansAreOfEvents, PlansView, StandFor, changes_at, plan_at, plan_over, plans_view}
+use Rattle.proc_plan.specs.Plans.{ArePlans, EndedIsAccepted, HasTaken, IsPlanner, PlannerView, PlansAreOfEvents, PlansView, Represent, changes_at, plan_at, plan_over, plans_view}
 use Rattle.proc_plan.specs.Room.{ChangesView, lists_of}
 
 -- the plan that is made for a processor
@@ -60,8 +60,8 @@ are_plans planner limits events groups is taken same =
       small = is.small;
     }
 
-pub they_stand : (planner : PlannerView) (limits : Limits) (events : List Event) (groups : List GroupLife) → IsPlanner planner → HasTaken planner limits events → groups ≡ planner.table.world.groups → StandFor (finished planner groups) limits.cpus events
-they_stand planner limits events groups is taken same = record {
+pub they_represent : (planner : PlannerView) (limits : Limits) (events : List Event) (groups : List GroupLife) → IsPlanner planner → HasTaken planner limits events → groups ≡ planner.table.world.groups → Represent (finished planner groups) limits.cpus events
+they_represent planner limits events groups is taken same = record {
   each = as_many planner limits events groups is taken;
   changes = λ cpu below. ap (λ (plan : PlanView). map (λ (change : Change). let o : Option Change = Some change in o) plan.changes) (plan_made planner limits events groups cpu is taken same below) ∙ (changes_are_numbered cpu events).0;
   parents = λ cpu below. ap (λ (plan : PlanView). plan.parents) (plan_made planner limits events groups cpu is taken same below);
@@ -84,9 +84,9 @@ somes_same (change ∷ one) (next ∷ other) same =
 
 -- the plans that represent events are the plans of these events
 pub standing_plans : PlansAreOfEvents
-standing_plans plans cpus events stand cpu below =
-    let changes = somes_same (plan_at plans cpu).changes (changes_from cpu first_world events) (stand.changes cpu below ∙ sym (changes_are_numbered cpu events).0) in
-    let parents = stand.parents cpu below in
+standing_plans plans cpus events word_state cpu below =
+    let changes = somes_same (plan_at plans cpu).changes (changes_from cpu first_world events) (word_state.changes cpu below ∙ sym (changes_are_numbered cpu events).0) in
+    let parents = word_state.parents cpu below in
     ap (λ cs. let plan : PlanView = record { changes = cs; parents = (plan_at plans cpu).parents } in plan) changes ∙ ap (λ ps. let plan : PlanView = record { changes = changes_from cpu first_world events; parents = ps } in plan) parents
 
 -- ---- a whole trace

@@ -29,10 +29,10 @@ moment_at plan i d room =
 rises : (plan : PlanView) → AreInOrder plan → (i n : ℕ) → i + n ≤ length plan.changes → last_change plan i ≤ last_change plan (i + n)
 rises plan order i zero room = let same : last_change plan i ≡ last_change plan (i + 0) = ap (last_change plan) (let e : i ≡ i + 0 = omega arith in e) in omega (arith, same)
 rises plan order i (suc n) room =
-    let front = rises plan order i n (omega (arith, room)) in
+    let prefix = rises plan order i n (omega (arith, room)) in
     let step = order (i + n) (omega (arith, room)) in
     let same : last_change plan (i + suc n) ≡ last_change plan (i + n + 1) = ap (last_change plan) (let e : i + suc n ≡ i + n + 1 = omega arith in e) in
-    omega (arith, front, step, same)
+    omega (arith, prefix, step, same)
 
 earlier : (one other at : ℕ) → one ≤ other → nat_le other at ≡ true → nat_le one at ≡ true
 earlier one other at low is = grind (arith, nat_tests)

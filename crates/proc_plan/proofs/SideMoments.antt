@@ -9,7 +9,7 @@ use Rattle.psi_spec.specs.declared.machine.GroupLife.{GroupLife}
 use Rattle.psi_spec.specs.World.{first_world}
 use Rattle.psi_counts.specs.Touch.{task_after}
 use Rattle.psi_spec.specs.Changes.{before}
-use Rattle.plan_laws.proofs.MomentsTold.{TellsAtOnce, told_in_order, told_until}
+use Rattle.plan_laws.proofs.MomentsKnown.{ShowsAtOnce, known_in_order, known_until}
 use Rattle.proc_plan.specs.declared.side.Side.{Side}
 use Rattle.proc_plan.specs.Sides.{came, went, passage, group_of, sample_by, sides_by}
 use Rattle.proc_plan.specs.SideLaws.{SidesUpTo, SidesAreInOrder}
@@ -36,11 +36,11 @@ passage_at_once at None (Some new) = (refl, tt)
 passage_at_once at (Some old) None = (refl, tt)
 passage_at_once at (Some old) (Some new) = elim (old.0 == new.0) as (λ b. AtOnce at (if b then [] else went at old ++ came at new)) [ true ↦ tt | false ↦ (refl, (refl, tt)) ]
 
-tells_at_once : TellsAtOnce sides_by (λ (side : Side). side.at)
-tells_at_once w event = both_at_once event.at (sample_by event.at w.groups event.act) _ (sample_at_once event.at w.groups event.act) (passage_at_once event.at (group_of (before w.tasks event.act)) (group_of (task_after w.groups w.tasks event.act)))
+shows_at_once : ShowsAtOnce sides_by (λ (side : Side). side.at)
+shows_at_once w event = both_at_once event.at (sample_by event.at w.groups event.act) _ (sample_at_once event.at w.groups event.act) (passage_at_once event.at (group_of (before w.tasks event.act)) (group_of (task_after w.groups w.tasks event.act)))
 
 pub sides_up_to : SidesUpTo
-sides_up_to limits events legal at = told_until sides_by (λ (side : Side). side.at) tells_at_once limits first_world events at legal
+sides_up_to limits events legal at = known_until sides_by (λ (side : Side). side.at) shows_at_once limits first_world events at legal
 
 pub sides_are_in_order : SidesAreInOrder
-sides_are_in_order limits events legal = (told_in_order sides_by (λ (side : Side). side.at) tells_at_once limits events legal).order
+sides_are_in_order limits events legal = (known_in_order sides_by (λ (side : Side). side.at) shows_at_once limits events legal).order

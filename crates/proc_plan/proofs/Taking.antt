@@ -19,7 +19,7 @@ use Rattle.psi_spec.specs.Trace.{AllFit}
 use Rattle.psi_spec.specs.World.{World, Limits, after, after_event, after_from, first_world, most_groups, running_on, tasks_after}
 use Rattle.psi_spec.specs.Refusal.{AreLegal, cause_of}
 use Rattle.psi_counts.specs.Legal.{IsLegalWorld, with_change}
-use Rattle.psi_counts.specs.Touch.{AllTouched, HasSlotsBelow, IsTouch, change_of, change_on, change_told, account_change, account_first, shown, task_after, told_first, told_of}
+use Rattle.psi_counts.specs.Touch.{AllTouched, HasSlotsBelow, IsTouch, change_of, change_on, change_known, account_change, account_first, shown, task_after, known_first, change_by_cpu}
 use Rattle.psi_spec.specs.Changes.{before, touched}
 use Rattle.psi_counts.proofs.TouchWithin.{changes_are_within}
 use Rattle.plan_laws.proofs.PlanLaws.{after-push, changes_from-push}
@@ -30,7 +30,7 @@ use Rattle.proc_plan.specs.declared.side.Side.{Side}
 use Rattle.group_tree.specs.Tree.{IsGroupFault}
 use Rattle.proc_plan.specs.Plans.{HasTaken, PlannerTakes, PlannerView, changes_at}
 use Rattle.proc_plan.specs.Room.{ChangesView, HasRoom, HasRoomFor, HasRoomWithin}
-use Rattle.psi_spec.specs.Told.{told_from, trigger_by}
+use Rattle.psi_spec.specs.Collected.{values_from, trigger_by}
 use Rattle.psi_spec.specs.Within.{listed}
 use Rattle.proc_plan.specs.Sides.{sides_by}
 
@@ -41,9 +41,9 @@ written n new old same = subst (λ m. take m (new ++ drop (length new) old) ≡ 
 -- ---- one event more
 
 -- the values of one more event are appended
-told_from-push : {A : Type 0} (tells : World → Event → List A) (w : World) (events : List Event) (event : Event) → told_from tells w (events ++ event ∷ []) ≡ told_from tells w events ++ tells (after_from w events) event
-told_from-push tells w [] event = append-nil (tells w event)
-told_from-push tells w (first ∷ events) event = ap (λ rest. tells w first ++ rest) (told_from-push tells (after_event w first) events event) ∙ sym (append_assoc (tells w first) (told_from tells (after_event w first) events) (tells (after_from (after_event w first) events) event))
+values_from-push : {A : Type 0} (shows : World → Event → List A) (w : World) (events : List Event) (event : Event) → values_from shows w (events ++ event ∷ []) ≡ values_from shows w events ++ shows (after_from w events) event
+values_from-push shows w [] event = append-nil (shows w event)
+values_from-push shows w (first ∷ events) event = ap (λ rest. shows w first ++ rest) (values_from-push shows (after_event w first) events event) ∙ sym (append_assoc (shows w first) (values_from shows (after_event w first) events) (shows (after_from (after_event w first) events) event))
 
 -- events followed by a legal event are legal
 pub legal_push : (limits : Limits) (w : World) (events : List Event) (event : Event) → AreLegal limits w events → cause_of limits (after_from w events) event ≡ None → AreLegal limits w (events ++ event ∷ [])
@@ -82,27 +82,27 @@ picked : (here : Bool) (cpus cpu : ℕ) (one : Cpu × Change) (other : Option Ch
 picked true cpus cpu one other below rest is some = let same = same_number one.0.0 cpu is in omega (arith, below, same)
 picked false cpus cpu one other below rest is some = rest some
 
-told_or : (cpus cpu : ℕ) (one : Option (Cpu × Change)) (other : Option Change) → IfSome one (λ one. one.0.0 < cpus) → (IsSome other → cpu < cpus) → IsSome (told_first cpu one other) → cpu < cpus
-told_or cpus cpu None other below rest some = rest some
-told_or cpus cpu (Some one) other below rest some = picked (one.0.0 == cpu) cpus cpu one other below rest refl some
+known_or : (cpus cpu : ℕ) (one : Option (Cpu × Change)) (other : Option Change) → IfSome one (λ one. one.0.0 < cpus) → (IsSome other → cpu < cpus) → IsSome (known_first cpu one other) → cpu < cpus
+known_or cpus cpu None other below rest some = rest some
+known_or cpus cpu (Some one) other below rest some = picked (one.0.0 == cpu) cpus cpu one other below rest refl some
 
 -- a processor in a touch is one of the processors of its changes
-told_below : (touch : Touch) (cpus cpu : ℕ) → AllTouched (λ cpu change. cpu < cpus) touch → IsSome (told_of touch cpu) → cpu < cpus
-told_below touch cpus cpu all some = told_or cpus cpu touch.first (told_first cpu touch.second None) all.0 (told_or cpus cpu touch.second None all.1 (λ none. cc none)) some
+known_below : (touch : Touch) (cpus cpu : ℕ) → AllTouched (λ cpu change. cpu < cpus) touch → IsSome (change_by_cpu touch cpu) → cpu < cpus
+known_below touch cpus cpu all some = known_or cpus cpu touch.first (known_first cpu touch.second None) all.0 (known_or cpus cpu touch.second None all.1 (λ none. cc none)) some
 
 -- a touch that switches no accounting has the event's change of each processor
-told_plainly : (cpus : ℕ) (w : World) (event : Event) (touch : Touch) (cpu : ℕ) → IsTouch cpus w event touch → cpu < cpus → (account : Option (Slot × Bool)) → touch.account ≡ account → IsSome (told_of touch cpu) → IsSome (change_of w event cpu)
-told_plainly cpus w event touch cpu is below None none some =
-    subst (λ (o : Option Change). IsSome o) (ap (λ g. account_first event.at (shown (running_on (after_event w event).tasks cpu)) g (told_of touch cpu)) (sym none) ∙ is.told cpu below) some
-told_plainly cpus w event touch cpu is below (Some account) there some =
-    subst (λ (o : Option Change). IsSome o) (ap (λ g. account_first event.at (shown (running_on (after_event w event).tasks cpu)) g (told_of touch cpu)) (sym there) ∙ is.told cpu below) refl
+known_plainly : (cpus : ℕ) (w : World) (event : Event) (touch : Touch) (cpu : ℕ) → IsTouch cpus w event touch → cpu < cpus → (account : Option (Slot × Bool)) → touch.account ≡ account → IsSome (change_by_cpu touch cpu) → IsSome (change_of w event cpu)
+known_plainly cpus w event touch cpu is below None none some =
+    subst (λ (o : Option Change). IsSome o) (ap (λ g. account_first event.at (shown (running_on (after_event w event).tasks cpu)) g (change_by_cpu touch cpu)) (sym none) ∙ is.known cpu below) some
+known_plainly cpus w event touch cpu is below (Some account) there some =
+    subst (λ (o : Option Change). IsSome o) (ap (λ g. account_first event.at (shown (running_on (after_event w event).tasks cpu)) g (change_by_cpu touch cpu)) (sym there) ∙ is.known cpu below) refl
 
 -- there is room for the changes of a legal event if there is room for its act
 pub room_for : (w : World) (event : Event) (touch : Touch) (task : Option Task) (changes : List ChangesView) (cpus : ℕ) → task ≡ before w.tasks event.act → IsTouch cpus w event touch → AllTouched (λ cpu change. cpu < cpus) touch → length changes ≡ cpus → HasRoomFor event.act task changes
-    → (cpu : ℕ) → IsSome (told_of touch cpu) → HasRoom changes cpu
+    → (cpu : ℕ) → IsSome (change_by_cpu touch cpu) → HasRoom changes cpu
 room_for w event touch task changes cpus same is all each room cpu some =
-    let below = told_below touch cpus cpu all some in
-    let here = touched_here w event cpu (told_plainly cpus w event touch cpu is below touch.account refl some) in
+    let below = known_below touch cpus cpu all some in
+    let here = touched_here w event cpu (known_plainly cpus w event touch cpu is below touch.account refl some) in
     room cpu (ap (λ t. touched event.act t cpu) same ∙ here) (omega (arith, below, each))
 
 -- there is room on every processor if it switches accounting
@@ -110,12 +110,12 @@ pub room_for_all : (w : World) (event : Event) (touch : Touch) (task : Option Ta
     → IsSome touch.account → (cpu : ℕ) → HasRoomWithin changes cpu
 room_for_all w event touch task changes cpus same is each room some cpu below =
     let within : cpu < cpus = omega (arith, below, each) in
-    let changed = subst (λ (o : Option Change). IsSome o) (is.told cpu within) (account_tells event.at (shown (running_on (after_event w event).tasks cpu)) touch.account (told_of touch cpu) some) in
+    let changed = subst (λ (o : Option Change). IsSome o) (is.known cpu within) (account_shows event.at (shown (running_on (after_event w event).tasks cpu)) touch.account (change_by_cpu touch cpu) some) in
     room cpu (ap (λ t. touched event.act t cpu) same ∙ touched_here w event cpu changed) below
   where
-    account_tells : (at : ℕ) (current account : Option (Slot × Bool)) (other : Option Change) → IsSome account → IsSome (account_first at current account other)
-    account_tells at current None other some = absurd (cc some)
-    account_tells at current (Some account) other some = refl
+    account_shows : (at : ℕ) (current account : Option (Slot × Bool)) (other : Option Change) → IsSome account → IsSome (account_first at current account other)
+    account_shows at current None other some = absurd (cc some)
+    account_shows at current (Some account) other some = refl
 
 -- ---- slots that fit
 
@@ -148,8 +148,8 @@ account_slots_fit limits w event touch allowed legal is = fitting touch.account 
     fitting None there = tt
     fitting (Some account) there = λ cpu below.
         let current = shown (running_on (after_event w event).tasks cpu) in
-        let told : change_of w event cpu ≡ Some (account_change event.at current account) = sym (is.told cpu below) ∙ ap (λ g. account_first event.at current g (told_of touch cpu)) there in
-        lower_slots (account_change event.at current account) (length w.groups) most_groups legal.groups.few (changes_are_within limits w event allowed legal.within cpu (account_change event.at current account) told).1
+        let reported : change_of w event cpu ≡ Some (account_change event.at current account) = sym (is.known cpu below) ∙ ap (λ g. account_first event.at current g (change_by_cpu touch cpu)) there in
+        lower_slots (account_change event.at current account) (length w.groups) most_groups legal.groups.few (changes_are_within limits w event allowed legal.within cpu (account_change event.at current account) reported).1
 
 -- ---- one step
 
@@ -157,8 +157,8 @@ account_slots_fit limits w event touch allowed legal is = fitting touch.account 
 pub record HasStepped (old new : PlannerView) (event : Event) (touch : Touch) (trigger : Option TriggerSpec) (first second : Option Side) : Type 0 where
   pub fits : Fits event
   pub played : HasPlayed old.table event new.table
-  pub told : IsTouch old.table.limits.cpus old.table.world event touch
-  pub changes : (cpu : ℕ) → cpu < old.table.limits.cpus → changes_at new cpu ≡ changes_at old cpu ++ with_change (change_told event.at (shown (running_on new.table.world.tasks cpu)) touch cpu) []
+  pub known : IsTouch old.table.limits.cpus old.table.world event touch
+  pub changes : (cpu : ℕ) → cpu < old.table.limits.cpus → changes_at new cpu ≡ changes_at old cpu ++ with_change (change_known event.at (shown (running_on new.table.world.tasks cpu)) touch cpu) []
   pub trigger_is : listed trigger ≡ trigger_by event.at old.table.world.groups event.act
   pub triggers : new.triggers ≡ old.triggers ++ listed trigger
   pub sides_are : listed first ++ listed second ≡ sides_by old.table.world event
@@ -182,20 +182,20 @@ taken_more old new event touch trigger first second limits events step taken =
             let within = subst (λ n. cpu < n) (sym (ap (λ (l : Limits). l.cpus) taken.limits_are)) below in
             step.changes cpu within
             ∙ ap (λ o. changes_at old cpu ++ with_change o [])
-            (ap (λ (w : World). change_told event.at (shown (running_on w.tasks cpu)) touch cpu) step.played.world ∙ step.told.told cpu within ∙ ap (λ w. change_of w event cpu) taken.world)
+            (ap (λ (w : World). change_known event.at (shown (running_on w.tasks cpu)) touch cpu) step.played.world ∙ step.known.known cpu within ∙ ap (λ w. change_of w event cpu) taken.world)
             ∙ ap (λ changes. changes ++ with_change (change_of (after events) event cpu) []) (taken.changes cpu below)
             ∙ sym (changes_from-push cpu first_world events event);
         triggers =
             step.triggers
             ∙ ap (λ more. old.triggers ++ more) (step.trigger_is ∙ ap (λ (w : World). trigger_by event.at w.groups event.act) taken.world)
             ∙ ap (λ triggers. triggers ++ trigger_by event.at (after events).groups event.act) taken.triggers
-            ∙ sym (told_from-push (λ w event. trigger_by event.at w.groups event.act) first_world events event);
+            ∙ sym (values_from-push (λ w event. trigger_by event.at w.groups event.act) first_world events event);
         sides =
             step.sides
             ∙ append_assoc old.sides (listed first) (listed second)
             ∙ ap (λ more. old.sides ++ more) (step.sides_are ∙ ap (λ w. sides_by w event) taken.world)
             ∙ ap (λ sides. sides ++ sides_by (after events) event) taken.sides
-            ∙ sym (told_from-push sides_by first_world events event);
+            ∙ sym (values_from-push sides_by first_world events event);
       },
       omega (arith, step.played.lines, lines, length-append events (event ∷ [])),
     )

@@ -4,8 +4,8 @@ use Rattle.psi_base.specs.declared.event.How.{How}
 use Rattle.psi_base.specs.declared.event.How.TheVariants.{Preempt, Sleep, IoWait, Exit, Idle}
 use Rattle.psi_spec.specs.declared.machine.GroupLife.{GroupLife}
 use Rattle.psi_spec.specs.declared.machine.Task.{Task}
-use Rattle.psi_spec.specs.Told.{trigger_by}
-use Rattle.psi_spec.specs.World.{World, readied, running_on, task_of, task_part}
+use Rattle.psi_spec.specs.Collected.{trigger_by}
+use Rattle.psi_spec.specs.World.{World, prepared_changes, running_on, task_of, task_part}
 use Rattle.psi_spec.specs.Refusal.{is_exit}
 use Rattle.psi_spec.proofs.TaskLaws.{itself}
 use Rattle.psi_counts.specs.Touch.{changed, left_if}
@@ -43,8 +43,8 @@ left_stays at Idle stay (Some t) = stays at (Some t) (Some t) refl
 left_stays at Exit stay (Some t) = absurd (cc stay)
 
 pub no_sides : (w : World) (at : ℕ) (a : TaskAct) → exits a ≡ false → [] ≡ sides_by w (as_event at a)
-no_sides w at (task_act.Wake pid cpu) stay = changed_stays at (readied cpu.0) (λ t. refl) (task_of w.tasks pid.0)
-no_sides w at (task_act.Migrate pid cpu) stay = changed_stays at (readied cpu.0) (λ t. refl) (task_of w.tasks pid.0)
+no_sides w at (task_act.Wake pid cpu) stay = changed_stays at (prepared_changes cpu.0) (λ t. refl) (task_of w.tasks pid.0)
+no_sides w at (task_act.Migrate pid cpu) stay = changed_stays at (prepared_changes cpu.0) (λ t. refl) (task_of w.tasks pid.0)
 no_sides w at (task_act.Stall pid) stay = changed_stays at (λ t. record t { stalled = true }) (λ t. refl) (task_of w.tasks pid.0)
 no_sides w at (task_act.Unstall pid) stay = changed_stays at (λ t. record t { stalled = false }) (λ t. refl) (task_of w.tasks pid.0)
 no_sides w at (task_act.Switch cpu next how) stay = left_stays at how stay (task_part (running_on w.tasks cpu.0))

@@ -30,7 +30,7 @@ use Rattle.psi_counts.specs.contracts.changes.Change as change_row
 use Rattle.task_table.specs.Stands.{TableView, view_code}
 use Rattle.proc_plan.specs.contracts.side.Side as side_row
 use Rattle.proc_plan.specs.declared.side.Side.{Side}
-use Rattle.psi_spec.specs.Told.{triggers_of}
+use Rattle.psi_spec.specs.Collected.{triggers_of}
 use Rattle.proc_plan.specs.Room.{ChangesView}
 use Rattle.proc_plan.specs.Sides.{IsSmall, sides_of}
 
@@ -103,7 +103,7 @@ pub record ArePlans (plans : PlansView) : Type 0 where
 -- Plans represent events. Each processor's plan has the changes that its events make, each with its
 -- time, and the parents of all groups. The plans have the groups, the triggers and the sides of the
 -- events, in order, and the time of the end.
-pub record StandFor (plans : PlansView) (cpus : ℕ) (events : List Event) : Type 0 where
+pub record Represent (plans : PlansView) (cpus : ℕ) (events : List Event) : Type 0 where
   pub each : length plans.plans ≡ cpus
   pub changes : (cpu : ℕ) → cpu < cpus → map (λ change. Some change) (plan_at plans cpu).changes
       ≡ map (change_at cpu events) (changes_of cpu events)
@@ -116,7 +116,7 @@ pub record StandFor (plans : PlansView) (cpus : ℕ) (events : List Event) : Typ
 -- If plans represent events, each processor's plan is `plan_of` for those events.
 abbrev pub PlansAreOfEvents : Type 0
 PlansAreOfEvents =
-    (plans : PlansView) (cpus : ℕ) (events : List Event) → StandFor plans cpus events → (cpu : ℕ) → cpu < cpus
+    (plans : PlansView) (cpus : ℕ) (events : List Event) → Represent plans cpus events → (cpu : ℕ) → cpu < cpus
     → plan_at plans cpu ≡ plan_of cpu events
 
 -- ---- refusals
@@ -128,13 +128,13 @@ limits_by cpus latest = record { cpus = cpus; latest = latest }
 -- Events are rejected at one of them with its first cause, and those before it are legal. Its line
 -- number is the number of events before it plus two.
 pub record IsRefusedAt (limits : Limits) (events : List Event) (line : ℕ) (why : Cause) : Type 0 where
-  pub front : List Event
+  pub prefix : List Event
   pub event : Event
-  pub behind : List Event
-  pub events_are : events ≡ front ++ event ∷ behind
-  pub legal : AreLegal limits first_world front
-  pub cause : cause_of limits (after front) event ≡ Some why
-  pub line_is : line ≡ length front + 2
+  pub suffix : List Event
+  pub events_are : events ≡ prefix ++ event ∷ suffix
+  pub legal : AreLegal limits first_world prefix
+  pub cause : cause_of limits (after prefix) event ≡ Some why
+  pub line_is : line ≡ length prefix + 2
 
 -- events are rejected after the last one, if all are legal and the last isn't the end
 pub record LacksEnd (limits : Limits) (events : List Event) (line : ℕ) (why : Cause) : Type 0 where
@@ -207,9 +207,9 @@ IsFaultAt line (fault.Refused why) at = at ≡ fault.Refused (record { line = li
 IsFaultAt line (fault.NoMemory none) at = at ≡ fault.NoMemory none
 
 -- plans represent the events that a planner has taken
-abbrev pub StandForTaken : PlannerView → PlansView → Type 0
-StandForTaken planner plans = (limits : Limits) (events : List Event) → HasTaken planner limits events →
-    StandFor plans limits.cpus events
+abbrev pub RepresentTaken : PlannerView → PlansView → Type 0
+RepresentTaken planner plans = (limits : Limits) (events : List Event) → HasTaken planner limits events →
+    Represent plans limits.cpus events
 
 -- a planner has taken some trace
 abbrev pub HasTrace : PlannerView → Type 0

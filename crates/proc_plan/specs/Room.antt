@@ -24,8 +24,8 @@ abbrev pub changes_in : List ChangesView → ℕ → List Change
 changes_in changes cpu = (slice_index_or changes cpu no_room).list
 
 -- appends a change to each processor's list if `told` has one for it
-abbrev pub AddsTold : List ChangesView → List ChangesView → (ℕ → Option Change) → Type 0
-AddsTold old new told = (cpu : ℕ) → changes_in new cpu ≡ changes_in old cpu ++ with_change (told cpu) []
+abbrev pub AddsKnown : List ChangesView → List ChangesView → (ℕ → Option Change) → Type 0
+AddsKnown old new known = (cpu : ℕ) → changes_in new cpu ≡ changes_in old cpu ++ with_change (known cpu) []
 
 -- there is room for one more change of a processor
 abbrev pub HasRoom : List ChangesView → ℕ → Type 0

@@ -44,8 +44,8 @@ members slot tasks = how_many (is_of slot) (tasks_by.values tasks)
 
 -- The number of tasks that joined a group is the number that left it plus the number in it. At most
 -- 65,536 tasks are in it, the limit of live tasks.
-abbrev pub MembersAreTold : Type 0
-MembersAreTold = (limits : Limits) (events : List Event) → AreLegal limits first_world events → (slot : ℕ) →
+abbrev pub MembersAreKnown : Type 0
+MembersAreKnown = (limits : Limits) (events : List Event) → AreLegal limits first_world events → (slot : ℕ) →
     (count_by (λ (side : Side). comes slot side.what) (sides_of events)
     ≡ count_by (λ (side : Side). goes slot side.what) (sides_of events) + members slot (after events).tasks)
     × (members slot (after events).tasks ≤ most_tasks)

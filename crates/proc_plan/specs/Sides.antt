@@ -8,7 +8,7 @@ use Rattle.psi_base.specs.declared.event.Event.{Event}
 use Rattle.psi_spec.specs.declared.machine.Task.{Task}
 use Rattle.psi_spec.specs.declared.machine.GroupLife.{GroupLife}
 use Rattle.psi_spec.specs.World.{World, first_world}
-use Rattle.psi_spec.specs.Told.{slot_named, told_from}
+use Rattle.psi_spec.specs.Collected.{slot_named, values_from}
 use Rattle.psi_counts.specs.Touch.{task_after}
 use Rattle.psi_spec.specs.Changes.{before}
 use Rattle.proc_plan.specs.declared.side.Side.{Side}
@@ -57,7 +57,7 @@ sides_by w event =
 
 -- the sides of events, in order
 abbrev pub sides_of : List Event → List Side
-sides_of events = told_from sides_by first_world events
+sides_of events = values_from sides_by first_world events
 
 -- bytes and counts of a side are at most 2^60
 abbrev pub IsSmall : SideAct → Type 0

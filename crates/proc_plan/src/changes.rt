@@ -41,7 +41,7 @@ impl Changes {
     #[inline(always)]
     pub(crate) fn reserve(&mut self) -> Result<(), NoMemory>
         ensures same { self.new.list ≡ self.old.list }
-        ensures kept { self.old.room ≤ self.new.room }
+        ensures unchanged { self.old.room ≤ self.new.room }
         ensures room { OnOk result (0 < self.new.room) }
     {
         self.list.reserve(1)?;

@@ -9,7 +9,7 @@ ghost use Rattle.psi_spec.specs.Within.{last_moment};
 ghost use Rattle.psi_spec.specs.World.{most_events};
 ghost use Rattle.plan_laws.specs.Plan.{IsPlan};
 ghost use Rattle.slot_clocks.specs.Clocks.{parent_numbers};
-ghost use Rattle.proc_plan.specs.Plans.{HasTaken, HasTrace, PlannerTakes, StandForTaken, limits_by, plan_over, plans_over};
+ghost use Rattle.proc_plan.specs.Plans.{HasTaken, HasTrace, PlannerTakes, RepresentTaken, limits_by, plan_over, plans_over};
 ghost use Rattle.proc_plan.specs.Room.{changes_in};
 ghost use Rattle.trace_player.specs.TaskActs.{as_event, exits};
 
@@ -18,7 +18,7 @@ use crate::plan::Plan;
 use crate::plans::Plans;
 use crate::room::{add_changes, add_side, add_touched, add_trigger, make_room, reserve_task};
 use crate::side::Side;
-use crate::sides::told_by;
+use crate::sides::known_by;
 use group_tree::Tree;
 use psi_base::{Cause, Event, Fault, NoMemory, Ns, Slot, TriggerSpec};
 use std::alloc::Global;
@@ -157,27 +157,27 @@ impl Planner {
         ensures same { OnErr result (self.new ≡ self.old) }
     {
         let finding = self.table.judge(event)?;
-        let told = told_by(event, finding.before, finding.slot());
+        let known = known_by(event, finding.before, finding.slot());
         make_room(
             &mut self.changes,
             &mut self.triggers,
             &mut self.sides,
             &event.act,
             finding.before,
-            &told,
+            &known,
         )?;
         let touch = self.table.perform(event, finding)?;
         add_changes(&mut self.changes, event.at, &touch, &self.table);
-        add_trigger(&mut self.triggers, told.trigger);
-        add_side(&mut self.sides, told.first);
-        add_side(&mut self.sides, told.second);
+        add_trigger(&mut self.triggers, known.trigger);
+        add_side(&mut self.sides, known.first);
+        add_side(&mut self.sides, known.second);
         Ok(())
     }
 
     /// The plans of the events taken.
     pub fn finish(self, alloc: Global) -> Result<Plans, NoMemory>
         requires { HasTrace self }
-        ensures { IfOk result (StandForTaken self) }
+        ensures { IfOk result (RepresentTaken self) }
     {
         let finish = self.table.last();
         let groups = self.table.into_groups();

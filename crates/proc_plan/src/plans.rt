@@ -6,7 +6,7 @@ ghost use Rattle.psi_spec.specs.LegalGroups.{AreGroups};
 ghost use Rattle.psi_spec.specs.Trace.{AllFit, IsAccepted, IsCpuCount};
 ghost use Rattle.psi_spec.specs.Within.{last_moment};
 ghost use Rattle.psi_spec.specs.Stall.{parents_of};
-ghost use Rattle.proc_plan.specs.Plans.{ArePlans, AreSmall, HasTakenAll, IsFaultAt, IsRefusal, IsRefusedAll, StandFor, limits_by, plan_at, plans_view};
+ghost use Rattle.proc_plan.specs.Plans.{ArePlans, AreSmall, HasTakenAll, IsFaultAt, IsRefusal, IsRefusedAll, Represent, limits_by, plan_at, plans_view};
 
 use crate::plan::Plan;
 use crate::planner::Planner;
@@ -102,7 +102,7 @@ impl Plans {
         requires counted { IsCpuCount cpus }
         requires short { latest ≤ last_moment }
         requires fit { AllFit events.now }
-        ensures stand { IfOk result (λ plans. StandFor plans cpus events.now) }
+        ensures word_state { IfOk result (λ plans. Represent plans cpus events.now) }
         ensures accepted { OnOk result (IsAccepted (limits_by cpus latest) events.now) }
         ensures refused { IfErr result (IsRefusal (limits_by cpus latest) events.now) }
     {

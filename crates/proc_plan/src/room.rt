@@ -5,15 +5,15 @@ ghost use Rattle.psi_counts.specs.Legal.{with_change};
 ghost use Rattle.psi_spec.specs.Names.{names};
 ghost use Rattle.psi_spec.specs.Within.{listed};
 ghost use Rattle.psi_spec.specs.World.{is_pressure, most_groups, running_on};
-ghost use Rattle.psi_counts.specs.Touch.{AllTouched, HasSlotsBelow, IsBeside, IsOfOne, change_told, account_change, shown, told_first, told_of};
+ghost use Rattle.psi_counts.specs.Touch.{AllTouched, HasSlotsBelow, IsBeside, IsOfOne, change_known, account_change, shown, known_first, change_by_cpu};
 ghost use Rattle.proc_plan.specs.Plans.{AreSmall};
-ghost use Rattle.proc_plan.specs.Room.{AddsTold, HasRoom, HasRoomFor, HasRoomWithin, changes_in, cpu_number, lists_of};
+ghost use Rattle.proc_plan.specs.Room.{AddsKnown, HasRoom, HasRoomFor, HasRoomWithin, changes_in, cpu_number, lists_of};
 ghost use Rattle.proc_plan.specs.Sides.{IsSmall};
 ghost use Rattle.trace_player.specs.TaskActs.{as_act};
 
 use crate::changes::Changes;
 use crate::side::Side;
-use crate::sides::Told;
+use crate::sides::SideValues;
 use psi_base::{Act, Cpu, NoMemory, Ns, Slot, TriggerSpec};
 use psi_counts::{Change, Touch};
 use psi_spec::Task;
@@ -40,7 +40,7 @@ fn reserve_place(changes: &mut [Changes], place: usize) -> Result<(), NoMemory>
     requires { place < length changes.old }
     ensures same { lists_of changes.new ≡ lists_of changes.old }
     ensures each { length changes.new ≡ length changes.old }
-    ensures kept { (cpu : ℕ) → HasRoom changes.old cpu → HasRoom changes.new cpu }
+    ensures unchanged { (cpu : ℕ) → HasRoom changes.old cpu → HasRoom changes.new cpu }
     ensures room { OnOk result (HasRoom changes.new place) }
 {
     changes[place].reserve()
@@ -52,7 +52,7 @@ fn reserve_place(changes: &mut [Changes], place: usize) -> Result<(), NoMemory>
 fn reserve_at(changes: &mut [Changes], cpu: Option<u32>) -> Result<(), NoMemory>
     ensures same { lists_of changes.new ≡ lists_of changes.old }
     ensures each { length changes.new ≡ length changes.old }
-    ensures kept { (cpu : ℕ) → HasRoom changes.old cpu → HasRoom changes.new cpu }
+    ensures unchanged { (cpu : ℕ) → HasRoom changes.old cpu → HasRoom changes.new cpu }
     ensures room { OnOk result (IfSome cpu (HasRoomWithin changes.new)) }
 {
     let Some(cpu) = cpu else {
@@ -147,7 +147,7 @@ pub(crate) fn make_room(
     sides: &mut Vec<Side>,
     act: &Act,
     task: Option<Task>,
-    told: &Told,
+    known: &SideValues,
 ) -> Result<(), NoMemory>
     ensures changes { lists_of changes.new ≡ lists_of changes.old }
     ensures each { length changes.new ≡ length changes.old }
@@ -155,14 +155,14 @@ pub(crate) fn make_room(
     ensures sides { sides.new.items ≡ sides.old.items }
     ensures room { OnOk result (HasRoomFor act.now task changes.new) }
     ensures for_trigger { OnOk result
-        (vec_len triggers.new + length (listed told.now.trigger) ≤ vec_capacity triggers.new) }
+        (vec_len triggers.new + length (listed known.now.trigger) ≤ vec_capacity triggers.new) }
     ensures for_sides { OnOk result
-        (vec_len sides.new + length (listed told.now.first ++ listed told.now.second)
+        (vec_len sides.new + length (listed known.now.first ++ listed known.now.second)
         ≤ vec_capacity sides.new) }
 {
     reserve_changes(changes, act, task)?;
-    triggers.reserve(usize::from(told.trigger.is_some()))?;
-    sides.reserve(usize::from(told.first.is_some()) + usize::from(told.second.is_some()))?;
+    triggers.reserve(usize::from(known.trigger.is_some()))?;
+    sides.reserve(usize::from(known.first.is_some()) + usize::from(known.second.is_some()))?;
     Ok(())
 }
 
@@ -207,8 +207,8 @@ fn add_change(changes: &mut [Changes], touched: Option<(Cpu, Change)>)
     requires one { IfSome touched (λ touched. IsOfOne touched.1) }
     requires slots { IfSome touched (λ touched. HasSlotsBelow most_groups touched.1) }
     ensures each { length changes.new ≡ length changes.old }
-    ensures added { AddsTold changes.old changes.new (λ cpu. told_first cpu touched None) }
-    ensures others { (cpu : ℕ) → told_first cpu touched None ≡ None →
+    ensures added { AddsKnown changes.old changes.new (λ cpu. known_first cpu touched None) }
+    ensures others { (cpu : ℕ) → known_first cpu touched None ≡ None →
         HasRoom changes.old cpu →
         HasRoom changes.new cpu }
 {
@@ -222,12 +222,12 @@ fn add_change(changes: &mut [Changes], touched: Option<(Cpu, Change)>)
 /// and each change must be of one task.
 #[inline(always)]
 pub(crate) fn add_touched(changes: &mut [Changes], touch: &Touch)
-    requires room { (cpu : ℕ) → IsSome (told_of touch.now cpu) → HasRoom changes.old cpu }
+    requires room { (cpu : ℕ) → IsSome (change_by_cpu touch.now cpu) → HasRoom changes.old cpu }
     requires beside { IsBeside touch.now.first touch.now.second }
     requires ones { AllTouched (λ cpu change. IsOfOne change) touch.now }
     requires slots { AllTouched (λ cpu change. HasSlotsBelow most_groups change) touch.now }
     ensures each { length changes.new ≡ length changes.old }
-    ensures added { AddsTold changes.old changes.new (told_of touch.now) }
+    ensures added { AddsKnown changes.old changes.new (change_by_cpu touch.now) }
 {
     add_change(changes, touch.first);
     add_change(changes, touch.second);
@@ -238,7 +238,7 @@ pub(crate) fn add_touched(changes: &mut [Changes], touch: &Touch)
 #[inline(always)]
 pub(crate) fn add_changes(changes: &mut [Changes], at: Ns, touch: &Touch, table: &Table)
     requires each { length changes.old ≡ table.now.limits.cpus }
-    requires room { (cpu : ℕ) → IsSome (told_of touch.now cpu) → HasRoom changes.old cpu }
+    requires room { (cpu : ℕ) → IsSome (change_by_cpu touch.now cpu) → HasRoom changes.old cpu }
     requires all { IsSome touch.now.account → (cpu : ℕ) → HasRoomWithin changes.old cpu }
     requires beside { IsBeside touch.now.first touch.now.second }
     requires ones { AllTouched (λ cpu change. IsOfOne change) touch.now }
@@ -250,7 +250,7 @@ pub(crate) fn add_changes(changes: &mut [Changes], at: Ns, touch: &Touch, table:
     ensures each { length changes.new ≡ length changes.old }
     ensures added { (cpu : ℕ) → cpu < length changes.old →
         changes_in changes.new cpu ≡ changes_in changes.old cpu ++ with_change
-        (change_told at (shown (running_on table.now.world.tasks cpu)) touch.now cpu) [] }
+        (change_known at (shown (running_on table.now.world.tasks cpu)) touch.now cpu) [] }
 {
     match touch.account {
         Some(account) => add_account(changes, at, account, table),

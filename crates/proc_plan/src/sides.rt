@@ -3,7 +3,7 @@
 ghost use Rattle.std.specs.Prelude.{◌≡◌, ◌++◌, IfSome, List};
 ghost use Rattle.psi_spec.specs.Grammar.{ActFits};
 ghost use Rattle.psi_spec.specs.Changes.{before};
-ghost use Rattle.psi_spec.specs.Told.{trigger_by};
+ghost use Rattle.psi_spec.specs.Collected.{trigger_by};
 ghost use Rattle.psi_spec.specs.Within.{listed};
 ghost use Rattle.psi_spec.specs.World.{World};
 ghost use Rattle.psi_spec.specs.declared.machine.GroupLife.{GroupLife};
@@ -16,7 +16,7 @@ use psi_spec::Task;
 
 /// The contents of an event besides its changes.
 #[derive(Clone, Copy)]
-pub(crate) struct Told {
+pub(crate) struct SideValues {
     /// The trigger that it sets.
     pub(crate) trigger: Option<TriggerSpec>,
     /// Its sides, in order.
@@ -141,7 +141,7 @@ fn sides_by(event: &Event, task: Option<Task>, slot: Slot) -> (Option<Side>, Opt
 /// The trigger and the sides of an event. `task` is the task of its act, before the act, and `slot`
 /// is the slot of the group that the act names.
 #[inline(always)]
-pub(crate) fn told_by(event: &Event, task: Option<Task>, slot: Slot) -> Told
+pub(crate) fn known_by(event: &Event, task: Option<Task>, slot: Slot) -> SideValues
     requires { ActFits event.now.act }
     ensures trigger { (groups : List GroupLife) → slot ≡ named_slot groups event.now.act →
         listed result.trigger ≡ trigger_by event.now.at groups event.now.act }
@@ -153,7 +153,7 @@ pub(crate) fn told_by(event: &Event, task: Option<Task>, slot: Slot) -> Told
 {
     let trigger = trigger_by(event.at, &event.act, slot);
     let (first, second) = sides_by(event, task, slot);
-    Told {
+    SideValues {
         trigger,
         first,
         second,

@@ -29,23 +29,23 @@ parts_at-suc at (suc i) (byte ∷ bytes) inside found none =
 
 -- the rest of the bytes after the first such byte, as a slice returns it
 pub parts_at-first : (at i : ℕ) (bytes rest : List ℕ) → i < length bytes → get_or bytes i 0 ≡ at → HasNone at bytes i → rest ≡ drop (i + 1) bytes → parts_at at bytes ≡ take i bytes ∷ parts_at at rest
-parts_at-first at i bytes rest inside found none behind = rw behind (rw add-one (parts_at-suc at i bytes inside found none))
+parts_at-first at i bytes rest inside found none suffix = rw suffix (rw add-one (parts_at-suc at i bytes inside found none))
 
 pub ruleset parts = (parts_at-all, parts_at-first)
 
 -- there is a first part, at least as long as the leading bytes without the separator
-pub record HasFront (at n : ℕ) (bytes : List ℕ) : Type 0 where
+pub record HasPrefix (at n : ℕ) (bytes : List ℕ) : Type 0 where
   pub first : List ℕ
   pub rest : List (List ℕ)
   pub parts : parts_at at bytes ≡ first ∷ rest
   pub long : n ≤ length first
 
-onto_front : (at byte n : ℕ) (bytes : List ℕ) → byte ≢ at → HasFront at n bytes → HasFront at (suc n) (byte ∷ bytes)
-onto_front at byte n bytes other front = record {
-  first = byte ∷ front.first;
-  rest = front.rest;
-  parts = parts_at-other at byte bytes other ∙ ap (onto_first byte) front.parts;
-  long = omega (arith, front.long);
+onto_prefix : (at byte n : ℕ) (bytes : List ℕ) → byte ≢ at → HasPrefix at n bytes → HasPrefix at (suc n) (byte ∷ bytes)
+onto_prefix at byte n bytes other prefix = record {
+  first = byte ∷ prefix.first;
+  rest = prefix.rest;
+  parts = parts_at-other at byte bytes other ∙ ap (onto_first byte) prefix.parts;
+  long = omega (arith, prefix.long);
 }
 
 -- a list of parts isn't empty
@@ -61,16 +61,16 @@ unfolding parts_at
 first_part at [] = ([], [], refl)
 first_part at (byte ∷ bytes) = first_if (byte == at) byte (parts_at at bytes) (first_part at bytes)
 
-some_front : (at : ℕ) (bytes : List ℕ) → HasFront at 0 bytes
-some_front at bytes =
+some_prefix : (at : ℕ) (bytes : List ℕ) → HasPrefix at 0 bytes
+some_prefix at bytes =
     let has = first_part at bytes in
     record { first = has.0; rest = has.1; parts = has.2; long = omega arith }
 
-pub front_of : (at n : ℕ) (bytes : List ℕ) → n ≤ length bytes → HasNone at bytes n → HasFront at n bytes
-front_of at zero bytes inside none = some_front at bytes
-front_of at (suc n) [] inside none = absurd (omega arith)
-front_of at (suc n) (byte ∷ bytes) inside none =
-    onto_front at byte n bytes (none 0 (omega arith)) (front_of at n bytes (omega arith) (λ k below. none (suc k) (omega arith)))
+pub prefix_of : (at n : ℕ) (bytes : List ℕ) → n ≤ length bytes → HasNone at bytes n → HasPrefix at n bytes
+prefix_of at zero bytes inside none = some_prefix at bytes
+prefix_of at (suc n) [] inside none = absurd (omega arith)
+prefix_of at (suc n) (byte ∷ bytes) inside none =
+    onto_prefix at byte n bytes (none 0 (omega arith)) (prefix_of at n bytes (omega arith) (λ k below. none (suc k) (omega arith)))
 
 -- the first part, and the bytes after it
 pub parts_at-line : (at : ℕ) (line after : List ℕ) → HasNone at line (length line) → parts_at at (line ++ at ∷ after) ≡ line ∷ parts_at at after

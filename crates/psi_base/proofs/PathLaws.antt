@@ -67,9 +67,9 @@ components (part ∷ parts) h =
     ap (λ b. b && list_all (list_all is_path_byte) parts) here ∙ components parts both.1
 
 -- a slash followed by components
-behind_slash : (bytes : List ℕ) → (slice_index bytes 0 == 47) ≡ true → list_all is_component (parts_at 47 (drop 1 bytes)) ≡ true → IsAscii bytes
-behind_slash [] slash all = λ i. omega arith
-behind_slash (byte ∷ bytes) slash all = cons_ascii byte bytes (grind (arith, nat_tests)) (parts_ascii bytes (components (parts_at 47 bytes) all))
+after_slash : (bytes : List ℕ) → (slice_index bytes 0 == 47) ≡ true → list_all is_component (parts_at 47 (drop 1 bytes)) ≡ true → IsAscii bytes
+after_slash [] slash all = λ i. omega arith
+after_slash (byte ∷ bytes) slash all = cons_ascii byte bytes (grind (arith, nat_tests)) (parts_ascii bytes (components (parts_at 47 bytes) all))
 
 -- a path is ASCII
 pub path_ascii : (bytes : List ℕ) → is_path bytes ≡ true → IsAscii bytes
@@ -79,7 +79,7 @@ path_ascii bytes h =
       | true ↦ λ is _. subst IsAscii (sym ((bytes_eq-Decides bytes (codes "/")).0 is)) root_ascii
       | false ↦ λ _ all.
           let ends = ends_of (slice_index bytes 0 == 47) (nat_le (length bytes) 255) (nat_le (length (parts_at 47 (drop 1 bytes))) 32) (list_all is_component (parts_at 47 (drop 1 bytes))) all in
-          behind_slash bytes ends.0 ends.1
+          after_slash bytes ends.0 ends.1
     ] refl h
 
 pub ruleset texts = (path_ascii, IsUtf8-from_ascii)

@@ -5,8 +5,8 @@ use Rattle.psi_base.specs.declared.event.Fault.TheVariants.{Refused, NoMemory}
 use Rattle.psi_base.specs.Memory.{no_memory}
 
 -- the fault if memory ran out
-abbrev pub lacks_memory : {E : Type 0} → Fault E
-lacks_memory = NoMemory no_memory
+abbrev pub out_of_memory : {E : Type 0} → Fault E
+out_of_memory = NoMemory no_memory
 
 -- the fault is the definition's, unless memory ran out
 abbrev pub FaultOf : {A E : Type 0} → Fault E → Result A E → Type 0

@@ -301,9 +301,9 @@ impl From<Cause> for Fault<Cause> {
 
 impl<E> From<NoMemory> for Fault<E> {
     ghost use Rattle.std.specs.Prelude.{◌≡◌};
-    ghost use Rattle.psi_base.specs.Gives.{lacks_memory};
+    ghost use Rattle.psi_base.specs.Gives.{out_of_memory};
 
-    ghost from_gives = { λ _ e. e ≡ lacks_memory };
+    ghost from_gives = { λ _ e. e ≡ out_of_memory };
 
     fn from(none: NoMemory) -> Self {
         Fault::NoMemory(none)
@@ -312,9 +312,9 @@ impl<E> From<NoMemory> for Fault<E> {
 
 impl<E> From<AllocError> for Fault<E> {
     ghost use Rattle.std.specs.Prelude.{◌≡◌};
-    ghost use Rattle.psi_base.specs.Gives.{lacks_memory};
+    ghost use Rattle.psi_base.specs.Gives.{out_of_memory};
 
-    ghost from_gives = { λ _ e. e ≡ lacks_memory };
+    ghost from_gives = { λ _ e. e ≡ out_of_memory };
 
     fn from(refused: AllocError) -> Self {
         Fault::NoMemory(NoMemory::from(refused))
@@ -324,9 +324,9 @@ impl<E> From<AllocError> for Fault<E> {
 /// Drops the value that could not be stored.
 impl<E, T: Drop> From<AllocFailed<T>> for Fault<E> {
     ghost use Rattle.std.specs.Prelude.{◌≡◌};
-    ghost use Rattle.psi_base.specs.Gives.{lacks_memory};
+    ghost use Rattle.psi_base.specs.Gives.{out_of_memory};
 
-    ghost from_gives = { λ _ e. e ≡ lacks_memory };
+    ghost from_gives = { λ _ e. e ≡ out_of_memory };
 
     fn from(failed: AllocFailed<T>) -> Self {
         Fault::NoMemory(NoMemory::from(failed))

@@ -9,6 +9,7 @@
 #![tactic(auto)]
 
 mod event;
+mod limits;
 mod number;
 mod parts;
 mod path;
@@ -20,6 +21,7 @@ pub use event::{
     Act, Cause, Cpu, Event, Fault, How, Level, Ns, Pid, Preference, Refusal, Res, Slot, State,
     TriggerSpec,
 };
+pub use limits::{DEFAULT_TICK, LATEST, MILLISECOND, MOST_EVENTS, MOST_TICKS};
 pub use number::{read_digits, read_number};
 pub use parts::Parts;
 pub use path::Path;

@@ -8,16 +8,16 @@ use Rattle.psi_base.specs.declared.event.Slot.{Slot}
 use Rattle.psi_spec.specs.World.{World, Limits, Tasks, groups_after, is_on, new_group, running_on, slot_of, tasks_after}
 use Rattle.psi_spec.specs.declared.machine.GroupLife.{GroupLife}
 use Rattle.psi_spec.specs.Refusal.{cause_of}
-use Rattle.psi_spec.specs.Stall.{irq_told}
+use Rattle.psi_spec.specs.Stall.{irq_time_by}
 use Rattle.psi_spec.specs.Changes.{before, touched}
 use Rattle.psi_spec.specs.LegalGroups.{AreGroups}
 use Rattle.psi_spec.proofs.AccountLaws.{made_on, removed_on, switched_on}
-use Rattle.psi_spec.proofs.RefusalLaws.{none_stands}
+use Rattle.psi_spec.proofs.RefusalLaws.{none_found_in}
 use Rattle.psi_counts.specs.declared.changes.Change.{Change}
 use Rattle.psi_counts.specs.Touch.{change_of, change_on, account_change, account_of, on_with, part, shown, task_after, OnByAccount}
 
 -- an act that switches accounting changes no task's counts, and has no interrupt time
-pub account_alone : (groups : List GroupLife) (tasks : Tasks) (a : Act) (cpu : ℕ) → IfSome (account_of groups a) (λ account. ((part cpu (before tasks a) ≡ None) × (part cpu (task_after groups tasks a) ≡ None)) × (irq_told cpu a ≡ 0))
+pub account_alone : (groups : List GroupLife) (tasks : Tasks) (a : Act) (cpu : ℕ) → IfSome (account_of groups a) (λ account. ((part cpu (before tasks a) ≡ None) × (part cpu (task_after groups tasks a) ≡ None)) × (irq_time_by cpu a ≡ 0))
 account_alone groups tasks (act.Pressure path on) cpu = ((refl, refl), refl)
 account_alone groups tasks _ cpu = tt
 
@@ -37,7 +37,7 @@ on_act : (limits : Limits) (w : World) (at : ℕ) (a : Act) → cause_of limits 
 on_act limits w at (act.Group path) legal are slot = made_on w.groups (new_group w.groups path at) slot refl
 on_act limits w at (act.Remove path) legal are slot = removed_on path at w.groups slot
 on_act limits w at (act.Pressure path on) legal are slot =
-    let found = the_slot (slot_of w.groups path) (none_stands limits w _ legal).unknown_group in
+    let found = the_slot (slot_of w.groups path) (none_found_in limits w _ legal).unknown_group in
     switched_on path on w.groups found.0 slot are.one_live found.1
     ∙ ap (λ (o : Option ℕ). if unwrap_or o 0 == slot then on else is_on w.groups slot) (sym found.1)
 on_act limits w at _ legal are slot = refl
@@ -67,6 +67,6 @@ account_act w at (act.Pressure path on) cpu account is =
     ap (λ g. let change : Change = record { at = at; minus = None; plus = None; current = shown (running_on w.tasks cpu); irq = 0; account = g } in Some change) is
 account_act w at _ cpu account is = absurd (cc is)
 
-pub account_told : (w : World) (event : Event) (cpu : ℕ) (account : Slot × Bool) → account_of w.groups event.act ≡ Some account →
+pub account_known : (w : World) (event : Event) (cpu : ℕ) (account : Slot × Bool) → account_of w.groups event.act ≡ Some account →
     change_of w event cpu ≡ Some (account_change event.at (shown (running_on (tasks_after w.groups w.tasks event.act) cpu)) account)
-account_told w event cpu account is = account_act w event.at event.act cpu account is
+account_known w event cpu account is = account_act w event.at event.act cpu account is

@@ -5,7 +5,7 @@ use Rattle.psi_base.specs.declared.event.State.{State}
 use Rattle.psi_base.specs.declared.event.State.TheVariants.{IoSome, IoFull, MemSome, MemFull, CpuSome, CpuFull, Nonidle}
 use Rattle.psi_spec.specs.Stall.{state_number, states}
 use Rattle.psi_counts.specs.Counts.{mask_holds}
-use Rattle.psi_counts.specs.Clock.{ClockFollows, ClockView, zero_clock, opened_time, opened, advanced, SameMaskIsNoChange, SameAfterChange, WordsTellClock, NoLongerThanClock}
+use Rattle.psi_counts.specs.Clock.{ClockFollows, ClockView, zero_clock, opened_time, opened, advanced, SameMaskIsNoChange, SameAfterChange, WordsShowClock, NoLongerThanClock}
 
 -- a time is at its state's index
 pub opened_at : (clock : ClockView) (at : ℕ) (state : State) → slice_index (opened clock at) (state_number state) ≡ opened_time clock at state
@@ -81,8 +81,8 @@ made times mask start = record { times = times; mask = mask; start = start }
 made_same : (one other : List ℕ) (mask other_mask start other_start : ℕ) → one ≡ other → mask ≡ other_mask → start ≡ other_start → made one mask start ≡ made other other_mask other_start
 made_same one other mask other_mask start other_start times masks starts = rw (times, masks, starts) refl
 
-pub words_tell_clock : WordsTellClock
-words_tell_clock one other same =
+pub words_show_clock : WordsShowClock
+words_show_clock one other same =
     let parts = last_two one.times other.times one.mask one.start other.mask other.start same in
     made_same one.times other.times one.mask other.mask one.start other.start parts.0 parts.1 parts.2
 

@@ -9,20 +9,20 @@ use Rattle.psi_base.specs.declared.event.Cause.TheVariants as cause
 use Rattle.psi_spec.specs.World.{World, Limits, Tasks, longest_irq}
 use Rattle.psi_spec.specs.declared.machine.GroupLife.{GroupLife}
 use Rattle.psi_spec.specs.Refusal.{applies, cause_of, cause_order, irq_too_long}
-use Rattle.psi_spec.specs.Stall.{irq_told}
+use Rattle.psi_spec.specs.Stall.{irq_time_by}
 use Rattle.psi_spec.specs.Changes.{before, touched}
 use Rattle.psi_spec.proofs.RefusalLaws.{passed}
 use Rattle.psi_counts.specs.Touch.{part, task_after}
 
 -- an act that doesn't touch a processor has no interrupt time there
-pub untold : (tasks : Tasks) (a : Act) (cpu : ℕ) → touched a (before tasks a) cpu ≡ false → irq_told cpu a ≡ 0
-untold tasks (act.Irq named ns) cpu off = ap (λ b. if b then ns else 0) off
-untold tasks _ cpu off = refl
+pub unknown_of : (tasks : Tasks) (a : Act) (cpu : ℕ) → touched a (before tasks a) cpu ≡ false → irq_time_by cpu a ≡ 0
+unknown_of tasks (act.Irq named ns) cpu off = ap (λ b. if b then ns else 0) off
+unknown_of tasks _ cpu off = refl
 
 -- an act with interrupt time there changes no task's counts
-pub told_alone : (groups : List GroupLife) (tasks : Tasks) (a : Act) (cpu : ℕ) → 0 < irq_told cpu a → (part cpu (before tasks a) ≡ None) × (part cpu (task_after groups tasks a) ≡ None)
-told_alone groups tasks (act.Irq named ns) cpu some = (refl, refl)
-told_alone groups tasks _ cpu some = absurd (omega (arith, some))
+pub known_alone : (groups : List GroupLife) (tasks : Tasks) (a : Act) (cpu : ℕ) → 0 < irq_time_by cpu a → (part cpu (before tasks a) ≡ None) × (part cpu (task_after groups tasks a) ≡ None)
+known_alone groups tasks (act.Irq named ns) cpu some = (refl, refl)
+known_alone groups tasks _ cpu some = absurd (omega (arith, some))
 
 -- ---- how much
 
@@ -39,14 +39,14 @@ pub at_most : (b : Bool) (n most : ℕ) → n ≤ most → (if b then n else 0) 
 at_most true n most low = low
 at_most false n most low = omega arith
 
-few_told : (irqs : List ℕ) (at : ℕ) (a : Act) (cpu : ℕ) → irq_too_long irqs at a ≡ false → irq_told cpu a ≤ longest_irq
-few_told irqs at (act.Irq named ns) cpu off = at_most (named.0 == cpu) ns longest_irq (short irqs at named.0 ns off).second
-few_told irqs at _ cpu off = omega arith
+few_known : (irqs : List ℕ) (at : ℕ) (a : Act) (cpu : ℕ) → irq_too_long irqs at a ≡ false → irq_time_by cpu a ≤ longest_irq
+few_known irqs at (act.Irq named ns) cpu off = at_most (named.0 == cpu) ns longest_irq (short irqs at named.0 ns off).second
+few_known irqs at _ cpu off = omega arith
 
 pub not_too_long : (limits : Limits) (w : World) (event : Event) → cause_of limits w event ≡ None → irq_too_long w.irqs event.at event.act ≡ false
 unfolding cause_of
 not_too_long limits w event legal = passed (λ why. applies why limits w event) cause_order 23 cause.IrqTooLong legal refl
 
 -- the interrupt time of a legal event is at most a second
-pub told_few : (limits : Limits) (w : World) (event : Event) → cause_of limits w event ≡ None → (cpu : ℕ) → irq_told cpu event.act ≤ longest_irq
-told_few limits w event legal cpu = few_told w.irqs event.at event.act cpu (not_too_long limits w event legal)
+pub known_few : (limits : Limits) (w : World) (event : Event) → cause_of limits w event ≡ None → (cpu : ℕ) → irq_time_by cpu event.act ≤ longest_irq
+known_few limits w event legal cpu = few_known w.irqs event.at event.act cpu (not_too_long limits w event legal)

@@ -8,7 +8,7 @@ use Rattle.std.proofs.lemmas.Nat.Bits.{same_from_bits_below, bit_at-lt}
 use Rattle.psi_base.specs.declared.event.State.{State}
 use Rattle.psi_base.specs.declared.event.State.TheVariants.{IoSome, IoFull, MemSome, MemFull, CpuSome, CpuFull, Nonidle}
 use Rattle.psi_spec.specs.Stall.{holds_of, waits, queues, runs, stalls, is_up}
-use Rattle.psi_counts.specs.Counts.{how_many, tells, counts_among, runs_stalled, mask_holds, CountsTell, MasksAreTheirStates}
+use Rattle.psi_counts.specs.Counts.{how_many, shows, counts_among, runs_stalled, mask_holds, CountsShow, MasksAreTheirStates}
 use Rattle.psi_counts.proofs.CountLaws.{one, any_counted, all_counted, up_counted, any_either, running_stalled_any}
 
 zero_test : (n : ℕ) → not (nat_lt 0 n) ≡ (n == 0)
@@ -36,18 +36,18 @@ stalled_beside true all running h = refl
 stalled_beside false all true h = h refl
 stalled_beside false all false h = refl
 
-pub counts_tell : CountsTell
-counts_tell tasks on stuck told state =
-    let running : how_many runs tasks ≡ one on = one_or_none (how_many runs tasks) on told.at_most_one (told.one_runs ∙ any_counted runs tasks) in
-    elim state as (λ s. holds_of s tasks ≡ tells s (counts_among tasks) on stuck) [
+pub counts_show : CountsShow
+counts_show tasks on stuck reported state =
+    let running : how_many runs tasks ≡ one on = one_or_none (how_many runs tasks) on reported.at_most_one (reported.one_runs ∙ any_counted runs tasks) in
+    elim state as (λ s. holds_of s tasks ≡ shows s (counts_among tasks) on stuck) [
       | IoSome ↦ any_counted waits tasks
       | IoFull ↦ rw (any_counted waits tasks, any_counted is_up tasks, zero_test (how_many is_up tasks)) refl
       | MemSome ↦ any_counted stalls tasks
       | MemFull ↦
           stalled_beside (list_any stalls tasks) (list_all (λ task. not (is_up task) || stalls task) tasks) (list_any runs_stalled tasks) (running_stalled_any tasks)
-          ∙ rw (any_counted stalls tasks, all_counted tasks, sym told.it_is_stalled) refl
+          ∙ rw (any_counted stalls tasks, all_counted tasks, sym reported.it_is_stalled) refl
       | CpuSome ↦ any_counted queues tasks ∙ ready_test _ _ _ on (up_counted tasks) running
-      | CpuFull ↦ rw (any_counted queues tasks, sym told.one_runs) (full_test _ _ _ on (up_counted tasks) running)
+      | CpuFull ↦ rw (any_counted queues tasks, sym reported.one_runs) (full_test _ _ _ on (up_counted tasks) running)
       | Nonidle ↦ rw (any_either (λ t. waits t || stalls t) is_up tasks, any_either waits stalls tasks, any_counted waits tasks, any_counted stalls tasks, any_counted is_up tasks) refl
     ]
 

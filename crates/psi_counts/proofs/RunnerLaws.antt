@@ -12,13 +12,13 @@ use Rattle.psi_base.specs.declared.event.Act.TheVariants as act
 use Rattle.psi_base.specs.Missing.{is_some_and}
 use Rattle.psi_spec.specs.declared.machine.Task.{Task}
 use Rattle.psi_spec.specs.declared.machine.Mode.TheVariants.{Blocked, Waiting, Ready, Running}
-use Rattle.psi_spec.specs.World.{World, Limits, Tasks, task_of, task_part, change_to, leave, left_by, start, running_on, is_running_on, is_running, tasks_after, after_event, new_task, readied}
+use Rattle.psi_spec.specs.World.{World, Limits, Tasks, task_of, task_part, change_to, leave, left_by, start, running_on, is_running_on, is_running, tasks_after, after_event, new_task, prepared_changes}
 use Rattle.psi_spec.specs.Refusal.{cause_of, is_wrong}
 use Rattle.psi_spec.specs.Stall.{is_under, is_in, tasks_in, stalls, runs}
 use Rattle.psi_counts.specs.Counts.{how_many}
-use Rattle.psi_counts.specs.Touch.{changed, shown, RunsOnce, is_current_in, is_current_stalled, RunsOnceFirst, RunsOnceKept, CurrentTells}
+use Rattle.psi_counts.specs.Touch.{changed, shown, RunsOnce, is_current_in, is_current_stalled, RunsOnceFirst, RunsOnceKept, CurrentShows}
 use Rattle.psi_counts.proofs.CountLaws.{one, any_counted}
-use Rattle.psi_spec.proofs.RefusalLaws.{none_stands}
+use Rattle.psi_spec.proofs.RefusalLaws.{none_found_in}
 use Rattle.psi_spec.proofs.TaskLaws.{no_entries}
 use Rattle.psi_counts.proofs.TouchCounts.{tally, tallied, tallied_both, counted, counted_put, counted_changed, counted_leave, running_found}
 use Rattle.psi_counts.proofs.TouchLaws.{quiet_act, tally_same}
@@ -88,9 +88,9 @@ once_changed c tasks pid f fewer once =
     omega (arith, more, less, once)
 
 -- a task that becomes ready no longer runs
-readied_fewer : (c cpu : ℕ) (o : Option Task) → one (is_some_and (changed (readied cpu) o) (is_running_on c)) ≤ one (is_some_and o (is_running_on c))
-readied_fewer c cpu None = omega arith
-readied_fewer c cpu (Some t) = let none = not_running c (readied cpu t) refl in omega (arith, none)
+prepared_fewer : (c cpu : ℕ) (o : Option Task) → one (is_some_and (changed (prepared_changes cpu) o) (is_running_on c)) ≤ one (is_some_and o (is_running_on c))
+prepared_fewer c cpu None = omega arith
+prepared_fewer c cpu (Some t) = let none = not_running c (prepared_changes cpu t) refl in omega (arith, none)
 
 -- a change that doesn't affect whether the task runs
 kept_fewer : (c : ℕ) (f : Task → Task) → ((t : Task) → is_running_on c (f t) ≡ is_running_on c t) → (o : Option Task) → one (is_some_and (changed f o) (is_running_on c)) ≤ one (is_some_and o (is_running_on c))
@@ -104,18 +104,18 @@ once_act limits w at (act.Fork pid path cpu) legal once c =
     let none = not_running c (new_task w.groups path cpu.0) refl in
     let was = once c in
     omega (arith, more, none, was)
-once_act limits w at (act.Wake pid cpu) legal once c = once_changed c w.tasks pid.0 _ (readied_fewer c cpu.0) (once c)
+once_act limits w at (act.Wake pid cpu) legal once c = once_changed c w.tasks pid.0 _ (prepared_fewer c cpu.0) (once c)
 once_act limits w at (act.Switch cpu next how) legal once c =
     ⊎_elim
     (λ same.
-    let free = none_left w.tasks cpu.0 how (once cpu.0) (running_on w.tasks cpu.0) refl (none_stands limits w _ legal).wrong_how in
+    let free = none_left w.tasks cpu.0 how (once cpu.0) (running_on w.tasks cpu.0) refl (none_found_in limits w _ legal).wrong_how in
     let more = start_le cpu.0 (leave how w.tasks (running_on w.tasks cpu.0)) next in
     rw (← same.1) (omega (arith, free, more)))
     (λ other. let same = quiet_act (λ t. is_running t.mode) limits w at (act.Switch cpu next how) c legal other.0 in let was = once c in omega (arith, same, was))
     (eqb_tells cpu.0 c)
 once_act limits w at (act.Stall pid) legal once c = once_changed c w.tasks pid.0 _ (kept_fewer c _ (λ _. refl)) (once c)
 once_act limits w at (act.Unstall pid) legal once c = once_changed c w.tasks pid.0 _ (kept_fewer c _ (λ _. refl)) (once c)
-once_act limits w at (act.Migrate pid cpu) legal once c = once_changed c w.tasks pid.0 _ (readied_fewer c cpu.0) (once c)
+once_act limits w at (act.Migrate pid cpu) legal once c = once_changed c w.tasks pid.0 _ (prepared_fewer c cpu.0) (once c)
 once_act limits w at (act.Move pid path) legal once c = once_changed c w.tasks pid.0 _ (kept_fewer c _ (λ _. refl)) (once c)
 once_act limits w at _ legal once c = once c
 
@@ -201,8 +201,8 @@ tally_alike : (p q : Task → Bool) → ((t : Task) → p t ≡ q t) → (tasks 
 tally_alike p q same tasks = tallied p tasks ∙ tally_same p q same tasks ∙ sym (tallied q tasks)
 
 -- the running task in a change determines which task runs
-pub current_tells : CurrentTells
-current_tells tasks once parents cpu slot =
+pub current_shows : CurrentShows
+current_shows tasks once parents cpu slot =
     let list = tasks_in parents cpu slot tasks in
     let plain : (t : Task) → runs t ≡ (runs t && true) = λ t. sym (and_true (runs t)) in
     let many = tally_alike runs (λ t. runs t && true) plain list ∙ many_running tasks once parents cpu slot (λ _. true) in

@@ -16,7 +16,7 @@ use Rattle.psi_counts.specs.declared.changes.Change.{Change}
 use Rattle.psi_counts.specs.declared.changes.Counts.{Counts}
 use Rattle.psi_spec.specs.declared.machine.Mode.{Mode}
 use Rattle.psi_spec.specs.declared.machine.Mode.TheVariants.{Blocked, Waiting, Ready, Running}
-use Rattle.psi_spec.specs.World.{World, Limits, Tasks, task_of, change_to, leave, left_by, start, running_on, is_running_on, is_ready_on, is_running, is_ready, is_waiting, is_active, tasks_after, after_event, new_task, readied}
+use Rattle.psi_spec.specs.World.{World, Limits, Tasks, task_of, change_to, leave, left_by, start, running_on, is_running_on, is_ready_on, is_running, is_ready, is_waiting, is_active, tasks_after, after_event, new_task, prepared_changes}
 use Rattle.psi_spec.specs.Refusal.{cause_of, isnt_ready}
 use Rattle.psi_spec.specs.Stall.{is_under, is_in, tasks_in, waits, stalls, is_up, runs}
 use Rattle.psi_counts.specs.Counts.{how_many, counts_among, is_up_stalled, runs_stalled}
@@ -24,8 +24,8 @@ use Rattle.psi_counts.specs.Touch.{changed, task_after, part, change_on, change_
 use Rattle.psi_spec.specs.Changes.{before, is_at, touched}
 use Rattle.psi_counts.proofs.CountLaws.{one, how_many-cons, any_counted}
 use Rattle.psi_counts.proofs.AccountLaws.{no_account}
-use Rattle.psi_counts.proofs.IrqLaws.{untold}
-use Rattle.psi_spec.proofs.RefusalLaws.{first_true, is_none, none_stands, not_false, second_true}
+use Rattle.psi_counts.proofs.IrqLaws.{unknown_of}
+use Rattle.psi_spec.proofs.RefusalLaws.{first_true, is_none, none_found_in, not_false, second_true}
 use Rattle.psi_spec.proofs.TaskLaws.{task_placed}
 use Rattle.psi_counts.proofs.TouchCounts.{tally, tallied_both, counted, counted_put, counted_changed, counted_leave, running_found}
 
@@ -92,11 +92,11 @@ CountsOne p w a = counted p (tasks_after w.groups w.tasks a) + one (is_some_and 
 -- each legal act counts so
 pub counted_act : (p : Task → Bool) → Blind p → (limits : Limits) (w : World) (at : ℕ) (a : Act) → cause_of limits w (record { at = at; act = a }) ≡ None → CountsOne p w a
 counted_act p blind limits w at (act.Fork pid path cpu) h =
-    let new : task_of w.tasks pid.0 ≡ None = is_none _ (none_stands limits w _ h).task_exists in
+    let new : task_of w.tasks pid.0 ≡ None = is_none _ (none_found_in limits w _ h).task_exists in
     rw new at (counted_put p w.tasks pid.0 (new_task w.groups path cpu.0))
 counted_act p blind limits w at (act.Wake pid cpu) h = counted_changed p w.tasks pid.0 _ (task_of w.tasks pid.0) refl
 counted_act p blind limits w at (act.Switch cpu next how) h =
-    let same = counted_start p blind w.tasks cpu.0 how next (none_stands limits w _ h).not_ready in
+    let same = counted_start p blind w.tasks cpu.0 how next (none_found_in limits w _ h).not_ready in
     let left = counted_leave p w.tasks cpu.0 how (running_on w.tasks cpu.0) refl in
     omega (arith, same, left)
 counted_act p blind limits w at (act.Stall pid) h = counted_changed p w.tasks pid.0 _ (task_of w.tasks pid.0) refl
@@ -216,9 +216,9 @@ same_cpu f same None c h = refl
 same_cpu f same (Some t) c h = rw (same t) h
 
 -- a task that comes to a processor is on no other
-readied_cpu : (o : Option Task) (cpu c : ℕ) → (cpu == c) ≡ false → is_some_and (changed (readied cpu) o) (is_at c) ≡ false
-readied_cpu None cpu c h = refl
-readied_cpu (Some t) cpu c h = h
+prepared_cpu : (o : Option Task) (cpu c : ℕ) → (cpu == c) ≡ false → is_some_and (changed (prepared_changes cpu) o) (is_at c) ≡ false
+prepared_cpu None cpu c h = refl
+prepared_cpu (Some t) cpu c h = h
 
 -- a task that starts on a processor changes no count on others
 quiet_start : (g : Task → Bool) (tasks : Tasks) (cpu c : ℕ) (how : How) (next : Option Pid) → (cpu == c) ≡ false → isnt_ready tasks cpu next ≡ false → counted (at_cpu c g) (start next (leave how tasks (running_on tasks cpu))) ≡ counted (at_cpu c g) (leave how tasks (running_on tasks cpu))
@@ -231,10 +231,10 @@ quiet_start g tasks cpu c how (Some pid) h k =
     (same_cpu (λ task. record task { mode = Running }) (λ _. refl) (task_of (leave how tasks (running_on tasks cpu)) pid.0) c other)
 
 -- a task that comes to another processor
-quiet_readied : (g : Task → Bool) (tasks : Tasks) (pid cpu c : ℕ) → (cpu == c || is_some_and (task_of tasks pid) (is_at c)) ≡ false → counted (at_cpu c g) (change_to tasks pid (readied cpu) (task_of tasks pid)) ≡ counted (at_cpu c g) tasks
-quiet_readied g tasks pid cpu c h =
+quiet_prepared : (g : Task → Bool) (tasks : Tasks) (pid cpu c : ℕ) → (cpu == c || is_some_and (task_of tasks pid) (is_at c)) ≡ false → counted (at_cpu c g) (change_to tasks pid (prepared_changes cpu) (task_of tasks pid)) ≡ counted (at_cpu c g) tasks
+quiet_prepared g tasks pid cpu c h =
     let both = or_false (cpu == c) (is_some_and (task_of tasks pid) (is_at c)) h in
-    quiet_changed g tasks pid c (readied cpu) (task_of tasks pid) refl both.1 (readied_cpu (task_of tasks pid) cpu c both.0)
+    quiet_changed g tasks pid c (prepared_changes cpu) (task_of tasks pid) refl both.1 (prepared_cpu (task_of tasks pid) cpu c both.0)
 
 -- a task on another processor changes there
 quiet_there : (g : Task → Bool) (tasks : Tasks) (pid c : ℕ) (f : Task → Task) → ((t : Task) → (f t).cpu ≡ t.cpu) → is_some_and (task_of tasks pid) (is_at c) ≡ false → counted (at_cpu c g) (change_to tasks pid f (task_of tasks pid)) ≡ counted (at_cpu c g) tasks
@@ -243,16 +243,16 @@ quiet_there g tasks pid c f same h = quiet_changed g tasks pid c f (task_of task
 -- an act that doesn't touch a processor leaves each count of tasks there unchanged
 pub quiet_act : (g : Task → Bool) (limits : Limits) (w : World) (at : ℕ) (a : Act) (c : ℕ) → cause_of limits w (record { at = at; act = a }) ≡ None → touched a (before w.tasks a) c ≡ false → counted (at_cpu c g) (tasks_after w.groups w.tasks a) ≡ counted (at_cpu c g) w.tasks
 quiet_act g limits w at (act.Fork pid path cpu) c legal h =
-    let new : task_of w.tasks pid.0 ≡ None = is_none _ (none_stands limits w _ legal).task_exists in
+    let new : task_of w.tasks pid.0 ≡ None = is_none _ (none_found_in limits w _ legal).task_exists in
     let more = rw new at (counted_put (at_cpu c g) w.tasks pid.0 (new_task w.groups path cpu.0)) in
     let now = off c g (new_task w.groups path cpu.0) h in
     omega (arith, more, now)
-quiet_act g limits w at (act.Wake pid cpu) c legal h = quiet_readied g w.tasks pid.0 cpu.0 c h
+quiet_act g limits w at (act.Wake pid cpu) c legal h = quiet_prepared g w.tasks pid.0 cpu.0 c h
 quiet_act g limits w at (act.Switch cpu next how) c legal h =
-    quiet_start g w.tasks cpu.0 c how next h (none_stands limits w _ legal).not_ready ∙ quiet_leave g w.tasks cpu.0 c how h (running_on w.tasks cpu.0) refl
+    quiet_start g w.tasks cpu.0 c how next h (none_found_in limits w _ legal).not_ready ∙ quiet_leave g w.tasks cpu.0 c how h (running_on w.tasks cpu.0) refl
 quiet_act g limits w at (act.Stall pid) c legal h = quiet_there g w.tasks pid.0 c _ (λ _. refl) h
 quiet_act g limits w at (act.Unstall pid) c legal h = quiet_there g w.tasks pid.0 c _ (λ _. refl) h
-quiet_act g limits w at (act.Migrate pid cpu) c legal h = quiet_readied g w.tasks pid.0 cpu.0 c h
+quiet_act g limits w at (act.Migrate pid cpu) c legal h = quiet_prepared g w.tasks pid.0 cpu.0 c h
 quiet_act g limits w at (act.Move pid path) c legal h = quiet_there g w.tasks pid.0 c _ (λ _. refl) h
 quiet_act g limits w at _ c legal h = refl
 
@@ -302,11 +302,11 @@ pub stays_untouched : StaysUntouched
 stays_untouched limits w event legal cpu none parents slot =
     let same = quiet_many limits w event legal cpu none parents slot in (
       rw (same waits, same stalls, same is_up, same is_up_stalled) refl,
-      λ on stalled told. record {
-        at_most_one = rw (same runs) told.at_most_one;
-        one_runs = told.one_runs ∙ any_same runs (tasks_in parents cpu slot w.tasks) (tasks_in parents cpu slot (after_event w event).tasks) (same runs);
-        it_is_stalled = told.it_is_stalled ∙ any_same runs_stalled (tasks_in parents cpu slot w.tasks) (tasks_in parents cpu slot (after_event w event).tasks) (same runs_stalled);
+      λ on stalled known. record {
+        at_most_one = rw (same runs) known.at_most_one;
+        one_runs = known.one_runs ∙ any_same runs (tasks_in parents cpu slot w.tasks) (tasks_in parents cpu slot (after_event w event).tasks) (same runs);
+        it_is_stalled = known.it_is_stalled ∙ any_same runs_stalled (tasks_in parents cpu slot w.tasks) (tasks_in parents cpu slot (after_event w event).tasks) (same runs_stalled);
       },
-      untold w.tasks event.act cpu (untouched w event cpu none),
+      unknown_of w.tasks event.act cpu (untouched w event cpu none),
       no_account w.groups w.tasks event.act cpu (untouched w event cpu none),
     )

@@ -20,22 +20,22 @@ use Rattle.psi_counts.specs.declared.changes.Touch.{Touch}
 use Rattle.psi_counts.specs.declared.changes.Counts.{Counts}
 use Rattle.psi_spec.specs.declared.machine.Mode.TheVariants.{Running}
 use Rattle.psi_spec.specs.declared.machine.GroupLife.{GroupLife}
-use Rattle.psi_spec.specs.World.{World, Limits, Tasks, task_of, task_part, placed, change_to, leave, left_by, start, running_on, is_running_on, is_running, tasks_after, after_event, new_task, readied, slot_of}
+use Rattle.psi_spec.specs.World.{World, Limits, Tasks, task_of, task_part, placed, change_to, leave, left_by, start, running_on, is_running_on, is_running, tasks_after, after_event, new_task, prepared_changes, slot_of}
 use Rattle.psi_spec.specs.Names.{names}
 use Rattle.psi_spec.specs.Refusal.{cause_of}
-use Rattle.psi_spec.specs.Stall.{irq_told, tasks_in, runs, waits, stalls, is_up}
-use Rattle.psi_counts.specs.Counts.{how_many, counts_among, is_up_stalled, IsRunningTold}
-use Rattle.psi_counts.specs.Touch.{changed, left_if, task_after, part, shown, account_of, change_on, change_of, told_first, told_of, IsBeside, AllTouched, HasSlotsBelow, AreAtMost, IsOfOne, AreWithin, WithinFirst, WithinKept, ChangesAreWithin, on_chain, Follows, irq_in, is_current_in, is_current_stalled, ChangeTells, RunsOnce, TouchesItsOwn}
+use Rattle.psi_spec.specs.Stall.{irq_time_by, tasks_in, runs, waits, stalls, is_up}
+use Rattle.psi_counts.specs.Counts.{how_many, counts_among, is_up_stalled, IsRunningKnown}
+use Rattle.psi_counts.specs.Touch.{changed, left_if, task_after, part, shown, account_of, change_on, change_of, known_first, change_by_cpu, IsBeside, AllTouched, HasSlotsBelow, AreAtMost, IsOfOne, AreWithin, WithinFirst, WithinKept, ChangesAreWithin, on_chain, Follows, irq_in, is_current_in, is_current_stalled, ChangeShows, RunsOnce, TouchesItsOwn}
 use Rattle.psi_spec.specs.Changes.{before, is_at, touched}
 use Rattle.psi_counts.proofs.CountLaws.{one, how_many-cons}
 use Rattle.psi_counts.proofs.AccountLaws.{account_alone}
-use Rattle.psi_counts.proofs.IrqLaws.{told_alone, told_few}
+use Rattle.psi_counts.proofs.IrqLaws.{known_alone, known_few}
 use Rattle.psi_spec.proofs.TaskLaws.{itself, task_placed}
 use Rattle.psi_counts.proofs.TouchCounts.{running_found}
 use Rattle.psi_spec.proofs.GroupLaws.{found_below}
-use Rattle.psi_spec.proofs.RefusalLaws.{first_true, none_stands}
+use Rattle.psi_spec.proofs.RefusalLaws.{first_true, none_found_in}
 use Rattle.psi_counts.proofs.TouchLaws.{counts_follow}
-use Rattle.psi_counts.proofs.RunnerLaws.{current_tells, runs_once_kept}
+use Rattle.psi_counts.proofs.RunnerLaws.{current_shows, runs_once_kept}
 
 -- the task, if any, is on one of `cpus` processors and in one of `slots` slots
 abbrev pub Fits : ℕ → ℕ → Option Task → Type 0
@@ -63,9 +63,9 @@ fits_kept cpus slots f cpu slot None fits = tt
 fits_kept cpus slots f cpu slot (Some t) fits = rw (cpu t, slot t) fits
 
 -- a task that comes to a processor that there is
-fits_readied : (cpus slots cpu : ℕ) → cpu < cpus → (o : Option Task) → Fits cpus slots o → Fits cpus slots (changed (readied cpu) o)
-fits_readied cpus slots cpu room None fits = tt
-fits_readied cpus slots cpu room (Some t) fits = (room, fits.1)
+fits_prepared : (cpus slots cpu : ℕ) → cpu < cpus → (o : Option Task) → Fits cpus slots o → Fits cpus slots (changed (prepared_changes cpu) o)
+fits_prepared cpus slots cpu room None fits = tt
+fits_prepared cpus slots cpu room (Some t) fits = (room, fits.1)
 
 -- a task that comes to a slot that there is
 fits_moved : (cpus slots slot : ℕ) → slot < slots → (o : Option Task) → Fits cpus slots o → Fits cpus slots (changed (λ task. record task { slot = record { 0 = slot } }) o)
@@ -124,14 +124,14 @@ fits_before cpus slots tasks within _ = tt
 -- so it is after a legal act
 pub fits_after : (limits : Limits) (w : World) (at : ℕ) (a : Act) → cause_of limits w (record { at = at; act = a }) ≡ None → AreWithin limits.cpus (length w.groups) w.tasks → Fits limits.cpus (length w.groups) (task_after w.groups w.tasks a)
 fits_after limits w at (act.Fork pid path cpu) h within =
-    let none = none_stands limits w _ h in
+    let none = none_found_in limits w _ h in
     (room_of limits.cpus cpu.0 none.bad_cpu, slot_room w.groups path none.unknown_group)
-fits_after limits w at (act.Wake pid cpu) h within = fits_readied limits.cpus (length w.groups) cpu.0 (room_of limits.cpus cpu.0 (none_stands limits w _ h).bad_cpu) (task_of w.tasks pid.0) (within pid.0)
+fits_after limits w at (act.Wake pid cpu) h within = fits_prepared limits.cpus (length w.groups) cpu.0 (room_of limits.cpus cpu.0 (none_found_in limits w _ h).bad_cpu) (task_of w.tasks pid.0) (within pid.0)
 fits_after limits w at (act.Switch cpu next how) h within = fits_left limits.cpus (length w.groups) how (task_part (running_on w.tasks cpu.0)) (fits_running limits.cpus (length w.groups) w.tasks within cpu.0 (running_on w.tasks cpu.0) refl)
 fits_after limits w at (act.Stall pid) h within = fits_kept limits.cpus (length w.groups) (λ task. record task { stalled = true }) (λ _. refl) (λ _. refl) (task_of w.tasks pid.0) (within pid.0)
 fits_after limits w at (act.Unstall pid) h within = fits_kept limits.cpus (length w.groups) (λ task. record task { stalled = false }) (λ _. refl) (λ _. refl) (task_of w.tasks pid.0) (within pid.0)
-fits_after limits w at (act.Migrate pid cpu) h within = fits_readied limits.cpus (length w.groups) cpu.0 (room_of limits.cpus cpu.0 (none_stands limits w _ h).bad_cpu) (task_of w.tasks pid.0) (within pid.0)
-fits_after limits w at (act.Move pid path) h within = fits_moved limits.cpus (length w.groups) (unwrap_or (slot_of w.groups path) 0) (slot_room w.groups path (none_stands limits w _ h).unknown_group) (task_of w.tasks pid.0) (within pid.0)
+fits_after limits w at (act.Migrate pid cpu) h within = fits_prepared limits.cpus (length w.groups) cpu.0 (room_of limits.cpus cpu.0 (none_found_in limits w _ h).bad_cpu) (task_of w.tasks pid.0) (within pid.0)
+fits_after limits w at (act.Move pid path) h within = fits_moved limits.cpus (length w.groups) (unwrap_or (slot_of w.groups path) 0) (slot_room w.groups path (none_found_in limits w _ h).unknown_group) (task_of w.tasks pid.0) (within pid.0)
 fits_after limits w at _ h within = tt
 
 -- ---- the tasks after an act
@@ -173,14 +173,14 @@ either_cpu cpus slots named cpu o fits room either =
 
 -- a processor exists if a legal act touches it, but not all
 touched_room : (limits : Limits) (w : World) (at : ℕ) (a : Act) → cause_of limits w (record { at = at; act = a }) ≡ None → AreWithin limits.cpus (length w.groups) w.tasks → (cpu : ℕ) → touched a (before w.tasks a) cpu ≡ true → account_of w.groups a ≡ None → cpu < limits.cpus
-touched_room limits w at (act.Fork pid path named) h within cpu on plain = same_cpu named.0 cpu limits.cpus on (room_of limits.cpus named.0 (none_stands limits w _ h).bad_cpu)
-touched_room limits w at (act.Wake pid named) h within cpu on plain = either_cpu limits.cpus (length w.groups) named.0 cpu (task_of w.tasks pid.0) (within pid.0) (room_of limits.cpus named.0 (none_stands limits w _ h).bad_cpu) on
-touched_room limits w at (act.Switch named next how) h within cpu on plain = same_cpu named.0 cpu limits.cpus on (room_of limits.cpus named.0 (none_stands limits w _ h).bad_cpu)
+touched_room limits w at (act.Fork pid path named) h within cpu on plain = same_cpu named.0 cpu limits.cpus on (room_of limits.cpus named.0 (none_found_in limits w _ h).bad_cpu)
+touched_room limits w at (act.Wake pid named) h within cpu on plain = either_cpu limits.cpus (length w.groups) named.0 cpu (task_of w.tasks pid.0) (within pid.0) (room_of limits.cpus named.0 (none_found_in limits w _ h).bad_cpu) on
+touched_room limits w at (act.Switch named next how) h within cpu on plain = same_cpu named.0 cpu limits.cpus on (room_of limits.cpus named.0 (none_found_in limits w _ h).bad_cpu)
 touched_room limits w at (act.Stall pid) h within cpu on plain = task_cpu limits.cpus (length w.groups) cpu (task_of w.tasks pid.0) (within pid.0) on
 touched_room limits w at (act.Unstall pid) h within cpu on plain = task_cpu limits.cpus (length w.groups) cpu (task_of w.tasks pid.0) (within pid.0) on
-touched_room limits w at (act.Migrate pid named) h within cpu on plain = either_cpu limits.cpus (length w.groups) named.0 cpu (task_of w.tasks pid.0) (within pid.0) (room_of limits.cpus named.0 (none_stands limits w _ h).bad_cpu) on
+touched_room limits w at (act.Migrate pid named) h within cpu on plain = either_cpu limits.cpus (length w.groups) named.0 cpu (task_of w.tasks pid.0) (within pid.0) (room_of limits.cpus named.0 (none_found_in limits w _ h).bad_cpu) on
 touched_room limits w at (act.Move pid path) h within cpu on plain = task_cpu limits.cpus (length w.groups) cpu (task_of w.tasks pid.0) (within pid.0) on
-touched_room limits w at (act.Irq named ns) h within cpu on plain = same_cpu named.0 cpu limits.cpus on (room_of limits.cpus named.0 (none_stands limits w _ h).bad_cpu)
+touched_room limits w at (act.Irq named ns) h within cpu on plain = same_cpu named.0 cpu limits.cpus on (room_of limits.cpus named.0 (none_found_in limits w _ h).bad_cpu)
 touched_room limits w at (act.Pressure path switched) h within cpu on plain = absurd (cc plain)
 touched_room limits w at _ h within cpu on plain = absurd (cc on)
 
@@ -215,7 +215,7 @@ is_then false change other h = absurd (cc h)
 
 -- the slot whose accounting is switched exists
 account_slot : (limits : Limits) (w : World) (at : ℕ) (a : Act) → cause_of limits w (record { at = at; act = a }) ≡ None → IfSome (account_of w.groups a) (λ account. account.0.0 < length w.groups)
-account_slot limits w at (act.Pressure path on) h = slot_room w.groups path (none_stands limits w _ h).unknown_group
+account_slot limits w at (act.Pressure path on) h = slot_room w.groups path (none_found_in limits w _ h).unknown_group
 account_slot limits w at _ h = tt
 
 -- all of it for a change
@@ -236,8 +236,8 @@ changes_are_within limits w event legal within cpu change is =
     let ones : IsOfOne (change_on w.groups event old new tasks cpu) = record {
       minus = part_one cpu old;
       plus = part_one cpu new;
-      irq = told_few limits w event legal cpu;
-      alone = told_alone w.groups w.tasks event.act cpu;
+      irq = known_few limits w event legal cpu;
+      alone = known_alone w.groups w.tasks event.act cpu;
       account = account_alone w.groups w.tasks event.act cpu;
     } in
     (λ plain. touched_room limits w event.at event.act legal within cpu both.0 (ap (λ (c : Change). c.account) both.1 ∙ plain), subst (HasSlotsBelow (length w.groups)) both.1 slots, subst IsOfOne both.1 ones, ap (λ (c : Change). c.at) (sym both.1))
@@ -250,21 +250,21 @@ others_differ first second differ =
     ⊎_elim (λ same. absurd (differ (ap (λ n. let cpu : Cpu = record { 0 = n } in cpu) same.1))) (λ other. other.0) (eqb_tells first.0 second.0)
 
 -- so it is of the first
-first_so : (IsSo : ℕ → Change → Type 0) (of : ℕ → Option Change) (first second : Option (Cpu × Change)) → ((cpu : ℕ) → told_first cpu first (told_first cpu second None) ≡ of cpu) → ((cpu : ℕ) (change : Change) → of cpu ≡ Some change → IsSo cpu change) → IfSome first (λ f. IsSo f.0.0 f.1)
-first_so IsSo of None second told so = tt
-first_so IsSo of (Some f) second told so = so f.0.0 f.1 (sym (told f.0.0) ∙ ap (λ b. if b then Some f.1 else told_first f.0.0 second None) (itself f.0.0))
+first_so : (IsSo : ℕ → Change → Type 0) (of : ℕ → Option Change) (first second : Option (Cpu × Change)) → ((cpu : ℕ) → known_first cpu first (known_first cpu second None) ≡ of cpu) → ((cpu : ℕ) (change : Change) → of cpu ≡ Some change → IsSo cpu change) → IfSome first (λ f. IsSo f.0.0 f.1)
+first_so IsSo of None second known so = tt
+first_so IsSo of (Some f) second known so = so f.0.0 f.1 (sym (known f.0.0) ∙ ap (λ b. if b then Some f.1 else known_first f.0.0 second None) (itself f.0.0))
 
 -- so it is of a second
-second_so : (IsSo : ℕ → Change → Type 0) (of : ℕ → Option Change) (first second : Option (Cpu × Change)) → IsBeside first second → ((cpu : ℕ) → told_first cpu first (told_first cpu second None) ≡ of cpu) → ((cpu : ℕ) (change : Change) → of cpu ≡ Some change → IsSo cpu change) → IfSome second (λ s. IsSo s.0.0 s.1)
-second_so IsSo of first None beside told so = tt
-second_so IsSo of None (Some s) beside told so = absurd beside
-second_so IsSo of (Some f) (Some s) beside told so =
-    so s.0.0 s.1 (sym (told s.0.0) ∙ ap (λ b. if b then Some f.1 else told_first s.0.0 (Some s) None) (others_differ f.0 s.0 beside) ∙ ap (λ b. if b then Some s.1 else None) (itself s.0.0))
+second_so : (IsSo : ℕ → Change → Type 0) (of : ℕ → Option Change) (first second : Option (Cpu × Change)) → IsBeside first second → ((cpu : ℕ) → known_first cpu first (known_first cpu second None) ≡ of cpu) → ((cpu : ℕ) (change : Change) → of cpu ≡ Some change → IsSo cpu change) → IfSome second (λ s. IsSo s.0.0 s.1)
+second_so IsSo of first None beside known so = tt
+second_so IsSo of None (Some s) beside known so = absurd beside
+second_so IsSo of (Some f) (Some s) beside known so =
+    so s.0.0 s.1 (sym (known s.0.0) ∙ ap (λ b. if b then Some f.1 else known_first s.0.0 (Some s) None) (others_differ f.0 s.0 beside) ∙ ap (λ b. if b then Some s.1 else None) (itself s.0.0))
 
 -- so it is of each
-pub all_touched : (IsSo : ℕ → Change → Type 0) (w : World) (event : Event) (touch : Touch) → ((cpu : ℕ) → told_of touch cpu ≡ change_of w event cpu) → IsBeside touch.first touch.second → ((cpu : ℕ) (change : Change) → change_of w event cpu ≡ Some change → IsSo cpu change) → AllTouched IsSo touch
-all_touched IsSo w event touch told beside so =
-    (first_so IsSo (change_of w event) touch.first touch.second told so, second_so IsSo (change_of w event) touch.first touch.second beside told so)
+pub all_touched : (IsSo : ℕ → Change → Type 0) (w : World) (event : Event) (touch : Touch) → ((cpu : ℕ) → change_by_cpu touch cpu ≡ change_of w event cpu) → IsBeside touch.first touch.second → ((cpu : ℕ) (change : Change) → change_of w event cpu ≡ Some change → IsSo cpu change) → AllTouched IsSo touch
+all_touched IsSo w event touch known beside so =
+    (first_so IsSo (change_of w event) touch.first touch.second known so, second_so IsSo (change_of w event) touch.first touch.second beside known so)
 
 -- ---- changes
 
@@ -274,24 +274,24 @@ either_none false = refl
 
 -- interrupts take no task from its processor: that of a group which runs after them ran before them
 same_runner : (groups : List GroupLife) (tasks : Tasks) (a : Act) → RunsOnce tasks → (parents : List (Option ℕ)) (cpu slot : ℕ) →
-    (if is_current_in parents slot (shown (running_on (tasks_after groups tasks a) cpu)) then irq_told cpu a else 0) ≡ (if list_any runs (tasks_in parents cpu slot tasks) then irq_told cpu a else 0)
-same_runner groups tasks (act.Irq named ns) once parents cpu slot = ap (λ b. if b then irq_told cpu (act.Irq named ns) else 0) (current_tells tasks once parents cpu slot).one_runs
+    (if is_current_in parents slot (shown (running_on (tasks_after groups tasks a) cpu)) then irq_time_by cpu a else 0) ≡ (if list_any runs (tasks_in parents cpu slot tasks) then irq_time_by cpu a else 0)
+same_runner groups tasks (act.Irq named ns) once parents cpu slot = ap (λ b. if b then irq_time_by cpu (act.Irq named ns) else 0) (current_shows tasks once parents cpu slot).one_runs
 same_runner groups tasks a once parents cpu slot =
     either_none (is_current_in parents slot (shown (running_on (tasks_after groups tasks a) cpu))) ∙ sym (either_none (list_any runs (tasks_in parents cpu slot tasks)))
 
 -- counts follow, what runs is shown, and interrupts take time from what runs
-pub change_tells : ChangeTells
+pub change_shows : ChangeShows
 unfolding change_of
-change_tells limits w event legal once cpu change is parents slot =
+change_shows limits w event legal once cpu change is parents slot =
     let old = before w.tasks event.act in
     let new = task_after w.groups w.tasks event.act in
     let tasks = tasks_after w.groups w.tasks event.act in
     let both = is_then (touched event.act old cpu) (change_on w.groups event old new tasks cpu) change is in (
       subst (λ (c : Change). Follows (counts_among (tasks_in parents cpu slot w.tasks)) (on_chain parents slot c.minus) (on_chain parents slot c.plus) (counts_among (tasks_in parents cpu slot (after_event w event).tasks))) both.1
           (counts_follow limits w event legal parents cpu slot),
-      subst (λ (c : Change). IsRunningTold (tasks_in parents cpu slot (after_event w event).tasks) (is_current_in parents slot c.current) (is_current_stalled c.current)) both.1
-          (current_tells (after_event w event).tasks (runs_once_kept limits w event legal once) parents cpu slot),
-      subst (λ (c : Change). irq_in parents slot c ≡ (if list_any runs (tasks_in parents cpu slot w.tasks) then irq_told cpu event.act else 0)) both.1
+      subst (λ (c : Change). IsRunningKnown (tasks_in parents cpu slot (after_event w event).tasks) (is_current_in parents slot c.current) (is_current_stalled c.current)) both.1
+          (current_shows (after_event w event).tasks (runs_once_kept limits w event legal once) parents cpu slot),
+      subst (λ (c : Change). irq_in parents slot c ≡ (if list_any runs (tasks_in parents cpu slot w.tasks) then irq_time_by cpu event.act else 0)) both.1
           (same_runner w.groups w.tasks event.act once parents cpu slot),
       ap (λ (c : Change). c.account) (sym both.1),
     )
@@ -342,7 +342,7 @@ touches_before w (act.Pressure path on) cpu at = refl
 touches_before w _ cpu at = at
 
 -- a task that comes to a processor, a task that stays there, and a task that leaves
-came_there : (named cpu : ℕ) (o : Option Task) → is_some_and (changed (readied named) o) (is_at cpu) ≡ true → (named == cpu) ≡ true
+came_there : (named cpu : ℕ) (o : Option Task) → is_some_and (changed (prepared_changes named) o) (is_at cpu) ≡ true → (named == cpu) ≡ true
 came_there named cpu None at = cc at
 came_there named cpu (Some t) at = at
 

@@ -89,5 +89,5 @@ SameAfterChange =
     → advanced one at mask ≡ advanced other at mask
 
 -- Clocks with the same words are equal.
-abbrev pub WordsTellClock : Type 0
-WordsTellClock = (one other : ClockView) → words_of one ≡ words_of other → one ≡ other
+abbrev pub WordsShowClock : Type 0
+WordsShowClock = (one other : ClockView) → words_of one ≡ words_of other → one ≡ other

@@ -37,27 +37,27 @@ counts_among tasks =
 -- The states that follow from counts, as in the kernel's test_states, and for a running task in a
 -- stall as in its psi_group_change. `on_cpu` is whether the processor's running task is among the
 -- counted ones (PSI_ONCPU), and `current_stalled` whether the running task is in a memory stall.
-abbrev pub tells : State → Counts → Bool → Bool → Bool
-tells IoSome counts on_cpu current_stalled = nat_lt 0 counts.io
-tells IoFull counts on_cpu current_stalled = nat_lt 0 counts.io && counts.running == 0
-tells MemSome counts on_cpu current_stalled = nat_lt 0 counts.stalled
-tells MemFull counts on_cpu current_stalled =
+abbrev pub shows : State → Counts → Bool → Bool → Bool
+shows IoSome counts on_cpu current_stalled = nat_lt 0 counts.io
+shows IoFull counts on_cpu current_stalled = nat_lt 0 counts.io && counts.running == 0
+shows MemSome counts on_cpu current_stalled = nat_lt 0 counts.stalled
+shows MemFull counts on_cpu current_stalled =
     (nat_lt 0 counts.stalled && counts.running == counts.stalled_running) || (on_cpu && current_stalled)
-tells CpuSome counts on_cpu current_stalled = if on_cpu then nat_lt 1 counts.running else nat_lt 0 counts.running
-tells CpuFull counts on_cpu current_stalled = nat_lt 0 counts.running && not on_cpu
-tells Nonidle counts on_cpu current_stalled = nat_lt 0 counts.io || nat_lt 0 counts.stalled || nat_lt 0 counts.running
+shows CpuSome counts on_cpu current_stalled = if on_cpu then nat_lt 1 counts.running else nat_lt 0 counts.running
+shows CpuFull counts on_cpu current_stalled = nat_lt 0 counts.running && not on_cpu
+shows Nonidle counts on_cpu current_stalled = nat_lt 0 counts.io || nat_lt 0 counts.stalled || nat_lt 0 counts.running
 
 -- At most one of the tasks runs. `on_cpu` is whether one does; if so, `current_stalled` is whether
 -- it is in a memory stall.
-pub record IsRunningTold (tasks : List Task) (on_cpu current_stalled : Bool) : Type 0 where
+pub record IsRunningKnown (tasks : List Task) (on_cpu current_stalled : Bool) : Type 0 where
   pub at_most_one : how_many runs tasks ≤ 1
   pub one_runs : on_cpu ≡ list_any runs tasks
   pub it_is_stalled : (on_cpu && current_stalled) ≡ list_any runs_stalled tasks
 
 -- The states of a list of tasks follow from its counts and its running task.
-abbrev pub CountsTell : Type 0
-CountsTell = (tasks : List Task) (on_cpu current_stalled : Bool) → IsRunningTold tasks on_cpu current_stalled → (state : State) →
-    holds_of state tasks ≡ tells state (counts_among tasks) on_cpu current_stalled
+abbrev pub CountsShow : Type 0
+CountsShow = (tasks : List Task) (on_cpu current_stalled : Bool) → IsRunningKnown tasks on_cpu current_stalled → (state : State) →
+    holds_of state tasks ≡ shows state (counts_among tasks) on_cpu current_stalled
 
 -- ---- masks
 

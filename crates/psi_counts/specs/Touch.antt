@@ -16,13 +16,13 @@ use Rattle.psi_counts.specs.declared.changes.Touch.{Touch}
 use Rattle.psi_spec.specs.declared.machine.GroupLife.{GroupLife}
 use Rattle.psi_spec.specs.Names.{names}
 use Rattle.psi_spec.specs.World.{Effect, forks, switches_account, interrupts, moves, none, readies, stalls, switches, effect_of}
-use Rattle.psi_spec.specs.World.{World, Limits, Tasks, no_tasks, task_of, task_part, running_on, is_running_on, new_task, readied, left_by, slot_of, is_on, tasks_after, after_event, longest_irq}
+use Rattle.psi_spec.specs.World.{World, Limits, Tasks, no_tasks, task_of, task_part, running_on, is_running_on, new_task, prepared_changes, left_by, slot_of, is_on, tasks_after, after_event, longest_irq}
 use Rattle.psi_spec.specs.Refusal.{cause_of}
-use Rattle.psi_spec.specs.Stall.{irq_told, is_under, runs, tasks_in}
+use Rattle.psi_spec.specs.Stall.{irq_time_by, is_under, runs, tasks_in}
 use Rattle.psi_spec.specs.Changes.{before, is_at, touched}
 use Rattle.psi_spec.specs.LegalGroups.{AreGroups}
-use Rattle.psi_spec.specs.Told.{slot_named}
-use Rattle.psi_counts.specs.Counts.{how_many, counts_among, IsRunningTold}
+use Rattle.psi_spec.specs.Collected.{slot_named}
+use Rattle.psi_counts.specs.Counts.{how_many, counts_among, IsRunningKnown}
 
 -- ---- the task whose counts an act changes
 
@@ -40,7 +40,7 @@ left_if how (Some task) = left_by how task
 abbrev pub after_effect : List GroupLife → Tasks → Effect → Option Task
 after_effect groups tasks none = None
 after_effect groups tasks (forks pid path cpu) = Some (new_task groups path cpu.0)
-after_effect groups tasks (readies pid cpu) = changed (readied cpu.0) (task_of tasks pid.0)
+after_effect groups tasks (readies pid cpu) = changed (prepared_changes cpu.0) (task_of tasks pid.0)
 after_effect groups tasks (stalls pid stalled) = changed (λ task. record task { stalled = stalled }) (task_of tasks pid.0)
 after_effect groups tasks (moves pid path) =
     changed (λ task. record task { slot = record { 0 = unwrap_or (slot_of groups path) 0 } }) (task_of tasks pid.0)
@@ -92,7 +92,7 @@ change_on groups event old new tasks cpu = record {
   minus = part cpu old;
   plus = part cpu new;
   current = shown (running_on tasks cpu);
-  irq = irq_told cpu event.act;
+  irq = irq_time_by cpu event.act;
   account = account_of groups event.act;
 }
 
@@ -107,13 +107,13 @@ change_of w event cpu =
 -- ---- touches
 
 -- the change if it is of this processor, otherwise another
-abbrev pub told_first : ℕ → Option (Cpu × Change) → Option Change → Option Change
-told_first cpu None other = other
-told_first cpu (Some touched) other = if touched.0.0 == cpu then Some touched.1 else other
+abbrev pub known_first : ℕ → Option (Cpu × Change) → Option Change → Option Change
+known_first cpu None other = other
+known_first cpu (Some touched) other = if touched.0.0 == cpu then Some touched.1 else other
 
 -- the change of a processor in a touch
-abbrev pub told_of : Touch → ℕ → Option Change
-told_of touch cpu = told_first cpu touch.first (told_first cpu touch.second None)
+abbrev pub change_by_cpu : Touch → ℕ → Option Change
+change_by_cpu touch cpu = known_first cpu touch.first (known_first cpu touch.second None)
 
 -- the change of a processor at `at` (ns) that switches a group's accounting, while this task runs
 abbrev pub account_change : ℕ → Option (Slot × Bool) → Slot × Bool → Change
@@ -125,8 +125,8 @@ account_first at current None other = other
 account_first at current (Some account) other = Some (account_change at current account)
 
 -- the change of a processor by a touch at `at` (ns), if this task runs there afterwards
-abbrev pub change_told : ℕ → Option (Slot × Bool) → Touch → ℕ → Option Change
-change_told at current touch cpu = account_first at current touch.account (told_of touch cpu)
+abbrev pub change_known : ℕ → Option (Slot × Bool) → Touch → ℕ → Option Change
+change_known at current touch cpu = account_first at current touch.account (change_by_cpu touch cpu)
 
 -- a second change exists only if there is a first, on another processor
 abbrev pub IsBeside : Option (Cpu × Change) → Option (Cpu × Change) → Type 0
@@ -137,7 +137,7 @@ IsBeside (Some first) (Some second) = first.0 ≢ second.0
 -- A touch has the event's change for each of `cpus` processors, at most one for each. Its switch of
 -- accounting is the event's. If it has one, it has no other change.
 pub record IsTouch (cpus : ℕ) (w : World) (event : Event) (touch : Touch) : Type 0 where
-  pub told : (cpu : ℕ) → cpu < cpus → change_told event.at (shown (running_on (after_event w event).tasks cpu)) touch cpu
+  pub known : (cpu : ℕ) → cpu < cpus → change_known event.at (shown (running_on (after_event w event).tasks cpu)) touch cpu
       ≡ change_of w event cpu
   pub beside : IsBeside touch.first touch.second
   pub on_with : touch.account ≡ account_of w.groups event.act
@@ -237,24 +237,24 @@ RunsOnceKept =
     (limits : Limits) (w : World) (event : Event) → cause_of limits w event ≡ None → RunsOnce w.tasks → RunsOnce (after_event w event).tasks
 
 -- The running task in a change determines which task runs among those of each group there.
-abbrev pub CurrentTells : Type 0
-CurrentTells = (tasks : Tasks) → RunsOnce tasks → (parents : List (Option ℕ)) (cpu slot : ℕ) →
-    IsRunningTold (tasks_in parents cpu slot tasks) (is_current_in parents slot (shown (running_on tasks cpu)))
+abbrev pub CurrentShows : Type 0
+CurrentShows = (tasks : Tasks) → RunsOnce tasks → (parents : List (Option ℕ)) (cpu slot : ℕ) →
+    IsRunningKnown (tasks_in parents cpu slot tasks) (is_current_in parents slot (shown (running_on tasks cpu)))
     (is_current_stalled (shown (running_on tasks cpu)))
 
 -- A processor's change by a legal event determines everything that sums of times need there. The
 -- counts of each group follow what it subtracts and adds on the chains. It has the task of each
 -- group that runs afterwards. Its interrupt time applies to the groups that have a running task in
 -- the world before the event. Its switch of accounting is the event's.
-abbrev pub ChangeTells : Type 0
-ChangeTells =
+abbrev pub ChangeShows : Type 0
+ChangeShows =
     (limits : Limits) (w : World) (event : Event) → cause_of limits w event ≡ None → RunsOnce w.tasks → (cpu : ℕ) (change : Change)
     → change_of w event cpu ≡ Some change → (parents : List (Option ℕ)) (slot : ℕ) →
     Follows (counts_among (tasks_in parents cpu slot w.tasks)) (on_chain parents slot change.minus)
     (on_chain parents slot change.plus) (counts_among (tasks_in parents cpu slot (after_event w event).tasks))
-    × IsRunningTold (tasks_in parents cpu slot (after_event w event).tasks) (is_current_in parents slot change.current)
+    × IsRunningKnown (tasks_in parents cpu slot (after_event w event).tasks) (is_current_in parents slot change.current)
     (is_current_stalled change.current)
-    × (irq_in parents slot change ≡ (if list_any runs (tasks_in parents cpu slot w.tasks) then irq_told cpu event.act else 0))
+    × (irq_in parents slot change ≡ (if list_any runs (tasks_in parents cpu slot w.tasks) then irq_time_by cpu event.act else 0))
     × (change.account ≡ account_of w.groups event.act)
 
 -- An act touches the processor that it names, and the processor of the task that it changes, both
@@ -272,9 +272,9 @@ StaysUntouched =
     (limits : Limits) (w : World) (event : Event) → cause_of limits w event ≡ None → (cpu : ℕ) → change_of w event cpu ≡ None
     → (parents : List (Option ℕ)) (slot : ℕ) →
     (counts_among (tasks_in parents cpu slot (after_event w event).tasks) ≡ counts_among (tasks_in parents cpu slot w.tasks))
-    × ((on_cpu current_stalled : Bool) → IsRunningTold (tasks_in parents cpu slot w.tasks) on_cpu current_stalled
-    → IsRunningTold (tasks_in parents cpu slot (after_event w event).tasks) on_cpu current_stalled)
-    × (irq_told cpu event.act ≡ 0)
+    × ((on_cpu current_stalled : Bool) → IsRunningKnown (tasks_in parents cpu slot w.tasks) on_cpu current_stalled
+    → IsRunningKnown (tasks_in parents cpu slot (after_event w event).tasks) on_cpu current_stalled)
+    × (irq_time_by cpu event.act ≡ 0)
     × (account_of w.groups event.act ≡ None)
 
 -- The accounting that is on after a legal event follows from the event's switch of accounting.

@@ -1,13 +1,13 @@
 //! Laws of states from counts, of masks and of clocks. Each function has an empty body: its
 //! contract is the law.
 
-ghost use Rattle.psi_counts.specs.Clock.{NoLongerThanClock, SameAfterChange, SameMaskIsNoChange, WordsTellClock};
-ghost use Rattle.psi_counts.specs.Counts.{CountsTell, MasksAreTheirStates};
+ghost use Rattle.psi_counts.specs.Clock.{NoLongerThanClock, SameAfterChange, SameMaskIsNoChange, WordsShowClock};
+ghost use Rattle.psi_counts.specs.Counts.{CountsShow, MasksAreTheirStates};
 
 /// The kernel's rules over counts give the states that are defined over tasks, if at most one of
 /// these runs.
 pub fn law_states_by_counts()
-    ensures { CountsTell }
+    ensures { CountsShow }
 {}
 
 /// Masks that hold the same states are equal.
@@ -29,5 +29,5 @@ pub fn law_same_clocks()
 
 /// Clocks with the same words are equal.
 pub fn law_clock_words()
-    ensures { WordsTellClock }
+    ensures { WordsShowClock }
 {}

@@ -4,7 +4,7 @@ ghost use Rattle.psi_counts.specs.Legal.{CountsAreFew, CountsAreSums, LegalFirst
 /// The first world is legal, and so is each after a legal event.
 pub fn law_legal_worlds()
     ensures first { LegalFirst }
-    ensures kept { LegalKept }
+    ensures unchanged { LegalKept }
 {}
 
 /// In a legal world new groups don't change which tasks count for a group, and no group counts more

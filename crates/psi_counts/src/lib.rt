@@ -19,6 +19,6 @@ pub use clocks::{
 };
 pub use legal::{law_legal_counts, law_legal_worlds};
 pub use touches::{
-    law_accounts, law_change_tells, law_changes_are_within, law_counts_follow, law_current_tells,
+    law_accounts, law_change_shows, law_changes_are_within, law_counts_follow, law_current_shows,
     law_runs_once, law_touched, law_within,
 };

@@ -1,6 +1,6 @@
 //! Laws of the changes of events on processors. Each function has an empty body: its contract is
 //! the law.
-ghost use Rattle.psi_counts.specs.Touch.{ChangeTells, ChangesAreWithin, CountsFollow, CurrentTells, OnByAccount, RunsOnceFirst, RunsOnceKept, StaysUntouched, TouchesItsOwn, WithinFirst, WithinKept};
+ghost use Rattle.psi_counts.specs.Touch.{ChangeShows, ChangesAreWithin, CountsFollow, CurrentShows, OnByAccount, RunsOnceFirst, RunsOnceKept, StaysUntouched, TouchesItsOwn, WithinFirst, WithinKept};
 
 /// A legal event changes the counts of each group on each processor by what its change subtracts
 /// and adds on the chain of the task's slot, just as `psi_group_change` of the kernel's psi.c does
@@ -12,20 +12,20 @@ pub fn law_counts_follow()
 /// At most one task runs on each processor, at the start and after each legal event.
 pub fn law_runs_once()
     ensures first { RunsOnceFirst }
-    ensures kept { RunsOnceKept }
+    ensures unchanged { RunsOnceKept }
 {}
 
 /// The running task of a processor determines which of the tasks that count for a group runs, so
 /// the states follow from counts.
-pub fn law_current_tells()
-    ensures { CurrentTells }
+pub fn law_current_shows()
+    ensures { CurrentShows }
 {}
 
 /// The change of a processor has everything that the times of each group there depend on: how the
 /// counts follow, the running task, the interrupt time, and the group whose accounting was
 /// switched.
-pub fn law_change_tells()
-    ensures { ChangeTells }
+pub fn law_change_shows()
+    ensures { ChangeShows }
 {}
 
 /// A legal event changes no counts and no running task on processors that it doesn't touch, and has
@@ -44,7 +44,7 @@ pub fn law_accounts()
 /// The processors and slots of tasks exist, at the start and after each legal event.
 pub fn law_within()
     ensures first { WithinFirst }
-    ensures kept { WithinKept }
+    ensures unchanged { WithinKept }
 {}
 
 /// The processors and slots of changes exist too. A change subtracts and adds the counts of one

@@ -29,17 +29,17 @@ unfolding parts_at
 count-append [] ys = omega arith
 count-append (byte ∷ xs) ys =
     let whole = count-cons byte (xs ++ ys) in
-    let front = count-cons byte xs in
+    let prefix = count-cons byte xs in
     let rest = count-append xs ys in
-    omega (arith, whole, front, rest)
+    omega (arith, whole, prefix, rest)
 
 -- there is at least one line
 count-some : (bytes : List ℕ) → 1 ≤ line_count bytes
 count-some bytes = let has = first_part 10 bytes in rw has.2 (omega arith)
 
 -- fewer bytes don't have more lines
-pub count-front : (bytes : List ℕ) (n m : ℕ) → n ≤ m → line_count (take n bytes) ≤ line_count (take m bytes)
-count-front bytes n m few =
+pub count-prefix : (bytes : List ℕ) (n m : ℕ) → n ≤ m → line_count (take n bytes) ≤ line_count (take m bytes)
+count-prefix bytes n m few =
     let same = ap line_count (take-take n m bytes few) in
     let seam = count-append (take n (take m bytes)) (drop n (take m bytes)) in
     let whole = ap line_count (take-append-drop n (take m bytes)) in
@@ -68,10 +68,10 @@ lines_stay bytes old new (Err (NoMemory none)) next number = rw (number, next) r
 
 -- if no complete line is buffered, the line with the reader's number is the last that was read, and
 -- is incomplete
-pub lines_read : (bytes : List ℕ) (reader : Reader) → reader.number + line_count (left reader bytes) ≡ 1 + line_count bytes → HasNoNewline reader.held (length reader.held) → line_count (take reader.at bytes) ≡ reader.number
+pub lines_read : (bytes : List ℕ) (reader : Reader) → reader.number + line_count (left reader bytes) ≡ 1 + line_count bytes → HasNoNewline reader.buffered (length reader.buffered) → line_count (take reader.at bytes) ≡ reader.number
 lines_read bytes reader stay none =
-    let seam = count-append reader.held (drop reader.at bytes) in
-    let one = count-none reader.held none in
+    let seam = count-append reader.buffered (drop reader.at bytes) in
+    let one = count-none reader.buffered none in
     let cut = count-append (take reader.at bytes) (drop reader.at bytes) in
     let whole = ap line_count (take-append-drop reader.at bytes) in
     omega (arith, stay, seam, one, cut, whole)

@@ -15,13 +15,13 @@ read_on old chunk bytes at n same =
     append_assoc old (take n chunk) (drop (at + n) bytes) ∙ ap (λ xs. old ++ xs) (ap (λ xs. xs ++ drop (at + n) bytes) same ∙ ap (λ xs. take n (drop at bytes) ++ xs) (sym (drop-drop n at bytes)) ∙ take-append-drop n (drop at bytes))
 
 -- a buffer that begins with these bytes, followed by those that were read
-pub fills : (bytes : List ℕ) (at held n : ℕ) (old new before buffer : List ℕ) → new ≡ take (held + n) buffer → take held buffer ≡ old → held < length buffer
-    → ReadsBytes bytes at n before (drop held buffer) → FillsBytes bytes at old new n
-fills bytes at held n old new before buffer grew front room reads =
-    let same : new ≡ old ++ take n (drop held buffer) = grew ∙ take-add held n buffer ∙ ap (λ xs. xs ++ take n (drop held buffer)) front in
+pub fills : (bytes : List ℕ) (at buffered n : ℕ) (old new before buffer : List ℕ) → new ≡ take (buffered + n) buffer → take buffered buffer ≡ old → buffered < length buffer
+    → ReadsBytes bytes at n before (drop buffered buffer) → FillsBytes bytes at old new n
+fills bytes at buffered n old new before buffer grew prefix room reads =
+    let same : new ≡ old ++ take n (drop buffered buffer) = grew ∙ take-add buffered n buffer ∙ ap (λ xs. xs ++ take n (drop buffered buffer)) prefix in
     record {
-      left = rw same (read_on old (drop held buffer) bytes at n reads.read);
-      end = λ none. drop_of_length-le bytes (reads.end none (omega (arith, length-drop held buffer)));
+      left = rw same (read_on old (drop buffered buffer) bytes at n reads.read);
+      end = λ none. drop_of_length-le bytes (reads.end none (omega (arith, length-drop buffered buffer)));
     }
 
 -- the first bytes that a buffer holds
@@ -37,18 +37,18 @@ skips buffer start end count inside =
     rw more (rw drop-take (rw drop-drop refl))
 
 -- if bytes are buffered, something remains
-pub some_left : (held rest : List ℕ) → 0 < length held → held ++ rest ≡ [] → ⊥
+pub some_left : (buffered rest : List ℕ) → 0 < length buffered → buffered ++ rest ≡ [] → ⊥
 some_left [] rest some none = absurd (omega arith)
-some_left (byte ∷ held) rest some none = cc
+some_left (byte ∷ buffered) rest some none = cc
 
 -- a line found at the start of the buffered bytes is the first of the rest
-pub line_begins : (held rest whole line after : List ℕ) (count : ℕ) → count < length held → count ≤ 512 → slice_index held count ≡ 10 → HasNoNewline held count → held ++ rest ≡ whole
-    → line ≡ take count held → after ≡ drop (count + 1) held → BeginsWithLine whole line (after ++ rest)
-line_begins held rest whole line after count inside short newline none same is goes =
+pub line_begins : (buffered rest whole line after : List ℕ) (count : ℕ) → count < length buffered → count ≤ 512 → slice_index buffered count ≡ 10 → HasNoNewline buffered count → buffered ++ rest ≡ whole
+    → line ≡ take count buffered → after ≡ drop (count + 1) buffered → BeginsWithLine whole line (after ++ rest)
+line_begins buffered rest whole line after count inside short newline none same is goes =
     let long : length line ≡ count = rw is (grind (arith, common_steps, inside)) in
-    let split : held ≡ take count held ++ 10 ∷ drop (count + 1) held = grind (arith, common_steps, newline, inside) in
+    let split : buffered ≡ take count buffered ++ 10 ∷ drop (count + 1) buffered = grind (arith, common_steps, newline, inside) in
     record {
-      whole = sym same ∙ ap (λ xs. xs ++ rest) split ∙ append_assoc (take count held) (10 ∷ drop (count + 1) held) rest ∙ ap (λ xs. xs ++ 10 ∷ (drop (count + 1) held ++ rest)) (sym is) ∙ ap (λ xs. line ++ 10 ∷ (xs ++ rest)) (sym goes);
+      whole = sym same ∙ ap (λ xs. xs ++ rest) split ∙ append_assoc (take count buffered) (10 ∷ drop (count + 1) buffered) rest ∙ ap (λ xs. xs ++ 10 ∷ (drop (count + 1) buffered ++ rest)) (sym is) ∙ ap (λ xs. line ++ 10 ∷ (xs ++ rest)) (sym goes);
       short = omega (arith, long, short);
       one = λ k less. rw is (let below : k < count = omega (arith, less, long) in let other = none k below in grind (arith, common_steps, other, below));
     }

@@ -25,11 +25,11 @@ ends_at name from at before between now zero first then none = reads_then name f
 ends_at name from at before between now (suc n) first then none = absurd (omega (arith, none))
 
 -- reads that advanced, and one more read
-pub reads_on : (held : List ℕ) (at : ℕ) (between : List ℕ) (at_between : ℕ) (now : List ℕ) (at_now n : ℕ) → ReadsOn held at between at_between → take (length between) now ≡ between → length now ≡ length between + n
-    → at_now ≡ at_between + n → ReadsOn held at now at_now
-reads_on held at between at_between now at_now n on front count moved =
-    let longer : length held ≤ length between = grind (arith, common_steps, ap length on.front) in
+pub reads_on : (buffered : List ℕ) (at : ℕ) (between : List ℕ) (at_between : ℕ) (now : List ℕ) (at_now n : ℕ) → ReadsOn buffered at between at_between → take (length between) now ≡ between → length now ≡ length between + n
+    → at_now ≡ at_between + n → ReadsOn buffered at now at_now
+reads_on buffered at between at_between now at_now n on prefix count moved =
+    let longer : length buffered ≤ length between = grind (arith, common_steps, ap length on.prefix) in
     record {
-      front = sym (take-take (length held) (length between) now longer) ∙ ap (take (length held)) front ∙ on.front;
+      prefix = sym (take-take (length buffered) (length between) now longer) ∙ ap (take (length buffered)) prefix ∙ on.prefix;
       place = omega (arith, on.place, count, moved);
     }

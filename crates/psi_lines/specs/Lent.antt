@@ -1,7 +1,7 @@
 -- The result of reading the next line as borrowed bytes.
 use Rattle.std.specs.Prelude.{◌≡◌, ℕ, ◌+◌, ◌≤◌, List, [], OnErr, Option, None, Some, Result, Ok, Err}
 use Rattle.std.specs.Borrow.{Bor}
-use Rattle.outside.specs.Outside.{told, Lacks, Files}
+use Rattle.outside.specs.Outside.{content_of, IsAbsent, Files}
 use Rattle.psi_lines.specs.Lines.{Reader}
 use Rattle.psi_lines.specs.Next.{NextOf, ReadsOn, furthest, number_after}
 use Rattle.psi_lines.specs.declared.lines.Line.{Line}
@@ -15,12 +15,12 @@ lent_line number (Err fault) = Err fault
 
 -- the reader after the borrow ends, with all properties that reading an owned line has; the numbers
 -- are the bytes that the shelf had returned before, and has returned now
-pub record LendsLine (files : Option Files) (given given_now : ℕ) (old new : Reader)
+pub record LendsLine (files : Option Files) (bytes_read read_now : ℕ) (old new : Reader)
     (result : Result (Option (Bor (List ℕ))) LineFault) : Type 0 where
   pub name : new.name ≡ old.name
   pub number : new.number ≡ number_after old.number (lent_line old.number result)
-  pub line : (bytes : List ℕ) → told files old.name ≡ Some bytes → NextOf bytes old new (lent_line old.number result)
-  pub fault : OnErr result (ReadsOn old.held old.at new.held new.at)
-  pub counted : given_now + old.at ≡ given + new.at
+  pub line : (bytes : List ℕ) → content_of files old.name ≡ Some bytes → NextOf bytes old new (lent_line old.number result)
+  pub fault : OnErr result (ReadsOn old.buffered old.at new.buffered new.at)
+  pub counted : read_now + old.at ≡ bytes_read + new.at
   pub place : new.at ≤ furthest old.number
-  pub missing : old.held ≡ [] → Lacks files old.name → (new.held ≡ []) × (new.at ≡ old.at)
+  pub missing : old.buffered ≡ [] → IsAbsent files old.name → (new.buffered ≡ []) × (new.at ≡ old.at)

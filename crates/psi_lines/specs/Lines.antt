@@ -7,12 +7,12 @@ use Rattle.psi_base.specs.Path.{parts_at}
 pub record Reader : Type 0 where
   pub name : List ℕ
   pub number : ℕ
-  pub held : List ℕ
+  pub buffered : List ℕ
   pub at : ℕ
 
 -- the bytes of the file that weren't returned yet
 abbrev pub left : Reader → List ℕ → List ℕ
-left reader bytes = reader.held ++ drop reader.at bytes
+left reader bytes = reader.buffered ++ drop reader.at bytes
 
 -- no newline among the first n bytes
 abbrev pub HasNoNewline : List ℕ → ℕ → Type 0

@@ -17,7 +17,7 @@ NextOf bytes old new (Ok None) = (left old bytes ≡ []) × (left new bytes ≡ 
 NextOf bytes old new (Err (TooLong number)) = IsTooLong (left old bytes) × (number ≡ old.number) × (left new bytes ≡ left old bytes)
 NextOf bytes old new (Err (Cut number)) = IsCut (left old bytes) × (number ≡ old.number) × (left new bytes ≡ left old bytes)
 NextOf bytes old new (Err NoFile) = left new bytes ≡ left old bytes
-NextOf bytes old new (Err ReadFault) = (left new bytes ≡ left old bytes) × HasNoNewline new.held (length new.held)
+NextOf bytes old new (Err ReadFault) = (left new bytes ≡ left old bytes) × HasNoNewline new.buffered (length new.buffered)
 NextOf bytes old new (Err (NoMemory _)) = left new bytes ≡ left old bytes
 
 -- the number of the next line: one more after a line
@@ -85,9 +85,9 @@ IsMissing (Err ReadFault) = ⊤
 IsMissing (Err (NoMemory _)) = ⊤
 
 -- reads advanced by as many bytes as they returned, and appended them to the buffered bytes
-pub record ReadsOn (held : List ℕ) (at : ℕ) (held_now : List ℕ) (at_now : ℕ) : Type 0 where
-  pub front : take (length held) held_now ≡ held
-  pub place : at_now + length held ≡ at + length held_now
+pub record ReadsOn (buffered : List ℕ) (at : ℕ) (held_now : List ℕ) (at_now : ℕ) : Type 0 where
+  pub prefix : take (length buffered) held_now ≡ buffered
+  pub place : at_now + length buffered ≡ at + length held_now
 
 -- the furthest place of a reader at the line with this number: the lines before it have at most 513
 -- bytes each, including their newlines, and at most 66,048 bytes are buffered after them
@@ -96,18 +96,20 @@ furthest number = 513 * (number - 1) + 66048
 
 -- what the buffered bytes begin with: the length of the line with this number, or why there is none
 abbrev pub FindsLine : ℕ → List ℕ → Result (Option ℕ) LineFault → Type 0
-FindsLine number held (Ok (Some count)) = (count < length held) × (count ≤ 512) × (slice_index held count ≡ 10) × HasNoNewline held count
-FindsLine number held (Ok None) = held ≡ []
-FindsLine number held (Err (TooLong n)) = (n ≡ number) × (513 ≤ length held) × HasNoNewline held 513
-FindsLine number held (Err (Cut n)) = (n ≡ number) × (0 < length held) × (length held ≤ 512) × HasNoNewline held (length held)
-FindsLine number held (Err NoFile) = ⊤
-FindsLine number held (Err ReadFault) = HasNoNewline held (length held)
-FindsLine number held (Err (NoMemory _)) = ⊥
+FindsLine number buffered (Ok (Some count)) = (count < length buffered) × (count ≤ 512) × (slice_index buffered count ≡ 10)
+    × HasNoNewline buffered count
+FindsLine number buffered (Ok None) = buffered ≡ []
+FindsLine number buffered (Err (TooLong n)) = (n ≡ number) × (513 ≤ length buffered) × HasNoNewline buffered 513
+FindsLine number buffered (Err (Cut n)) = (n ≡ number) × (0 < length buffered) × (length buffered ≤ 512)
+    × HasNoNewline buffered (length buffered)
+FindsLine number buffered (Err NoFile) = ⊤
+FindsLine number buffered (Err ReadFault) = HasNoNewline buffered (length buffered)
+FindsLine number buffered (Err (NoMemory _)) = ⊥
 
 -- The buffered bytes determine the next line without a read: they contain a newline, or more bytes
 -- than a line and its newline can have.
-abbrev pub TellsLine : List ℕ → Type 0
-TellsLine held = (513 ≤ length held) ⊎ (i : ℕ) × (i < length held) × (slice_index held i ≡ 10)
+abbrev pub ShowsLine : List ℕ → Type 0
+ShowsLine buffered = (513 ≤ length buffered) ⊎ (i : ℕ) × (i < length buffered) × (slice_index buffered i ≡ 10)
 
 -- if there is no line, or the line is cut off, the input is read to its end; nothing is said about
 -- other results

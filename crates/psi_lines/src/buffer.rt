@@ -1,12 +1,12 @@
 //! A buffer of bytes that were read and not returned yet.
 ghost use Rattle.std.specs.Prelude.{◌≡◌, ◌+◌, ◌-◌, ◌<◌, ◌≤◌, ◌⊎◌, [], ℕ, List, length, drop, take, IfOk, OnErr, IsErrOf, Some, None};
-ghost use Rattle.outside.specs.Outside.{told, Lacks, counts_of, given_by};
+ghost use Rattle.outside.specs.Outside.{content_of, IsAbsent, counts_of, count_read};
 ghost use Rattle.outside.specs.Reads.{ReadsFrom};
 ghost use Rattle.outside.specs.Reads.Progress.{Next};
 ghost use Rattle.psi_lines.specs.Next.{CausesFault, FillsBytes, IsReadFault, progress_by_read};
 
 use crate::lines::LineFault;
-use outside::{Shelf, read_behind};
+use outside::{Shelf, read_after};
 use psi_base::NoMemory;
 use std::alloc::Global;
 use std::marker::Model;
@@ -68,8 +68,8 @@ impl Buffer {
 
     /// The buffered bytes.
     #[inline(always)]
-    pub(crate) fn held(&self) -> &[u8]
-        ensures held { result.now ≡ self.now }
+    pub(crate) fn buffered(&self) -> &[u8]
+        ensures buffered { result.now ≡ self.now }
         ensures room { length self.now ≤ ROOM }
     {
         &self.bytes[self.start..self.end]
@@ -97,29 +97,29 @@ impl Buffer {
         at: u64,
     ) -> Result<usize, LineFault>
         requires { length self.old < LINE }
-        ensures kept { S.holds shelf.new ≡ S.holds shelf.old }
+        ensures unchanged { S.holds shelf.new ≡ S.holds shelf.old }
         ensures count { IfOk result (λ n. length self.new ≡ length self.old + n) }
         ensures room { length self.new ≤ ROOM }
-        ensures front { take (length self.old) self.new ≡ self.old }
-        ensures bytes { (bytes : List ℕ) → told (S.holds shelf.old) name.now ≡ Some bytes
+        ensures prefix { take (length self.old) self.new ≡ self.old }
+        ensures bytes { (bytes : List ℕ) → content_of (S.holds shelf.old) name.now ≡ Some bytes
             → IfOk result (FillsBytes bytes at self.old self.new) }
         ensures err { OnErr result (self.new ≡ self.old) }
         ensures cause { CausesFault (counts_of (S.faults shelf.old) (S.absent shelf.old))
             (counts_of (S.faults shelf.new) (S.absent shelf.new)) result }
-        ensures given { S.given shelf.new ≡ S.given shelf.old + given_by result }
+        ensures bytes_read { S.bytes_read shelf.new ≡ S.bytes_read shelf.old + count_read result }
         ensures order { ReadsFrom name.now (Next at) (S.reads shelf.old) (S.reads shelf.new)
             (progress_by_read at result) }
         ensures missed { IsErrOf result LineFault.NoFile
-            → told (S.holds shelf.old) name.now ≡ None }
-        ensures lacking { Lacks (S.holds shelf.old) name.now → IsErrOf result LineFault.NoFile
+            → content_of (S.holds shelf.old) name.now ≡ None }
+        ensures lacking { IsAbsent (S.holds shelf.old) name.now → IsErrOf result LineFault.NoFile
             ⊎ IsErrOf result LineFault.ReadFault }
         ensures faults { IsReadFault result }
     {
-        let held = self.end - self.start;
+        let buffered = self.end - self.start;
         move_to_front(&mut self.bytes, self.start, self.end);
         self.start = 0;
-        self.end = held;
-        let count = read_behind(shelf, name, at, &mut self.bytes, held)?;
+        self.end = buffered;
+        let count = read_after(shelf, name, at, &mut self.bytes, buffered)?;
         self.end += count;
         Ok(count)
     }

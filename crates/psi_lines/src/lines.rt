@@ -1,11 +1,11 @@
 //! The lines of a file, however the shelf's reads split them.
 ghost use Rattle.std.specs.Prelude.{◌≡◌, ◌≢◌, ◌+◌, ◌-◌, ◌*◌, ◌<◌, ◌≤◌, ◌^◌, ◌↔◌, [], ◌++◌, ℕ, List, length, drop, IfOk, OnErr, IsErrOf, IsTrue, MatchOption, slice_index, Ok, Some, None, false};
 ghost use Rattle.psi_base.specs.Memory.{no_memory};
-ghost use Rattle.outside.specs.Outside.{told, Lacks, counts_of};
+ghost use Rattle.outside.specs.Outside.{content_of, IsAbsent, counts_of};
 ghost use Rattle.outside.specs.Reads.{ReadsFrom};
 ghost use Rattle.outside.specs.Reads.Progress.{Next};
 ghost use Rattle.psi_lines.specs.Lines.{HasNoNewline, Reader, left};
-ghost use Rattle.psi_lines.specs.Next.{CausesFault, EndsAt, FindsLine, IsMissing, IsNumbered, IsReadFault, IsShortLine, NextOf, ReadsOn, TellsLine, furthest, number_after, progress_by_end, progress_by_line};
+ghost use Rattle.psi_lines.specs.Next.{CausesFault, EndsAt, FindsLine, IsMissing, IsNumbered, IsReadFault, IsShortLine, NextOf, ReadsOn, ShowsLine, furthest, number_after, progress_by_end, progress_by_line};
 
 use crate::buffer::{Buffer, LINE, ROOM};
 use memchr::memchr;
@@ -74,7 +74,7 @@ pub struct Lines {
     alloc: Global,
     name: String,
     number: u64,
-    held: Buffer,
+    buffered: Buffer,
     at: u64,
 }
 
@@ -85,19 +85,19 @@ impl Model for Lines {
     ghost Value = { Reader };
 
     ghost view = { λ l.
-        record { name = string_bytes l.name; number = l.number; held = l.held; at = l.at } };
+        record { name = string_bytes l.name; number = l.number; buffered = l.buffered; at = l.at } };
 
     ghost invariant = { λ l. (l.number ≤ 2 ^ 32)
-        × (l.at + 513 ≤ 513 * l.number + length l.held) × (length l.held ≤ 66048) };
+        × (l.at + 513 ≤ 513 * l.number + length l.buffered) × (length l.buffered ≤ 66048) };
 }
 
 // The place of the first newline among the bytes that a line and its newline can have.
-fn newline_in(held: &[u8]) -> Option<usize>
-    ensures { MatchOption result ((k : ℕ) → k < length held.now → k < LINE
-        → slice_index held.now k ≢ 10) (λ i. (i < length held.now) × (i < LINE)
-        × (slice_index held.now i ≡ 10) × HasNoNewline held.now i) }
+fn newline_in(buffered: &[u8]) -> Option<usize>
+    ensures { MatchOption result ((k : ℕ) → k < length buffered.now → k < LINE
+        → slice_index buffered.now k ≢ 10) (λ i. (i < length buffered.now) × (i < LINE)
+        × (slice_index buffered.now i ≡ 10) × HasNoNewline buffered.now i) }
 {
-    memchr(b'\n', &held[..held.len().min(LINE)])
+    memchr(b'\n', &buffered[..buffered.len().min(LINE)])
 }
 
 // Reads until the buffered bytes begin with a complete line, the one with this number: returns its
@@ -107,31 +107,32 @@ fn find_line<S: Shelf>(
     name: &str,
     number: u32,
     at: &mut u64,
-    held: &mut Buffer,
+    buffered: &mut Buffer,
 ) -> Result<Option<usize>, LineFault>
     requires room { at.old < 2 ^ 63 }
-    requires short { length held.old ≤ ROOM }
-    ensures kept { S.holds shelf.new ≡ S.holds shelf.old }
-    ensures on { ReadsOn held.old at.old held.new at.new }
-    ensures short { length held.new ≤ ROOM }
-    ensures left { (bytes : List ℕ) → told (S.holds shelf.old) name.now ≡ Some bytes
-        → held.new ++ drop at.new bytes ≡ held.old ++ drop at.old bytes }
-    ensures found { FindsLine number held.new result }
-    ensures end { (bytes : List ℕ) → told (S.holds shelf.old) name.now ≡ Some bytes
+    requires short { length buffered.old ≤ ROOM }
+    ensures unchanged { S.holds shelf.new ≡ S.holds shelf.old }
+    ensures on { ReadsOn buffered.old at.old buffered.new at.new }
+    ensures short { length buffered.new ≤ ROOM }
+    ensures left { (bytes : List ℕ) → content_of (S.holds shelf.old) name.now ≡ Some bytes
+        → buffered.new ++ drop at.new bytes ≡ buffered.old ++ drop at.old bytes }
+    ensures found { FindsLine number buffered.new result }
+    ensures end { (bytes : List ℕ) → content_of (S.holds shelf.old) name.now ≡ Some bytes
         → EndsAt bytes at.new result }
     ensures cause { CausesFault (counts_of (S.faults shelf.old) (S.absent shelf.old))
         (counts_of (S.faults shelf.new) (S.absent shelf.new)) result }
-    ensures given { S.given shelf.new + at.old ≡ S.given shelf.old + at.new }
-    ensures held { TellsLine held.old → shelf.new ≡ shelf.old }
+    ensures bytes_read { S.bytes_read shelf.new + at.old ≡ S.bytes_read shelf.old + at.new }
+    ensures buffered { ShowsLine buffered.old → shelf.new ≡ shelf.old }
     ensures missed { IsErrOf result LineFault.NoFile →
-        told (S.holds shelf.old) name.now ≡ None }
-    ensures missing { held.old ≡ [] → Lacks (S.holds shelf.old) name.now → (held.new ≡ [])
+        content_of (S.holds shelf.old) name.now ≡ None }
+    ensures missing { buffered.old ≡ [] → IsAbsent (S.holds shelf.old) name.now
+        → (buffered.new ≡ [])
         × (at.new ≡ at.old) × IsMissing result }
     ensures order { ReadsFrom name.now (Next at.old) (S.reads shelf.old) (S.reads shelf.new)
         (progress_by_line at.new result) }
 {
     'reads: loop {
-        let line = held.held();
+        let line = buffered.buffered();
         if let Some(i) = newline_in(line) {
             return Ok(Some(i));
         }
@@ -139,7 +140,7 @@ fn find_line<S: Shelf>(
             return Err(LineFault::TooLong(number));
         }
         let is_empty = line.is_empty();
-        let count = held.read_more(shelf, name, *at)?;
+        let count = buffered.read_more(shelf, name, *at)?;
         if count == 0 {
             return if is_empty {
                 Ok(None)
@@ -161,13 +162,13 @@ impl Lines {
     /// everything at the start.
     pub fn new(alloc: Global, name: &str) -> Result<Lines, NoMemory>
         ensures { IfOk result (λ l.
-            l ≡ record { name = name.now; number = 1; held = []; at = 0 }) }
+            l ≡ record { name = name.now; number = 1; buffered = []; at = 0 }) }
     {
         Ok(Lines {
             alloc,
             name: String::from_str(alloc, name)?,
             number: 1,
-            held: Buffer::new(alloc)?,
+            buffered: Buffer::new(alloc)?,
             at: 0,
         })
     }
@@ -176,24 +177,25 @@ impl Lines {
     #[inline(always)]
     fn find<S: Shelf>(&mut self, shelf: &mut S) -> Result<Option<usize>, LineFault>
         requires { self.old.number < 2 ^ 32 }
-        ensures kept { S.holds shelf.new ≡ S.holds shelf.old }
+        ensures unchanged { S.holds shelf.new ≡ S.holds shelf.old }
         ensures name { self.new.name ≡ self.old.name }
         ensures number { self.new.number ≡ self.old.number }
-        ensures on { ReadsOn self.old.held self.old.at self.new.held self.new.at }
-        ensures left { (bytes : List ℕ) → told (S.holds shelf.old) self.old.name ≡ Some bytes
+        ensures on { ReadsOn self.old.buffered self.old.at self.new.buffered self.new.at }
+        ensures left { (bytes : List ℕ) → content_of (S.holds shelf.old) self.old.name ≡ Some bytes
             → left self.new bytes ≡ left self.old bytes }
-        ensures found { FindsLine self.old.number self.new.held result }
-        ensures end { (bytes : List ℕ) → told (S.holds shelf.old) self.old.name ≡ Some bytes
+        ensures found { FindsLine self.old.number self.new.buffered result }
+        ensures end { (bytes : List ℕ) → content_of (S.holds shelf.old) self.old.name ≡ Some bytes
             → EndsAt bytes self.new.at result }
         ensures cause { CausesFault (counts_of (S.faults shelf.old) (S.absent shelf.old))
             (counts_of (S.faults shelf.new) (S.absent shelf.new)) result }
-        ensures given { S.given shelf.new + self.old.at ≡ S.given shelf.old + self.new.at }
+        ensures bytes_read { S.bytes_read shelf.new + self.old.at
+            ≡ S.bytes_read shelf.old + self.new.at }
         ensures place { self.new.at ≤ furthest self.old.number }
-        ensures held { TellsLine self.old.held → shelf.new ≡ shelf.old }
+        ensures buffered { ShowsLine self.old.buffered → shelf.new ≡ shelf.old }
         ensures missed { IsErrOf result LineFault.NoFile
-            → told (S.holds shelf.old) self.old.name ≡ None }
-        ensures missing { self.old.held ≡ [] → Lacks (S.holds shelf.old) self.old.name
-            → (self.new.held ≡ []) × (self.new.at ≡ self.old.at) × IsMissing result }
+            → content_of (S.holds shelf.old) self.old.name ≡ None }
+        ensures missing { self.old.buffered ≡ [] → IsAbsent (S.holds shelf.old) self.old.name
+            → (self.new.buffered ≡ []) × (self.new.at ≡ self.old.at) × IsMissing result }
         ensures order { ReadsFrom self.old.name (Next self.old.at) (S.reads shelf.old)
             (S.reads shelf.new) (progress_by_line self.new.at result) }
     {
@@ -203,7 +205,7 @@ impl Lines {
             self.name.as_str(),
             number,
             &mut self.at,
-            &mut self.held,
+            &mut self.buffered,
         )
     }
 
@@ -220,23 +222,25 @@ impl Lines {
     /// absent name or a fault in this call, and `ReadFault` only if no complete line is buffered.
     pub fn next<S: Shelf>(&mut self, shelf: &mut S) -> Result<Option<Line>, LineFault>
         requires { self.old.number < 2 ^ 32 }
-        ensures kept { S.holds shelf.new ≡ S.holds shelf.old }
+        ensures unchanged { S.holds shelf.new ≡ S.holds shelf.old }
         ensures name { self.new.name ≡ self.old.name }
         ensures number { self.new.number ≡ number_after self.old.number result }
-        ensures line { (bytes : List ℕ) → told (S.holds shelf.old) self.old.name ≡ Some bytes
+        ensures line { (bytes : List ℕ) → content_of (S.holds shelf.old) self.old.name ≡ Some bytes
             → NextOf bytes self.old self.new result }
         ensures numbered { IsNumbered self.old.number result }
         ensures short { IsShortLine result }
-        ensures fault { OnErr result (ReadsOn self.old.held self.old.at self.new.held self.new.at) }
+        ensures fault { OnErr result
+            (ReadsOn self.old.buffered self.old.at self.new.buffered self.new.at) }
         ensures cause { CausesFault (counts_of (S.faults shelf.old) (S.absent shelf.old))
             (counts_of (S.faults shelf.new) (S.absent shelf.new)) result }
-        ensures given { S.given shelf.new + self.old.at ≡ S.given shelf.old + self.new.at }
+        ensures bytes_read { S.bytes_read shelf.new + self.old.at
+            ≡ S.bytes_read shelf.old + self.new.at }
         ensures place { self.new.at ≤ furthest self.old.number }
-        ensures held { TellsLine self.old.held → shelf.new ≡ shelf.old }
+        ensures buffered { ShowsLine self.old.buffered → shelf.new ≡ shelf.old }
         ensures missed { IsErrOf result LineFault.NoFile
-            → told (S.holds shelf.old) self.old.name ≡ None }
-        ensures missing { self.old.held ≡ [] → Lacks (S.holds shelf.old) self.old.name
-            → (self.new.held ≡ []) × (self.new.at ≡ self.old.at) × IsMissing result }
+            → content_of (S.holds shelf.old) self.old.name ≡ None }
+        ensures missing { self.old.buffered ≡ [] → IsAbsent (S.holds shelf.old) self.old.name
+            → (self.new.buffered ≡ []) × (self.new.at ≡ self.old.at) × IsMissing result }
         ensures order { ReadsFrom self.old.name (Next self.old.at) (S.reads shelf.old)
             (S.reads shelf.new) (progress_by_line self.new.at result) }
     {
@@ -244,9 +248,9 @@ impl Lines {
         let Some(count) = self.find(shelf)? else {
             return Ok(None);
         };
-        let bytes = Text::make(self.alloc, &self.held.held()[..count])?;
+        let bytes = Text::make(self.alloc, &self.buffered.buffered()[..count])?;
         self.number += 1;
-        self.held.take_line(count);
+        self.buffered.take_line(count);
         Ok(Some(Line { number, bytes }))
     }
 
@@ -254,28 +258,28 @@ impl Lines {
     /// allocate, so it never returns `NoMemory`.
     pub fn next_bytes<S: Shelf>(&mut self, shelf: &mut S) -> Result<Option<&[u8]>, LineFault>
         requires { self.old.number < 2 ^ 32 }
-        ensures kept { S.holds shelf.new ≡ S.holds shelf.old }
+        ensures unchanged { S.holds shelf.new ≡ S.holds shelf.old }
         ensures* rest { sem 𝓛 (Rests the_row self.entry (λ new. LendsLine (S.holds shelf.old)
-            (S.given shelf.old) (S.given shelf.new) self.old new result)) }
+            (S.bytes_read shelf.old) (S.bytes_read shelf.new) self.old new result)) }
         ensures numbered { IsNumbered self.old.number (lent_line self.old.number result) }
         ensures short { IsShortLine (lent_line self.old.number result) }
         ensures cause { CausesFault (counts_of (S.faults shelf.old) (S.absent shelf.old))
             (counts_of (S.faults shelf.new) (S.absent shelf.new)) result }
-        ensures held { TellsLine self.old.held → shelf.new ≡ shelf.old }
+        ensures buffered { ShowsLine self.old.buffered → shelf.new ≡ shelf.old }
         ensures missed { IsErrOf result LineFault.NoFile
-            → told (S.holds shelf.old) self.old.name ≡ None }
-        ensures missing { self.old.held ≡ [] → Lacks (S.holds shelf.old) self.old.name
+            → content_of (S.holds shelf.old) self.old.name ≡ None }
+        ensures missing { self.old.buffered ≡ [] → IsAbsent (S.holds shelf.old) self.old.name
             → IsMissing result }
         ensures memory { IsErrOf result (LineFault.NoMemory no_memory) → ⊥ }
         ensures order { ReadsFrom self.old.name (Next self.old.at) (S.reads shelf.old)
             (S.reads shelf.new)
-            (progress_by_line (self.old.at + S.given shelf.new - S.given shelf.old) result) }
+            (progress_by_line (self.old.at + S.bytes_read shelf.new - S.bytes_read shelf.old) result) }
     {
         let Some(count) = self.find(shelf)? else {
             return Ok(None);
         };
         self.number += 1;
-        Ok(Some(self.held.take_line(count)))
+        Ok(Some(self.buffered.take_line(count)))
     }
 
     /// The number of the next line, from 1.
@@ -289,10 +293,10 @@ impl Lines {
 
     /// The buffered bytes, which were read and not returned yet. Does not read.
     #[inline(always)]
-    pub fn held(&self) -> &[u8]
-        ensures { result.now ≡ self.now.held }
+    pub fn buffered(&self) -> &[u8]
+        ensures { result.now ≡ self.now.buffered }
     {
-        self.held.held()
+        self.buffered.buffered()
     }
 
     /// Advances past the first line of the buffered bytes, which has this many bytes before its
@@ -300,49 +304,50 @@ impl Lines {
     #[inline(always)]
     pub fn pass(&mut self, count: usize)
         requires number { self.old.number < 2 ^ 32 }
-        requires inside { count < length self.old.held }
+        requires inside { count < length self.old.buffered }
         requires short { count ≤ 512 }
         ensures place { self.new.at ≤ furthest self.old.number }
         ensures rest { self.new ≡ record {
           name = self.old.name;
           number = self.old.number + 1;
-          held = drop (count + 1) self.old.held;
+          buffered = drop (count + 1) self.old.buffered;
           at = self.old.at;
         } }
     {
         self.number += 1;
-        self.held.take_line(count);
+        self.buffered.take_line(count);
     }
 
     /// Whether nothing is left after the lines that were returned. If bytes are buffered, it
     /// doesn't read; otherwise it reads exactly once. No byte is removed.
     pub fn is_at_end<S: Shelf>(&mut self, shelf: &mut S) -> Result<bool, LineFault>
-        ensures kept { S.holds shelf.new ≡ S.holds shelf.old }
+        ensures unchanged { S.holds shelf.new ≡ S.holds shelf.old }
         ensures same { (self.new.name ≡ self.old.name) × (self.new.number ≡ self.old.number) }
-        ensures held { self.old.held ≢ [] → (result ≡ Ok false) × (self.new ≡ self.old)
+        ensures buffered { self.old.buffered ≢ [] → (result ≡ Ok false) × (self.new ≡ self.old)
             × (shelf.new ≡ shelf.old) }
-        ensures end { IfOk result (λ b. IsTrue b ↔ (self.new.held ≡ [])) }
-        ensures left { (bytes : List ℕ) → told (S.holds shelf.old) self.old.name ≡ Some bytes
+        ensures end { IfOk result (λ b. IsTrue b ↔ (self.new.buffered ≡ [])) }
+        ensures left { (bytes : List ℕ) → content_of (S.holds shelf.old) self.old.name ≡ Some bytes
             → (left self.new bytes ≡ left self.old bytes)
             × IfOk result (λ b. IsTrue b ↔ (left self.old bytes ≡ [])) }
-        ensures on { ReadsOn self.old.held self.old.at self.new.held self.new.at }
+        ensures on { ReadsOn self.old.buffered self.old.at self.new.buffered self.new.at }
         ensures faults { IsReadFault result }
-        ensures unread { IsErrOf result LineFault.ReadFault → self.new.held ≡ [] }
+        ensures unread { IsErrOf result LineFault.ReadFault → self.new.buffered ≡ [] }
         ensures cause { CausesFault (counts_of (S.faults shelf.old) (S.absent shelf.old))
             (counts_of (S.faults shelf.new) (S.absent shelf.new)) result }
-        ensures given { S.given shelf.new + self.old.at ≡ S.given shelf.old + self.new.at }
+        ensures bytes_read { S.bytes_read shelf.new + self.old.at
+            ≡ S.bytes_read shelf.old + self.new.at }
         ensures place { self.new.at ≤ furthest self.old.number }
         ensures missed { IsErrOf result LineFault.NoFile
-            → told (S.holds shelf.old) self.old.name ≡ None }
-        ensures missing { self.old.held ≡ [] → Lacks (S.holds shelf.old) self.old.name
-            → (self.new.held ≡ []) × (self.new.at ≡ self.old.at) × IsMissing result }
+            → content_of (S.holds shelf.old) self.old.name ≡ None }
+        ensures missing { self.old.buffered ≡ [] → IsAbsent (S.holds shelf.old) self.old.name
+            → (self.new.buffered ≡ []) × (self.new.at ≡ self.old.at) × IsMissing result }
         ensures order { ReadsFrom self.old.name (Next self.old.at) (S.reads shelf.old)
             (S.reads shelf.new) (progress_by_end self.new.at result) }
     {
-        if !self.held.held().is_empty() {
+        if !self.buffered.buffered().is_empty() {
             return Ok(false);
         }
-        let count = self.held.read_more(shelf, self.name.as_str(), self.at)?;
+        let count = self.buffered.read_more(shelf, self.name.as_str(), self.at)?;
         self.at += count as u64;
         Ok(count == 0)
     }

@@ -1,9 +1,11 @@
 -- The end of the program.
-use Rattle.std.specs.Prelude.{◌≡◌, ◌↔◌, ℕ, List, Option, None, Some}
-use Rattle.std.specs.Io.KnownBytes.{Appends}
-use Rattle.outside.specs.Outside.{AppendsFront, Files, Rose}
+use Rattle.std.specs.Prelude.{◌≡◌, ◌↔◌, ◌+◌, ◌≤◌, ℕ, List, Option, None, Some}
+use Rattle.std.specs.Io.KnownBytes.{Appends, Keeps}
+use Rattle.outside.specs.Outside.{AppendsPrefix, Files, Increased}
+use Rattle.outside.specs.Reads.{ReadCall}
+use Rattle.run_spec.specs.MostRead.{most_of_trace}
 use Rattle.run_spec.specs.Run.{RunCounts}
-use Rattle.observe_spec.specs.Run.{Observes}
+use Rattle.observe_spec.specs.Run.{Observes, ObservesAll, ReadsTraceInOrder, RejectsManySamples, RejectsTrace, StopsObserving}
 use Rattle.observe_spec.specs.Status.{code_of, observe_status_text}
 use Rattle.observe_spec.specs.Words.{Request}
 use Rattle.observe_spec.specs.declared.status.ObserveStatus.{ObserveStatus}
@@ -14,13 +16,43 @@ use Rattle.observe_spec.specs.declared.status.ObserveStatus.TheVariants.{Usage}
 pub record EndsAs (request : Option Request) (status : ObserveStatus) (exit faults_before faults_now : ℕ)
     (old new : Option (List ℕ)) : Type 0 where
   pub code : exit ≡ code_of status
-  pub front : AppendsFront old new (observe_status_text request status)
-  pub whole : (Rose faults_before faults_now → ⊥) → Appends old new (observe_status_text request status)
+  pub prefix : AppendsPrefix old new (observe_status_text request status)
+  pub whole : (Increased faults_before faults_now → ⊥) → Appends old new (observe_status_text request status)
 
--- A status is that of a run of some words: the promises of a run hold for their request, that is
--- for the trace, the counts and the output. The status is Usage exactly if the words aren't a
--- request.
-pub record RanAs (request : Option Request) (ended : ObserveStatus) (files : Option Files) (before now : RunCounts)
+-- The reads of a run: how many bytes were read before it and up to its end, and the logs.
+pub record RunReads : Type 0 where
+  pub bytes : ℕ
+  pub bytes_now : ℕ
+  pub log : List ReadCall
+  pub log_now : List ReadCall
+
+-- the reads of a run, from these
+abbrev pub run_reads : ℕ → ℕ → List ReadCall → List ReadCall → RunReads
+run_reads bytes bytes_now log log_now =
+    record { bytes = bytes; bytes_now = bytes_now; log = log; log_now = log_now }
+
+-- The promises of a run hold for a request, that is for the trace, the counts, the reads and the
+-- output.
+pub record KeepsPromises (request : Request) (ended : ObserveStatus) (files : Option Files) (before now : RunCounts) (reads : RunReads)
     (old new : Option (List ℕ)) : Type 0 where
-  pub runs : (given : Request) → request ≡ Some given → Observes given files before now old new ended
+  pub runs : Observes request files before now old new ended
+  pub complete : ObservesAll request files before now ended
+  pub many : RejectsManySamples request files before now ended
+  pub refuses : RejectsTrace request files before now ended
+  pub reads_few : reads.bytes_now ≤ reads.bytes + most_of_trace
+  pub order : ReadsTraceInOrder request reads.log reads.log_now ended
+  pub stops : StopsObserving request files reads.bytes reads.bytes_now ended
+
+-- Nothing was read, and nothing was written to the output.
+pub record DoesNothing (reads : RunReads) (old new : Option (List ℕ)) : Type 0 where
+  pub bytes : reads.bytes_now ≡ reads.bytes
+  pub log : reads.log_now ≡ reads.log
+  pub keeps : Keeps old new
+
+-- A status is that of a run of some words: the promises of a run hold for their request. The status
+-- is Usage exactly if the words aren't a request; then the run did nothing.
+pub record RanAs (request : Option Request) (ended : ObserveStatus) (files : Option Files) (before now : RunCounts) (reads : RunReads)
+    (old new : Option (List ℕ)) : Type 0 where
+  pub kept : (spelled : Request) → request ≡ Some spelled → KeepsPromises spelled ended files before now reads old new
   pub usage : (ended ≡ Usage) ↔ (request ≡ None)
+  pub idle : request ≡ None → DoesNothing reads old new

@@ -11,7 +11,7 @@ ghost use Rattle.run_spec.specs.Run.{run_counts};
 ghost use Rattle.observe_spec.specs.declared.status.ObserveStatus.{ObserveStatus};
 ghost use Rattle.observe_spec.specs.Status.{code_of};
 ghost use Rattle.observe_spec.specs.Words.{request_of};
-ghost use Rattle.psi_observe_main.specs.End.{EndsAs, RanAs};
+ghost use Rattle.psi_observe_main.specs.End.{DoesNothing, EndsAs, RanAs, run_reads};
 
 use host_files::{HostShelf, HostSink, words_of};
 use observe_core::{ObserveStatus, observe};
@@ -39,8 +39,8 @@ fn end_without_words<N: Sink>(none: NoMemory, note: &mut N) -> ExitCode
     exit_code(ObserveStatus::NoMemory(none))
 }
 
-// Runs the words and ends as the run did: what a run promises about a status, the trace, the output
-// and the counts holds for the status that the exit code and the message report.
+// Runs the words and ends as the run did: what a run promises about a status, the trace, the
+// output, the counts and the reads holds for the status that the exit code and the message report.
 fn end_of<R: Threads + Wait + Sync, S: Shelf, K: Sink, N: Sink>(
     rt: &R,
     alloc: Global,
@@ -49,16 +49,21 @@ fn end_of<R: Threads + Wait + Sync, S: Shelf, K: Sink, N: Sink>(
     out: &mut K,
     note: &mut N,
 ) -> ExitCode
-    ensures words { IfOk words (λ given. (status : ObserveStatus)
-        × EndsAs (request_of (map string_bytes given.items)) status (exit_status result)
+    ensures words { IfOk words (λ bytes_read. (status : ObserveStatus)
+        × EndsAs (request_of (map string_bytes bytes_read.items)) status (exit_status result)
         (N.faults note.old) (N.faults note.new) (N.has note.old) (N.has note.new)
-        × RanAs (request_of (map string_bytes given.items)) status (S.holds shelf.old)
+        × RanAs (request_of (map string_bytes bytes_read.items)) status (S.holds shelf.old)
         (run_counts (S.faults shelf.old) (S.absent shelf.old) (K.faults out.old))
         (run_counts (S.faults shelf.new) (S.absent shelf.new) (K.faults out.new))
+        (run_reads (S.bytes_read shelf.old) (S.bytes_read shelf.new)
+        (S.reads shelf.old) (S.reads shelf.new))
         (K.has out.old) (K.has out.new)) }
     ensures none { OnErr words (EndsAs None (ObserveStatus.NoMemory no_memory)
         (exit_status result)
         (N.faults note.old) (N.faults note.new) (N.has note.old) (N.has note.new)) }
+    ensures idle { OnErr words (DoesNothing
+        (run_reads (S.bytes_read shelf.old) (S.bytes_read shelf.new)
+        (S.reads shelf.old) (S.reads shelf.new)) (K.has out.old) (K.has out.new)) }
 {
     match words {
         Ok(words) => exit_code(observe(rt, alloc, &words, shelf, out, note, &OpenGate)),

@@ -11,7 +11,7 @@ ghost use Rattle.run_spec.specs.Run.{run_counts};
 ghost use Rattle.run_spec.specs.declared.status.Status.{Status};
 ghost use Rattle.run_spec.specs.Words.{command_of};
 ghost use Rattle.run_spec.specs.Status.{code_of};
-ghost use Rattle.psi_oomd_main.specs.End.{EndsAs, RanAs};
+ghost use Rattle.psi_oomd_main.specs.End.{DoesNothing, EndsAs, RanAs, run_reads};
 
 use host_files::{HostShelf, HostSink, words_of};
 use outside::{OpenGate, Shelf, Sink, put_all};
@@ -38,8 +38,8 @@ fn end_without_words<N: Sink>(none: NoMemory, note: &mut N) -> ExitCode
     exit_code(Status::NoMemory(none))
 }
 
-// Runs the words and ends as the run did: what a run promises about a status, the files, the output
-// and the counts holds for the status that the exit code and the message report.
+// Runs the words and ends as the run did: what a run promises about a status, the files, the
+// output, the counts and the reads holds for the status that the exit code and the message report.
 fn end_of<R: Threads + Sync, S: Shelf, K: Sink, N: Sink>(
     rt: &R,
     alloc: Global,
@@ -48,15 +48,20 @@ fn end_of<R: Threads + Sync, S: Shelf, K: Sink, N: Sink>(
     out: &mut K,
     note: &mut N,
 ) -> ExitCode
-    ensures words { IfOk words (λ given. (status : Status)
-        × EndsAs (command_of (map string_bytes given.items)) status (exit_status result)
+    ensures words { IfOk words (λ bytes_read. (status : Status)
+        × EndsAs (command_of (map string_bytes bytes_read.items)) status (exit_status result)
         (N.faults note.old) (N.faults note.new) (N.has note.old) (N.has note.new)
-        × RanAs (command_of (map string_bytes given.items)) status (S.holds shelf.old)
+        × RanAs (command_of (map string_bytes bytes_read.items)) status (S.holds shelf.old)
         (run_counts (S.faults shelf.old) (S.absent shelf.old) (K.faults out.old))
         (run_counts (S.faults shelf.new) (S.absent shelf.new) (K.faults out.new))
+        (run_reads (S.bytes_read shelf.old) (S.bytes_read shelf.new)
+        (S.reads shelf.old) (S.reads shelf.new))
         (K.has out.old) (K.has out.new)) }
     ensures none { OnErr words (EndsAs None (Status.NoMemory no_memory) (exit_status result)
         (N.faults note.old) (N.faults note.new) (N.has note.old) (N.has note.new)) }
+    ensures idle { OnErr words (DoesNothing
+        (run_reads (S.bytes_read shelf.old) (S.bytes_read shelf.new)
+        (S.reads shelf.old) (S.reads shelf.new)) (K.has out.old) (K.has out.new)) }
 {
     match words {
         Ok(words) => exit_code(run(rt, alloc, &words, shelf, out, note, &OpenGate)),

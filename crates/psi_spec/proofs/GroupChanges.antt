@@ -19,17 +19,17 @@ use Rattle.psi_spec.specs.LegalGroups.{AreOlder, HaveParents, AreAbove, IsOneLiv
 use Rattle.psi_spec.specs.Laws.{AreGroupsFirst, AreGroupsKept, ParentsKept, RootIsAbove}
 use Rattle.psi_spec.proofs.RefusalLaws.{is_none, passed}
 use Rattle.psi_spec.proofs.SwitchLaws.{one_live_switched, parents_switched, paths_switched, root_unswitched}
-use Rattle.psi_spec.proofs.GroupLaws.{by_step, first_of_two, found_behind, same_bytes, bytes_itself, found_below, found_path, parents_without, paths_without, one_live_without}
+use Rattle.psi_spec.proofs.GroupLaws.{by_step, first_of_two, found_in_suffix, same_bytes, bytes_itself, found_below, found_path, parents_without, paths_without, one_live_without}
 
 -- ---- a group is created
 
 -- parents with one more group at the end
-pub parents_behind : (groups : List GroupLife) (group : GroupLife) → parents_of (groups ++ group ∷ []) ≡ parents_of groups ++ number_of_slot group.parent ∷ []
-parents_behind groups group = map-append (λ (g : GroupLife). number_of_slot g.parent) groups (group ∷ [])
+pub parents_after : (groups : List GroupLife) (group : GroupLife) → parents_of (groups ++ group ∷ []) ≡ parents_of groups ++ number_of_slot group.parent ∷ []
+parents_after groups group = map-append (λ (g : GroupLife). number_of_slot g.parent) groups (group ∷ [])
 
 -- paths with one more group at the end
-paths_behind : (groups : List GroupLife) (group : GroupLife) → map (λ (g : GroupLife). g.path) (groups ++ group ∷ []) ≡ map (λ (g : GroupLife). g.path) groups ++ group.path ∷ []
-paths_behind groups group = map-append (λ (g : GroupLife). g.path) groups (group ∷ [])
+paths_after : (groups : List GroupLife) (group : GroupLife) → map (λ (g : GroupLife). g.path) (groups ++ group ∷ []) ≡ map (λ (g : GroupLife). g.path) groups ++ group.path ∷ []
+paths_after groups group = map-append (λ (g : GroupLife). g.path) groups (group ∷ [])
 
 -- a number as a slot is the number
 pub slot_number : (o : Option ℕ) → number_of_slot (as_slot o) ≡ o
@@ -46,8 +46,8 @@ newest None parent is slot n same new = absurd (cc is)
 newest (Some p) parent is slot n same new = let equal : p ≡ parent = cc is in omega (arith, equal, same, new)
 
 -- older parents stay older after one more is appended that is older
-older_behind : (parents : List (Option ℕ)) (more : Option ℕ) → AreOlder parents → IfSome more (λ parent. parent < length parents) → AreOlder (parents ++ more ∷ [])
-older_behind parents more older new slot parent is =
+older_after : (parents : List (Option ℕ)) (more : Option ℕ) → AreOlder parents → IfSome more (λ parent. parent < length parents) → AreOlder (parents ++ more ∷ [])
+older_after parents more older new slot parent is =
     let len : length (parents ++ more ∷ []) ≡ length parents + 1 = length-append parents (more ∷ []) in
     ⊎_elim
     (λ before. older slot parent (sym (get_or_append_left parents (more ∷ []) None slot before) ∙ is))
@@ -58,8 +58,8 @@ older_behind parents more older new slot parent is =
     (place (length parents) slot)
 
 -- each slot but the first has a parent, after one more with a parent is appended
-parented_behind : (parents : List (Option ℕ)) (parent : ℕ) → HaveParents parents → HaveParents (parents ++ Some parent ∷ [])
-parented_behind parents parent have slot first room =
+parented_after : (parents : List (Option ℕ)) (parent : ℕ) → HaveParents parents → HaveParents (parents ++ Some parent ∷ [])
+parented_after parents parent have slot first room =
     let len : length (parents ++ Some parent ∷ []) ≡ length parents + 1 = length-append parents (Some parent ∷ []) in
     ⊎_elim
     (λ before. ap is_some (get_or_append_left parents (Some parent ∷ []) None slot before) ∙ have slot first before)
@@ -73,20 +73,20 @@ parented_behind parents parent have slot first room =
 path_before : (groups : List GroupLife) (group : GroupLife) (slot : ℕ) → slot < length groups → path_at (groups ++ group ∷ []) slot ≡ path_at groups slot
 path_before groups group slot room =
     let len : length (map (λ (g : GroupLife). g.path) groups) ≡ length groups = length-map groups (λ (g : GroupLife). g.path) in
-    ap (λ paths. slice_index_or paths slot []) (paths_behind groups group) ∙ get_or_append_left (map (λ (g : GroupLife). g.path) groups) (group.path ∷ []) [] slot (omega (arith, len, room))
+    ap (λ paths. slice_index_or paths slot []) (paths_after groups group) ∙ get_or_append_left (map (λ (g : GroupLife). g.path) groups) (group.path ∷ []) [] slot (omega (arith, len, room))
 
 -- the path at the end
-path_behind : (groups : List GroupLife) (group : GroupLife) (slot : ℕ) → slot ≡ length groups → path_at (groups ++ group ∷ []) slot ≡ group.path
-path_behind groups group slot same =
+path_after : (groups : List GroupLife) (group : GroupLife) (slot : ℕ) → slot ≡ length groups → path_at (groups ++ group ∷ []) slot ≡ group.path
+path_after groups group slot same =
     let len : length (map (λ (g : GroupLife). g.path) groups) ≡ length groups = length-map groups (λ (g : GroupLife). g.path) in
-    ap (λ paths. slice_index_or paths slot []) (paths_behind groups group) ∙ get_or_push (map (λ (g : GroupLife). g.path) groups) group.path [] slot (len ∙ sym same)
+    ap (λ paths. slice_index_or paths slot []) (paths_after groups group) ∙ get_or_push (map (λ (g : GroupLife). g.path) groups) group.path [] slot (len ∙ sym same)
 
 -- parents still match the paths after a group is appended whose parent has the path above
-above_behind : (groups : List GroupLife) (group : GroupLife) (parent : ℕ) → AreOlder (parents_of groups) → AreAbove groups → number_of_slot group.parent ≡ Some parent → parent < length groups → path_at groups parent ≡ parent_path group.path → AreAbove (groups ++ group ∷ [])
-above_behind groups group parent older above child room path slot high is =
+above_after : (groups : List GroupLife) (group : GroupLife) (parent : ℕ) → AreOlder (parents_of groups) → AreAbove groups → number_of_slot group.parent ≡ Some parent → parent < length groups → path_at groups parent ≡ parent_path group.path → AreAbove (groups ++ group ∷ [])
+above_after groups group parent older above child room path slot high is =
     let len : length (parents_of groups) ≡ length groups = length-map groups (λ (g : GroupLife). number_of_slot g.parent) in
     let all : length (parents_of groups ++ number_of_slot group.parent ∷ []) ≡ length groups + 1 = length-append (parents_of groups) (number_of_slot group.parent ∷ []) ∙ ap (λ n. n + 1) len in
-    let here : slice_index_or (parents_of groups ++ number_of_slot group.parent ∷ []) slot None ≡ Some high = ap (λ parents. slice_index_or parents slot None) (sym (parents_behind groups group)) ∙ is in
+    let here : slice_index_or (parents_of groups ++ number_of_slot group.parent ∷ []) slot None ≡ Some high = ap (λ parents. slice_index_or parents slot None) (sym (parents_after groups group)) ∙ is in
     ⊎_elim
     (λ before.
     let in_list : slot < length (parents_of groups) = omega (arith, len, before) in
@@ -97,7 +97,7 @@ above_behind groups group parent older above child room path slot high is =
     (λ same.
     let parents : Some parent ≡ Some high = sym child ∙ sym (get_or_push (parents_of groups) (number_of_slot group.parent) None slot (len ∙ sym same)) ∙ here in
     let equal : parent ≡ high = cc parents in
-    path_before groups group high (omega (arith, equal, room)) ∙ ap (path_at groups) (sym equal) ∙ path ∙ ap parent_path (sym (path_behind groups group slot same)))
+    path_before groups group high (omega (arith, equal, room)) ∙ ap (path_at groups) (sym equal) ∙ path ∙ ap parent_path (sym (path_after groups group slot same)))
     (λ past. absurd (cc (sym (get_or_past (parents_of groups ++ number_of_slot group.parent ∷ []) slot None (omega (arith, all, past))) ∙ here)))
     or)
     (place (length groups) slot)
@@ -109,29 +109,29 @@ got_before (first ∷ groups) group zero room = refl
 got_before (first ∷ groups) group (suc slot) room = got_before groups group slot (omega (arith, room))
 
 -- the element at the end
-pub got_behind : (groups : List GroupLife) (group : GroupLife) (slot : ℕ) → slot ≡ length groups → slice_get (groups ++ group ∷ []) slot ≡ Some group
-got_behind [] group zero same = refl
-got_behind [] group (suc slot) same = absurd (omega (arith, same))
-got_behind (first ∷ groups) group zero same = absurd (omega (arith, same))
-got_behind (first ∷ groups) group (suc slot) same = got_behind groups group slot (omega (arith, same))
+pub got_after : (groups : List GroupLife) (group : GroupLife) (slot : ℕ) → slot ≡ length groups → slice_get (groups ++ group ∷ []) slot ≡ Some group
+got_after [] group zero same = refl
+got_after [] group (suc slot) same = absurd (omega (arith, same))
+got_after (first ∷ groups) group zero same = absurd (omega (arith, same))
+got_after (first ∷ groups) group (suc slot) same = got_after groups group slot (omega (arith, same))
 
 -- each live group is found after one more is appended whose path no live one had
-one_live_behind : (groups : List GroupLife) (group : GroupLife) → IsOneLive groups → is_live group ≡ true → slot_of groups group.path ≡ None → IsOneLive (groups ++ group ∷ [])
-one_live_behind groups group one live new slot other is alive =
+one_live_after : (groups : List GroupLife) (group : GroupLife) → IsOneLive groups → is_live group ≡ true → slot_of groups group.path ≡ None → IsOneLive (groups ++ group ∷ [])
+one_live_after groups group one live new slot other is alive =
     let len : length (groups ++ group ∷ []) ≡ length groups + 1 = length-append groups (group ∷ []) in
-    let found = found_behind 0 groups group other.path in
+    let found = found_in_suffix 0 groups group other.path in
     ⊎_elim
     (λ before.
     let was = one slot other (sym (got_before groups group slot before) ∙ is) alive in
     found ∙ ap (λ o. first_of_two o (if is_live group && bytes_eq group.path other.path then Some (0 + length groups) else None)) was)
     (λ or. ⊎_elim
     (λ same.
-    let it : Some group ≡ Some other = sym (got_behind groups group slot same) ∙ is in
+    let it : Some group ≡ Some other = sym (got_after groups group slot same) ∙ is in
     let equal : group ≡ other = cc it in
     let test : (is_live group && bytes_eq group.path group.path) ≡ true = rw live (bytes_itself group.path) in
     let number : 0 + length groups ≡ slot = omega (arith, same) in
     let goal : slot_of (groups ++ group ∷ []) group.path ≡ Some slot =
-    found_behind 0 groups group group.path
+    found_in_suffix 0 groups group group.path
     ∙ ap (λ o. first_of_two o (if is_live group && bytes_eq group.path group.path then Some (0 + length groups) else None)) new
     ∙ ap (λ b. if b then Some (0 + length groups) else None) test
     ∙ ap Some number in
@@ -156,14 +156,14 @@ groups_made groups path at parent few new over are =
     let count : length (parents_of groups) ≡ length groups = length-map groups (λ (g : GroupLife). number_of_slot g.parent) in
     let is : number_of_slot group.parent ≡ Some parent = slot_number (slot_of groups (parent_path path)) ∙ over in
     let room : parent < length groups = let below = found_below 0 groups (parent_path path) parent over in omega (arith, below.1) in
-    let parents : parents_of (groups ++ group ∷ []) ≡ parents_of groups ++ Some parent ∷ [] = parents_behind groups group ∙ ap (λ o. parents_of groups ++ o ∷ []) is in
+    let parents : parents_of (groups ++ group ∷ []) ≡ parents_of groups ++ Some parent ∷ [] = parents_after groups group ∙ ap (λ o. parents_of groups ++ o ∷ []) is in
     record {
       few = omega (arith, len, few);
       rooted = take-append-le 1 groups (group ∷ []) (omega (arith, some)) ∙ are.rooted;
-      older = subst AreOlder (sym parents) (older_behind (parents_of groups) (Some parent) are.older (omega (arith, count, room)));
-      parented = subst HaveParents (sym parents) (parented_behind (parents_of groups) parent are.parented);
-      above = above_behind groups group parent are.older are.above is room (found_path 0 groups (parent_path path) parent parent over (omega arith));
-      one_live = one_live_behind groups group are.one_live refl new;
+      older = subst AreOlder (sym parents) (older_after (parents_of groups) (Some parent) are.older (omega (arith, count, room)));
+      parented = subst HaveParents (sym parents) (parented_after (parents_of groups) parent are.parented);
+      above = above_after groups group parent are.older are.above is room (found_path 0 groups (parent_path path) parent parent over (omega arith));
+      one_live = one_live_after groups group are.one_live refl new;
     }
 
 -- the root doesn't change if another group is removed
@@ -270,15 +270,15 @@ groups_kept limits w event legal are = groups_act limits w event.at event.act le
 -- ---- parents
 
 -- nothing follows
-nothing_behind : (parents : List (Option ℕ)) → parents ≡ parents ++ []
-nothing_behind parents = sym (append-nil parents)
+nothing_after : (parents : List (Option ℕ)) → parents ≡ parents ++ []
+nothing_after parents = sym (append-nil parents)
 
 -- an act adds the parent of a new group
 parents_act : (at : ℕ) (groups : List GroupLife) (a : Act) → parents_of (groups_after at groups a) ≡ parents_of groups ++ new_parents groups a
-parents_act at groups (act.Group path) = parents_behind groups (new_group groups path at) ∙ ap (λ o. parents_of groups ++ o ∷ []) (slot_number (slot_of groups (parent_path path)))
-parents_act at groups (act.Remove path) = parents_without path at groups ∙ nothing_behind (parents_of groups)
-parents_act at groups (act.Pressure path on) = parents_switched path on groups ∙ nothing_behind (parents_of groups)
-parents_act at groups _ = nothing_behind (parents_of groups)
+parents_act at groups (act.Group path) = parents_after groups (new_group groups path at) ∙ ap (λ o. parents_of groups ++ o ∷ []) (slot_number (slot_of groups (parent_path path)))
+parents_act at groups (act.Remove path) = parents_without path at groups ∙ nothing_after (parents_of groups)
+parents_act at groups (act.Pressure path on) = parents_switched path on groups ∙ nothing_after (parents_of groups)
+parents_act at groups _ = nothing_after (parents_of groups)
 
 pub parents_kept : ParentsKept
 parents_kept w event = parents_act event.at w.groups event.act

@@ -108,13 +108,13 @@ first_of_two None other = other
 first_of_two (Some slot) other = Some slot
 
 -- after a group is appended, a search finds what it found, or that group
-pub found_behind : (from : ℕ) (groups : List GroupLife) (group : GroupLife) (path : List ℕ) → slot_from from (groups ++ group ∷ []) path ≡ first_of_two (slot_from from groups path) (if is_live group && bytes_eq group.path path then Some (from + length groups) else None)
-found_behind from [] group path = let same : from ≡ from + 0 = omega arith in ap (λ n. if is_live group && bytes_eq group.path path then Some n else None) same
-found_behind from (first ∷ groups) group path =
+pub found_in_suffix : (from : ℕ) (groups : List GroupLife) (group : GroupLife) (path : List ℕ) → slot_from from (groups ++ group ∷ []) path ≡ first_of_two (slot_from from groups path) (if is_live group && bytes_eq group.path path then Some (from + length groups) else None)
+found_in_suffix from [] group path = let same : from ≡ from + 0 = omega arith in ap (λ n. if is_live group && bytes_eq group.path path then Some n else None) same
+found_in_suffix from (first ∷ groups) group path =
     let same : from + 1 + length groups ≡ from + length (first ∷ groups) = omega arith in
     elim (is_live first && bytes_eq first.path path) as (λ b. (if b then Some from else slot_from (from + 1) (groups ++ group ∷ []) path) ≡ first_of_two (if b then Some from else slot_from (from + 1) groups path) (if is_live group && bytes_eq group.path path then Some (from + length (first ∷ groups)) else None)) [
       | true ↦ refl
-      | false ↦ found_behind (from + 1) groups group path ∙ ap (λ n. first_of_two (slot_from (from + 1) groups path) (if is_live group && bytes_eq group.path path then Some n else None)) same
+      | false ↦ found_in_suffix (from + 1) groups group path ∙ ap (λ n. first_of_two (slot_from (from + 1) groups path) (if is_live group && bytes_eq group.path path then Some n else None)) same
     ]
 
 -- texts that are equal by the test

@@ -24,7 +24,7 @@ passed test (first ∷ causes) (suc at) why none is =
     ] none
 
 -- causes that don't apply to a legal event
-pub record NoneStands (limits : Limits) (w : World) (event : Event) : Type 0 where
+pub record NoneIn (limits : Limits) (w : World) (event : Event) : Type 0 where
   pub unknown_group : applies cause.UnknownGroup limits w event ≡ false
   pub unknown_task : applies cause.UnknownTask limits w event ≡ false
   pub task_exists : applies cause.TaskExists limits w event ≡ false
@@ -33,9 +33,9 @@ pub record NoneStands (limits : Limits) (w : World) (event : Event) : Type 0 whe
   pub wrong_how : applies cause.WrongHow limits w event ≡ false
 
 -- no cause applies to a legal event
-pub none_stands : (limits : Limits) (w : World) (event : Event) → cause_of limits w event ≡ None → NoneStands limits w event
+pub none_found_in : (limits : Limits) (w : World) (event : Event) → cause_of limits w event ≡ None → NoneIn limits w event
 unfolding cause_of
-none_stands limits w event legal =
+none_found_in limits w event legal =
     let off : (at : ℕ) (why : Cause) → slice_get cause_order at ≡ Some why → applies why limits w event ≡ false = λ at why is. passed (λ why. applies why limits w event) cause_order at why legal is in
     record {
       unknown_group = off 8 cause.UnknownGroup refl;

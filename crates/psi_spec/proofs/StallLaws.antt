@@ -54,11 +54,11 @@ moment_past events event at =
 -- what an event added to the sum isn't changed by a later one
 stall_kept : (state : State) (cpu slot : ℕ) (events : List Event) (event : Event) (at i : ℕ) → 1 ≤ i → i < 1 + length events → stall_after state cpu slot (events ++ event ∷ []) at i ≡ stall_after state cpu slot events event.at i
 stall_kept state cpu slot events event at i low high =
-    let front : take i (events ++ event ∷ []) ≡ take i events = take-append-le i events (event ∷ []) (omega (arith, high)) in
+    let prefix : take i (events ++ event ∷ []) ≡ take i events = take-append-le i events (event ∷ []) (omega (arith, high)) in
     let next : (i + 1) - 1 ≡ i = omega arith in
     let later : moment_of (events ++ event ∷ []) at (i + 1) ≡ moment_of events event.at (i + 1) = rw next (moment_kept events event at i (omega (arith, high))) in
     let now : moment_of (events ++ event ∷ []) at i ≡ moment_of events event.at i = moment_kept events event at (i - 1) (omega (arith, low, high)) in
-    rw (front, later, now) refl
+    rw (prefix, later, now) refl
 
 -- the last event's part of the sum
 stall_last : (state : State) (cpu slot : ℕ) (events : List Event) (event : Event) (at : ℕ) → stall_after state cpu slot (events ++ event ∷ []) at (1 + length events) ≡ (if holds state cpu slot (after (events ++ event ∷ [])) then at - event.at else 0)
@@ -88,9 +88,9 @@ with_time state cpu slot events event at later from to =
 -- what an event added to the sum isn't changed by a later one
 irq_kept : (cpu slot : ℕ) (events : List Event) (event : Event) (i : ℕ) → 1 ≤ i → i < 1 + length events → irq_by cpu slot (events ++ event ∷ []) i ≡ irq_by cpu slot events i
 irq_kept cpu slot events event i low high =
-    let front : take (i - 1) (events ++ event ∷ []) ≡ take (i - 1) events = take-append-le (i - 1) events (event ∷ []) (omega (arith, high)) in
+    let prefix : take (i - 1) (events ++ event ∷ []) ≡ take (i - 1) events = take-append-le (i - 1) events (event ∷ []) (omega (arith, high)) in
     let here : slice_get (events ++ event ∷ []) (i - 1) ≡ slice_get events (i - 1) = get_left events (event ∷ []) (i - 1) (omega (arith, low, high)) in
-    rw (front, here) refl
+    rw (prefix, here) refl
 
 -- the last event's part of the sum
 irq_last : (cpu slot : ℕ) (events : List Event) (event : Event) → irq_by cpu slot (events ++ event ∷ []) (1 + length events) ≡ irq_from cpu slot (after events) (Some event)

@@ -89,13 +89,13 @@ IsAmong x [] = ⊥
 IsAmong x (y ∷ ys) = (x ≡ y) ⊎ IsAmong x ys
 
 -- the number if it is in the range, or None
-abbrev pub kept : (ℕ → Bool) → Option ℕ → Option ℕ
-kept holds None = None
-kept holds (Some n) = if holds n then Some n else None
+abbrev pub accepted_if : (ℕ → Bool) → Option ℕ → Option ℕ
+accepted_if holds None = None
+accepted_if holds (Some n) = if holds n then Some n else None
 
 -- the number that a word spells, if it is in the range
 abbrev pub number_in : (ℕ → Bool) → List ℕ → Option ℕ
-number_in holds text = kept holds (number_of text)
+number_in holds text = accepted_if holds (number_of text)
 
 -- 0 means no task
 abbrev pub task_or_none : ℕ → Option Pid

@@ -89,7 +89,7 @@ NoNewline bytes = (k : ℕ) → k < length bytes → slice_index bytes k ≢ 10
 
 -- The input at the start of a line: a line with its newline, or a rest without one.
 abbrev pub IsFirstLine : List ℕ → List ℕ → Type 0
-IsFirstLine rest line = NoNewline line × ((behind : List ℕ) × (rest ≡ line ++ 10 ∷ behind))
+IsFirstLine rest line = NoNewline line × ((suffix : List ℕ) × (rest ≡ line ++ 10 ∷ suffix))
 
 abbrev pub IsRest : List ℕ → Type 0
 IsRest rest = NoNewline rest
@@ -109,16 +109,16 @@ IsFirstLineCause versions rest why =
 pub record IsRefusedLater (accepts : Accepts) (bytes : List ℕ) (line : ℕ) (why : Cause) : Type 0 where
   pub version : Version
   pub cpus : ℕ
-  pub front : List Event
+  pub prefix : List Event
   pub rest : List ℕ
-  pub bytes_are : bytes ≡ text_of (record { version = version; cpus = cpus; events = front }) ++ rest
+  pub bytes_are : bytes ≡ text_of (record { version = version; cpus = cpus; events = prefix }) ++ rest
   pub version_is : IsAmong version accepts.versions
   pub counted : IsCpuCount cpus
-  pub fit : AllFit front
-  pub known : AreKnown (accepts.verbs version) front
-  pub legal : AreLegal (limits_of accepts.tick cpus) first_world front
-  pub line_is : line ≡ length front + 2
-  pub has : IsLineCause (accepts.verbs version) (limits_of accepts.tick cpus) (after front) rest why
+  pub fit : AllFit prefix
+  pub known : AreKnown (accepts.verbs version) prefix
+  pub legal : AreLegal (limits_of accepts.tick cpus) first_world prefix
+  pub line_is : line ≡ length prefix + 2
+  pub has : IsLineCause (accepts.verbs version) (limits_of accepts.tick cpus) (after prefix) rest why
 
 -- what it means that bytes are rejected at a line, without referring to a parser
 abbrev pub IsRefused : Accepts → List ℕ → ℕ → Cause → Type 0

@@ -10,6 +10,6 @@ pub mod Stall
 pub mod Changes
 pub mod Trace
 pub mod Within
-pub mod Told
+pub mod Collected
 pub mod LineLaws
 pub mod Laws

@@ -111,15 +111,15 @@ unfoldable pub has_running : ℕ → ℕ → World → Bool
 has_running cpu slot w = list_any runs (tasks_in (parents_of w.groups) cpu slot w.tasks)
 
 -- the time (ns) that interrupts took on a processor, by an act
-abbrev pub irq_told : ℕ → Act → ℕ
-irq_told cpu (act.Irq named ns) = if named.0 == cpu then ns else 0
-irq_told cpu _ = 0
+abbrev pub irq_time_by : ℕ → Act → ℕ
+irq_time_by cpu (act.Irq named ns) = if named.0 == cpu then ns else 0
+irq_time_by cpu _ = 0
 
 -- the time (ns) that interrupts took from a group on a processor, by an event (None adds nothing)
 -- in a world: the event's time if the group's accounting is on and a task of it is running there
 abbrev pub irq_from : ℕ → ℕ → World → Option Event → ℕ
 irq_from cpu slot w None = 0
-irq_from cpu slot w (Some event) = if is_on w.groups slot && has_running cpu slot w then irq_told cpu event.act else 0
+irq_from cpu slot w (Some event) = if is_on w.groups slot && has_running cpu slot w then irq_time_by cpu event.act else 0
 
 -- the time (ns) that interrupts took from a group on a processor, by the event with this number
 -- (from 1) in the world before it

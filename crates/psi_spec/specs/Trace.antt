@@ -43,7 +43,7 @@ AllFit (event ∷ events) = Fits event × AllFit events
 
 -- the last event is the end
 abbrev pub EndsLast : List Event → Type 0
-EndsLast events = (front : List Event) × (at : ℕ) × (events ≡ front ++ record { at = at; act = act.End } ∷ [])
+EndsLast events = (prefix : List Event) × (at : ℕ) × (events ≡ prefix ++ record { at = at; act = act.End } ∷ [])
 
 -- Events make up a trace within limits: each has a spelling, each is legal in its turn, and the
 -- last one is `end`.
@@ -120,8 +120,8 @@ at_end line (Some why) = Err (refused line why)
 
 -- an event followed by the later ones
 abbrev pub followed : List Event → Result (List Event) Refusal → Result (List Event) Refusal
-followed front (Ok events) = Ok (front ++ events)
-followed front (Err refusal) = Err refusal
+followed prefix (Ok events) = Ok (prefix ++ events)
+followed prefix (Err refusal) = Err refusal
 
 -- a refusal at a line, or the event and what follows it
 abbrev pub or_refused : {A : Type 0} → ℕ → Result A Cause → (A → Result (List Event) Refusal) → Result (List Event) Refusal

@@ -217,8 +217,8 @@ new_task groups path cpu =
     record { slot = record { 0 = unwrap_or (slot_of groups path) 0 }; cpu = record { 0 = cpu }; mode = Ready; stalled = false }
 
 -- a task that is put on the run queue of a processor; its memory stall continues
-abbrev pub readied : ℕ → Task → Task
-readied cpu task = record task { mode = Ready; cpu = record { 0 = cpu } }
+abbrev pub prepared_changes : ℕ → Task → Task
+prepared_changes cpu task = record task { mode = Ready; cpu = record { 0 = cpu } }
 
 -- the running task after it left its processor, or None if it exited
 abbrev pub left_by : How → Task → Option Task
@@ -280,7 +280,7 @@ effect_of act.End = none
 abbrev pub tasks_by_effect : List GroupLife → Tasks → Effect → Tasks
 tasks_by_effect groups tasks none = tasks
 tasks_by_effect groups tasks (forks pid path cpu) = put tasks pid.0 (new_task groups path cpu.0)
-tasks_by_effect groups tasks (readies pid cpu) = change tasks pid.0 (readied cpu.0)
+tasks_by_effect groups tasks (readies pid cpu) = change tasks pid.0 (prepared_changes cpu.0)
 tasks_by_effect groups tasks (stalls pid stalled) = change tasks pid.0 (λ task. record task { stalled = stalled })
 tasks_by_effect groups tasks (moves pid path) =
     change tasks pid.0 (λ task. record task { slot = record { 0 = unwrap_or (slot_of groups path) 0 } })

@@ -6,7 +6,7 @@ ghost use Rattle.psi_spec.specs.Laws.{AncestorsAreOlder, AreGroupsFirst, AreGrou
 /// groups have the same path.
 pub fn law_legal_groups()
     ensures first { AreGroupsFirst }
-    ensures kept { AreGroupsKept }
+    ensures unchanged { AreGroupsKept }
 {}
 
 /// Parents never change, and new groups don't change the ancestors of earlier groups.

@@ -5,8 +5,9 @@
 //! (what an act names), `World` (tasks and groups, and what an event does to them), `Refusal`
 //! (which events are legal, and the first cause against others), `Groups`, `Stall` (when a group
 //! is in a state, and for how long; how much time interrupts took from it), `Changes` (which
-//! events change a processor), `Told` (the triggers that a trace sets), `Trace` (which bytes are a
-//! trace). Laws about these are in `LineLaws` (the grammar) and `Laws` (groups, times and traces).
+//! events change a processor), `Collected` (the triggers that a trace sets), `Trace` (which bytes
+//! are a trace). Laws about these are in `LineLaws` (the grammar) and `Laws` (groups, times and
+//! traces).
 #![tactic(auto)]
 
 mod groups;

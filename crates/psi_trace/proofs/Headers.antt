@@ -43,21 +43,21 @@ header_short n fits = rw (header-prefix n) (let short = decimal_short n fits in 
 -- ---- prefixes
 
 -- a line with a prefix
-pub with_front : (line front rest known : List ℕ) → front ≡ known → bytes_eq (take (length front) line) front ≡ true → rest ≡ drop (length front) line → line ≡ known ++ rest
-with_front line front rest known same starts is =
-    sym (take-append-drop (length front) line) ∙ ap (λ bytes. bytes ++ drop (length front) line) ((bytes_eq-Decides (take (length front) line) front).0 starts) ∙ ap (λ bytes. front ++ bytes) (sym is) ∙ ap (λ bytes. bytes ++ rest) same
+pub with_prefix : (line prefix rest known : List ℕ) → prefix ≡ known → bytes_eq (take (length prefix) line) prefix ≡ true → rest ≡ drop (length prefix) line → line ≡ known ++ rest
+with_prefix line prefix rest known same starts is =
+    sym (take-append-drop (length prefix) line) ∙ ap (λ bytes. bytes ++ drop (length prefix) line) ((bytes_eq-Decides (take (length prefix) line) prefix).0 starts) ∙ ap (λ bytes. prefix ++ bytes) (sym is) ∙ ap (λ bytes. bytes ++ rest) same
 
 -- a line without it
-without_front : (line front known rest : List ℕ) → front ≡ known → bytes_eq (take (length front) line) front ≡ false → line ≢ known ++ rest
-without_front line front known rest same other is =
-    let starts : take (length front) line ≡ front = ap (take (length front)) is ∙ ap (λ bytes. take (length bytes) (known ++ rest)) same ∙ take-append_seam known rest ∙ sym same in
-    let equal = (bytes_eq-Decides (take (length front) line) front).1 starts in cc
+without_prefix : (line prefix known rest : List ℕ) → prefix ≡ known → bytes_eq (take (length prefix) line) prefix ≡ false → line ≢ known ++ rest
+without_prefix line prefix known rest same other is =
+    let starts : take (length prefix) line ≡ prefix = ap (take (length prefix)) is ∙ ap (λ bytes. take (length bytes) (known ++ rest)) same ∙ take-append_seam known rest ∙ sym same in
+    let equal = (bytes_eq-Decides (take (length prefix) line) prefix).1 starts in cc
 
 -- a line with neither prefix is no header
-pub no_front : (line one two : List ℕ) → one ≡ first_before → two ≡ second_before → bytes_eq (take (length one) line) one ≡ false → bytes_eq (take (length two) line) two ≡ false → (version n : ℕ) → IsVersion version → line ≢ header version n
-no_front line one two first second not_first not_second version n is spelled = ⊎_elim
-    (λ same. without_front line one first_before (decimal n) first not_first (spelled ∙ header-before version n ∙ ap (λ bytes. bytes ++ decimal n) (before-first version same)))
-    (λ same. without_front line two second_before (decimal n) second not_second (spelled ∙ header-before version n ∙ ap (λ bytes. bytes ++ decimal n) (before-second version same)))
+pub no_prefix_of : (line one two : List ℕ) → one ≡ first_before → two ≡ second_before → bytes_eq (take (length one) line) one ≡ false → bytes_eq (take (length two) line) two ≡ false → (version n : ℕ) → IsVersion version → line ≢ header version n
+no_prefix_of line one two first second not_first not_second version n is spelled = ⊎_elim
+    (λ same. without_prefix line one first_before (decimal n) first not_first (spelled ∙ header-before version n ∙ ap (λ bytes. bytes ++ decimal n) (before-first version same)))
+    (λ same. without_prefix line two second_before (decimal n) second not_second (spelled ∙ header-before version n ∙ ap (λ bytes. bytes ++ decimal n) (before-second version same)))
     is
 
 -- ---- headers that are read
@@ -90,38 +90,38 @@ header_of-none line none = no_header line (header_of versions line) refl none
 
 -- ---- headers by what follows their prefixes
 
-front_same : (front xs ys : List ℕ) → front ++ xs ≡ front ++ ys → xs ≡ ys
-front_same [] xs ys is = is
-front_same (byte ∷ front) xs ys is = front_same front xs ys cc
+prefix_same : (prefix xs ys : List ℕ) → prefix ++ xs ≡ prefix ++ ys → xs ≡ ys
+prefix_same [] xs ys is = is
+prefix_same (byte ∷ prefix) xs ys is = prefix_same prefix xs ys cc
 
 -- lines of the two versions differ in their tenth byte
 versions_differ : (xs ys : List ℕ) → first_before ++ xs ≡ second_before ++ ys → ⊥
 versions_differ xs ys is = let bytes : 49 ≡ 50 = ap (λ text. get_or text 9 0) is in omega (arith, bytes)
 
-same_behind : (version other : ℕ) (xs ys : List ℕ) → IsVersion version → IsVersion other → before_cpus version ++ xs ≡ before_cpus other ++ ys → xs ≡ ys
-same_behind version other xs ys is also same =
-    let known : (number : ℕ) (front text : List ℕ) → before_cpus number ≡ front → before_cpus number ++ text ≡ front ++ text = λ number front text so. ap (λ bytes. bytes ++ text) so in
+same_suffix : (version other : ℕ) (xs ys : List ℕ) → IsVersion version → IsVersion other → before_cpus version ++ xs ≡ before_cpus other ++ ys → xs ≡ ys
+same_suffix version other xs ys is also same =
+    let known : (number : ℕ) (prefix text : List ℕ) → before_cpus number ≡ prefix → before_cpus number ++ text ≡ prefix ++ text = λ number prefix text so. ap (λ bytes. bytes ++ text) so in
     ⊎_elim
     (λ one. ⊎_elim
-    (λ first. front_same first_before xs ys (sym (known version first_before xs (before-first version one)) ∙ same ∙ known other first_before ys (before-first other first)))
+    (λ first. prefix_same first_before xs ys (sym (known version first_before xs (before-first version one)) ∙ same ∙ known other first_before ys (before-first other first)))
     (λ second. absurd (versions_differ xs ys (sym (known version first_before xs (before-first version one)) ∙ same ∙ known other second_before ys (before-second other second))))
     also)
     (λ two. ⊎_elim
     (λ first. absurd (versions_differ ys xs (sym (known other first_before ys (before-first other first)) ∙ sym same ∙ known version second_before xs (before-second version two))))
-    (λ second. front_same second_before xs ys (sym (known version second_before xs (before-second version two)) ∙ same ∙ known other second_before ys (before-second other second)))
+    (λ second. prefix_same second_before xs ys (sym (known version second_before xs (before-second version two)) ∙ same ∙ known other second_before ys (before-second other second)))
     also)
     is
 
 -- no number is there
 pub header_of-wrong : (line : List ℕ) (version : ℕ) (rest : List ℕ) → IsVersion version → line ≡ before_cpus version ++ rest → ((n : ℕ) → n < 2 ^ 64 → rest ≡ decimal n → ⊥) → header_of versions line ≡ None
 header_of-wrong line version rest known cut none =
-    header_of-none line (λ other n is low high spelled. none n (omega (arith, high)) (same_behind version other rest (decimal n) known is (sym cut ∙ spelled ∙ header-before other n)))
+    header_of-none line (λ other n is low high spelled. none n (omega (arith, high)) (same_suffix version other rest (decimal n) known is (sym cut ∙ spelled ∙ header-before other n)))
 
 -- one of too few or too many processors does
 pub header_of-other : (line : List ℕ) (version n : ℕ) (rest : List ℕ) → IsVersion version → line ≡ before_cpus version ++ rest → rest ≡ decimal n → n < 2 ^ 64 → (1 ≤ n → 64 < n) → header_of versions line ≡ None
 header_of-other line version n rest known cut is fits out =
     header_of-none line (λ other m also low high spelled.
-    let same = decimal_injective n m fits (omega (arith, high)) (sym is ∙ same_behind version other rest (decimal m) known also (sym cut ∙ spelled ∙ header-before other m)) in
+    let same = decimal_injective n m fits (omega (arith, high)) (sym is ∙ same_suffix version other rest (decimal m) known also (sym cut ∙ spelled ∙ header-before other m)) in
     omega (arith, same, out, low, high))
 
 -- ---- the same for a parsed header

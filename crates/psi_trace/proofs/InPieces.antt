@@ -29,5 +29,5 @@ pub ruleset lines = (append_assoc, append-nil, spelling-spaced, header-prefix, p
 -- ---- the bytes of a line
 
 -- how many there are
-pub behind : (bytes now : List ℕ) (room start : ℕ) → length bytes ≡ room → start ≤ room → drop start bytes ≡ now → length now + start ≡ room
-behind bytes now room start wide inside is = let left = length-drop start bytes in let same = ap length is in omega (arith, left, same, wide, inside)
+pub suffix : (bytes now : List ℕ) (room start : ℕ) → length bytes ≡ room → start ≤ room → drop start bytes ≡ now → length now + start ≡ room
+suffix bytes now room start wide inside is = let left = length-drop start bytes in let same = ap length is in omega (arith, left, same, wide, inside)

@@ -1,4 +1,4 @@
-pub mod Fronts
+pub mod Prefixes
 pub mod Headers
 pub mod InPieces
 pub mod Spelled

@@ -1,4 +1,4 @@
-pub mod Front
+pub mod Prefix
 pub mod Heads
 pub mod Taking
 pub mod Writes

@@ -8,7 +8,7 @@ ghost use Rattle.psi_spec.specs.Grammar.{Fits, IsKnown, act_at, act_from, act_in
 ghost use Rattle.psi_spec.specs.Header.{IsVersion, version_of};
 ghost use Rattle.psi_spec.specs.LineLaws.{IsCause};
 ghost use Rattle.psi_base.specs.declared.event.Fault.TheVariants as fault;
-ghost use Rattle.psi_base.specs.Gives.{Gives, lacks_memory};
+ghost use Rattle.psi_base.specs.Gives.{Gives, out_of_memory};
 ghost use Rattle.psi_trace.specs.Taking.{dated, names_path, takes_path};
 
 use crate::field::{
@@ -26,7 +26,7 @@ use std::alloc::Global;
 #[inline(always)]
 fn switch_of(at: Ns, mut words: Words) -> Result<Event, Fault<Cause>>
     ensures exact { Gives result (dated at (act_from verb.Switch words.entry)) }
-    ensures memory { result ≢ Err lacks_memory }
+    ensures memory { result ≢ Err out_of_memory }
 {
     let cpu = cpu_field(&mut words, 1)?;
     let next = next_field(&mut words, 2)?;
@@ -40,7 +40,7 @@ fn switch_of(at: Ns, mut words: Words) -> Result<Event, Fault<Cause>>
 #[inline(always)]
 fn wake_of(at: Ns, mut words: Words) -> Result<Event, Fault<Cause>>
     ensures exact { Gives result (dated at (act_from verb.Wake words.entry)) }
-    ensures memory { result ≢ Err lacks_memory }
+    ensures memory { result ≢ Err out_of_memory }
 {
     let pid = pid_field(&mut words, 1)?;
     let cpu = cpu_field(&mut words, 2)?;
@@ -53,7 +53,7 @@ fn wake_of(at: Ns, mut words: Words) -> Result<Event, Fault<Cause>>
 #[inline(always)]
 fn stall_of(at: Ns, mut words: Words) -> Result<Event, Fault<Cause>>
     ensures exact { Gives result (dated at (act_from verb.Stall words.entry)) }
-    ensures memory { result ≢ Err lacks_memory }
+    ensures memory { result ≢ Err out_of_memory }
 {
     let pid = pid_field(&mut words, 1)?;
     end_of(&mut words, 2)?;
@@ -65,7 +65,7 @@ fn stall_of(at: Ns, mut words: Words) -> Result<Event, Fault<Cause>>
 #[inline(always)]
 fn unstall_of(at: Ns, mut words: Words) -> Result<Event, Fault<Cause>>
     ensures exact { Gives result (dated at (act_from verb.Unstall words.entry)) }
-    ensures memory { result ≢ Err lacks_memory }
+    ensures memory { result ≢ Err out_of_memory }
 {
     let pid = pid_field(&mut words, 1)?;
     end_of(&mut words, 2)?;
@@ -77,7 +77,7 @@ fn unstall_of(at: Ns, mut words: Words) -> Result<Event, Fault<Cause>>
 #[inline(always)]
 fn migrate_of(at: Ns, mut words: Words) -> Result<Event, Fault<Cause>>
     ensures exact { Gives result (dated at (act_from verb.Migrate words.entry)) }
-    ensures memory { result ≢ Err lacks_memory }
+    ensures memory { result ≢ Err out_of_memory }
 {
     let pid = pid_field(&mut words, 1)?;
     let cpu = cpu_field(&mut words, 2)?;
@@ -134,7 +134,7 @@ fn mem_of(alloc: Global, at: Ns, mut words: Words) -> Result<Event, Fault<Cause>
 #[inline(always)]
 fn host_of(at: Ns, mut words: Words) -> Result<Event, Fault<Cause>>
     ensures exact { Gives result (dated at (act_from verb.Host words.entry)) }
-    ensures memory { result ≢ Err lacks_memory }
+    ensures memory { result ≢ Err out_of_memory }
 {
     let mem_total = amount_field(&mut words, 1)?;
     let swap_total = amount_field(&mut words, 2)?;
@@ -207,7 +207,7 @@ fn trigger_of(alloc: Global, at: Ns, mut words: Words) -> Result<Event, Fault<Ca
 #[inline(always)]
 fn irq_of(at: Ns, mut words: Words) -> Result<Event, Fault<Cause>>
     ensures exact { Gives result (dated at (act_from verb.Irq words.entry)) }
-    ensures memory { result ≢ Err lacks_memory }
+    ensures memory { result ≢ Err out_of_memory }
 {
     let cpu = cpu_field(&mut words, 1)?;
     let ns = number_field(&mut words, 2)?;
@@ -232,7 +232,7 @@ fn pressure_of(alloc: Global, at: Ns, mut words: Words) -> Result<Event, Fault<C
 #[inline(always)]
 fn end_of_trace(at: Ns, mut words: Words) -> Result<Event, Fault<Cause>>
     ensures exact { Gives result (dated at (act_from verb.End words.entry)) }
-    ensures memory { result ≢ Err lacks_memory }
+    ensures memory { result ≢ Err out_of_memory }
 {
     end_of(&mut words, 1)?;
     let act = Act::End;
@@ -245,7 +245,7 @@ fn end_of_trace(at: Ns, mut words: Words) -> Result<Event, Fault<Cause>>
 #[tactic(auto, unfolding(psi_spec::specs::Grammar::act_at, psi_spec::specs::Grammar::verb_of))]
 fn event_at(alloc: Global, version: u32, at: Ns, mut words: Words) -> Result<Event, Fault<Cause>>
     ensures exact { Gives result (dated at (act_at (verbs_of (version_of version)) words.entry)) }
-    ensures memory { result ≡ Err lacks_memory →
+    ensures memory { result ≡ Err out_of_memory →
         names_path (verbs_of (version_of version)) words.entry ≡ true }
 {
     let Some(verb) = words.next_part() else {
@@ -278,7 +278,7 @@ fn rarer_event_at(
 ) -> Result<Event, Fault<Cause>>
     ensures exact { Gives result (dated at
         (act_in (verb_of (drop 5 (verbs_of (version_of version))) verb.now) words.entry)) }
-    ensures memory { result ≡ Err lacks_memory →
+    ensures memory { result ≡ Err out_of_memory →
         takes_path (verb_of (drop 5 (verbs_of (version_of version))) verb.now) ≡ true }
 {
     if verb == b"move".as_slice() {
@@ -308,7 +308,7 @@ fn rarest_event_at(
 ) -> Result<Event, Fault<Cause>>
     ensures exact { Gives result (dated at
         (act_in (verb_of (drop 10 (verbs_of (version_of version))) verb.now) words.entry)) }
-    ensures memory { result ≡ Err lacks_memory →
+    ensures memory { result ≡ Err out_of_memory →
         takes_path (verb_of (drop 10 (verbs_of (version_of version))) verb.now) ≡ true }
 {
     if verb == b"rmgroup".as_slice() {
@@ -332,7 +332,7 @@ fn rarest_event_at(
 #[tactic(auto, unfolding(psi_spec::specs::Grammar::event_of, psi_spec::specs::Grammar::event_at))]
 fn event_in(alloc: Global, version: u32, line: &[u8]) -> Result<Event, Fault<Cause>>
     ensures exact { Gives result (event_of (verbs_of (version_of version)) line.now) }
-    ensures memory { result ≡ Err lacks_memory →
+    ensures memory { result ≡ Err out_of_memory →
         names_path (verbs_of (version_of version)) (drop 1 (parts_at 32 line.now)) ≡ true }
 {
     let mut words: Words = Parts::new(line);
@@ -358,7 +358,7 @@ pub fn read_event(alloc: Global, version: u32, line: &[u8]) -> Result<Event, Fau
         Fits event →
         IsKnown (verbs_of (version_of version)) event →
         line.now ≢ spelling event }
-    ensures memory { result ≡ Err lacks_memory →
+    ensures memory { result ≡ Err out_of_memory →
         names_path (verbs_of (version_of version)) (drop 1 (parts_at 32 line.now)) ≡ true }
     ensures cause { (why : Cause) → result ≡ Err (fault.Refused why) →
         IsCause (verbs_of (version_of version)) (parts_at 32 line.now) why }

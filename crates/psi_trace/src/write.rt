@@ -287,7 +287,7 @@ fn put_header(line: &mut ShortLine, cpus: u32)
 /// too small for them.
 fn append(bytes: &[u8], to: &mut Vec<u8>) -> Result<(), NoMemory>
     ensures written { OnOk result (to.new.items ≡ to.old.items ++ bytes.now) }
-    ensures kept { OnErr result (to.new.items ≡ to.old.items) }
+    ensures unchanged { OnErr result (to.new.items ≡ to.old.items) }
     ensures full { OnErr result (vec_capacity to.old < vec_len to.old + length bytes.now) }
     ensures capacity { vec_capacity to.old ≤ vec_capacity to.new }
 {
@@ -301,7 +301,7 @@ fn append(bytes: &[u8], to: &mut Vec<u8>) -> Result<(), NoMemory>
 fn write_long(event: &Event, to: &mut Vec<u8>) -> Result<(), NoMemory>
     requires { is_short event.now.act ≡ false }
     ensures written { OnOk result (to.new.items ≡ to.old.items ++ spelling event.now) }
-    ensures kept { OnErr result (to.new.items ≡ to.old.items) }
+    ensures unchanged { OnErr result (to.new.items ≡ to.old.items) }
     ensures full { OnErr result
         (vec_capacity to.old < vec_len to.old + length (spelling event.now)) }
     ensures capacity { vec_capacity to.old ≤ vec_capacity to.new }
@@ -315,7 +315,7 @@ fn write_long(event: &Event, to: &mut Vec<u8>) -> Result<(), NoMemory>
 /// memory, the buffer is unchanged and its capacity was too small for the header.
 pub fn write_header(cpus: u32, to: &mut Vec<u8>) -> Result<(), NoMemory>
     ensures written { OnOk result (to.new.items ≡ to.old.items ++ header 1 cpus) }
-    ensures kept { OnErr result (to.new.items ≡ to.old.items) }
+    ensures unchanged { OnErr result (to.new.items ≡ to.old.items) }
     ensures full { OnErr result
         (vec_capacity to.old < vec_len to.old + length (header 1 cpus)) }
     ensures capacity { vec_capacity to.old ≤ vec_capacity to.new }
@@ -332,7 +332,7 @@ pub fn write_header(cpus: u32, to: &mut Vec<u8>) -> Result<(), NoMemory>
 pub fn write_event(event: &Event, to: &mut Vec<u8>) -> Result<(), NoMemory>
     requires { Fits event.now }
     ensures written { OnOk result (to.new.items ≡ to.old.items ++ spelling event.now) }
-    ensures kept { OnErr result (to.new.items ≡ to.old.items) }
+    ensures unchanged { OnErr result (to.new.items ≡ to.old.items) }
     ensures full { OnErr result
         (vec_capacity to.old < vec_len to.old + length (spelling event.now)) }
     ensures capacity { vec_capacity to.old ≤ vec_capacity to.new }

@@ -8,10 +8,10 @@ use Rattle.std.specs.List.{list_all, list_any, before_first}
 use Rattle.clap.specs.Lexer.{long_of, name_and_value}
 use Rattle.psi_base.specs.OptionSteps.{◌>>=◌}
 use Rattle.run_spec.specs.Words.{Word, assigned, opened, unknown, is_among, is_dashed}
-use Rattle.run_spec.specs.Words.{is_equals, option_of, word_of, Given, nothing, value_given}
-use Rattle.run_spec.specs.Words.{with_option, with_positional, at_word, at_value, behind, by_word, said}
+use Rattle.run_spec.specs.Words.{is_equals, option_of, word_of, ParsedWords, nothing, option_value}
+use Rattle.run_spec.specs.Words.{with_option, with_positional, at_word, at_value, suffix, by_word, parsed_from}
 use Rattle.psi_words.specs.Clap.{positional_id}
-use Rattle.psi_words.proofs.Parts.{Part, given, plain, id_of, then_part, then_long, parts, has_part}
+use Rattle.psi_words.proofs.Parts.{Part, parsed, plain, id_of, then_part, then_long, parts, has_part}
 use Rattle.psi_words.proofs.Parts.{fits, judged}
 use Rattle.psi_words.proofs.Finding.{same_text, text_itself}
 use Rattle.psi_words.proofs.Reading.{has_after, not_positional}
@@ -72,11 +72,11 @@ word_agrees names (x ∷ y ∷ rest) dashed other =
 -- ---- the meaning of parts
 
 -- what parts say, if no two have one id
-abbrev pub given_of : List Part → Given
-given_of [] = nothing
-given_of (given name value ∷ ps) =
-    record (given_of ps) { options = (name, value) ∷ (given_of ps).options }
-given_of (plain word ∷ ps) = record (given_of ps) { positional = Some word }
+abbrev pub events_of_line : List Part → ParsedWords
+events_of_line [] = nothing
+events_of_line (parsed name value ∷ ps) =
+    record (events_of_line ps) { options = (name, value) ∷ (events_of_line ps).options }
+events_of_line (plain word ∷ ps) = record (events_of_line ps) { positional = Some word }
 
 -- no two parts have one id
 abbrev pub are_apart : List Part → Bool
@@ -84,13 +84,13 @@ are_apart [] = true
 are_apart (p ∷ ps) = not (has_part (id_of p) ps) && are_apart ps
 
 -- the same, or None if two have one id
-abbrev pub parts_say : List Part → Option Given
-parts_say ps = if are_apart ps then Some (given_of ps) else None
+abbrev pub parts_say : List Part → Option ParsedWords
+parts_say ps = if are_apart ps then Some (events_of_line ps) else None
 
 -- the options among the parts have these names
 abbrev pub AreKnown : List (List ℕ) → List Part → Type 0
 AreKnown names [] = ⊤
-AreKnown names (given name value ∷ ps) = (is_among name names ≡ true) × AreKnown names ps
+AreKnown names (parsed name value ∷ ps) = (is_among name names ≡ true) × AreKnown names ps
 AreKnown names (plain word ∷ ps) = AreKnown names ps
 
 -- a name among these isn't the positional's id
@@ -108,40 +108,40 @@ free_id names name free known = go (bytes_eq positional_id name) (same_text posi
         absurd (true≢false (sym known ∙ (ap (λ n. is_among n names) (sym (same refl)) ∙ free)))
     go false same = refl
 
-option_under : (name value key : List ℕ) (g : Given) (b : Bool) → bytes_eq name key ≡ b
-    → is_some (value_given key (record g { options = (name, value) ∷ g.options })) ≡ b
-    || is_some (value_given key g)
+option_under : (name value key : List ℕ) (g : ParsedWords) (b : Bool) → bytes_eq name key ≡ b
+    → is_some (option_value key (record g { options = (name, value) ∷ g.options })) ≡ b
+    || is_some (option_value key g)
 option_under name value key g true is = rw is refl
 option_under name value key g false is = rw is refl
 
 pub has_option : (names : List (List ℕ)) (key : List ℕ) (ps : List Part)
     → is_among positional_id names ≡ false → is_among key names ≡ true
-    → has_part key ps ≡ is_some (value_given key (given_of ps))
+    → has_part key ps ≡ is_some (option_value key (events_of_line ps))
 has_option names key [] free known = refl
-has_option names key (given name value ∷ ps) free known =
+has_option names key (parsed name value ∷ ps) free known =
     ap (λ b. bytes_eq name key || b) (has_option names key ps free known)
-    ∙ sym (option_under name value key (given_of ps) (bytes_eq name key) refl)
+    ∙ sym (option_under name value key (events_of_line ps) (bytes_eq name key) refl)
 has_option names key (plain word ∷ ps) free known =
     ap (λ b. b || has_part key ps) (free_id names key free known)
     ∙ has_option names key ps free known
 
 pub has_plain : (names : List (List ℕ)) (ps : List Part) → is_among positional_id names ≡ false
-    → AreKnown names ps → has_part positional_id ps ≡ is_some (given_of ps).positional
+    → AreKnown names ps → has_part positional_id ps ≡ is_some (events_of_line ps).positional
 has_plain names [] free known = refl
-has_plain names (given name value ∷ ps) free known =
+has_plain names (parsed name value ∷ ps) free known =
     ap (λ b. b || has_part positional_id ps) (free_name names name free known.0)
     ∙ has_plain names ps free known.1
 has_plain names (plain word ∷ ps) free known = refl
 
 say_option : (names : List (List ℕ)) (name value : List ℕ) (ps : List Part)
     → is_among positional_id names ≡ false → is_among name names ≡ true
-    → parts_say (given name value ∷ ps) ≡ parts_say ps >>= with_option name value
+    → parts_say (parsed name value ∷ ps) ≡ parts_say ps >>= with_option name value
 say_option names name value ps free known =
     go (has_part name ps) (are_apart ps) refl refl (sym (has_option names name ps free known))
   where
     go : (b d : Bool) → has_part name ps ≡ b → are_apart ps ≡ d
-        → is_some (value_given name (given_of ps)) ≡ has_part name ps
-        → parts_say (given name value ∷ ps) ≡ parts_say ps >>= with_option name value
+        → is_some (option_value name (events_of_line ps)) ≡ has_part name ps
+        → parts_say (parsed name value ∷ ps) ≡ parts_say ps >>= with_option name value
     go true true has apart same = rw (has, apart, same, has) refl
     go true false has apart same = rw (has, apart) refl
     go false true has apart same = rw (has, apart, same, has) refl
@@ -154,7 +154,7 @@ say_plain names word ps free known =
     go (has_part positional_id ps) (are_apart ps) refl refl (sym (has_plain names ps free known))
   where
     go : (b d : Bool) → has_part positional_id ps ≡ b → are_apart ps ≡ d
-        → is_some (given_of ps).positional ≡ has_part positional_id ps
+        → is_some (events_of_line ps).positional ≡ has_part positional_id ps
         → parts_say (plain word ∷ ps) ≡ parts_say ps >>= with_positional word
     go true true has apart same = rw (has, apart, same, has) refl
     go true false has apart same = rw (has, apart) refl
@@ -164,14 +164,14 @@ say_plain names word ps free known =
 -- ---- the meaning of words
 
 -- the parts say this, and their options have these names
-abbrev pub Agrees : List (List ℕ) → Option (List Part) → Option Given → Type 0
+abbrev pub Agrees : List (List ℕ) → Option (List Part) → Option ParsedWords → Type 0
 Agrees names None g = g ≡ None
 Agrees names (Some ps) g = AreKnown names ps × (g ≡ parts_say ps)
 
 agrees_option : (names : List (List ℕ)) (name value : List ℕ) (r : Option (List Part))
-    (g : Option Given) → is_among positional_id names ≡ false → is_among name names ≡ true
+    (g : Option ParsedWords) → is_among positional_id names ≡ false → is_among name names ≡ true
     → Agrees names r g
-    → Agrees names (then_part (given name value) r) (g >>= with_option name value)
+    → Agrees names (then_part (parsed name value) r) (g >>= with_option name value)
 agrees_option names name value None g free known same = ap (λ x. x >>= with_option name value) same
 agrees_option names name value (Some ps) g free known same = (
   (known, same.0),
@@ -179,7 +179,7 @@ agrees_option names name value (Some ps) g free known same = (
       ∙ sym (say_option names name value ps free known),
 )
 
-agrees_plain : (names : List (List ℕ)) (word : List ℕ) (r : Option (List Part)) (g : Option Given)
+agrees_plain : (names : List (List ℕ)) (word : List ℕ) (r : Option (List Part)) (g : Option ParsedWords)
     → is_among positional_id names ≡ false → Agrees names r g
     → Agrees names (then_part (plain word) r) (g >>= with_positional word)
 agrees_plain names word None g free same = ap (λ x. x >>= with_positional word) same
@@ -190,53 +190,53 @@ agrees_plain names word (Some ps) g free same = (
 )
 
 agrees_plainly : (names words : List (List ℕ)) → is_among positional_id names ≡ false
-    → Agrees names (Some (map plain words)) (said names behind words)
+    → Agrees names (Some (map plain words)) (parsed_from names suffix words)
 agrees_plainly names [] free = (tt, refl)
 agrees_plainly names (word ∷ words) free =
-    agrees_plain names word (Some (map plain words)) (said names behind words) free
+    agrees_plain names word (Some (map plain words)) (parsed_from names suffix words) free
     (agrees_plainly names words free)
 
 -- the words agree, if an option with one of the names may be pending
 abbrev AllAgree : List (List ℕ) → List (List ℕ) → Type 0
-AllAgree names words = Agrees names (parts names None words) (said names at_word words)
+AllAgree names words = Agrees names (parts names None words) (parsed_from names at_word words)
     × ((name : List ℕ) → is_among name names ≡ true
-    → Agrees names (parts names (Some name) words) (said names (at_value name) words))
+    → Agrees names (parts names (Some name) words) (parsed_from names (at_value name) words))
 
 long_agrees : (names : List (List ℕ)) (word : List ℕ) (rest : List (List ℕ))
     (l : Option (List ℕ × Option (List ℕ))) → is_among positional_id names ≡ false
     → AllAgree names rest
     → Agrees names (then_long names l (λ waiting. parts names waiting rest))
-    (by_word (word_by names l) word (λ stand. said names stand rest))
+    (by_word (word_by names l) word (λ word_state. parsed_from names word_state rest))
 long_agrees names word rest None free more = refl
 long_agrees names word rest (Some (name, None)) free more = go (is_among name names) refl
   where
     go : (b : Bool) → is_among name names ≡ b
         → Agrees names (if b then parts names (Some name) rest else None)
-        (by_word (if b then opened name else unknown) word (λ stand. said names stand rest))
+        (by_word (if b then opened name else unknown) word (λ word_state. parsed_from names word_state rest))
     go true known = more.1 name known
     go false known = refl
 long_agrees names word rest (Some (name, Some value)) free more = go (is_among name names) refl
   where
     go : (b : Bool) → is_among name names ≡ b
-        → Agrees names (if b then then_part (given name value) (parts names None rest) else None)
-        (by_word (if b then assigned name value else unknown) word (λ stand. said names stand rest))
+        → Agrees names (if b then then_part (parsed name value) (parts names None rest) else None)
+        (by_word (if b then assigned name value else unknown) word (λ word_state. parsed_from names word_state rest))
     go true known =
-        agrees_option names name value (parts names None rest) (said names at_word rest) free known
+        agrees_option names name value (parts names None rest) (parsed_from names at_word rest) free known
         more.0
     go false known = refl
 
 word_parts : (names : List (List ℕ)) (word : List ℕ) (rest : List (List ℕ)) (dashed ends : Bool)
     → is_dashed word ≡ dashed → bytes_eq word (codes "--") ≡ ends
     → is_among positional_id names ≡ false → AllAgree names rest
-    → Agrees names (parts names None (word ∷ rest)) (said names at_word (word ∷ rest))
+    → Agrees names (parts names None (word ∷ rest)) (parsed_from names at_word (word ∷ rest))
 word_parts names word rest false ends is_dashed is_end free more =
-    rw is_dashed (agrees_plain names word (parts names None rest) (said names at_word rest) free
+    rw is_dashed (agrees_plain names word (parts names None rest) (parsed_from names at_word rest) free
     more.0)
 word_parts names word rest true true is_dashed is_end free more =
     rw (is_dashed, is_end) (agrees_plainly names rest free)
 word_parts names word rest true false is_dashed is_end free more =
     subst (λ w. Agrees names (parts names None (word ∷ rest))
-    (by_word w word (λ stand. said names stand rest)))
+    (by_word w word (λ word_state. parsed_from names word_state rest)))
     (sym (word_agrees names word is_dashed is_end))
     (rw (is_dashed, is_end) (long_agrees names word rest (long_of word) free more))
 
@@ -244,10 +244,10 @@ value_parts : (names : List (List ℕ)) (word : List ℕ) (rest : List (List ℕ
     → is_dashed word ≡ dashed → is_among positional_id names ≡ false → AllAgree names rest
     → (name : List ℕ) → is_among name names ≡ true
     → Agrees names (parts names (Some name) (word ∷ rest))
-    (said names (at_value name) (word ∷ rest))
+    (parsed_from names (at_value name) (word ∷ rest))
 value_parts names word rest true is_dashed free more name known = rw is_dashed refl
 value_parts names word rest false is_dashed free more name known =
-    rw is_dashed (agrees_option names name word (parts names None rest) (said names at_word rest)
+    rw is_dashed (agrees_option names name word (parts names None rest) (parsed_from names at_word rest)
     free known more.0)
 
 pub all_agree : (names words : List (List ℕ)) → is_among positional_id names ≡ false
@@ -319,23 +319,23 @@ apart_if ps b is = ap (λ d. d && are_apart ps) (sym (all_new ps)) ∙ (sym (fit
 
 -- if the parts don't fit, the words have no meaning
 pub refused_words : (names words : List (List ℕ)) → is_among positional_id names ≡ false
-    → judged [] (parts names None words) ≡ false → said names at_word words ≡ None
+    → judged [] (parts names None words) ≡ false → parsed_from names at_word words ≡ None
 refused_words names words free unfit =
     go (parts names None words) (all_agree names words free).0 unfit
   where
-    go : (r : Option (List Part)) → Agrees names r (said names at_word words) → judged [] r ≡ false
-        → said names at_word words ≡ None
+    go : (r : Option (List Part)) → Agrees names r (parsed_from names at_word words) → judged [] r ≡ false
+        → parsed_from names at_word words ≡ None
     go None same unfit = same
     go (Some ps) same unfit =
-        same.1 ∙ ap (λ b. if b then Some (given_of ps) else None) (apart_if ps false unfit)
+        same.1 ∙ ap (λ b. if b then Some (events_of_line ps) else None) (apart_if ps false unfit)
 
 -- if they fit, the words have their meaning
 pub accepted_words : (names words : List (List ℕ)) (ps : List Part)
     → is_among positional_id names ≡ false → parts names None words ≡ Some ps
     → judged [] (parts names None words) ≡ true
-    → AreKnown names ps × (said names at_word words ≡ Some (given_of ps))
+    → AreKnown names ps × (parsed_from names at_word words ≡ Some (events_of_line ps))
 accepted_words names words ps free are fit =
-    let same : Agrees names (Some ps) (said names at_word words) =
-    subst (λ r. Agrees names r (said names at_word words)) are (all_agree names words free).0 in
+    let same : Agrees names (Some ps) (parsed_from names at_word words) =
+    subst (λ r. Agrees names r (parsed_from names at_word words)) are (all_agree names words free).0 in
     let fits_now : fits [] ps ≡ true = sym (ap (judged []) are) ∙ fit in
-    (same.0, same.1 ∙ ap (λ b. if b then Some (given_of ps) else None) (apart_if ps true fits_now))
+    (same.0, same.1 ∙ ap (λ b. if b then Some (events_of_line ps) else None) (apart_if ps true fits_now))

@@ -12,11 +12,11 @@ use Rattle.clap.proofs.FaultLemmas.{leaf_fault}
 use Rattle.clap.specs.Walk.{nothing_held, is_early_multiple}
 use Rattle.clap.specs.Simple.{App, built, is_simple, is_buildable, is_ready, is_ready_leaf}
 use Rattle.clap.specs.Faults.{fault_of, built_fault, is_free_app, is_simple_and_free}
-use Rattle.run_spec.specs.Words.{at_word, is_among, said, value_given}
+use Rattle.run_spec.specs.Words.{at_word, is_among, parsed_from, option_value}
 use Rattle.psi_words.specs.Clap.{plain_app, plain_shape, option_rule, positional_rule}
-use Rattle.psi_words.specs.Clap.{positional_id, is_option_row, option_in, given_in, AreValued}
-use Rattle.psi_words.proofs.Parts.{parts, judged, AreTexts, Part, given, plain, gathered}
-use Rattle.psi_words.proofs.Agreement.{given_of, AreKnown, free_name, accepted_words, refused_words}
+use Rattle.psi_words.specs.Clap.{positional_id, is_option_row, option_in, words_in, AreValued}
+use Rattle.psi_words.proofs.Parts.{parts, judged, AreTexts, Part, parsed, plain, gathered}
+use Rattle.psi_words.proofs.Agreement.{events_of_line, AreKnown, free_name, accepted_words, refused_words}
 use Rattle.std.specs.Prelude.{filter, is_some, slice_get}
 use Rattle.psi_words.proofs.Finding.{same_text}
 use Rattle.std.specs.Str.{bytes_eq}
@@ -121,22 +121,22 @@ rows_valued [] = refl
 rows_valued (p ∷ ps) = rows_valued ps
 
 options_said : (names : List (List ℕ)) (ps : List Part) → is_among positional_id names ≡ false
-    → AreKnown names ps → map option_in (filter is_option_row (map row ps)) ≡ (given_of ps).options
+    → AreKnown names ps → map option_in (filter is_option_row (map row ps)) ≡ (events_of_line ps).options
 options_said names [] free known = refl
-options_said names (given name value ∷ ps) free known =
+options_said names (parsed name value ∷ ps) free known =
     rw (free_name names name free known.0)
     (ap (λ options. (name, value) ∷ options) (options_said names ps free known.1))
 options_said names (plain word ∷ ps) free known = options_said names ps free known
 
 positional_said : (names : List (List ℕ)) (ps : List Part) → is_among positional_id names ≡ false
-    → AreKnown names ps → first_of positional_id (map row ps) ≡ (given_of ps).positional
+    → AreKnown names ps → first_of positional_id (map row ps) ≡ (events_of_line ps).positional
 positional_said names [] free known = refl
-positional_said names (given name value ∷ ps) free known =
+positional_said names (parsed name value ∷ ps) free known =
     rw (free_name names name free known.0) (positional_said names ps free known.1)
 positional_said names (plain word ∷ ps) free known = refl
 
 rows_said : (names : List (List ℕ)) (ps : List Part) → is_among positional_id names ≡ false
-    → AreKnown names ps → given_in (map row ps) ≡ given_of ps
+    → AreKnown names ps → words_in (map row ps) ≡ events_of_line ps
 rows_said names ps free known =
     rw (options_said names ps free known, positional_said names ps free known) refl
 
@@ -153,19 +153,19 @@ rows_found app names words m is free fit has =
 pub found_said : (app : App) (names words : List (List ℕ)) (m : ArgMatches) → app ≡ plain_app names
     → is_among positional_id names ≡ false → judged [] (parts names None words) ≡ true
     → HasMatchesOf app words m
-    → (said names at_word words ≡ Some (given_in (rows_of (found_of m))))
+    → (parsed_from names at_word words ≡ Some (words_in (rows_of (found_of m))))
     × AreValued (rows_of (found_of m))
 found_said app names words m is free fit has = go (parts names None words) refl
   where
     go : (r : Option (List Part)) → parts names None words ≡ r
-        → (said names at_word words ≡ Some (given_in (rows_of (found_of m))))
+        → (parsed_from names at_word words ≡ Some (words_in (rows_of (found_of m))))
         × AreValued (rows_of (found_of m))
     go None none = absurd (true≢false (sym fit ∙ ap (judged []) none))
     go (Some ps) are =
         let rows : rows_of (found_of m) ≡ map row ps =
         rows_found app names words m is free fit has ∙ ap (λ r. map row (gathered [] r)) are in
         let say = accepted_words names words ps free are fit in
-        let same = sym (rows_said names ps free say.0) ∙ ap given_in (sym rows) in
+        let same = sym (rows_said names ps free say.0) ∙ ap words_in (sym rows) in
         (say.1 ∙ ap Some same, subst AreValued (sym rows) (rows_valued ps))
 
 -- if clap rejects them, the words have no meaning
@@ -173,7 +173,7 @@ pub refused_said : (app : App) (names words : List (List ℕ)) (e : Error) → a
     → is_among positional_id names ≡ false → AreTexts words
     → (is_simple_and_free app ≡ true → HasKind (fault_of app words) e)
     → kind_of e ≢ kind.OutOfMemory
-    → said names at_word words ≡ None
+    → parsed_from names at_word words ≡ None
 refused_said app names words e is free texts fails other =
     refused_words names words free (refused_by app names words e is free texts fails other)
 
@@ -187,8 +187,8 @@ row_valued : (name : List ℕ) (r : Row) (rows : List Row) (here option : Bool) 
     → bytes_eq name positional_id ≡ false
     → bytes_eq r.id name ≡ here → bytes_eq r.id positional_id ≡ option → slice_get r.values 0 ≡ v
     → is_some v ≡ true
-    → first_of name rows ≡ value_given name (given_in rows)
-    → first_of name (r ∷ rows) ≡ value_given name (given_in (r ∷ rows))
+    → first_of name rows ≡ option_value name (words_in rows)
+    → first_of name (r ∷ rows) ≡ option_value name (words_in (r ∷ rows))
 row_valued name r rows true true v other here option is some rest =
     absurd (true≢false (sym option
     ∙ (ap (λ t. bytes_eq t positional_id) (same_text r.id name here) ∙ other)))
@@ -201,7 +201,7 @@ row_valued name r rows false false v other here option is some rest = rw (option
 
 -- a look-up by name finds the option's value
 pub first_valued : (name : List ℕ) (rows : List Row) → bytes_eq name positional_id ≡ false
-    → AreValued rows → first_of name rows ≡ value_given name (given_in rows)
+    → AreValued rows → first_of name rows ≡ option_value name (words_in rows)
 first_valued name [] other valued = refl
 first_valued name (r ∷ rows) other valued =
     let both =

@@ -10,15 +10,15 @@ use Rattle.psi_words.specs.Clap.{positional_id}
 
 -- an option with its value, or a word that is none
 pub data Part : Type 0 where
-  given : List ℕ → List ℕ → Part
+  parsed : List ℕ → List ℕ → Part
   plain : List ℕ → Part
 
 abbrev pub id_of : Part → List ℕ
-id_of (given name value) = name
+id_of (parsed name value) = name
 id_of (plain word) = positional_id
 
 abbrev pub text_of : Part → List ℕ
-text_of (given name value) = value
+text_of (parsed name value) = value
 text_of (plain word) = word
 
 -- a part before the rest, or None if there is no rest
@@ -30,7 +30,7 @@ abbrev pub then_long : List (List ℕ) → Option (List ℕ × Option (List ℕ)
     → (Option (List ℕ) → Option (List Part)) → Option (List Part)
 then_long names None next = None
 then_long names (Some (name, Some value)) next =
-    if is_among name names then then_part (given name value) (next None) else None
+    if is_among name names then then_part (parsed name value) (next None) else None
 then_long names (Some (name, None)) next = if is_among name names then next (Some name) else None
 
 -- the parts of the words; `waiting` is the option that takes the next word as its value
@@ -38,7 +38,7 @@ abbrev pub parts : List (List ℕ) → Option (List ℕ) → List (List ℕ) →
 parts names None [] = Some []
 parts names (Some name) [] = None
 parts names (Some name) (word ∷ rest) =
-    if is_dashed word then None else then_part (given name word) (parts names None rest)
+    if is_dashed word then None else then_part (parsed name word) (parts names None rest)
 parts names None (word ∷ rest) =
     if is_dashed word then (if bytes_eq word (45 ∷ 45 ∷ []) then Some (map plain rest) else
     then_long names (long_of word) (λ waiting. parts names waiting rest))

@@ -8,7 +8,7 @@ use Rattle.clap.specs.Kinds.{or_else}
 use Rattle.clap.specs.Faults.{settle_fault, turn_fault, use_fault}
 use Rattle.run_spec.specs.Words.{is_among}
 use Rattle.psi_words.specs.Clap.{positional_id}
-use Rattle.psi_words.proofs.Parts.{Part, given, plain, id_of, has_part, judged, parts, then_part}
+use Rattle.psi_words.proofs.Parts.{Part, parsed, plain, id_of, has_part, judged, parts, then_part}
 use Rattle.psi_words.proofs.Finding.{same_text}
 use Rattle.psi_words.proofs.Rules.{built_option, built_rules}
 use Rattle.psi_words.proofs.Walking.{row, held_for, joined, then_last, has_last, Known, top}
@@ -16,7 +16,7 @@ use Rattle.psi_words.proofs.Walking.{is_nil, at_word, is_plain, place, total, to
 use Rattle.psi_words.proofs.Walking.{settle_old, settle_new, settled_new, judged_old, judged_new}
 use Rattle.psi_words.proofs.Walking.{use_again, use_new, new_row}
 use Rattle.psi_words.proofs.Turning.{positional_walked}
-use Rattle.psi_words.proofs.Turning.{given_turn, given_walked, open_turn}
+use Rattle.psi_words.proofs.Turning.{events_turn, events_walked, open_turn}
 use Rattle.psi_words.proofs.Turning.{open_walked, open_held}
 
 -- ---- the place of the positional
@@ -54,8 +54,8 @@ pub positional_joined : (names : List (List ℕ)) (acc : List Part) (last : Opti
     → Known names last → is_among positional_id names ≡ false
     → has_part positional_id (joined acc last) ≡ has_positional acc last
 positional_joined names acc None known free = sym (or_nothing (has_part positional_id acc))
-positional_joined names acc (Some (given n v)) known free =
-    has_after positional_id acc (given n v)
+positional_joined names acc (Some (parsed n v)) known free =
+    has_after positional_id acc (parsed n v)
     ∙ ap (λ b. has_part positional_id acc || (b || false))
     (not_positional names n (bytes_eq n positional_id) refl known free)
 positional_joined names acc (Some (plain w)) known free = has_after positional_id acc (plain w)
@@ -128,7 +128,7 @@ plain_reads names word rest t r free turn stray goes on acc last false false kno
     ∙ (on (joined acc last) ∙ sym (judged_new acc last _ is_old))))
 
 -- an option with its value in the same word
-pub given_reads : (names : List (List ℕ)) (word n v : List ℕ) (rest : List (List ℕ))
+pub read_counts : (names : List (List ℕ)) (word n v : List ℕ) (rest : List (List ℕ))
     (r : Option (List Part)) (position : ℕ) → is_among positional_id names ≡ false
     → bytes_eq word (45 ∷ 45 ∷ []) ≡ false → long_of word ≡ Some (n, Some v)
     → is_among n names ≡ true
@@ -139,20 +139,20 @@ pub given_reads : (names : List (List ℕ)) (word n v : List ℕ) (rest : List (
     → has_last acc last ≡ old → has_part n (joined acc last) ≡ again
     → position ≡ (if has_positional acc last then 2 else 1)
     → is_nil (total names (at_word (held_for acc last) idle false position) (word ∷ rest))
-    ≡ judged acc (then_last last (then_part (given n v) r))
-given_reads names word n v rest r position free other is among on acc last true again known is_old
+    ≡ judged acc (then_last last (then_part (parsed n v) r))
+read_counts names word n v rest r position free other is among on acc last true again known is_old
     is_again at =
     total_step names _ word rest ∙ (first_false _ _
-    (ap is_nil (given_turn names (held_for acc last) idle position word n v other is among
+    (ap is_nil (events_turn names (held_for acc last) idle position word n v other is among
     ∙ ap (λ k. or_else (or_else k (use_fault false (built_option n) (v ∷ [])
     (settled (built_rules names) (held_for acc last)).rows)) [])
     (settle_old names acc last known free is_old))) ∙ sym (judged_old acc last _ is_old))
-given_reads names word n v rest r position free other is among on acc last false true known is_old
+read_counts names word n v rest r position free other is among on acc last false true known is_old
     is_again at =
     let turn : turn_fault (top names) [] (at_word (held_for acc last) idle false position) word
     ≡ or_else (or_else [] (use_fault false (built_option n) (v ∷ [])
     (map row (joined acc last)))) [] =
-    given_turn names (held_for acc last) idle position word n v other is among
+    events_turn names (held_for acc last) idle position word n v other is among
     ∙ (ap (λ k. or_else (or_else k (use_fault false (built_option n) (v ∷ [])
     (settled (built_rules names) (held_for acc last)).rows)) [])
     (settle_new names acc last known free is_old)
@@ -160,42 +160,42 @@ given_reads names word n v rest r position free other is among on acc last false
     (settled_new names acc last known free is_old)) in
     total_step names _ word rest ∙ (first_false _ _
     (ap is_nil (turn ∙ ap (λ k. or_else (or_else [] k) [])
-    (use_again (given n v) (joined acc last) is_again)))
+    (use_again (parsed n v) (joined acc last) is_again)))
     ∙ sym (judged_new acc last _ is_old
-    ∙ judged_old (joined acc last) (Some (given n v)) r is_again))
-given_reads names word n v rest r position free other is among on acc last false false known is_old
+    ∙ judged_old (joined acc last) (Some (parsed n v)) r is_again))
+read_counts names word n v rest r position free other is among on acc last false false known is_old
     is_again at =
     let rows_are : settled (built_rules names) (held_for acc last)
     ≡ held_for (joined acc last) None = settled_new names acc last known free is_old in
     let turn : turn_fault (top names) [] (at_word (held_for acc last) idle false position) word
     ≡ [] =
-    given_turn names (held_for acc last) idle position word n v other is among
+    events_turn names (held_for acc last) idle position word n v other is among
     ∙ (ap (λ k. or_else (or_else k (use_fault false (built_option n) (v ∷ [])
     (settled (built_rules names) (held_for acc last)).rows)) [])
     (settle_new names acc last known free is_old)
     ∙ (ap (λ (h : Held). or_else (or_else [] (use_fault false (built_option n) (v ∷ []) h.rows)) [])
     rows_are
-    ∙ ap (λ k. or_else (or_else [] k) []) (use_new (given n v) (joined acc last) is_again))) in
+    ∙ ap (λ k. or_else (or_else [] k) []) (use_new (parsed n v) (joined acc last) is_again))) in
     let goes : walked (built_rules names) [] (at_word (held_for acc last) idle false position) word
-    ≡ at_word (held_for (joined acc last ++ given n v ∷ []) None) idle false position =
-    given_walked names (held_for acc last) position word n v other is among
+    ≡ at_word (held_for (joined acc last ++ parsed n v ∷ []) None) idle false position =
+    events_walked names (held_for acc last) position word n v other is among
     ∙ (ap (λ (h : Held). at_word (record
     { rows = used (built_option n) (v ∷ []) h.rows; pending = None; skip = 0 }) idle false
     position) rows_are
     ∙ ap (λ rows. at_word (record { rows = rows; pending = None; skip = 0 }) idle false position)
-    (new_row (given n v) (joined acc last) is_again)) in
-    let place_same : position ≡ place (joined acc last ++ given n v ∷ []) None =
+    (new_row (parsed n v) (joined acc last) is_again)) in
+    let place_same : position ≡ place (joined acc last ++ parsed n v ∷ []) None =
     at ∙ ap (λ b. if b then 2 else 1)
     (sym (positional_joined names acc last known free)
-    ∙ sym (positional_joined names (joined acc last) (Some (given n v)) among free
+    ∙ sym (positional_joined names (joined acc last) (Some (parsed n v)) among free
     ∙ or_nothing _) ∙ sym (or_nothing _)) in
     total_step names _ word rest ∙ (ap
     (λ b. b && is_nil (total names (walked (built_rules names) []
     (at_word (held_for acc last) idle false position) word) rest)) (ap is_nil turn)
     ∙ (ap (λ w. is_nil (total names w rest)) goes
-    ∙ (on (joined acc last ++ given n v ∷ []) place_same
+    ∙ (on (joined acc last ++ parsed n v ∷ []) place_same
     ∙ sym (judged_new acc last _ is_old
-    ∙ judged_new (joined acc last) (Some (given n v)) r is_again))))
+    ∙ judged_new (joined acc last) (Some (parsed n v)) r is_again))))
 
 -- an option whose value is the next word
 pub open_reads : (names : List (List ℕ)) (word n : List ℕ) (rest : List (List ℕ))

@@ -8,7 +8,7 @@ use Rattle.clap.specs.Walk.{Row, Walk, Waiting, idle, option, walked}
 use Rattle.clap.specs.Faults.{walk_fault, turn_fault}
 use Rattle.run_spec.specs.Words.{is_among, is_dashed}
 use Rattle.psi_words.specs.Clap.{positional_id}
-use Rattle.psi_words.proofs.Parts.{Part, given, plain, has_part, judged, parts, then_part}
+use Rattle.psi_words.proofs.Parts.{Part, parsed, plain, has_part, judged, parts, then_part}
 use Rattle.psi_words.proofs.Parts.{then_long, AreTexts}
 use Rattle.psi_words.proofs.Finding.{same_text}
 use Rattle.psi_words.proofs.Rules.{built_rules}
@@ -17,10 +17,10 @@ use Rattle.psi_words.proofs.Walking.{end_fault, is_nil, at_word, place, total, t
 use Rattle.psi_words.proofs.Walking.{end_is}
 use Rattle.psi_words.proofs.Turning.{trailing_turn, trailing_stray, trailing_walked, bare_turn}
 use Rattle.psi_words.proofs.Turning.{bare_stray, bare_walked, dashes_turn}
-use Rattle.psi_words.proofs.Turning.{dashes_walked, none_turn, given_turn, open_turn}
+use Rattle.psi_words.proofs.Turning.{dashes_walked, none_turn, events_turn, open_turn}
 use Rattle.psi_words.proofs.Turning.{short_turn, open_held, open_bare_turn}
 use Rattle.psi_words.proofs.Turning.{open_bare_walked, open_settles, false_first}
-use Rattle.psi_words.proofs.Reading.{or_true, has_positional, Reads, Opens, judged_none, plain_reads, given_reads, open_reads, refused_reads}
+use Rattle.psi_words.proofs.Reading.{or_true, has_positional, Reads, Opens, judged_none, plain_reads, read_counts, open_reads, refused_reads}
 
 -- ---- one more word
 
@@ -106,7 +106,7 @@ long_reads names word rest (Some (n, v)) free utf8 dashed other is reads opens a
         (none_turn names _ idle (place acc last) word n (Some x) other at among)
         ∙ sym (judged_none acc last)
         ∙ ap (λ b. judged acc (then_last last
-        (if b then then_part (given n x) (parts names None rest) else None))) (sym among)
+        (if b then then_part (parsed n x) (parts names None rest) else None))) (sym among)
     go true None among at =
         open_reads names word n rest (parts names (Some n) rest) (place acc last) free other at
         among (λ more at_place. opens more n (place acc last) at_place among) acc last
@@ -114,12 +114,12 @@ long_reads names word rest (Some (n, v)) free utf8 dashed other is reads opens a
         ∙ ap (λ b. judged acc (then_last last (if b then parts names (Some n) rest else None)))
         (sym among)
     go true (Some x) among at =
-        given_reads names word n x rest (parts names None rest) (place acc last) free other at among
+        read_counts names word n x rest (parts names None rest) (place acc last) free other at among
         (λ more at_place. ap (λ k. is_nil
         (total names (at_word (held_for more None) idle false k) rest)) at_place
         ∙ reads more None false tt) acc last (has_last acc last) (has_part n (joined acc last))
         known refl refl refl ∙ ap (λ b. judged acc
-        (then_last last (if b then then_part (given n x) (parts names None rest) else None)))
+        (then_last last (if b then then_part (parsed n x) (parts names None rest) else None)))
         (sym among)
 
 word_reads : (names : List (List ℕ)) (word : List ℕ) (rest : List (List ℕ)) (dashed other : Bool)
@@ -201,12 +201,12 @@ open_long names word (Some (m, v)) acc n position among utf8 dashed other is =
         ap is_nil (open_turn names (open_held acc n) (option n) position word m other at found)
         ∙ false_first _ _ (open_settles names acc n among)
     go true (Some x) found at =
-        ap is_nil (given_turn names (open_held acc n) (option n) position word m x other at found)
+        ap is_nil (events_turn names (open_held acc n) (option n) position word m x other at found)
         ∙ false_first _ _ (false_first _ _ (open_settles names acc n among))
 
 pub parts_open : (names : List (List ℕ)) (n word : List ℕ) (rest : List (List ℕ))
     → is_dashed word ≡ false → parts names (Some n) (word ∷ rest)
-    ≡ then_part (given n word) (parts names None rest)
+    ≡ then_part (parsed n word) (parts names None rest)
 parts_open names n word rest bare = rw bare refl
 
 pub parts_open_dashed : (names : List (List ℕ)) (n word : List ℕ) (rest : List (List ℕ))
@@ -223,9 +223,9 @@ word_opens names word rest false other utf8 is_bare is_other reads acc n positio
     rest)) (ap is_nil (open_bare_turn names (open_held acc n) n position word is_bare))
     ∙ (ap (λ w. is_nil (total names w rest))
     (open_bare_walked names acc n position word is_bare among)
-    ∙ (ap (λ k. is_nil (total names (at_word (held_for acc (Some (given n word))) idle false k)
+    ∙ (ap (λ k. is_nil (total names (at_word (held_for acc (Some (parsed n word))) idle false k)
     rest)) at
-    ∙ (reads acc (Some (given n word)) false among
+    ∙ (reads acc (Some (parsed n word)) false among
     ∙ ap (judged acc) (sym (parts_open names n word rest is_bare))))))
 word_opens names word rest true true utf8 is_dashed is_other reads acc n position at among =
     let is : word ≡ 45 ∷ 45 ∷ [] = same_text word (45 ∷ 45 ∷ []) is_other in

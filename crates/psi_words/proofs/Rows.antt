@@ -6,14 +6,14 @@ use Rattle.clap.specs.Lexer.{long_of}
 use Rattle.clap.specs.Walk.{Row, Held, Walk, idle, option, settled, walked, used}
 use Rattle.run_spec.specs.Words.{is_among, is_dashed}
 use Rattle.psi_words.specs.Clap.{positional_id}
-use Rattle.psi_words.proofs.Parts.{Part, given, plain, has_part, judged, parts, then_part}
+use Rattle.psi_words.proofs.Parts.{Part, parsed, plain, has_part, judged, parts, then_part}
 use Rattle.psi_words.proofs.Parts.{then_long, gathered}
 use Rattle.psi_words.proofs.Finding.{same_text}
 use Rattle.psi_words.proofs.Rules.{built_option, built_rules}
 use Rattle.psi_words.proofs.Walking.{row, held_for, joined, then_last, has_last, Known, at_word}
 use Rattle.psi_words.proofs.Walking.{place, settled_new, judged_old, judged_new, new_row}
 use Rattle.psi_words.proofs.Turning.{trailing_walked, bare_walked, positional_walked, dashes_walked}
-use Rattle.psi_words.proofs.Turning.{given_walked, open_walked, open_held, open_bare_walked}
+use Rattle.psi_words.proofs.Turning.{events_walked, open_walked, open_held, open_bare_walked}
 use Rattle.std.proofs.lemmas.List.{append_assoc, append-nil}
 use Rattle.clap.specs.Walk.{finished}
 use Rattle.psi_words.proofs.Walking.{same_rows}
@@ -83,7 +83,7 @@ rows_plain names word rest t r free goes on acc last false false known is_old is
     ∙ (on (joined acc last) (sym (judged_new acc last _ is_old) ∙ fit)
     ∙ ap (map row) (sym (gathered_joined acc last _ fit)))
 
-rows_given : (names : List (List ℕ)) (word n v : List ℕ) (rest : List (List ℕ))
+option_rows : (names : List (List ℕ)) (word n v : List ℕ) (rest : List (List ℕ))
     (r : Option (List Part)) (position : ℕ) → is_among positional_id names ≡ false
     → bytes_eq word (45 ∷ 45 ∷ []) ≡ false → long_of word ≡ Some (n, Some v)
     → is_among n names ≡ true
@@ -93,37 +93,37 @@ rows_given : (names : List (List ℕ)) (word n v : List ℕ) (rest : List (List 
     → (acc : List Part) (last : Option Part) (old again : Bool) → Known names last
     → has_last acc last ≡ old → has_part n (joined acc last) ≡ again
     → position ≡ (if has_positional acc last then 2 else 1)
-    → judged acc (then_last last (then_part (given n v) r)) ≡ true
+    → judged acc (then_last last (then_part (parsed n v) r)) ≡ true
     → rows_end names (at_word (held_for acc last) idle false position) (word ∷ rest)
-    ≡ map row (gathered acc (then_last last (then_part (given n v) r)))
-rows_given names word n v rest r position free other is among on acc last true again known is_old
+    ≡ map row (gathered acc (then_last last (then_part (parsed n v) r)))
+option_rows names word n v rest r position free other is among on acc last true again known is_old
     is_again at fit = never _ fit (judged_old acc last _ is_old)
-rows_given names word n v rest r position free other is among on acc last false true known is_old
+option_rows names word n v rest r position free other is among on acc last false true known is_old
     is_again at fit = never _ fit (judged_new acc last _ is_old
-    ∙ judged_old (joined acc last) (Some (given n v)) r is_again)
-rows_given names word n v rest r position free other is among on acc last false false known is_old
+    ∙ judged_old (joined acc last) (Some (parsed n v)) r is_again)
+option_rows names word n v rest r position free other is among on acc last false false known is_old
     is_again at fit =
     let rows_are : settled (built_rules names) (held_for acc last)
     ≡ held_for (joined acc last) None = settled_new names acc last known free is_old in
     let goes : walked (built_rules names) [] (at_word (held_for acc last) idle false position) word
-    ≡ at_word (held_for (joined acc last ++ given n v ∷ []) None) idle false position =
-    given_walked names (held_for acc last) position word n v other is among
+    ≡ at_word (held_for (joined acc last ++ parsed n v ∷ []) None) idle false position =
+    events_walked names (held_for acc last) position word n v other is among
     ∙ (ap (λ (h : Held). at_word (record
     { rows = used (built_option n) (v ∷ []) h.rows; pending = None; skip = 0 }) idle false
     position) rows_are
     ∙ ap (λ rows. at_word (record { rows = rows; pending = None; skip = 0 }) idle false position)
-    (new_row (given n v) (joined acc last) is_again)) in
-    let place_same : position ≡ place (joined acc last ++ given n v ∷ []) None =
+    (new_row (parsed n v) (joined acc last) is_again)) in
+    let place_same : position ≡ place (joined acc last ++ parsed n v ∷ []) None =
     at ∙ ap (λ b. if b then 2 else 1)
     (sym (positional_joined names acc last known free)
-    ∙ sym (positional_joined names (joined acc last) (Some (given n v)) among free
+    ∙ sym (positional_joined names (joined acc last) (Some (parsed n v)) among free
     ∙ or_nothing _) ∙ sym (or_nothing _)) in
-    let inner : judged (joined acc last) (then_part (given n v) r) ≡ true =
+    let inner : judged (joined acc last) (then_part (parsed n v) r) ≡ true =
     sym (judged_new acc last _ is_old) ∙ fit in
     ap (λ w. rows_end names w rest) goes
-    ∙ (on (joined acc last ++ given n v ∷ []) place_same
-    (sym (judged_new (joined acc last) (Some (given n v)) r is_again) ∙ inner)
-    ∙ ap (map row) (sym (gathered_joined (joined acc last) (Some (given n v)) r inner)
+    ∙ (on (joined acc last ++ parsed n v ∷ []) place_same
+    (sym (judged_new (joined acc last) (Some (parsed n v)) r is_again) ∙ inner)
+    ∙ ap (map row) (sym (gathered_joined (joined acc last) (Some (parsed n v)) r inner)
     ∙ sym (gathered_joined acc last _ fit)))
 
 rows_open : (names : List (List ℕ)) (word n : List ℕ) (rest : List (List ℕ))
@@ -178,7 +178,7 @@ long_rows names word rest (Some (n, v)) free other is reads opens acc last known
         (λ fit. never _ fit (judged_none acc last))
     go false (Some x) among at =
         subst (λ b. Rowed names (word ∷ rest) acc last
-        (if b then then_part (given n x) (parts names None rest) else None)) (sym among)
+        (if b then then_part (parsed n x) (parts names None rest) else None)) (sym among)
         (λ fit. never _ fit (judged_none acc last))
     go true None among at =
         subst (λ b. Rowed names (word ∷ rest) acc last
@@ -188,8 +188,8 @@ long_rows names word rest (Some (n, v)) free other is reads opens acc last known
         (has_last acc last) known refl refl)
     go true (Some x) among at =
         subst (λ b. Rowed names (word ∷ rest) acc last
-        (if b then then_part (given n x) (parts names None rest) else None)) (sym among)
-        (rows_given names word n x rest (parts names None rest) (place acc last) free other at among
+        (if b then then_part (parsed n x) (parts names None rest) else None)) (sym among)
+        (option_rows names word n x rest (parts names None rest) (place acc last) free other at among
         (λ more at_place fit. ap (λ k. rows_end names
         (at_word (held_for more None) idle false k) rest) at_place
         ∙ reads more None false tt fit) acc last (has_last acc last)
@@ -230,8 +230,8 @@ word_open_rows names word rest true is_dashed reads acc n position at among fit 
 word_open_rows names word rest false is_bare reads acc n position at among fit =
     let own = parts_open names n word rest is_bare in
     ap (λ w. rows_end names w rest) (open_bare_walked names acc n position word is_bare among)
-    ∙ (ap (λ k. rows_end names (at_word (held_for acc (Some (given n word))) idle false k) rest) at
-    ∙ (reads acc (Some (given n word)) false among (sym (ap (judged acc) own) ∙ fit)
+    ∙ (ap (λ k. rows_end names (at_word (held_for acc (Some (parsed n word))) idle false k) rest) at
+    ∙ (reads acc (Some (parsed n word)) false among (sym (ap (judged acc) own) ∙ fit)
     ∙ ap (λ r. map row (gathered acc r)) (sym own)))
 
 end_rows : (names : List (List ℕ)) (acc : List Part) (last : Option Part) (old : Bool)

@@ -9,7 +9,7 @@ use Rattle.clap.specs.Kinds.{Kinds, or_else}
 use Rattle.clap.specs.Faults.{positional_fault, use_fault, settle_fault, turn_fault, flags_fault}
 use Rattle.run_spec.specs.Words.{is_among, is_dashed}
 use Rattle.psi_words.specs.Clap.{positional_id}
-use Rattle.psi_words.proofs.Parts.{Part, given}
+use Rattle.psi_words.proofs.Parts.{Part, parsed}
 use Rattle.psi_words.proofs.Finding.{text_itself, by_long, by_id}
 use Rattle.psi_words.proofs.Rules.{built_option, built_positional, built_rules, by_short}
 use Rattle.psi_words.proofs.Rules.{by_index_1, by_index_2}
@@ -131,20 +131,20 @@ none_turn names h (option id) position word n v other is none =
 none_turn names h positional position word n v other is none =
     rw (other, is, by_long n names, none) refl
 
-pub given_turn : (names : List (List ℕ)) (h : Held) (waiting : Waiting) (position : ℕ)
+pub events_turn : (names : List (List ℕ)) (h : Held) (waiting : Waiting) (position : ℕ)
     (word n v : List ℕ) → bytes_eq word (45 ∷ 45 ∷ []) ≡ false → long_of word ≡ Some (n, Some v)
     → is_among n names ≡ true
     → turn_fault (top names) [] (at_word h waiting false position) word
     ≡ or_else (or_else (settle_fault (built_rules names) false h)
     (use_fault false (built_option n) (v ∷ []) (settled (built_rules names) h).rows)) []
-given_turn names h idle position word n v other is among =
+events_turn names h idle position word n v other is among =
     rw (other, is, by_long n names, among) refl
-given_turn names h (option id) position word n v other is among =
+events_turn names h (option id) position word n v other is among =
     rw (other, is, by_long n names, among) refl
-given_turn names h positional position word n v other is among =
+events_turn names h positional position word n v other is among =
     rw (other, is, by_long n names, among) refl
 
-pub given_walked : (names : List (List ℕ)) (h : Held) (position : ℕ) (word n v : List ℕ)
+pub events_walked : (names : List (List ℕ)) (h : Held) (position : ℕ) (word n v : List ℕ)
     → bytes_eq word (45 ∷ 45 ∷ []) ≡ false → long_of word ≡ Some (n, Some v)
     → is_among n names ≡ true
     → walked (built_rules names) [] (at_word h idle false position) word
@@ -154,7 +154,7 @@ pub given_walked : (names : List (List ℕ)) (h : Held) (position : ℕ) (word n
       pending = None;
     }) idle false position
 unfolding walked
-given_walked names h position word n v other is among = rw (other, is, by_long n names, among) refl
+events_walked names h position word n v other is among = rw (other, is, by_long n names, among) refl
 
 pub open_turn : (names : List (List ℕ)) (h : Held) (waiting : Waiting) (position : ℕ)
     (word n : List ℕ) → bytes_eq word (45 ∷ 45 ∷ []) ≡ false → long_of word ≡ Some (n, None)
@@ -241,7 +241,7 @@ open_bare_turn names h n position word bare =
 pub open_bare_walked : (names : List (List ℕ)) (acc : List Part) (n : List ℕ) (position : ℕ)
     (word : List ℕ) → is_dashed word ≡ false → is_among n names ≡ true
     → walked (built_rules names) [] (at_word (open_held acc n) (option n) false position) word
-    ≡ at_word (held_for acc (Some (given n word))) idle false position
+    ≡ at_word (held_for acc (Some (parsed n word))) idle false position
 unfolding walked
 open_bare_walked names acc n position word bare among =
     rw (

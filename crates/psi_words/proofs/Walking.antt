@@ -17,7 +17,7 @@ use Rattle.clap.specs.declared.builder.value_parser.ValueParser.TheVariants as v
 use Rattle.clap.specs.declared.parser.matches.ValueSource.TheVariants.{CommandLine}
 use Rattle.run_spec.specs.Words.{is_among}
 use Rattle.psi_words.specs.Clap.{positional_id, plain_shape}
-use Rattle.psi_words.proofs.Parts.{Part, given, plain, id_of, text_of, has_part, judged, then_part}
+use Rattle.psi_words.proofs.Parts.{Part, parsed, plain, id_of, text_of, has_part, judged, then_part}
 use Rattle.psi_words.proofs.Rules.{built_option, built_positional, built_rules}
 use Rattle.psi_words.proofs.Finding.{by_id, positional_by_id}
 use Rattle.std.specs.Prelude.{⊤, option_map, if◌then◌else◌}
@@ -34,7 +34,7 @@ row p = record {
 
 -- the rule of a part
 abbrev pub rule_for : Part → Rule
-rule_for (given name value) = built_option name
+rule_for (parsed name value) = built_option name
 rule_for (plain word) = built_positional
 
 pub row_has : (id : List ℕ) (ps : List Part) → has_row id (map row ps) ≡ has_part id ps
@@ -64,18 +64,18 @@ row_added p ps new =
 
 pub new_row : (p : Part) (ps : List Part) → has_part (id_of p) ps ≡ false
     → used (rule_for p) (text_of p ∷ []) (map row ps) ≡ map row (ps ++ p ∷ [])
-new_row (given name value) ps new = row_added (given name value) ps new
+new_row (parsed name value) ps new = row_added (parsed name value) ps new
 new_row (plain word) ps new = row_added (plain word) ps new
 
 -- a repeated part is rejected
 pub use_again : (p : Part) (ps : List Part) → has_part (id_of p) ps ≡ true
     → use_fault false (rule_for p) (text_of p ∷ []) (map row ps) ≡ kind.ArgumentConflict ∷ []
-use_again (given name value) ps old = rw (row_has name ps, old) refl
+use_again (parsed name value) ps old = rw (row_has name ps, old) refl
 use_again (plain word) ps old = rw (row_has positional_id ps, old) refl
 
 pub use_new : (p : Part) (ps : List Part) → has_part (id_of p) ps ≡ false
     → use_fault false (rule_for p) (text_of p ∷ []) (map row ps) ≡ []
-use_new (given name value) ps new = rw (row_has name ps, new) refl
+use_new (parsed name value) ps new = rw (row_has name ps, new) refl
 use_new (plain word) ps new = rw (row_has positional_id ps, new) refl
 
 -- ---- the stored rows
@@ -103,13 +103,13 @@ has_last acc (Some p) = has_part (id_of p) acc
 
 abbrev pub Known : List (List ℕ) → Option Part → Type 0
 Known names None = ⊤
-Known names (Some (given n v)) = is_among n names ≡ true
+Known names (Some (parsed n v)) = is_among n names ≡ true
 Known names (Some (plain w)) = ⊤
 
 pub rule_is : (names : List (List ℕ)) (p : Part) → Known names (Some p)
     → is_among positional_id names ≡ false
     → arg_by_id (built_rules names) (id_of p) ≡ Some (rule_for p)
-rule_is names (given n v) known free = by_id n names known
+rule_is names (parsed n v) known free = by_id n names known
 rule_is names (plain w) known free = positional_by_id names free
 
 pub settle_old : (names : List (List ℕ)) (acc : List Part) (last : Option Part) → Known names last
@@ -230,7 +230,7 @@ at_word h waiting trailing position =
 
 abbrev pub is_plain : Option Part → Bool
 is_plain None = false
-is_plain (Some (given n v)) = false
+is_plain (Some (parsed n v)) = false
 is_plain (Some (plain w)) = true
 
 -- the positional that comes next

@@ -5,7 +5,7 @@ use Rattle.std.specs.List.{list_all}
 use Rattle.std.specs.Str.{bytes_eq}
 use Rattle.clap.specs.Walk.{Row, Rule, first_of}
 use Rattle.clap.specs.Simple.{App, Shape, new_rule, new_shape}
-use Rattle.run_spec.specs.Words.{Given}
+use Rattle.run_spec.specs.Words.{ParsedWords}
 
 -- ---- the command
 
@@ -45,8 +45,8 @@ abbrev pub option_in : Row → List ℕ × List ℕ
 option_in row = (row.id, unwrap_or (slice_get row.values 0) [])
 
 -- the options and the positional of rows
-abbrev pub given_in : List Row → Given
-given_in rows = record {
+abbrev pub words_in : List Row → ParsedWords
+words_in rows = record {
   options = map option_in (filter is_option_row rows);
   positional = first_of positional_id rows;
 }

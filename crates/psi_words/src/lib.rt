@@ -4,7 +4,7 @@
 //! It checks ranges and defaults, and opens no files.
 #![tactic(auto)]
 
-mod given;
+mod parsed;
 mod tables;
 mod values;
 mod words;

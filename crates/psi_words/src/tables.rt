@@ -3,7 +3,7 @@ ghost use Rattle.std.specs.Prelude.{map, string_bytes, IfOk, IfSome, IsUtf8};
 ghost use Rattle.psi_words.specs.Reads.{Finds, HasTextNames, ReadsWord};
 ghost use Rattle.run_spec.specs.Words as spec;
 
-use crate::given::Parsed;
+use crate::parsed::Parsed;
 use crate::values::{drop_in, live, needed, number_or, rules};
 use crate::words::BadWords;
 use psi_base::{Fault, Text};
@@ -11,45 +11,45 @@ use run_spec::{Command, Options, Shape};
 use std::alloc::Global;
 
 // The name of the trace file.
-fn trace(alloc: Global, given: &Parsed) -> Result<Text, Fault<BadWords>>
-    ensures exact { ReadsWord result (spec.trace_given given.now) }
+fn trace(alloc: Global, parsed: &Parsed) -> Result<Text, Fault<BadWords>>
+    ensures exact { ReadsWord result (spec.trace_option parsed.now) }
     ensures text { IfOk result IsUtf8 }
 {
-    match given.positional() {
+    match parsed.positional() {
         Some(name) if !name.is_empty() => Ok(Text::make(alloc, name.as_bytes())?),
         _ => Err(Fault::Refused(BadWords)),
     }
 }
 
 // The tick length in ms.
-fn tick_ms(given: &Parsed) -> Result<u32, BadWords>
-    ensures { Finds result (spec.tick_given given.now) }
+fn tick_ms(parsed: &Parsed) -> Result<u32, BadWords>
+    ensures { Finds result (spec.tick_option parsed.now) }
 {
-    number_or(2_000, 1, 60_000, given.value("tick-ms"))
+    number_or(2_000, 1, 60_000, parsed.value("tick-ms"))
 }
 
 // The number of worker threads.
-fn workers(given: &Parsed) -> Result<u32, BadWords>
-    ensures { Finds result (spec.workers_given given.now) }
+fn workers(parsed: &Parsed) -> Result<u32, BadWords>
+    ensures { Finds result (spec.workers_option parsed.now) }
 {
-    number_or(64, 1, 64, given.value("workers"))
+    number_or(64, 1, 64, parsed.value("workers"))
 }
 
 // The options of `replay` and `whatif`.
 #[tactic(auto, unfolding(run_spec::specs::Words::options_of))]
-fn options(alloc: Global, given: &Parsed) -> Result<Options, Fault<BadWords>>
-    ensures exact { ReadsWord result (spec.options_of given.now) }
+fn options(alloc: Global, parsed: &Parsed) -> Result<Options, Fault<BadWords>>
+    ensures exact { ReadsWord result (spec.options_of parsed.now) }
     ensures text { IfOk result (λ options. IfSome options.rules IsUtf8) }
     ensures drop_in { IfOk result (λ options. IfSome options.drop_in IsUtf8) }
 {
-    let rules = rules(alloc, given.value("rules"))?;
-    let drop_in = drop_in(alloc, &rules, given.value("drop-in"))?;
-    let tick_ms = tick_ms(given)?;
-    let interval_s = number_or(5, 1, 3_600, given.value("interval-s"))?;
-    let report_s = number_or(10, 0, 3_600, given.value("report-s"))?;
-    let workers = workers(given)?;
-    let live = live(alloc, given.value("live"))?;
-    let live_count = number_or(1, 1, 16, given.value("live-count"))?;
+    let rules = rules(alloc, parsed.value("rules"))?;
+    let drop_in = drop_in(alloc, &rules, parsed.value("drop-in"))?;
+    let tick_ms = tick_ms(parsed)?;
+    let interval_s = number_or(5, 1, 3_600, parsed.value("interval-s"))?;
+    let report_s = number_or(10, 0, 3_600, parsed.value("report-s"))?;
+    let workers = workers(parsed)?;
+    let live = live(alloc, parsed.value("live"))?;
+    let live_count = number_or(1, 1, 16, parsed.value("live-count"))?;
     Ok(Options {
         rules,
         drop_in,
@@ -64,16 +64,16 @@ fn options(alloc: Global, given: &Parsed) -> Result<Options, Fault<BadWords>>
 
 // The shape of a generated trace.
 #[tactic(auto, unfolding(run_spec::specs::Words::shape_of))]
-fn shape(given: &Parsed) -> Result<Shape, BadWords>
-    ensures { Finds result (spec.shape_of given.now) }
+fn shape(parsed: &Parsed) -> Result<Shape, BadWords>
+    ensures { Finds result (spec.shape_of parsed.now) }
 {
-    if given.positional().is_some() {
+    if parsed.positional().is_some() {
         return Err(BadWords);
     }
-    let seed = needed(0, u64::MAX, given.value("seed"))?;
-    let cpus = needed(1, 64, given.value("cpus"))? as u32;
-    let groups = needed(0, 1_000, given.value("groups"))? as u32;
-    let events = needed(0, 3_900_000, given.value("events"))? as u32;
+    let seed = needed(0, u64::MAX, parsed.value("seed"))?;
+    let cpus = needed(1, 64, parsed.value("cpus"))? as u32;
+    let groups = needed(0, 1_000, parsed.value("groups"))? as u32;
+    let events = needed(0, 3_900_000, parsed.value("events"))? as u32;
     Ok(Shape {
         seed,
         cpus,
@@ -83,11 +83,11 @@ fn shape(given: &Parsed) -> Result<Shape, BadWords>
 }
 
 #[tactic(auto, unfolding(run_spec::specs::Words::stall_of))]
-fn stall_given(alloc: Global, given: &Parsed) -> Result<Command, Fault<BadWords>>
-    ensures exact { ReadsWord result (spec.stall_of given.now) }
+fn stall_words(alloc: Global, parsed: &Parsed) -> Result<Command, Fault<BadWords>>
+    ensures exact { ReadsWord result (spec.stall_of parsed.now) }
     ensures texts { IfOk result HasTextNames }
 {
-    let trace = trace(alloc, given)?;
+    let trace = trace(alloc, parsed)?;
     Ok(Command::Stall { trace })
 }
 
@@ -96,19 +96,19 @@ pub(crate) fn read_stall(alloc: Global, words: &[String]) -> Result<Command, Fau
     ensures exact { ReadsWord result (spec.spelled spec.stall_form (map string_bytes words.now)) }
     ensures texts { IfOk result HasTextNames }
 {
-    let given = Parsed::read(alloc, &[], words)?;
-    let command = stall_given(alloc, &given);
-    drop(given);
+    let parsed = Parsed::read(alloc, &[], words)?;
+    let command = stall_words(alloc, &parsed);
+    drop(parsed);
     command
 }
 
 #[tactic(auto, unfolding(run_spec::specs::Words::check_of))]
-fn check_given(alloc: Global, given: &Parsed) -> Result<Command, Fault<BadWords>>
-    ensures exact { ReadsWord result (spec.check_of given.now) }
+fn check_words(alloc: Global, parsed: &Parsed) -> Result<Command, Fault<BadWords>>
+    ensures exact { ReadsWord result (spec.check_of parsed.now) }
     ensures texts { IfOk result HasTextNames }
 {
-    let trace = trace(alloc, given)?;
-    let tick_ms = tick_ms(given)?;
+    let trace = trace(alloc, parsed)?;
+    let tick_ms = tick_ms(parsed)?;
     Ok(Command::Check { trace, tick_ms })
 }
 
@@ -117,19 +117,19 @@ pub(crate) fn read_check(alloc: Global, words: &[String]) -> Result<Command, Fau
     ensures exact { ReadsWord result (spec.spelled spec.check_form (map string_bytes words.now)) }
     ensures texts { IfOk result HasTextNames }
 {
-    let given = Parsed::read(alloc, &["tick-ms"], words)?;
-    let command = check_given(alloc, &given);
-    drop(given);
+    let parsed = Parsed::read(alloc, &["tick-ms"], words)?;
+    let command = check_words(alloc, &parsed);
+    drop(parsed);
     command
 }
 
 #[tactic(auto, unfolding(run_spec::specs::Words::replay_of))]
-fn replay_given(alloc: Global, given: &Parsed) -> Result<Command, Fault<BadWords>>
-    ensures exact { ReadsWord result (spec.replay_of given.now) }
+fn replay_words(alloc: Global, parsed: &Parsed) -> Result<Command, Fault<BadWords>>
+    ensures exact { ReadsWord result (spec.replay_of parsed.now) }
     ensures texts { IfOk result HasTextNames }
 {
-    let trace = trace(alloc, given)?;
-    let options = options(alloc, given)?;
+    let trace = trace(alloc, parsed)?;
+    let options = options(alloc, parsed)?;
     Ok(Command::Replay { trace, options })
 }
 
@@ -148,18 +148,18 @@ pub(crate) fn read_replay(alloc: Global, words: &[String]) -> Result<Command, Fa
         "live",
         "live-count",
     ];
-    let given = Parsed::read(alloc, &names, words)?;
-    let command = replay_given(alloc, &given);
-    drop(given);
+    let parsed = Parsed::read(alloc, &names, words)?;
+    let command = replay_words(alloc, &parsed);
+    drop(parsed);
     command
 }
 
 #[tactic(auto, unfolding(run_spec::specs::Words::gen_of))]
-fn gen_given(given: &Parsed) -> Result<Command, Fault<BadWords>>
-    ensures exact { ReadsWord result (spec.gen_of given.now) }
+fn gen_words(parsed: &Parsed) -> Result<Command, Fault<BadWords>>
+    ensures exact { ReadsWord result (spec.gen_of parsed.now) }
     ensures texts { IfOk result HasTextNames }
 {
-    let shape = shape(given)?;
+    let shape = shape(parsed)?;
     Ok(Command::Gen { shape })
 }
 
@@ -168,19 +168,19 @@ pub(crate) fn read_gen(alloc: Global, words: &[String]) -> Result<Command, Fault
     ensures exact { ReadsWord result (spec.spelled spec.gen_form (map string_bytes words.now)) }
     ensures texts { IfOk result HasTextNames }
 {
-    let given = Parsed::read(alloc, &["seed", "cpus", "groups", "events"], words)?;
-    let command = gen_given(&given);
-    drop(given);
+    let parsed = Parsed::read(alloc, &["seed", "cpus", "groups", "events"], words)?;
+    let command = gen_words(&parsed);
+    drop(parsed);
     command
 }
 
 #[tactic(auto, unfolding(run_spec::specs::Words::stress_of))]
-fn stress_given(given: &Parsed) -> Result<Command, Fault<BadWords>>
-    ensures exact { ReadsWord result (spec.stress_of given.now) }
+fn stress_words(parsed: &Parsed) -> Result<Command, Fault<BadWords>>
+    ensures exact { ReadsWord result (spec.stress_of parsed.now) }
     ensures texts { IfOk result HasTextNames }
 {
-    let shape = shape(given)?;
-    let workers = workers(given)?;
+    let shape = shape(parsed)?;
+    let workers = workers(parsed)?;
     Ok(Command::Stress { shape, workers })
 }
 
@@ -190,19 +190,19 @@ pub(crate) fn read_stress(alloc: Global, words: &[String]) -> Result<Command, Fa
     ensures texts { IfOk result HasTextNames }
 {
     let names = ["workers", "seed", "cpus", "groups", "events"];
-    let given = Parsed::read(alloc, &names, words)?;
-    let command = stress_given(&given);
-    drop(given);
+    let parsed = Parsed::read(alloc, &names, words)?;
+    let command = stress_words(&parsed);
+    drop(parsed);
     command
 }
 
 #[tactic(auto, unfolding(run_spec::specs::Words::import_command_of))]
-fn import_given(alloc: Global, given: &Parsed) -> Result<Command, Fault<BadWords>>
-    ensures exact { ReadsWord result (spec.import_command_of given.now) }
+fn import_words(alloc: Global, parsed: &Parsed) -> Result<Command, Fault<BadWords>>
+    ensures exact { ReadsWord result (spec.import_command_of parsed.now) }
     ensures texts { IfOk result HasTextNames }
 {
-    let file = trace(alloc, given)?;
-    let cpus = needed(1, 64, given.value("cpus"))? as u32;
+    let file = trace(alloc, parsed)?;
+    let cpus = needed(1, 64, parsed.value("cpus"))? as u32;
     Ok(Command::Import { file, cpus })
 }
 
@@ -211,19 +211,19 @@ pub(crate) fn read_import(alloc: Global, words: &[String]) -> Result<Command, Fa
     ensures exact { ReadsWord result (spec.spelled spec.import_form (map string_bytes words.now)) }
     ensures texts { IfOk result HasTextNames }
 {
-    let given = Parsed::read(alloc, &["cpus"], words)?;
-    let command = import_given(alloc, &given);
-    drop(given);
+    let parsed = Parsed::read(alloc, &["cpus"], words)?;
+    let command = import_words(alloc, &parsed);
+    drop(parsed);
     command
 }
 
 #[tactic(auto, unfolding(run_spec::specs::Words::rules_command_of))]
-fn rules_given(alloc: Global, given: &Parsed) -> Result<Command, Fault<BadWords>>
-    ensures exact { ReadsWord result (spec.rules_command_of given.now) }
+fn rules_option(alloc: Global, parsed: &Parsed) -> Result<Command, Fault<BadWords>>
+    ensures exact { ReadsWord result (spec.rules_command_of parsed.now) }
     ensures texts { IfOk result HasTextNames }
 {
-    let file = trace(alloc, given)?;
-    let drop_in = rules(alloc, given.value("drop-in"))?;
+    let file = trace(alloc, parsed)?;
+    let drop_in = rules(alloc, parsed.value("drop-in"))?;
     Ok(Command::Rules { file, drop_in })
 }
 
@@ -232,19 +232,19 @@ pub(crate) fn read_rules(alloc: Global, words: &[String]) -> Result<Command, Fau
     ensures exact { ReadsWord result (spec.spelled spec.rules_form (map string_bytes words.now)) }
     ensures texts { IfOk result HasTextNames }
 {
-    let given = Parsed::read(alloc, &["drop-in"], words)?;
-    let command = rules_given(alloc, &given);
-    drop(given);
+    let parsed = Parsed::read(alloc, &["drop-in"], words)?;
+    let command = rules_option(alloc, &parsed);
+    drop(parsed);
     command
 }
 
 #[tactic(auto, unfolding(run_spec::specs::Words::whatif_of))]
-fn whatif_given(alloc: Global, given: &Parsed) -> Result<Command, Fault<BadWords>>
-    ensures exact { ReadsWord result (spec.whatif_of given.now) }
+fn whatif_options(alloc: Global, parsed: &Parsed) -> Result<Command, Fault<BadWords>>
+    ensures exact { ReadsWord result (spec.whatif_of parsed.now) }
     ensures texts { IfOk result HasTextNames }
 {
-    let trace = trace(alloc, given)?;
-    let options = options(alloc, given)?;
+    let trace = trace(alloc, parsed)?;
+    let options = options(alloc, parsed)?;
     if options.rules.is_some() && options.live.is_none() {
         Ok(Command::Whatif { trace, options })
     } else {
@@ -265,8 +265,8 @@ pub(crate) fn read_whatif(alloc: Global, words: &[String]) -> Result<Command, Fa
         "report-s",
         "workers",
     ];
-    let given = Parsed::read(alloc, &names, words)?;
-    let command = whatif_given(alloc, &given);
-    drop(given);
+    let parsed = Parsed::read(alloc, &names, words)?;
+    let command = whatif_options(alloc, &parsed);
+    drop(parsed);
     command
 }

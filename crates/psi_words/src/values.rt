@@ -19,11 +19,11 @@ pub(crate) fn number_within(least: u64, most: u64, text: &str) -> Result<u64, Ba
 }
 
 /// The number of a required option, from `least` to `most`.
-pub(crate) fn needed(least: u64, most: u64, given: Option<&str>) -> Result<u64, BadWords>
-    ensures exact { Finds result (spec.needed least most (option_copied given.entry)) }
+pub(crate) fn needed(least: u64, most: u64, parsed: Option<&str>) -> Result<u64, BadWords>
+    ensures exact { Finds result (spec.needed least most (option_copied parsed.entry)) }
     ensures most { IfOk result (λ number. number ≤ most) }
 {
-    match given {
+    match parsed {
         None => Err(BadWords),
         Some(text) => number_within(least, most, text),
     }
@@ -34,11 +34,11 @@ pub(crate) fn number_or(
     default: u32,
     least: u32,
     most: u32,
-    given: Option<&str>,
+    parsed: Option<&str>,
 ) -> Result<u32, BadWords>
-    ensures { Finds result (spec.number_or default least most (option_copied given.entry)) }
+    ensures { Finds result (spec.number_or default least most (option_copied parsed.entry)) }
 {
-    match given {
+    match parsed {
         None => Ok(default),
         Some(text) => {
             let number = number_within(u64::from(least), u64::from(most), text)?;
@@ -48,11 +48,11 @@ pub(crate) fn number_or(
 }
 
 /// The name of a rules file or drop-in file, or none; it can't be standard input.
-pub(crate) fn rules(alloc: Global, given: Option<&str>) -> Result<Option<Text>, Fault<BadWords>>
-    ensures exact { ReadsWord result (spec.rules_given (option_copied given.entry)) }
+pub(crate) fn rules(alloc: Global, parsed: Option<&str>) -> Result<Option<Text>, Fault<BadWords>>
+    ensures exact { ReadsWord result (spec.rules_option (option_copied parsed.entry)) }
     ensures text { IfOk result (λ name. IfSome name IsUtf8) }
 {
-    match given {
+    match parsed {
         None => Ok(None),
         Some(name) => {
             if name.is_empty() || name == "-" {
@@ -67,23 +67,23 @@ pub(crate) fn rules(alloc: Global, given: Option<&str>) -> Result<Option<Text>, 
 pub(crate) fn drop_in(
     alloc: Global,
     rules_named: &Option<Text>,
-    given: Option<&str>,
+    parsed: Option<&str>,
 ) -> Result<Option<Text>, Fault<BadWords>>
     ensures exact { ReadsWord result
-        (spec.drop_in_given rules_named.now (option_copied given.entry)) }
+        (spec.drop_in_option rules_named.now (option_copied parsed.entry)) }
     ensures text { IfOk result (λ name. IfSome name IsUtf8) }
 {
-    if given.is_some() && rules_named.is_none() {
+    if parsed.is_some() && rules_named.is_none() {
         return Err(Fault::Refused(BadWords));
     }
-    rules(alloc, given)
+    rules(alloc, parsed)
 }
 
 /// The path of a group, or none.
-pub(crate) fn live(alloc: Global, given: Option<&str>) -> Result<Option<Path>, Fault<BadWords>>
-    ensures { ReadsWord result (spec.live_given (option_copied given.entry)) }
+pub(crate) fn live(alloc: Global, parsed: Option<&str>) -> Result<Option<Path>, Fault<BadWords>>
+    ensures { ReadsWord result (spec.live_option (option_copied parsed.entry)) }
 {
-    match given {
+    match parsed {
         None => Ok(None),
         Some(text) => match Path::read(alloc, text.as_bytes())? {
             Some(path) => Ok(Some(path)),

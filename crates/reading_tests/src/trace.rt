@@ -1,4 +1,4 @@
 //! The lines of a trace, read and written.
 mod events;
-mod fronts;
 mod headers;
+mod prefixes;

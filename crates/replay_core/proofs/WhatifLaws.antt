@@ -7,8 +7,8 @@ use Rattle.psi_base.specs.declared.event.Fault.TheVariants as fault
 use Rattle.psi_spec.specs.Trace.{IsAccepted, IsCpuCount, Trace, limits_of}
 use Rattle.psi_spec.specs.World.{Limits, World}
 use Rattle.ruleset_json.specs.declared.types.Rule.{Rule}
-use Rattle.run_spec.specs.Outputs.{of_ms, pace_of}
-use Rattle.run_spec.specs.Replay.{IsReplayText, Pace}
+use Rattle.run_spec.specs.Outputs.{of_ms, timing_of}
+use Rattle.run_spec.specs.Replay.{IsReplayText, Timing}
 use Rattle.run_spec.specs.Whatif.{last_trace}
 use Rattle.run_spec.specs.declared.command.Options.{Options}
 use Rattle.run_spec.specs.declared.status.Status.{Status}
@@ -20,20 +20,20 @@ use Rattle.run_outcomes.specs.Writes.{IsStatusOfRounds, WritesLast, WritesSome}
 use Rattle.run_outcomes.proofs.RunLaws.{keeps_same}
 
 -- an output of the last trace was to be written
-pub last_written : (trace last : Trace) (pace : Pace) (rules : List Rule) (before now : ℕ) (had has : Option (List ℕ)) (result : Status) → last_trace trace pace rules ≡ Ok last
-    → WritesSome (IsReplayText last pace rules) before now had has result → WritesLast trace pace rules before now had has result
-last_written trace last pace rules before now had has status.Done is wrote = (last, is, wrote)
-last_written trace last pace rules before now had has status.WriteFault is wrote = (last, is, wrote)
-last_written trace last pace rules before now had has (status.NoMemory _) is wrote = wrote.2
-last_written trace last pace rules before now had has _ is wrote = absurd wrote.2
+pub last_written : (trace last : Trace) (timing : Timing) (rules : List Rule) (before now : ℕ) (had has : Option (List ℕ)) (result : Status) → last_trace trace timing rules ≡ Ok last
+    → WritesSome (IsReplayText last timing rules) before now had has result → WritesLast trace timing rules before now had has result
+last_written trace last timing rules before now had has status.Done is wrote = (last, is, wrote)
+last_written trace last timing rules before now had has status.WriteFault is wrote = (last, is, wrote)
+last_written trace last timing rules before now had has (status.NoMemory _) is wrote = wrote.2
+last_written trace last timing rules before now had has _ is wrote = absurd wrote.2
 
 -- nothing was written if no trace was left
 pub none_left : (options : Options) (trace : Trace) (rules : List Rule) (writes : ℕ) (had : Option (List ℕ)) (found : Fault TooLarge) (result : Status) → IsOutgrown options rules trace found
-    → IsStatusOfRounds found result → WritesLast trace (pace_of options) rules writes writes had had result
-none_left options trace rules writes had (fault.Refused large) result is told =
-    subst (WritesLast trace (pace_of options) rules writes writes had had) (sym told) (is, keeps_same had, refl)
-none_left options trace rules writes had (fault.NoMemory _) result is told =
-    subst (WritesLast trace (pace_of options) rules writes writes had had) (sym told) (keeps_same had, refl)
+    → IsStatusOfRounds found result → WritesLast trace (timing_of options) rules writes writes had had result
+none_left options trace rules writes had (fault.Refused large) result is known =
+    subst (WritesLast trace (timing_of options) rules writes writes had had) (sym known) (is, keeps_same had, refl)
+none_left options trace rules writes had (fault.NoMemory _) result is known =
+    subst (WritesLast trace (timing_of options) rules writes writes had had) (sym known) (keeps_same had, refl)
 
 -- a stored trace is accepted
 pub kept_accepted : (options : Options) (version cpus_kept cpus : ℕ) (kept events : List Event) (limits_now : Limits) (w : World) → IsCpuCount cpus → IsAccepted (limits_of (of_ms options.tick_ms) cpus) events
@@ -44,10 +44,10 @@ kept_accepted options version cpus_kept cpus kept events limits_now w counted ac
 }
 
 -- and the output written for it is an output for the trace that was read
-pub kept_written : (version cpus_kept cpus : ℕ) (kept events : List Event) (limits limits_now : Limits) (w : World) (pace : Pace) (rules : List Rule) (before now : ℕ) (had has : Option (List ℕ)) (result : Status) → limits.cpus ≡ cpus
-    → HasKept cpus_kept kept limits_now w limits events → WritesLast (trace_from version cpus_kept kept) pace rules before now had has result
-    → WritesLast (trace_from version cpus events) pace rules before now had has result
-kept_written version cpus_kept cpus kept events limits limits_now w pace rules before now had has result is so wrote =
-    let one = subst (λ n. WritesLast (trace_from version n kept) pace rules before now had has result) so.cpus_are wrote in
-    let other = subst (λ n. WritesLast (trace_from version n kept) pace rules before now had has result) is one in
-    subst (λ es. WritesLast (trace_from version cpus es) pace rules before now had has result) so.kept_are other
+pub kept_written : (version cpus_kept cpus : ℕ) (kept events : List Event) (limits limits_now : Limits) (w : World) (timing : Timing) (rules : List Rule) (before now : ℕ) (had has : Option (List ℕ)) (result : Status) → limits.cpus ≡ cpus
+    → HasKept cpus_kept kept limits_now w limits events → WritesLast (trace_from version cpus_kept kept) timing rules before now had has result
+    → WritesLast (trace_from version cpus events) timing rules before now had has result
+kept_written version cpus_kept cpus kept events limits limits_now w timing rules before now had has result is so wrote =
+    let one = subst (λ n. WritesLast (trace_from version n kept) timing rules before now had has result) so.cpus_are wrote in
+    let other = subst (λ n. WritesLast (trace_from version n kept) timing rules before now had has result) is one in
+    subst (λ es. WritesLast (trace_from version cpus es) timing rules before now had has result) so.kept_are other

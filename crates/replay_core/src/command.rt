@@ -1,33 +1,27 @@
 //! Runs each command on its files.
 ghost use Rattle.std.specs.Prelude.{◌≡◌, ◌+◌, ◌≤◌, None, IfSome, IsUtf8};
-ghost use Rattle.outside.specs.Outside.{StaysOver};
+ghost use Rattle.outside.specs.Outside.{SameInner};
 ghost use Rattle.run_spec.specs.MostRead.{most_read};
 ghost use Rattle.run_spec.specs.Run.{Runs, run_counts};
+ghost use Rattle.run_spec.specs.ReadOrder.{ReadsInOrder};
 ghost use Rattle.run_spec.specs.Stops.{StopsAtRefusal};
 ghost use Rattle.run_spec.specs.LegalCommand.{IsCommand, IsWithin};
 ghost use Rattle.psi_words.specs.Reads.{HasTextNames};
 ghost use Rattle.run_outcomes.specs.Writes.{IsStatusOf};
 
 use crate::whatif::run_whatif;
-use gen_run::{write_generated, write_stress};
-use import_run::run_import;
+use commands::{
+    run_import, write_checked, write_generated, write_replay, write_stalls, write_stress,
+};
 use outside::{Gate, Shelf, Sink};
 use proc_plan::Planner;
-use psi_base::Ns;
-use replay_run::write_replay;
+use psi_base::{DEFAULT_TICK, MILLISECOND, Ns};
 use rules_file::{name_of, read_rules, run_rules};
 use run_spec::{Command, Options, Status, Which};
-use stall_run::{write_checked, write_stalls};
 use std::alloc::Global;
 use std::thread::Threads;
 use task_table::Table;
 use trace_file::{TraceFault, play_trace};
-
-/// The number of ns in a millisecond.
-pub(crate) const MILLISECOND: Ns = 1_000_000;
-
-/// The length of a tick (ns) of `stall`, which limits the times of its trace.
-const TICK: Ns = 2000 * MILLISECOND;
 
 /// The status of a trace that can't be read.
 pub(crate) fn fault_status(fault: TraceFault) -> Status
@@ -54,17 +48,20 @@ fn run_stall<R: Threads + Sync, S: Shelf, K: Sink>(
     shelf: &mut S,
     out: &mut K,
 ) -> Status
-    ensures kept { S.holds shelf.new ≡ S.holds shelf.old }
+    ensures unchanged { S.holds shelf.new ≡ S.holds shelf.old }
     ensures runs { Runs (Command.Stall name.now) (S.holds shelf.old)
         (run_counts (S.faults shelf.old) (S.absent shelf.old) (K.faults out.old))
         (run_counts (S.faults shelf.new) (S.absent shelf.new) (K.faults out.new))
         (K.has out.old) (K.has out.new) result }
-    ensures reads { S.given shelf.new ≤ S.given shelf.old + most_read (Command.Stall name.now) }
+    ensures reads { S.bytes_read shelf.new
+        ≤ S.bytes_read shelf.old + most_read (Command.Stall name.now) }
     ensures stops { StopsAtRefusal (Command.Stall name.now) (S.holds shelf.old)
-        (S.given shelf.old) (S.given shelf.new) result }
-    ensures below { StaysOver (K.below out.old) (K.below out.new) }
+        (S.bytes_read shelf.old) (S.bytes_read shelf.new) result }
+    ensures order { ReadsInOrder (Command.Stall name.now) (S.holds shelf.old)
+        (S.reads shelf.old) (S.reads shelf.new) result }
+    ensures below { SameInner (K.below out.old) (K.below out.new) }
 {
-    match play_trace::<S, Planner>(alloc, name, shelf, TICK) {
+    match play_trace::<S, Planner>(alloc, name, shelf, DEFAULT_TICK) {
         Ok((version, planner)) => write_stalls(rt, alloc, version, planner, out),
         Err(fault) => fault_status(fault),
     }
@@ -79,16 +76,18 @@ fn run_check<S: Shelf, K: Sink>(
     out: &mut K,
 ) -> Status
     requires { tick_ms ≤ 60000 }
-    ensures kept { S.holds shelf.new ≡ S.holds shelf.old }
+    ensures unchanged { S.holds shelf.new ≡ S.holds shelf.old }
     ensures runs { Runs (Command.Check name.now tick_ms) (S.holds shelf.old)
         (run_counts (S.faults shelf.old) (S.absent shelf.old) (K.faults out.old))
         (run_counts (S.faults shelf.new) (S.absent shelf.new) (K.faults out.new))
         (K.has out.old) (K.has out.new) result }
-    ensures reads { S.given shelf.new
-        ≤ S.given shelf.old + most_read (Command.Check name.now tick_ms) }
+    ensures reads { S.bytes_read shelf.new
+        ≤ S.bytes_read shelf.old + most_read (Command.Check name.now tick_ms) }
     ensures stops { StopsAtRefusal (Command.Check name.now tick_ms) (S.holds shelf.old)
-        (S.given shelf.old) (S.given shelf.new) result }
-    ensures below { StaysOver (K.below out.old) (K.below out.new) }
+        (S.bytes_read shelf.old) (S.bytes_read shelf.new) result }
+    ensures order { ReadsInOrder (Command.Check name.now tick_ms) (S.holds shelf.old)
+        (S.reads shelf.old) (S.reads shelf.new) result }
+    ensures below { SameInner (K.below out.old) (K.below out.new) }
 {
     let tick = Ns::from(tick_ms) * MILLISECOND;
     match play_trace::<S, Table>(alloc, name, shelf, tick) {
@@ -115,16 +114,18 @@ fn run_replay<R: Threads + Sync, S: Shelf, K: Sink, G: Gate>(
     requires text { IfSome options.now.rules IsUtf8 }
     requires drop_in { IfSome options.now.drop_in IsUtf8 }
     requires over { options.now.rules ≡ None → options.now.drop_in ≡ None }
-    ensures kept { S.holds shelf.new ≡ S.holds shelf.old }
+    ensures unchanged { S.holds shelf.new ≡ S.holds shelf.old }
     ensures runs { Runs (Command.Replay name.now options.now) (S.holds shelf.old)
         (run_counts (S.faults shelf.old) (S.absent shelf.old) (K.faults out.old))
         (run_counts (S.faults shelf.new) (S.absent shelf.new) (K.faults out.new))
         (K.has out.old) (K.has out.new) result }
-    ensures reads { S.given shelf.new
-        ≤ S.given shelf.old + most_read (Command.Replay name.now options.now) }
+    ensures reads { S.bytes_read shelf.new
+        ≤ S.bytes_read shelf.old + most_read (Command.Replay name.now options.now) }
     ensures stops { StopsAtRefusal (Command.Replay name.now options.now) (S.holds shelf.old)
-        (S.given shelf.old) (S.given shelf.new) result }
-    ensures below { StaysOver (K.below out.old) (K.below out.new) }
+        (S.bytes_read shelf.old) (S.bytes_read shelf.new) result }
+    ensures order { ReadsInOrder (Command.Replay name.now options.now) (S.holds shelf.old)
+        (S.reads shelf.old) (S.reads shelf.new) result }
+    ensures below { SameInner (K.below out.old) (K.below out.new) }
 {
     let rules = match read_rules(alloc, options, shelf) {
         Ok(rules) => rules,
@@ -150,15 +151,17 @@ pub(crate) fn run_command<R: Threads + Sync, S: Shelf, K: Sink, G: Gate>(
 ) -> Status
     requires ranges { IsCommand command.now }
     requires texts { HasTextNames command.now }
-    ensures kept { S.holds shelf.new ≡ S.holds shelf.old }
+    ensures unchanged { S.holds shelf.new ≡ S.holds shelf.old }
     ensures runs { Runs command.now (S.holds shelf.old)
         (run_counts (S.faults shelf.old) (S.absent shelf.old) (K.faults out.old))
         (run_counts (S.faults shelf.new) (S.absent shelf.new) (K.faults out.new))
         (K.has out.old) (K.has out.new) result }
-    ensures reads { S.given shelf.new ≤ S.given shelf.old + most_read command.now }
+    ensures reads { S.bytes_read shelf.new ≤ S.bytes_read shelf.old + most_read command.now }
     ensures stops { StopsAtRefusal command.now (S.holds shelf.old)
-        (S.given shelf.old) (S.given shelf.new) result }
-    ensures below { StaysOver (K.below out.old) (K.below out.new) }
+        (S.bytes_read shelf.old) (S.bytes_read shelf.new) result }
+    ensures order { ReadsInOrder command.now (S.holds shelf.old)
+        (S.reads shelf.old) (S.reads shelf.new) result }
+    ensures below { SameInner (K.below out.old) (K.below out.new) }
 {
     match command {
         Command::Stall { trace } => run_stall(rt, alloc, name_of(trace), shelf, out),

@@ -2,7 +2,7 @@
 ghost use Rattle.std.specs.Prelude.{◌≡◌, ◌⊎◌, ◌≢◌, ◌+◌, ◌≤◌, ◌++◌, ℕ, List, Option, Some, None, Ok, Err, codes, map, string_bytes};
 ghost use Rattle.std.specs.Io.KnownBytes.{Appends, Keeps};
 ghost use Rattle.psi_base.specs.Memory.{no_memory};
-ghost use Rattle.outside.specs.Outside.{AppendsFront, Rose, told};
+ghost use Rattle.outside.specs.Outside.{AppendsPrefix, Increased};
 ghost use Rattle.psi_base.specs.declared.event.Event.{Event};
 ghost use Rattle.psi_spec.specs.Trace.{Trace, text_of, trace_of};
 ghost use Rattle.import_spec.specs.Import.{import_of, import_trace};
@@ -10,17 +10,16 @@ ghost use Rattle.psi_words.specs.Reads.{HasTextNames};
 ghost use Rattle.run_spec.specs.declared.command.Command.{Command};
 ghost use Rattle.run_spec.specs.declared.command.Options.{Options};
 ghost use Rattle.run_spec.specs.declared.status.Status.{Status};
-ghost use Rattle.run_spec.specs.Outputs.{accepts_of, outcome_of, pace_of, rules_from, rules_name, source_of, taken_of};
+ghost use Rattle.run_spec.specs.Outputs.{accepts_of, timing_of};
 ghost use Rattle.run_spec.specs.MostRead.{most_read};
 ghost use Rattle.run_spec.specs.Replay.{IsReplayText, replay_text, with_rules};
 ghost use Rattle.run_spec.specs.Whatif.{last_trace};
-ghost use Rattle.run_spec.specs.Run.{FailuresAreCounted, IsTold, ReadsFiles, RulesTold, Runs, run_counts};
+ghost use Rattle.run_spec.specs.Promises.{Completes, MakesOutput, PrintsRules, RejectsDropIn, RejectsRules, RejectsSource};
+ghost use Rattle.run_spec.specs.ReadOrder.{ReadsInOrder};
+ghost use Rattle.run_spec.specs.Run.{FailuresAreCounted, HasContent, RulesContent, Runs, run_counts};
 ghost use Rattle.run_spec.specs.Stops.{StopsAtRefusal};
-ghost use Rattle.run_spec.specs.declared.status.Which.TheVariants.{DropInFile, ImportFile, RulesFile, TraceFile};
+ghost use Rattle.run_spec.specs.declared.status.Which.TheVariants.{ImportFile, TraceFile};
 ghost use Rattle.dropin_rules.specs.RulesText.{rules_text};
-ghost use Rattle.dropin_rules.specs.declared.fault.DropFault.{DropFault};
-ghost use Rattle.ruleset_json.specs.Rules.{rules_of};
-ghost use Rattle.ruleset_json.specs.declared.fault.RulesFault.{RulesFault};
 ghost use Rattle.ruleset_json.specs.declared.types.Rule.{Rule};
 ghost use Rattle.run_spec.specs.Status.{status_text};
 ghost use Rattle.run_spec.specs.Words.{command_of};
@@ -46,14 +45,16 @@ fn run_buffered<R: Threads + Sync, S: Shelf, K: Sink, G: Gate>(
 ) -> Status
     requires ranges { IsCommand command.now }
     requires texts { HasTextNames command.now }
-    ensures kept { S.holds shelf.new ≡ S.holds shelf.old }
+    ensures unchanged { S.holds shelf.new ≡ S.holds shelf.old }
     ensures runs { Runs command.now (S.holds shelf.old)
         (run_counts (S.faults shelf.old) (S.absent shelf.old) (K.faults out.old))
         (run_counts (S.faults shelf.new) (S.absent shelf.new) (K.faults out.new))
         (K.has out.old) (K.has out.new) result }
-    ensures reads { S.given shelf.new ≤ S.given shelf.old + most_read command.now }
+    ensures reads { S.bytes_read shelf.new ≤ S.bytes_read shelf.old + most_read command.now }
     ensures stops { StopsAtRefusal command.now (S.holds shelf.old)
-        (S.given shelf.old) (S.given shelf.new) result }
+        (S.bytes_read shelf.old) (S.bytes_read shelf.new) result }
+    ensures order { ReadsInOrder command.now (S.holds shelf.old)
+        (S.reads shelf.old) (S.reads shelf.new) result }
 {
     let mut pending = match Pending::new(alloc) {
         Ok(pending) => pending,
@@ -83,7 +84,7 @@ pub fn run<R: Threads + Sync, S: Shelf, K: Sink, N: Sink, G: Gate>(
     gate: &G,
 ) -> Status
     // Files are unchanged.
-    ensures kept { S.holds shelf.new ≡ S.holds shelf.old }
+    ensures unchanged { S.holds shelf.new ≡ S.holds shelf.old }
 
     // The result is Usage only if the words aren't a command. Such words give Usage unless memory
     // runs out.
@@ -106,29 +107,29 @@ pub fn run<R: Threads + Sync, S: Shelf, K: Sink, N: Sink, G: Gate>(
     // its processor's changes, from their number at the previous tick to their number at its own.
     ensures headline { (name bytes : List ℕ) (options : Options) (rules : List Rule) →
         command_of (map string_bytes words.now) ≡ Some (Command.Replay name options) →
-        IsTold (Command.Replay name options) TraceFile (S.holds shelf.old) bytes →
-        RulesTold (Command.Replay name options) (S.holds shelf.old) rules →
+        HasContent (Command.Replay name options) TraceFile (S.holds shelf.old) bytes →
+        RulesContent (Command.Replay name options) (S.holds shelf.old) rules →
         result ≡ Status.Done →
         (trace : Trace) × (trace_of (accepts_of (Command.Replay name options)) bytes ≡ Ok trace)
-        × ((text : List ℕ) × IsReplayText trace (pace_of options) rules text
+        × ((text : List ℕ) × IsReplayText trace (timing_of options) rules text
         × Appends (K.has out.old) (K.has out.new) text) }
 
     // Without `--live` there is exactly one such text.
     ensures alone { (name bytes : List ℕ) (options : Options) (rules : List Rule) →
         command_of (map string_bytes words.now) ≡ Some (Command.Replay name options) →
         options.live ≡ None →
-        IsTold (Command.Replay name options) TraceFile (S.holds shelf.old) bytes →
-        RulesTold (Command.Replay name options) (S.holds shelf.old) rules →
+        HasContent (Command.Replay name options) TraceFile (S.holds shelf.old) bytes →
+        RulesContent (Command.Replay name options) (S.holds shelf.old) rules →
         result ≡ Status.Done →
         (trace : Trace) × (trace_of (accepts_of (Command.Replay name options)) bytes ≡ Ok trace)
         × Appends (K.has out.old) (K.has out.new)
-        (replay_text trace (pace_of options) (with_rules rules)) }
+        (replay_text trace (timing_of options) (with_rules rules)) }
 
     // If `import` is done, exactly the text of the trace was appended to the output that the
     // definition gives for the bytes.
     ensures imported { (name bytes : List ℕ) (cpus : ℕ) →
         command_of (map string_bytes words.now) ≡ Some (Command.Import name cpus) →
-        IsTold (Command.Import name cpus) ImportFile (S.holds shelf.old) bytes →
+        HasContent (Command.Import name cpus) ImportFile (S.holds shelf.old) bytes →
         result ≡ Status.Done →
         (events : List Event) × (import_of cpus bytes ≡ Ok events)
         × Appends (K.has out.old) (K.has out.new) (text_of (import_trace cpus events)) }
@@ -136,93 +137,79 @@ pub fn run<R: Threads + Sync, S: Shelf, K: Sink, N: Sink, G: Gate>(
     // If `rules` is done, exactly the text of the rules and a newline were appended to the output.
     ensures printed { (name : List ℕ) (drop_in : Option (List ℕ)) (rules : List Rule) →
         command_of (map string_bytes words.now) ≡ Some (Command.Rules name drop_in) →
-        RulesTold (Command.Rules name drop_in) (S.holds shelf.old) rules →
+        RulesContent (Command.Rules name drop_in) (S.holds shelf.old) rules →
         result ≡ Status.Done →
         Appends (K.has out.old) (K.has out.new) (rules_text rules ++ codes "\n") }
 
     // Accepted rules are printed, unless a read or write failed or memory ran out.
-    ensures prints { (name : List ℕ) (drop_in : Option (List ℕ)) (rules : List Rule) →
+    ensures prints { (name : List ℕ) (drop_in : Option (List ℕ)) →
         command_of (map string_bytes words.now) ≡ Some (Command.Rules name drop_in) →
-        RulesTold (Command.Rules name drop_in) (S.holds shelf.old) rules →
-        (Rose (S.faults shelf.old) (S.faults shelf.new) → ⊥) →
-        (Rose (K.faults out.old) (K.faults out.new) → ⊥) →
-        (result ≡ Status.Done) ⊎ (result ≡ Status.NoMemory no_memory) }
+        PrintsRules name drop_in (S.holds shelf.old)
+        (run_counts (S.faults shelf.old) (S.absent shelf.old) (K.faults out.old))
+        (run_counts (S.faults shelf.new) (S.absent shelf.new) (K.faults out.new)) result }
 
     // If `whatif` is done, exactly the text was appended to the output that the definitions give
     // for the last trace: what is left after the victims of the kills were removed from the trace,
     // one after another.
     ensures supposed { (name bytes : List ℕ) (options : Options) (rules : List Rule) →
         command_of (map string_bytes words.now) ≡ Some (Command.Whatif name options) →
-        IsTold (Command.Whatif name options) TraceFile (S.holds shelf.old) bytes →
-        RulesTold (Command.Whatif name options) (S.holds shelf.old) rules →
+        HasContent (Command.Whatif name options) TraceFile (S.holds shelf.old) bytes →
+        RulesContent (Command.Whatif name options) (S.holds shelf.old) rules →
         result ≡ Status.Done →
         (trace : Trace) × (last : Trace)
         × (trace_of (accepts_of (Command.Whatif name options)) bytes ≡ Ok trace)
-        × (last_trace trace (pace_of options) rules ≡ Ok last)
+        × (last_trace trace (timing_of options) rules ≡ Ok last)
         × Appends (K.has out.old) (K.has out.new)
-        (replay_text last (pace_of options) (with_rules rules)) }
+        (replay_text last (timing_of options) (with_rules rules)) }
 
     // The result is TooLarge only if a round left that number of events. Then nothing is written.
     ensures outgrown { (name bytes : List ℕ) (options : Options) (rules : List Rule)
         (events : ℕ) →
         command_of (map string_bytes words.now) ≡ Some (Command.Whatif name options) →
-        IsTold (Command.Whatif name options) TraceFile (S.holds shelf.old) bytes →
-        RulesTold (Command.Whatif name options) (S.holds shelf.old) rules →
+        HasContent (Command.Whatif name options) TraceFile (S.holds shelf.old) bytes →
+        RulesContent (Command.Whatif name options) (S.holds shelf.old) rules →
         result ≡ Status.TooLarge events →
         (trace : Trace)
         × (trace_of (accepts_of (Command.Whatif name options)) bytes ≡ Ok trace)
-        × (last_trace trace (pace_of options) rules ≡ Err events)
+        × (last_trace trace (timing_of options) rules ≡ Err events)
         × Keeps (K.has out.old) (K.has out.new) }
 
     // If the file and the rules are accepted, the run ends as specified, with the whole output, or
     // as TooLarge if a round of `whatif` leaves too many events; unless a read or write failed or
     // memory ran out.
-    ensures complete { (command : Command) (rules : List Rule) (bytes : List ℕ)
-        (trace : Trace) →
+    ensures complete { (command : Command) →
         command_of (map string_bytes words.now) ≡ Some command →
-        RulesTold command (S.holds shelf.old) rules →
-        IsTold command (source_of command) (S.holds shelf.old) bytes →
-        taken_of command bytes ≡ Ok trace →
-        (Rose (S.faults shelf.old) (S.faults shelf.new) → ⊥) →
-        (Rose (K.faults out.old) (K.faults out.new) → ⊥) →
-        (result ≡ outcome_of command trace rules) ⊎ (result ≡ Status.NoMemory no_memory) }
+        Completes command (S.holds shelf.old)
+        (run_counts (S.faults shelf.old) (S.absent shelf.old) (K.faults out.old))
+        (run_counts (S.faults shelf.new) (S.absent shelf.new) (K.faults out.new)) result }
 
-    // A rejected rules file gives its first error with its place, unless a read failed or memory
-    // ran out.
-    ensures faulty { (command : Command) (name bytes : List ℕ) (fault : RulesFault) →
-        command_of (map string_bytes words.now) ≡ Some command → rules_name command ≡ Some name →
-        told (S.holds shelf.old) name ≡ Some bytes → rules_of bytes ≡ Err fault →
-        (Rose (S.faults shelf.old) (S.faults shelf.new) → ⊥) →
-        (result ≡ Status.Rules fault) ⊎ (result ≡ Status.NoMemory no_memory) }
+    // A rejected rules file gives its first error with its place, unless a read of that file failed
+    // or memory ran out.
+    ensures faulty { (command : Command) →
+        command_of (map string_bytes words.now) ≡ Some command →
+        RejectsRules command (S.holds shelf.old) (S.reads shelf.old) (S.reads shelf.new) result }
 
     // A rejected drop-in file for accepted rules gives its first error with its place, unless a
-    // read failed or memory ran out.
-    ensures dropped { (command : Command) (bytes drop_in : List ℕ) (fault : DropFault) →
+    // read of one of the two files failed or memory ran out.
+    ensures dropped { (command : Command) →
         command_of (map string_bytes words.now) ≡ Some command →
-        IsTold command RulesFile (S.holds shelf.old) bytes →
-        IsTold command DropInFile (S.holds shelf.old) drop_in →
-        rules_from bytes (Some drop_in) ≡ Err (Status.DropIn fault) →
-        (Rose (S.faults shelf.old) (S.faults shelf.new) → ⊥) →
-        (result ≡ Status.DropIn fault) ⊎ (result ≡ Status.NoMemory no_memory) }
+        RejectsDropIn command (S.holds shelf.old) (S.reads shelf.old) (S.reads shelf.new) result }
 
     // After accepted rules, a rejected file gives the status of its first rejected line with the
     // cause, unless a read failed or memory ran out.
-    ensures refuses { (command : Command) (rules : List Rule) (bytes : List ℕ)
-        (why : Status) →
+    ensures refuses { (command : Command) →
         command_of (map string_bytes words.now) ≡ Some command →
-        RulesTold command (S.holds shelf.old) rules →
-        IsTold command (source_of command) (S.holds shelf.old) bytes →
-        taken_of command bytes ≡ Err why →
-        (Rose (S.faults shelf.old) (S.faults shelf.new) → ⊥) →
-        (result ≡ why) ⊎ (result ≡ Status.NoMemory no_memory) }
+        RejectsSource command (S.holds shelf.old)
+        (run_counts (S.faults shelf.old) (S.absent shelf.old) (K.faults out.old))
+        (run_counts (S.faults shelf.new) (S.absent shelf.new) (K.faults out.new)) result }
 
     // A command that reads no file ends with its whole output, unless a write failed or memory ran
     // out.
     ensures made { (command : Command) →
         command_of (map string_bytes words.now) ≡ Some command →
-        (ReadsFiles command → ⊥) →
-        (Rose (K.faults out.old) (K.faults out.new) → ⊥) →
-        (result ≡ Status.Done) ⊎ (result ≡ Status.NoMemory no_memory) }
+        MakesOutput command
+        (run_counts (S.faults shelf.old) (S.absent shelf.old) (K.faults out.old))
+        (run_counts (S.faults shelf.new) (S.absent shelf.new) (K.faults out.new)) result }
 
     // A failure count increased exactly if the status reports that failure.
     ensures counts { FailuresAreCounted
@@ -233,16 +220,25 @@ pub fn run<R: Threads + Sync, S: Shelf, K: Sink, N: Sink, G: Gate>(
     // that aren't a command read none.
     ensures reads { (command : Command) →
         command_of (map string_bytes words.now) ≡ Some command →
-        S.given shelf.new ≤ S.given shelf.old + most_read command }
+        S.bytes_read shelf.new ≤ S.bytes_read shelf.old + most_read command }
     ensures unread { command_of (map string_bytes words.now) ≡ None →
-        S.given shelf.new ≡ S.given shelf.old }
+        S.bytes_read shelf.new ≡ S.bytes_read shelf.old }
+    ensures no_reads { command_of (map string_bytes words.now) ≡ None →
+        S.reads shelf.new ≡ S.reads shelf.old }
+
+    // A command reads its files in order: the rules file, then the drop-in file, then the trace or
+    // the ftrace text. Each is read from its first byte without gaps, and nothing is read after a
+    // failed read. ReadFault is a failed read of a file after those before it were accepted.
+    ensures order { (command : Command) →
+        command_of (map string_bytes words.now) ≡ Some command →
+        ReadsInOrder command (S.holds shelf.old) (S.reads shelf.old) (S.reads shelf.new) result }
 
     // Reading stops at the first rejected line of a trace or of an ftrace text. If that line is the
     // result, at most the files of rules, the lines before it and the buffered bytes were read. A
     // failed read is the result only if that line was incomplete.
     ensures stops { (command : Command) →
         command_of (map string_bytes words.now) ≡ Some command →
-        StopsAtRefusal command (S.holds shelf.old) (S.given shelf.old) (S.given shelf.new)
+        StopsAtRefusal command (S.holds shelf.old) (S.bytes_read shelf.old) (S.bytes_read shelf.new)
         result }
 
     // Only Done and WriteFault write to the output.
@@ -250,10 +246,10 @@ pub fn run<R: Threads + Sync, S: Shelf, K: Sink, N: Sink, G: Gate>(
         Keeps (K.has out.old) (K.has out.new) }
 
     // The message of the status was written to `note`: all of it, or a prefix if a write failed.
-    ensures note { (Rose (N.faults note.old) (N.faults note.new) → ⊥) →
+    ensures note { (Increased (N.faults note.old) (N.faults note.new) → ⊥) →
         Appends (N.has note.old) (N.has note.new)
         (status_text (command_of (map string_bytes words.now)) result) }
-    ensures note_front { AppendsFront (N.has note.old) (N.has note.new)
+    ensures note_prefix { AppendsPrefix (N.has note.old) (N.has note.new)
         (status_text (command_of (map string_bytes words.now)) result) }
 {
     match read_words(alloc, words) {

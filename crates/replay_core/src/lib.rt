@@ -1,8 +1,8 @@
 //! The top call [`run`]: reads the words of a command and its files, and prints its output and the
 //! message of its status.
 //!
-//! This crate chooses the code of each command; `stall_run`, `replay_run`, `gen_run`, `import_run`,
-//! `rules_file` and `whatif_rounds` do the work. `run_spec` specifies the result of every run.
+//! This crate chooses the code of each command; `commands`, `rules_file` and `whatif_rounds` do the
+//! work. `run_spec` specifies the result of every run.
 #![tactic(auto)]
 
 mod command;

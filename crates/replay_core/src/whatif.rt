@@ -1,19 +1,20 @@
 //! `whatif`: replays what is left of a trace without the victims of its kills.
 ghost use Rattle.std.specs.Prelude.{◌≡◌, ◌+◌, ◌≤◌, IfSome, IsSome, IsUtf8};
-ghost use Rattle.outside.specs.Outside.{StaysOver};
+ghost use Rattle.outside.specs.Outside.{SameInner};
 ghost use Rattle.psi_spec.specs.Header.{IsVersion};
 ghost use Rattle.ruleset_json.specs.RuleRanges.{FitsRules};
-ghost use Rattle.run_spec.specs.Outputs.{pace_of};
+ghost use Rattle.run_spec.specs.Outputs.{timing_of};
 ghost use Rattle.run_spec.specs.MostRead.{most_read};
 ghost use Rattle.run_spec.specs.Run.{Runs, run_counts};
+ghost use Rattle.run_spec.specs.ReadOrder.{ReadsInOrder};
 ghost use Rattle.run_spec.specs.Stops.{StopsAtRefusal};
 ghost use Rattle.whatif_rounds.specs.Rounds.{IsTraceAt, MayReplay, trace_from};
 ghost use Rattle.run_outcomes.specs.Writes.{IsStatusOfRounds, WritesLast};
 
-use crate::command::{MILLISECOND, fault_status};
+use crate::command::fault_status;
+use commands::write_planned;
 use outside::{Gate, Shelf, Sink};
-use psi_base::{Event, Fault, Ns};
-use replay_run::write_planned;
+use psi_base::{Event, Fault, MILLISECOND, Ns};
 use rules_file::{name_of, read_joined};
 use ruleset_json::Rules;
 use run_spec::{Command, Options, Status};
@@ -51,9 +52,9 @@ fn write_whatif<R: Threads + Sync, K: Sink, G: Gate>(
     requires trace { IsTraceAt options.now (trace_from version cpus events.items) }
     requires fit { FitsRules rules.rules }
     requires options { MayReplay options.now }
-    ensures writes { WritesLast (trace_from version cpus events.items) (pace_of options.now)
+    ensures writes { WritesLast (trace_from version cpus events.items) (timing_of options.now)
         rules.rules (K.faults out.old) (K.faults out.new) (K.has out.old) (K.has out.new) result }
-    ensures below { StaysOver (K.below out.old) (K.below out.new) }
+    ensures below { SameInner (K.below out.old) (K.below out.new) }
 {
     match last_plans(rt, alloc, version, cpus, events, &rules, options) {
         Ok(plans) => write_planned(rt, alloc, version, &plans, Some(rules), options, out, gate),
@@ -75,16 +76,18 @@ pub(crate) fn run_whatif<R: Threads + Sync, S: Shelf, K: Sink, G: Gate>(
     requires named { IsSome options.now.rules }
     requires text { IfSome options.now.rules IsUtf8 }
     requires drop_in { IfSome options.now.drop_in IsUtf8 }
-    ensures kept { S.holds shelf.new ≡ S.holds shelf.old }
+    ensures unchanged { S.holds shelf.new ≡ S.holds shelf.old }
     ensures runs { Runs (Command.Whatif name.now options.now) (S.holds shelf.old)
         (run_counts (S.faults shelf.old) (S.absent shelf.old) (K.faults out.old))
         (run_counts (S.faults shelf.new) (S.absent shelf.new) (K.faults out.new))
         (K.has out.old) (K.has out.new) result }
-    ensures reads { S.given shelf.new
-        ≤ S.given shelf.old + most_read (Command.Whatif name.now options.now) }
+    ensures reads { S.bytes_read shelf.new
+        ≤ S.bytes_read shelf.old + most_read (Command.Whatif name.now options.now) }
     ensures stops { StopsAtRefusal (Command.Whatif name.now options.now) (S.holds shelf.old)
-        (S.given shelf.old) (S.given shelf.new) result }
-    ensures below { StaysOver (K.below out.old) (K.below out.new) }
+        (S.bytes_read shelf.old) (S.bytes_read shelf.new) result }
+    ensures order { ReadsInOrder (Command.Whatif name.now options.now) (S.holds shelf.old)
+        (S.reads shelf.old) (S.reads shelf.new) result }
+    ensures below { SameInner (K.below out.old) (K.below out.new) }
 {
     let Some(rules_name) = &options.rules else {
         unreachable!();

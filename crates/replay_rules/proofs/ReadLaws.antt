@@ -16,7 +16,7 @@ use Rattle.psi_spec.specs.LegalGroups.{IsPathOrder}
 use Rattle.psi_spec.specs.Trace.{Trace, limits_of}
 use Rattle.psi_spec.specs.World.{after, up_to}
 use Rattle.plan_laws.specs.Moments.{is_live_slot, with_path}
-use Rattle.plan_laws.proofs.MomentsOrder.{order_tells_live}
+use Rattle.plan_laws.proofs.MomentsOrder.{order_shows_live}
 use Rattle.pressure_spec.specs.Samples.{group_averages}
 use Rattle.pressure_spec.specs.Share.{irq_quantity}
 use Rattle.pressure_spec.specs.Ticks.{is_evaluation, tick_moment, ticks_of}
@@ -26,7 +26,7 @@ use Rattle.kill_spec.specs.declared.reading.GroupReading.{GroupReading}
 use Rattle.kill_spec.specs.Readings.{Reading}
 use Rattle.kill_spec.specs.Evaluations.{MemorySample, averages_at, evaluations, group_seen}
 use Rattle.kill_spec.specs.Evaluations.{memory_of, preference_of, reading_at, readings_until}
-use Rattle.run_spec.specs.Replay.{Pace, lives_of}
+use Rattle.run_spec.specs.Replay.{Timing, lives_of}
 use Rattle.proc_plan.specs.Plans.{PlansView}
 use Rattle.tick_engine.specs.Engine.{EngineView, averages_in}
 use Rattle.tick_engine.specs.declared.group.Group.{Group}
@@ -72,21 +72,21 @@ order_made lives slots is =
 -- ---- averages
 
 -- an engine has the averages of each group after the ticks that it represents
-averages_are : (engine : EngineView) (trace : Trace) (pace : Pace) (i slot : ℕ) →
-    HasTicked engine trace pace i → slot < length (lives_of trace) →
+averages_are : (engine : EngineView) (trace : Trace) (timing : Timing) (i slot : ℕ) →
+    HasTicked engine trace timing i → slot < length (lives_of trace) →
     averages_in engine slot
-    ≡ group_averages trace.cpus (lives_of trace) (ticks_of trace.cpus trace.events pace.length i)
+    ≡ group_averages trace.cpus (lives_of trace) (ticks_of trace.cpus trace.events timing.length i)
     slot
-averages_are engine trace pace i slot ticked room =
+averages_are engine trace timing i slot ticked room =
     ap (λ (g : Group). g.averages) (ticked.groups slot room)
 
 -- so there are averages for each pressure quantity
-pub has_rows : (engine : EngineView) (trace : Trace) (pace : Pace) (i slot : ℕ) →
-    HasTicked engine trace pace i → slot < length engine.groups → HasRows engine slot
-has_rows engine trace pace i slot ticked room =
-    let ticks = ticks_of trace.cpus trace.events pace.length i in
+pub has_rows : (engine : EngineView) (trace : Trace) (timing : Timing) (i slot : ℕ) →
+    HasTicked engine trace timing i → slot < length engine.groups → HasRows engine slot
+has_rows engine trace timing i slot ticked room =
+    let ticks = ticks_of trace.cpus trace.events timing.length i in
     let within : slot < length (lives_of trace) = omega (arith, room, ticked.slots) in
-    rw (averages_are engine trace pace i slot ticked within)
+    rw (averages_are engine trace timing i slot ticked within)
     (group_averages_are trace.cpus (lives_of trace) ticks slot).rows
 
 -- ---- groups
@@ -104,28 +104,28 @@ group_with slot averages memory preference populated = record {
 }
 
 -- the reading of the group in a slot at a tick, according to the trace
-abbrev group_told : Trace → Pace → ℕ → ℕ → GroupReading
-group_told trace pace i slot =
-    group_seen (up_to trace.events (tick_moment pace.length i))
-    (averages_at trace.cpus trace.events pace.length i slot) slot
+abbrev group_known : Trace → Timing → ℕ → ℕ → GroupReading
+group_known trace timing i slot =
+    group_seen (up_to trace.events (tick_moment timing.length i))
+    (averages_at trace.cpus trace.events timing.length i slot) slot
 
 -- an engine and a watch at a tick give the same reading
-group_is : (engine : EngineView) (watch : SideView) (trace : Trace) (pace : Pace) (i slot : ℕ) →
-    HasTicked engine trace pace i →
-    HasFollowed trace.events (Some (tick_moment pace.length i)) watch →
-    slot < length (lives_of trace) → group_by engine watch slot ≡ group_told trace pace i slot
-group_is engine watch trace pace i slot ticked watching room =
-    let averages = ap (λ a. take irq_quantity a.averages) (averages_are engine trace pace i slot ticked room) in
+group_is : (engine : EngineView) (watch : SideView) (trace : Trace) (timing : Timing) (i slot : ℕ) →
+    HasTicked engine trace timing i →
+    HasFollowed trace.events (Some (tick_moment timing.length i)) watch →
+    slot < length (lives_of trace) → group_by engine watch slot ≡ group_known trace timing i slot
+group_is engine watch trace timing i slot ticked watching room =
+    let averages = ap (λ a. take irq_quantity a.averages) (averages_are engine trace timing i slot ticked room) in
     ap (λ a. group_with slot a (side_sample (side_cell_at watch slot).memory)
     (side_cell_at watch slot).preference (has_tasks watch slot)) averages
-    ∙ ap (λ m. group_with slot (averages_at trace.cpus trace.events pace.length i slot) m
+    ∙ ap (λ m. group_with slot (averages_at trace.cpus trace.events timing.length i slot) m
     (side_cell_at watch slot).preference (has_tasks watch slot)) (watching.memory slot room)
-    ∙ ap (λ p. group_with slot (averages_at trace.cpus trace.events pace.length i slot)
-    (memory_of slot (up_to trace.events (tick_moment pace.length i))) p (has_tasks watch slot))
+    ∙ ap (λ p. group_with slot (averages_at trace.cpus trace.events timing.length i slot)
+    (memory_of slot (up_to trace.events (tick_moment timing.length i))) p (has_tasks watch slot))
     (watching.preference slot room)
-    ∙ ap (λ b. group_with slot (averages_at trace.cpus trace.events pace.length i slot)
-    (memory_of slot (up_to trace.events (tick_moment pace.length i)))
-    (preference_of slot (up_to trace.events (tick_moment pace.length i))) b)
+    ∙ ap (λ b. group_with slot (averages_at trace.cpus trace.events timing.length i slot)
+    (memory_of slot (up_to trace.events (tick_moment timing.length i)))
+    (preference_of slot (up_to trace.events (tick_moment timing.length i))) b)
     (watching.populated slot room)
 
 -- for groups in existing slots both are equal
@@ -143,44 +143,44 @@ groups_are f g n same lives (slot ∷ slots) below =
 
 -- the reading of an order of all slots by path is that of the trace
 pub reading_is : (engine : EngineView) (watch : SideView) (plans : PlansView) (order : List ℕ)
-    (trace : Trace) (pace : Pace) (i : ℕ) →
-    IsPlanned plans trace pace → HasTicked engine trace pace i →
-    HasFollowed trace.events (Some (tick_moment pace.length i)) watch →
+    (trace : Trace) (timing : Timing) (i : ℕ) →
+    IsPlanned plans trace timing → HasTicked engine trace timing i →
+    HasFollowed trace.events (Some (tick_moment timing.length i)) watch →
     IsPathOrder (lives_of trace) order →
-    reading_by engine watch (lives_of trace) (tick_moment pace.length i) order
-    ≡ reading_at trace.cpus trace.events pace.length i
+    reading_by engine watch (lives_of trace) (tick_moment timing.length i) order
+    ≡ reading_at trace.cpus trace.events timing.length i
 unfolding reading_at
-reading_is engine watch plans order trace pace i planned ticked watching by_path =
-    let at : ℕ = tick_moment pace.length i in
+reading_is engine watch plans order trace timing i planned ticked watching by_path =
+    let at : ℕ = tick_moment timing.length i in
     let lives : List GroupLife = lives_of trace in
-    let limits = limits_of pace.length trace.cpus in
+    let limits = limits_of timing.length trace.cpus in
     let below = All-filter (is_live_slot lives at) (λ slot. slot < length lives) order
     (order_below lives order by_path) in
-    let told : List ℕ × ℕ → GroupReading =
-    λ (group : List ℕ × ℕ). group_told trace pace i group.1 in
+    let known : List ℕ × ℕ → GroupReading =
+    λ (group : List ℕ × ℕ). group_known trace timing i group.1 in
     let groups : groups_by engine watch lives at order
-    ≡ map told (live_groups (after (up_to trace.events at)).groups) =
-    groups_are (group_by engine watch) (group_told trace pace i) (length lives)
-    (λ slot room. group_is engine watch trace pace i slot ticked watching room) lives
+    ≡ map known (live_groups (after (up_to trace.events at)).groups) =
+    groups_are (group_by engine watch) (group_known trace timing i) (length lives)
+    (λ slot room. group_is engine watch trace timing i slot ticked watching room) lives
     (slots_live_at lives at order) below
-    ∙ ap (map told) (sym
-    (order_tells_live limits trace.events planned.accepted.legal order by_path at)) in
+    ∙ ap (map known) (sym
+    (order_shows_live limits trace.events planned.accepted.legal order by_path at)) in
     rw (groups, watching.host) refl
 
 -- ---- times
 
 -- the last of the evaluations among the first ticks is before each time after these
-pub last_before : (trace : Trace) (pace : Pace) (i at : ℕ) → tick_moment pace.length i < at →
-    IsAfter (newest_moment (readings_of trace pace i)) at
+pub last_before : (trace : Trace) (timing : Timing) (i at : ℕ) → tick_moment timing.length i < at →
+    IsAfter (newest_moment (readings_of trace timing i)) at
 unfolding readings_until reading_at
-last_before trace pace zero at late = tt
-last_before trace pace (suc i) at late =
-    let earlier : tick_moment pace.length i < at = omega (arith, late) in
-    let rest = last_before trace pace i at earlier in
-    elim (is_evaluation pace.interval pace.length (suc i)) as (λ b. IsAfter
-    (newest_moment (map (reading_at trace.cpus trace.events pace.length)
-    (if b then suc i ∷ evaluations pace.interval pace.length i else evaluations pace.interval
-    pace.length i))) at) [
+last_before trace timing zero at late = tt
+last_before trace timing (suc i) at late =
+    let earlier : tick_moment timing.length i < at = omega (arith, late) in
+    let rest = last_before trace timing i at earlier in
+    elim (is_evaluation timing.interval timing.length (suc i)) as (λ b. IsAfter
+    (newest_moment (map (reading_at trace.cpus trace.events timing.length)
+    (if b then suc i ∷ evaluations timing.interval timing.length i else evaluations timing.interval
+    timing.length i))) at) [
       | true ↦ late
       | false ↦ rest
     ]
@@ -190,11 +190,11 @@ not_after None at is = tt
 not_after (Some before) at is = omega (arith, is)
 
 -- so a tick is after the evaluations among the previous ticks
-pub behind : (plans : PlansView) (trace : Trace) (pace : Pace) (i : ℕ) →
-    IsPlanned plans trace pace →
-    IsAfter (newest_moment (readings_of trace pace i)) (tick_moment pace.length (i + 1))
-behind plans trace pace i planned =
-    last_before trace pace i (tick_moment pace.length (i + 1)) (omega (arith, planned.some))
+pub suffix : (plans : PlansView) (trace : Trace) (timing : Timing) (i : ℕ) →
+    IsPlanned plans trace timing →
+    IsAfter (newest_moment (readings_of trace timing i)) (tick_moment timing.length (i + 1))
+suffix plans trace timing i planned =
+    last_before trace timing i (tick_moment timing.length (i + 1)) (omega (arith, planned.some))
 
 -- ---- one evaluation
 
@@ -206,28 +206,28 @@ last_is cpus events length i past = refl
 -- An evaluator that took the readings of the evaluations among the first ticks has taken one more
 -- if its watch and its killer have, and its reading is that of the engine and the watch.
 pub read_next : (old new : EvaluatorView) (plans : PlansView) (engine : EngineView)
-    (order : List Slot) (trace : Trace) (pace : Pace) (rules : List Rule) (i at : ℕ) →
-    IsToEvaluate old plans engine order trace pace rules i at →
+    (order : List Slot) (trace : Trace) (timing : Timing) (rules : List Rule) (i at : ℕ) →
+    IsToEvaluate old plans engine order trace timing rules i at →
     Advances old.watch new.watch plans.sides at →
     new.reading ≡ reading_of old.reading.lives
     (reading_by engine new.watch old.reading.lives at (numbers_of order)) →
     KillerTakes old.killer new.reading new.killer →
-    HasRead new trace rules (reading_at trace.cpus trace.events pace.length (i + 1) ∷ readings_of
-    trace pace i)
-read_next old new plans engine order trace pace rules i at is advances filled takes =
-    let now : ℕ = tick_moment pace.length (i + 1) in
-    let past : List Reading = readings_of trace pace i in
-    let this : Reading = reading_at trace.cpus trace.events pace.length (i + 1) in
+    HasRead new trace rules (reading_at trace.cpus trace.events timing.length (i + 1) ∷ readings_of
+    trace timing i)
+read_next old new plans engine order trace timing rules i at is advances filled takes =
+    let now : ℕ = tick_moment timing.length (i + 1) in
+    let past : List Reading = readings_of trace timing i in
+    let this : Reading = reading_at trace.cpus trace.events timing.length (i + 1) in
     let legal = is.planned.accepted.legal in
-    let before = not_after (newest_moment past) now (behind plans trace pace i is.planned) in
+    let before = not_after (newest_moment past) now (suffix plans trace timing i is.planned) in
     let watching : HasFollowed trace.events (Some now) new.watch =
     subst (λ t. HasFollowed trace.events (Some t) new.watch) is.at_is
-    (advances (limits_of pace.length trace.cpus) trace.events (newest_moment past) legal
-    is.planned.stand.sides (subst (IsNotAfter (newest_moment past)) (sym is.at_is) before)
+    (advances (limits_of timing.length trace.cpus) trace.events (newest_moment past) legal
+    is.planned.word_state.sides (subst (IsNotAfter (newest_moment past)) (sym is.at_is) before)
     is.read.watch) in
     let by_path : IsPathOrder (lives_of trace) (numbers_of order) =
-    subst (λ lives. IsPathOrder lives (numbers_of order)) is.planned.stand.lives is.by_path in
-    let seen = reading_is engine new.watch plans (numbers_of order) trace pace (i + 1) is.planned
+    subst (λ lives. IsPathOrder lives (numbers_of order)) is.planned.word_state.lives is.by_path in
+    let seen = reading_is engine new.watch plans (numbers_of order) trace timing (i + 1) is.planned
     is.ticked watching by_path in
     let reading : new.reading ≡ reading_of (lives_of trace) this =
     filled ∙ ap (λ lives. reading_of lives
@@ -240,6 +240,6 @@ read_next old new plans engine order trace pace rules i at is advances filled ta
     record {
       killer = taken rules past is.read.killer;
       watch = subst (λ m. HasFollowed trace.events m new.watch)
-          (sym (last_is trace.cpus trace.events pace.length (i + 1) past)) watching;
+          (sym (last_is trace.cpus trace.events timing.length (i + 1) past)) watching;
       lives = ap (λ (r : ReadingView). r.lives) reading;
     }

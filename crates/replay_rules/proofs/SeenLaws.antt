@@ -19,7 +19,7 @@ use Rattle.psi_spec.specs.Groups.{in_order, is_live_at, live_from, live_groups}
 use Rattle.psi_spec.specs.LegalGroups.{IsPathOrder}
 use Rattle.psi_spec.specs.Groups.{path_at}
 use Rattle.plan_laws.specs.Moments.{is_live_slot, with_path}
-use Rattle.plan_laws.proofs.MomentsOrder.{order_tells_live}
+use Rattle.plan_laws.proofs.MomentsOrder.{order_shows_live}
 use Rattle.kill_spec.specs.Readings.{path_of}
 use Rattle.kill_spec.specs.LegalReadings.{Ascend}
 use Rattle.tick_engine.specs.Engine.{EngineView}
@@ -86,16 +86,16 @@ live_ascend limits events legal order is at =
     let pairs : List (List ℕ × ℕ) = live_groups (after (up_to events at)).groups in
     let same : map (λ (pair : List ℕ × ℕ). pair.0) pairs
     ≡ map (path_at all) (slots_live_at all at order) =
-    ap (map (λ (pair : List ℕ × ℕ). pair.0)) (order_tells_live limits events legal order is at)
+    ap (map (λ (pair : List ℕ × ℕ). pair.0)) (order_shows_live limits events legal order is at)
     ∙ paths_alone all (slots_live_at all at order) in
     subst Ascend same (keys_ascend pairs
     (in_order_sorted (live_from 0 (after (up_to events at)).groups)))
 
 -- a prefix of ascending paths
-ascend_front : (paths behind : List (List ℕ)) → Ascend (paths ++ behind) → Ascend paths
-ascend_front [] behind is = tt
-ascend_front (first ∷ []) behind is = tt
-ascend_front (first ∷ second ∷ paths) behind is = (is.0, ascend_front (second ∷ paths) behind is.1)
+ascend_prefix : (paths suffix : List (List ℕ)) → Ascend (paths ++ suffix) → Ascend paths
+ascend_prefix [] suffix is = tt
+ascend_prefix (first ∷ []) suffix is = tt
+ascend_prefix (first ∷ second ∷ paths) suffix is = (is.0, ascend_prefix (second ∷ paths) suffix is.1)
 
 -- ---- one slot more
 
@@ -170,18 +170,18 @@ pub groups_ascend : (engine : EngineView) (watch : SideView) (lives : List Group
     → Ascend (map (path_of lives) (groups_by engine watch lives at (numbers_of (take i order))))
 groups_ascend engine watch lives at order i all =
     let number : Slot → ℕ = λ (slot : Slot). slot.0 in
-    let front = numbers_of (take i order) in
-    let behind = numbers_of (drop i order) in
-    let parts : numbers_of order ≡ front ++ behind =
+    let prefix = numbers_of (take i order) in
+    let suffix = numbers_of (drop i order) in
+    let parts : numbers_of order ≡ prefix ++ suffix =
     ap numbers_of (sym (take-append-drop i order))
     ∙ map-append number (take i order) (drop i order) in
     let live : slots_live_at lives at (numbers_of order)
-    ≡ slots_live_at lives at front ++ slots_live_at lives at behind =
-    ap (slots_live_at lives at) parts ∙ filter-append (is_live_slot lives at) front behind in
+    ≡ slots_live_at lives at prefix ++ slots_live_at lives at suffix =
+    ap (slots_live_at lives at) parts ∙ filter-append (is_live_slot lives at) prefix suffix in
     let paths : map (path_at lives) (slots_live_at lives at (numbers_of order))
-    ≡ map (path_at lives) (slots_live_at lives at front) ++ map (path_at lives)
-    (slots_live_at lives at behind) =
-    ap (map (path_at lives)) live ∙ map-append (path_at lives) (slots_live_at lives at front)
-    (slots_live_at lives at behind) in
-    subst Ascend (sym (paths_by engine watch lives (slots_live_at lives at front)))
-    (ascend_front _ _ (subst Ascend paths all))
+    ≡ map (path_at lives) (slots_live_at lives at prefix) ++ map (path_at lives)
+    (slots_live_at lives at suffix) =
+    ap (map (path_at lives)) live ∙ map-append (path_at lives) (slots_live_at lives at prefix)
+    (slots_live_at lives at suffix) in
+    subst Ascend (sym (paths_by engine watch lives (slots_live_at lives at prefix)))
+    (ascend_prefix _ _ (subst Ascend paths all))

@@ -10,12 +10,12 @@ use Rattle.ruleset_json.specs.declared.types.Rules.{Rules}
 use Rattle.kill_spec.specs.declared.kill.Kill.{Kill}
 use Rattle.kill_spec.specs.Readings.{Reading}
 use Rattle.kill_spec.specs.Evaluations.{reading_at, readings_until}
-use Rattle.run_spec.specs.Replay.{Pace, kills_in, lives_of}
+use Rattle.run_spec.specs.Replay.{Timing, kills_in, lives_of}
 use Rattle.proc_plan.specs.Plans.{PlansView}
 use Rattle.tick_engine.specs.Engine.{EngineView}
 use Rattle.detectors.specs.Views.{ReadingView}
 use Rattle.detectors.specs.Stands.{newest_moment}
-use Rattle.kill_engine.specs.Killers.{KillerView, StandsFor}
+use Rattle.kill_engine.specs.Killers.{KillerView, Represents}
 use Rattle.side_watch.specs.Watch.{HasFollowed, SideView}
 use Rattle.group_tree.specs.Tree.{numbers_of}
 use Rattle.replay_rules.specs.Planned.{HasTicked, IsPlanned}
@@ -45,34 +45,34 @@ judge_of interval evaluator evaluated = record {
 }
 
 -- the kills of the last evaluation, if there is an evaluator
-abbrev pub told_last : Option EvaluatorView → List Kill
-told_last None = []
-told_last (Some evaluator) = evaluator.killer.found
+abbrev pub known_last : Option EvaluatorView → List Kill
+known_last None = []
+known_last (Some evaluator) = evaluator.killer.found
 
 -- the kills of a judge at the last tick: none if that was no evaluation
 abbrev pub judge_kills : JudgeView → List Kill
-judge_kills judge = if judge.evaluated then told_last judge.evaluator else []
+judge_kills judge = if judge.evaluated then known_last judge.evaluator else []
 
 -- the rulesets of a rules file; none without a file
-abbrev pub given_rules : Option Rules → List Rule
-given_rules None = []
-given_rules (Some given) = given.rules
+abbrev pub rules_of_options : Option Rules → List Rule
+rules_of_options None = []
+rules_of_options (Some maybe_rules) = maybe_rules.rules
 
 -- ---- the trace that it represents
 
 -- the reading of a trace at the tick with this number
-abbrev pub read_at : Trace → Pace → ℕ → Reading
-read_at trace pace i = reading_at trace.cpus trace.events pace.length i
+abbrev pub read_at : Trace → Timing → ℕ → Reading
+read_at trace timing i = reading_at trace.cpus trace.events timing.length i
 
 -- the readings of a trace at the evaluations among its first n ticks, the newest first
-abbrev pub readings_of : Trace → Pace → ℕ → List Reading
-readings_of trace pace i = readings_until trace.cpus trace.events pace.length pace.interval i
+abbrev pub readings_of : Trace → Timing → ℕ → List Reading
+readings_of trace timing i = readings_until trace.cpus trace.events timing.length timing.interval i
 
 -- An evaluator with rules has taken these readings of a trace, the newest first: its killer
 -- represents them, and its watch is the state after the events up to the time of the newest.
 pub record HasRead (evaluator : EvaluatorView) (trace : Trace) (rules : List Rule)
     (readings : List Reading) : Type 0 where
-  pub killer : StandsFor evaluator.killer (lives_of trace) rules readings
+  pub killer : Represents evaluator.killer (lives_of trace) rules readings
   pub watch : HasFollowed trace.events (newest_moment readings) evaluator.watch
   pub lives : evaluator.reading.lives ≡ lives_of trace
 
@@ -81,14 +81,14 @@ abbrev pub HasReadAll : Option EvaluatorView → Trace → List Rule → List Re
 HasReadAll None trace rules readings = rules ≡ []
 HasReadAll (Some evaluator) trace rules readings = HasRead evaluator trace rules readings
 
--- A judge with rules has decided at the first `i` ticks of a trace at this `pace`: it has the
+-- A judge with rules has decided at the first `i` ticks of a trace at this `timing`: it has the
 -- pace's interval, has taken the readings of all evaluations among these ticks, and has the kills
 -- of the last one.
-pub record HasJudged (judge : JudgeView) (trace : Trace) (pace : Pace) (rules : List Rule) (i : ℕ)
+pub record HasJudged (judge : JudgeView) (trace : Trace) (timing : Timing) (rules : List Rule) (i : ℕ)
     : Type 0 where
-  pub interval : judge.interval ≡ pace.interval
-  pub read : HasReadAll judge.evaluator trace rules (readings_of trace pace i)
-  pub kills : judge_kills judge ≡ kills_in trace pace rules i
+  pub interval : judge.interval ≡ timing.interval
+  pub read : HasReadAll judge.evaluator trace rules (readings_of trace timing i)
+  pub kills : judge_kills judge ≡ kills_in trace timing rules i
 
 -- At a tick without an evaluation a judge's state stays the same, and there are no kills.
 pub record Rests (old new : JudgeView) : Type 0 where
@@ -97,31 +97,31 @@ pub record Rests (old new : JudgeView) : Type 0 where
 
 -- ---- one tick
 
--- The state before a replay: plans of a trace, which is replayed at this `pace`, with its interval
--- of evaluations (ns).
-pub record IsToBegin (plans : PlansView) (trace : Trace) (pace : Pace) (interval : ℕ)
+-- The state before a replay: plans of a trace, which is replayed at this `timing`, with its
+-- interval of evaluations (ns).
+pub record IsToBegin (plans : PlansView) (trace : Trace) (timing : Timing) (interval : ℕ)
     : Type 0 where
-  pub planned : IsPlanned plans trace pace
-  pub interval_is : interval ≡ pace.interval
+  pub planned : IsPlanned plans trace timing
+  pub interval_is : interval ≡ timing.interval
 
 -- The state before an evaluation at a time (ns): that of the tick after the first n.
 pub record IsToEvaluate (evaluator : EvaluatorView) (plans : PlansView) (engine : EngineView)
-    (order : List Slot) (trace : Trace) (pace : Pace) (rules : List Rule) (i at : ℕ) : Type 0 where
-  pub planned : IsPlanned plans trace pace
-  pub at_is : at ≡ tick_moment pace.length (i + 1)
-  pub ticked : HasTicked engine trace pace (i + 1)
+    (order : List Slot) (trace : Trace) (timing : Timing) (rules : List Rule) (i at : ℕ) : Type 0 where
+  pub planned : IsPlanned plans trace timing
+  pub at_is : at ≡ tick_moment timing.length (i + 1)
+  pub ticked : HasTicked engine trace timing (i + 1)
   pub by_path : IsPathOrder plans.lives (numbers_of order)
-  pub read : HasRead evaluator trace rules (readings_of trace pace i)
+  pub read : HasRead evaluator trace rules (readings_of trace timing i)
 
 -- The state before a decision at the tick after the first n, at its time (ns) and for a tick length
 -- (ns). The engine has taken the tick, the order has all slots by path, and the judge has decided
 -- at the previous ticks.
 pub record IsToJudge (judge : JudgeView) (plans : PlansView) (engine : EngineView)
-    (order : List Slot) (trace : Trace) (pace : Pace) (rules : List Rule) (i at length : ℕ)
+    (order : List Slot) (trace : Trace) (timing : Timing) (rules : List Rule) (i at length : ℕ)
     : Type 0 where
-  pub planned : IsPlanned plans trace pace
-  pub at_is : at ≡ tick_moment pace.length (i + 1)
-  pub length_is : length ≡ pace.length
-  pub ticked : HasTicked engine trace pace (i + 1)
+  pub planned : IsPlanned plans trace timing
+  pub at_is : at ≡ tick_moment timing.length (i + 1)
+  pub length_is : length ≡ timing.length
+  pub ticked : HasTicked engine trace timing (i + 1)
   pub by_path : IsPathOrder plans.lives (numbers_of order)
-  pub judged : HasJudged judge trace pace rules i
+  pub judged : HasJudged judge trace timing rules i

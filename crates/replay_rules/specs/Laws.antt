@@ -5,41 +5,41 @@ use Rattle.pressure_spec.specs.Ticks.{is_evaluation}
 use Rattle.ruleset_json.specs.declared.types.Rule.{Rule}
 use Rattle.kill_spec.specs.LegalReadings.{AreReadings}
 use Rattle.kill_spec.specs.Kills.{kills}
-use Rattle.run_spec.specs.Replay.{Pace, kills_in, lives_of}
+use Rattle.run_spec.specs.Replay.{Timing, kills_in, lives_of}
 use Rattle.replay_rules.specs.Judged.{read_at, readings_of}
 
 -- Between evaluations nothing is read.
 abbrev pub ReadingsStay : Type 0
-ReadingsStay = (trace : Trace) (pace : Pace) (i : ℕ) →
-    is_evaluation pace.interval pace.length (i + 1) ≡ false →
-    readings_of trace pace (i + 1) ≡ readings_of trace pace i
+ReadingsStay = (trace : Trace) (timing : Timing) (i : ℕ) →
+    is_evaluation timing.interval timing.length (i + 1) ≡ false →
+    readings_of trace timing (i + 1) ≡ readings_of trace timing i
 
 -- An evaluation adds one reading.
 abbrev pub OneReadingMore : Type 0
-OneReadingMore = (trace : Trace) (pace : Pace) (i : ℕ) →
-    is_evaluation pace.interval pace.length (i + 1) ≡ true →
-    readings_of trace pace (i + 1) ≡ read_at trace pace (i + 1) ∷ readings_of trace pace i
+OneReadingMore = (trace : Trace) (timing : Timing) (i : ℕ) →
+    is_evaluation timing.interval timing.length (i + 1) ≡ true →
+    readings_of trace timing (i + 1) ≡ read_at trace timing (i + 1) ∷ readings_of trace timing i
 
 -- Between evaluations nothing is killed.
 abbrev pub NoKillsBetween : Type 0
-NoKillsBetween = (trace : Trace) (pace : Pace) (rules : List Rule) (i : ℕ) →
-    is_evaluation pace.interval pace.length i ≡ false → kills_in trace pace rules i ≡ []
+NoKillsBetween = (trace : Trace) (timing : Timing) (rules : List Rule) (i : ℕ) →
+    is_evaluation timing.interval timing.length i ≡ false → kills_in trace timing rules i ≡ []
 
 -- An evaluation kills what the rules kill at its reading, given the previous readings.
 abbrev pub KillsAtReading : Type 0
-KillsAtReading = (trace : Trace) (pace : Pace) (rules : List Rule) (i : ℕ) →
-    is_evaluation pace.interval pace.length (i + 1) ≡ true →
-    kills_in trace pace rules (i + 1)
-    ≡ kills (lives_of trace) rules (read_at trace pace (i + 1)) (readings_of trace pace i)
+KillsAtReading = (trace : Trace) (timing : Timing) (rules : List Rule) (i : ℕ) →
+    is_evaluation timing.interval timing.length (i + 1) ≡ true →
+    kills_in trace timing rules (i + 1)
+    ≡ kills (lives_of trace) rules (read_at trace timing (i + 1)) (readings_of trace timing i)
 
 -- Without rules nothing is killed.
 abbrev pub NoneWithoutRules : Type 0
-NoneWithoutRules = (trace : Trace) (pace : Pace) (i : ℕ) → kills_in trace pace [] i ≡ []
+NoneWithoutRules = (trace : Trace) (timing : Timing) (i : ℕ) → kills_in trace timing [] i ≡ []
 
 -- The readings of an accepted trace are well formed: each has the live groups in the order of their
 -- paths, all values are in range, and it is later than the previous ones. So a ruleset never has
 -- two chain-ending kills within the delay of the first.
 abbrev pub ReadingsAreReadings : Type 0
-ReadingsAreReadings = (trace : Trace) (pace : Pace) (i : ℕ) →
-    IsAccepted (limits_of pace.length trace.cpus) trace.events → 0 < pace.length →
-    AreReadings (lives_of trace) (readings_of trace pace i)
+ReadingsAreReadings = (trace : Trace) (timing : Timing) (i : ℕ) →
+    IsAccepted (limits_of timing.length trace.cpus) trace.events → 0 < timing.length →
+    AreReadings (lives_of trace) (readings_of trace timing i)

@@ -2,7 +2,7 @@
 ghost use Rattle.std.specs.Prelude.{◌≡◌, ◌∷◌, ◌+◌, ◌<◌, [], ℕ, List, IfOk};
 ghost use Rattle.psi_spec.specs.Trace.{Trace};
 ghost use Rattle.ruleset_json.specs.declared.types.Rule.{Rule};
-ghost use Rattle.run_spec.specs.Replay.{Pace};
+ghost use Rattle.run_spec.specs.Replay.{Timing};
 ghost use Rattle.replay_rules.specs.Planned.{IsPlanned};
 ghost use Rattle.replay_rules.specs.Judged.{HasRead, IsToEvaluate, read_at, readings_of};
 
@@ -39,8 +39,8 @@ impl Evaluator {
     /// An evaluator of these rules before the first evaluation of the plans' trace. Allocates
     /// everything up front.
     pub(crate) fn make(alloc: Global, plans: &Plans, rules: Rules) -> Result<Evaluator, NoMemory>
-        ensures { IfOk result (λ evaluator. (trace : Trace) (pace : Pace) →
-            IsPlanned plans.now trace pace → HasRead evaluator trace rules.rules []) }
+        ensures { IfOk result (λ evaluator. (trace : Trace) (timing : Timing) →
+            IsPlanned plans.now trace timing → HasRead evaluator trace rules.rules []) }
     {
         let lives = plans.lives();
         Ok(Evaluator {
@@ -52,11 +52,11 @@ impl Evaluator {
 
     /// The evaluation at the time (ns) of the engine's last tick. Does not allocate.
     pub(crate) fn evaluate(&mut self, plans: &Plans, engine: &Engine, order: &[Slot], at: Ns)
-        requires { (trace : Trace) × (pace : Pace) × (rules : List Rule) × (i : ℕ) ×
-            IsToEvaluate self.old plans.now engine.now order.now trace pace rules i at }
-        ensures { (trace : Trace) (pace : Pace) (rules : List Rule) (i : ℕ) →
-            IsToEvaluate self.old plans.now engine.now order.now trace pace rules i at →
-            HasRead self.new trace rules (read_at trace pace (i + 1) ∷ readings_of trace pace i) }
+        requires { (trace : Trace) × (timing : Timing) × (rules : List Rule) × (i : ℕ) ×
+            IsToEvaluate self.old plans.now engine.now order.now trace timing rules i at }
+        ensures { (trace : Trace) (timing : Timing) (rules : List Rule) (i : ℕ) →
+            IsToEvaluate self.old plans.now engine.now order.now trace timing rules i at →
+            HasRead self.new trace rules (read_at trace timing (i + 1) ∷ readings_of trace timing i) }
     {
         self.watch.advance(plans.sides(), at);
         fill_reading(&mut self.reading, engine, &self.watch, order, at);

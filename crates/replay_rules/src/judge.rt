@@ -3,9 +3,9 @@ ghost use Rattle.std.specs.Prelude.{◌≡◌, ◌+◌, ◌<◌, ℕ, List, IfOk
 ghost use Rattle.psi_spec.specs.Trace.{Trace};
 ghost use Rattle.pressure_spec.specs.Ticks.{is_evaluation, tick_moment};
 ghost use Rattle.ruleset_json.specs.declared.types.Rule.{Rule};
-ghost use Rattle.run_spec.specs.Replay.{Pace};
+ghost use Rattle.run_spec.specs.Replay.{Timing};
 ghost use Rattle.replay_rules.specs.Judged.{HasJudged, IsToBegin, IsToJudge, Rests};
-ghost use Rattle.replay_rules.specs.Judged.{given_rules, judge_kills};
+ghost use Rattle.replay_rules.specs.Judged.{rules_of_options, judge_kills};
 
 use crate::evaluator::Evaluator;
 use crate::schedule::is_due;
@@ -45,9 +45,9 @@ impl Judge {
         rules: Option<Rules>,
         interval: Ns,
     ) -> Result<Judge, NoMemory>
-        ensures judged { IfOk result (λ judge. (trace : Trace) (pace : Pace) →
-            IsToBegin plans.now trace pace interval →
-            HasJudged judge trace pace (given_rules rules) 0) }
+        ensures judged { IfOk result (λ judge. (trace : Trace) (timing : Timing) →
+            IsToBegin plans.now trace timing interval →
+            HasJudged judge trace timing (rules_of_options rules) 0) }
         ensures bare { IfOk result (λ judge. rules ≡ None → judge.evaluator ≡ None) }
     {
         let evaluator = match rules {
@@ -65,11 +65,11 @@ impl Judge {
     /// an evaluation, all live groups are read, the rules decide, and [`Judge::kills`] has the
     /// kills. The order has all slots by path. Does not allocate.
     pub fn tick(&mut self, plans: &Plans, engine: &Engine, order: &[Slot], at: Ns, length: Ns)
-        requires { (trace : Trace) × (pace : Pace) × (rules : List Rule) × (i : ℕ) ×
-            IsToJudge self.old plans.now engine.now order.now trace pace rules i at length }
-        ensures judged { (trace : Trace) (pace : Pace) (rules : List Rule) (i : ℕ) →
-            IsToJudge self.old plans.now engine.now order.now trace pace rules i at length →
-            HasJudged self.new trace pace rules (i + 1) }
+        requires { (trace : Trace) × (timing : Timing) × (rules : List Rule) × (i : ℕ) ×
+            IsToJudge self.old plans.now engine.now order.now trace timing rules i at length }
+        ensures judged { (trace : Trace) (timing : Timing) (rules : List Rule) (i : ℕ) →
+            IsToJudge self.old plans.now engine.now order.now trace timing rules i at length →
+            HasJudged self.new trace timing rules (i + 1) }
         ensures rests { (number : ℕ) → 0 < number → at ≡ tick_moment length number →
             is_evaluation self.old.interval length number ≡ false → Rests self.old self.new }
     {

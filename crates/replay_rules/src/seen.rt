@@ -63,7 +63,7 @@ pub(crate) fn fill_reading(
     at: Ns,
 )
     requires made { All (λ (slot : Slot). slot.0 < length reading.old.lives) order.now }
-    requires kept { length engine.now.groups ≡ length reading.old.lives }
+    requires unchanged { length engine.now.groups ≡ length reading.old.lives }
     requires rows { (slot : ℕ) → slot < length engine.now.groups → HasRows engine.now slot }
     requires ascend { LiveAscend reading.old.lives at (numbers_of order.now) }
     ensures { reading.new ≡

@@ -17,25 +17,25 @@ const TRACE: &str = "psitrace 1 cpus=1\n\
 const COMMANDS: [&str; 3] = ["check t", "stall t", "replay t --report-s 2"];
 
 /// Checks that each command rejects a prefix of the trace at this line, the first incomplete one.
-fn assert_front_refused(rt: &impl Host, front: &[u8], line: u32) {
+fn assert_prefix_refused(rt: &impl Host, prefix: &[u8], line: u32) {
     let (cause, name) = if line == 1 {
         (Cause::BadHeader, "BadHeader")
     } else {
         (Cause::NoEnd, "NoEnd")
     };
     for command in &COMMANDS {
-        assert_refused(rt, command, front, line, cause, name);
+        assert_refused(rt, command, prefix, line, cause, name);
     }
 }
 
 #[test]
 fn traces_cut_anywhere(rt: HostRuntime) {
-    let told = "ok lines=9 events=8 end=6000000000\n";
-    assert_prints(&rt, "check t", TRACE, 65536, told);
+    let known = "ok lines=9 events=8 end=6000000000\n";
+    assert_prints(&rt, "check t", TRACE, 65536, known);
     let trace = TRACE.as_bytes();
     let mut line = 1u32;
     for length in 0..trace.len() {
-        assert_front_refused(&rt, &trace[..length], line);
+        assert_prefix_refused(&rt, &trace[..length], line);
         if trace[length] == b'\n' {
             line = line.saturating_add(1);
         }

@@ -69,11 +69,11 @@ fn assert_done(rt: &impl Abort, ran: &Ran, first: &str, last: &str) {
 }
 
 /// Checks that a run ended with this exit status and note, and printed nothing.
-fn assert_told(rt: &impl Abort, line: &str, ran: &Ran, code: u8, note: &str) {
-    let is_told = ran.status.code() == code
+fn assert_reported(rt: &impl Abort, line: &str, ran: &Ran, code: u8, note: &str) {
+    let is_reported = ran.status.code() == code
         && ran.output.is_empty()
         && ran.note.as_slice() == note.as_bytes();
-    assert!(rt; is_told, "{line}, {ran} in place of {code} {note:?}");
+    assert!(rt; is_reported, "{line}, {ran} in place of {code} {note:?}");
 }
 
 /// Checks the last line of a replay with the rules and these parts.
@@ -100,7 +100,7 @@ fn parts_replace(rt: HostRuntime) {
 /// and note.
 fn assert_refused(rt: &impl Host, rules: &str, parts: &[&str], code: u8, note: &str) {
     for line in &[REPLAY, "rules r --drop-in d"] {
-        assert_told(rt, line, &run_over(rt, line, rules, parts), code, note);
+        assert_reported(rt, line, &run_over(rt, line, rules, parts), code, note);
     }
 }
 
@@ -141,7 +141,7 @@ const ORDER: [(&str, u8, &str); 6] = [
 fn order_of_files(rt: HostRuntime) {
     for (line, code, note) in &ORDER {
         let ran = run_over(&rt, line, KILLS, &[NEVER_FOR_Q]);
-        assert_told(&rt, line, &ran, *code, note);
+        assert_reported(&rt, line, &ran, *code, note);
     }
 }
 
@@ -155,7 +155,7 @@ const RULES_ALONE: Files = Files {
 /// Checks the exit status and note of printing the rules if a call fails.
 fn assert_fault(rt: &impl Host, line: &str, failing: Failing, code: u8, note: &str) {
     let ran = run_files(rt, line, RULES_ALONE, 65536, failing);
-    assert_told(rt, line, &ran, code, note);
+    assert_reported(rt, line, &ran, code, note);
 }
 
 /// The rules as one line; each call fails in turn.

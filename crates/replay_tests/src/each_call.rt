@@ -36,18 +36,18 @@ impl Replay<'_> {
     }
 
     /// Whether a run ended with a failed write, after a prefix of an output.
-    fn is_front(&self, ran: &Ran) -> bool {
-        let is_told = ran.note.as_slice() == b"write fault\n".as_slice();
-        let is_front = self.outputs.iter().any(|whole| ran.output.len() < whole.len()
+    fn is_prefix_of(&self, ran: &Ran) -> bool {
+        let is_reported = ran.note.as_slice() == b"write fault\n".as_slice();
+        let is_prefix_of = self.outputs.iter().any(|whole| ran.output.len() < whole.len()
             && whole.starts_with(&ran.output));
-        ran.status == Status::WriteFault && is_told && is_front
+        ran.status == Status::WriteFault && is_reported && is_prefix_of
     }
 }
 
 /// Whether a run ended with a failed read, and printed nothing.
 fn is_unread(ran: &Ran) -> bool {
-    let is_told = ran.note.as_slice() == b"read fault\n".as_slice();
-    ran.status == Status::ReadFault && is_told && ran.output.is_empty()
+    let is_reported = ran.note.as_slice() == b"read fault\n".as_slice();
+    ran.status == Status::ReadFault && is_reported && ran.output.is_empty()
 }
 
 /// Whether a replay with this failed read succeeds, because the read isn't made. Otherwise the run
@@ -65,7 +65,11 @@ fn is_written(rt: &impl Host, replay: &Replay, write: u64) -> bool {
     let failing = Failing { write, ..NO_FAULT };
     let ran = run_files(rt, replay.line, replay.files, MOST, failing);
     let is_whole = replay.is_whole(&ran);
-    assert!(rt; is_whole || replay.is_front(&ran), "{}, {ran}", replay.line);
+    assert!(rt;
+        is_whole || replay.is_prefix_of(&ran),
+        "{}, {ran}",
+        replay.line
+    );
     is_whole
 }
 

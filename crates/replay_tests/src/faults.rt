@@ -1,7 +1,7 @@
 //! Reads and writes that fail.
 
 use crate::runs::{
-    Failing, Host, NONE, ONE_WAIT, assert_prints_front, assert_prints_nothing, assert_run,
+    Failing, Host, NONE, ONE_WAIT, assert_prints_nothing, assert_prints_prefix, assert_run,
     run_trace,
 };
 use psi_base::Cause;
@@ -9,9 +9,9 @@ use replay_core::Status;
 
 const SUMS: &str = "stall cpu=0 / 2000000000 2000000000 0 0 0 0 2000000000\n";
 
-const REFUSED_IN_FRONT: &str = "psitrace 1 cpus=1\n5 fork 1 / 0\n4 end\n5 end\n";
+const REFUSED_IN_PREFIX: &str = "psitrace 1 cpus=1\n5 fork 1 / 0\n4 end\n5 end\n";
 
-const BEHIND_THE_END: &str = "psitrace 1 cpus=1\n5 end\nxyz";
+const AFTER_THE_END: &str = "psitrace 1 cpus=1\n5 end\nxyz";
 
 /// Checks that `stall` prints nothing, and ends with this status and note, if this read of at most
 /// `most` bytes fails.
@@ -22,11 +22,11 @@ fn assert_unread(rt: &impl Host, trace: &str, most: usize, read: u64, status: St
 #[test]
 fn reads_that_fail(rt: HostRuntime) {
     let fault = Status::ReadFault;
-    let told = "read fault\n";
-    assert_unread(&rt, ONE_WAIT, 65536, 0, fault, told);
-    assert_unread(&rt, ONE_WAIT, 1, 40, fault, told);
+    let known = "read fault\n";
+    assert_unread(&rt, ONE_WAIT, 65536, 0, fault, known);
+    assert_unread(&rt, ONE_WAIT, 1, 40, fault, known);
     // The read after the end fails.
-    assert_unread(&rt, ONE_WAIT, 65536, 1, fault, told);
+    assert_unread(&rt, ONE_WAIT, 65536, 1, fault, known);
     // A rejected line that was already read is reported, though the next read would fail.
     let back = Status::Trace {
         line: 3,
@@ -34,7 +34,7 @@ fn reads_that_fail(rt: HostRuntime) {
     };
     assert_unread(
         &rt,
-        REFUSED_IN_FRONT,
+        REFUSED_IN_PREFIX,
         65536,
         1,
         back,
@@ -47,7 +47,7 @@ fn reads_that_fail(rt: HostRuntime) {
     };
     assert_unread(
         &rt,
-        BEHIND_THE_END,
+        AFTER_THE_END,
         1,
         25,
         refused,
@@ -58,7 +58,7 @@ fn reads_that_fail(rt: HostRuntime) {
 #[test]
 fn writes_that_fail(rt: HostRuntime) {
     for write in &[0, 1, 5] {
-        assert_prints_front(&rt, "stall t", ONE_WAIT, 7, *write, SUMS);
+        assert_prints_prefix(&rt, "stall t", ONE_WAIT, 7, *write, SUMS);
     }
     // A failed write of a note changes no status.
     let failing = Failing {

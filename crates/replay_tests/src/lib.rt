@@ -16,6 +16,8 @@ mod faults;
 #[cfg(test)]
 mod gates;
 #[cfg(test)]
+mod known;
+#[cfg(test)]
 mod limits;
 #[cfg(test)]
 mod pieces;
@@ -23,8 +25,6 @@ mod pieces;
 mod replays;
 #[cfg(test)]
 mod runs;
-#[cfg(test)]
-mod told;
 #[cfg(test)]
 mod whatif;
 #[cfg(test)]

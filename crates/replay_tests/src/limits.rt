@@ -13,13 +13,13 @@ fn push(rt: &impl Abort, text: &mut String, piece: &str) {
 }
 
 /// A text that can grow.
-fn text_of(rt: &impl Host, front: &str) -> String {
-    String::from_str(rt.alloc(), front).expect(rt, "memory")
+fn text_of(rt: &impl Host, prefix: &str) -> String {
+    String::from_str(rt.alloc(), prefix).expect(rt, "memory")
 }
 
 /// A text followed by a piece `times` times.
-fn repeated(rt: &impl Host, front: &str, piece: &str, times: usize) -> String {
-    let mut text = text_of(rt, front);
+fn repeated(rt: &impl Host, prefix: &str, piece: &str, times: usize) -> String {
+    let mut text = text_of(rt, prefix);
     for _ in 0..times {
         push(rt, &mut text, piece);
     }
@@ -27,9 +27,9 @@ fn repeated(rt: &impl Host, front: &str, piece: &str, times: usize) -> String {
 }
 
 /// Checks that `check` accepts these lines, followed by an end, and prints this.
-fn assert_accepted(rt: &impl Host, lines: &str, told: &str) {
+fn assert_accepted(rt: &impl Host, lines: &str, known: &str) {
     let trace = repeated(rt, lines, "0 end\n", 1);
-    assert_prints(rt, "check t", &trace, 65536, told);
+    assert_prints(rt, "check t", &trace, 65536, known);
 }
 
 /// Checks that `check` rejects these lines at this one with this cause.

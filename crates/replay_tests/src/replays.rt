@@ -1,7 +1,7 @@
 //! A replay whose trace is read, and whose output is written, byte by byte; each call fails in
 //! turn.
 
-use crate::runs::{ONE_WAIT, assert_prints, assert_prints_front, assert_prints_nothing};
+use crate::runs::{ONE_WAIT, assert_prints, assert_prints_nothing, assert_prints_prefix};
 use replay_core::Status;
 
 /// The one tick of the trace, at its end.
@@ -33,6 +33,6 @@ fn replays_byte_by_byte(rt: HostRuntime) {
         assert_prints_nothing(&rt, line, ONE_WAIT, 1, read, fault, "read fault\n");
     }
     for write in 0..WRITES {
-        assert_prints_front(&rt, line, ONE_WAIT, 1, write, REPLAYED);
+        assert_prints_prefix(&rt, line, ONE_WAIT, 1, write, REPLAYED);
     }
 }

@@ -229,7 +229,7 @@ pub fn assert_prints_nothing(
 }
 
 /// Checks that a command line prints a prefix of this output, if this call of the sink fails.
-pub fn assert_prints_front(
+pub fn assert_prints_prefix(
     rt: &impl Host,
     line: &str,
     trace: &str,
@@ -238,10 +238,14 @@ pub fn assert_prints_front(
     output: &str,
 ) {
     let ran = run_trace(rt, line, trace, most, Failing { write, ..NO_FAULT });
-    let is_front = ran.output.len() < output.len() && output.as_bytes().starts_with(&ran.output);
-    let is_told = ran.note.as_slice() == b"write fault\n".as_slice();
-    let is_right = ran.status == Status::WriteFault && is_front && is_told;
-    assert!(rt; is_right, "{line}, {ran} in place of a front of {output:?}");
+    let is_prefix_of = ran.output.len() < output.len()
+        && output.as_bytes().starts_with(&ran.output);
+    let is_reported = ran.note.as_slice() == b"write fault\n".as_slice();
+    let is_right = ran.status == Status::WriteFault && is_prefix_of && is_reported;
+    assert!(rt;
+        is_right,
+        "{line}, {ran} in place of a prefix of {output:?}"
+    );
 }
 
 /// Checks that this trace is rejected at this line with this cause, and that the note names the

@@ -67,12 +67,12 @@ fn has_kills(output: &[u8], kills: &str, end: &str) -> bool {
 }
 
 /// Checks that `whatif` prints these lines of kills, the report of the last tick and the last line.
-fn assert_tells(rt: &impl Host, trace: &str, rules: &str, kills: &str, end: &str) {
+fn assert_shows(rt: &impl Host, trace: &str, rules: &str, kills: &str, end: &str) {
     let ran = run_over(rt, WHATIF, trace, rules, NO_FAULT);
     let is_done = ran.status == Status::Done && ran.note.is_empty();
-    let is_told = has_kills(&ran.output, kills, end);
+    let is_reported = has_kills(&ran.output, kills, end);
     assert!(rt;
-        is_done && is_told,
+        is_done && is_reported,
         "{ran} in place of {kills:?} to {end:?}"
     );
 }
@@ -81,7 +81,7 @@ fn assert_tells(rt: &impl Host, trace: &str, rules: &str, kills: &str, end: &str
 fn one_group(rt: HostRuntime) {
     let kills = "kill 5000000000 ruleset=0 action=0 /s/a\n";
     let end = "end 36000000000 ticks=36 events=0 kills=1\n";
-    assert_tells(&rt, ONE, KILLS, kills, end);
+    assert_shows(&rt, ONE, KILLS, kills, end);
 }
 
 #[test]
@@ -89,7 +89,7 @@ fn one_after_the_other(rt: HostRuntime) {
     let kills = "kill 5000000000 ruleset=0 action=0 /s/a\n\
         kill 20000000000 ruleset=0 action=0 /s/b\n";
     let end = "end 36000000000 ticks=36 events=0 kills=2\n";
-    assert_tells(&rt, TWO, KILLS, kills, end);
+    assert_shows(&rt, TWO, KILLS, kills, end);
 }
 
 #[test]
@@ -97,7 +97,7 @@ fn two_in_one_tick(rt: HostRuntime) {
     let kills = "kill 5000000000 ruleset=0 action=0 /s/a\n\
         kill 5000000000 ruleset=0 action=1 /s/b\n";
     let end = "end 36000000000 ticks=36 events=0 kills=2\n";
-    assert_tells(&rt, TWO, BOTH, kills, end);
+    assert_shows(&rt, TWO, BOTH, kills, end);
 }
 
 #[test]
@@ -105,14 +105,14 @@ fn forked_later(rt: HostRuntime) {
     let kills = "kill 5000000000 ruleset=0 action=0 /s/a\n\
         kill 20000000000 ruleset=0 action=0 /s/a\n";
     let end = "end 36000000000 ticks=36 events=0 kills=2\n";
-    assert_tells(&rt, LATER, KILLS, kills, end);
+    assert_shows(&rt, LATER, KILLS, kills, end);
 }
 
 #[test]
 fn at_the_last_tick(rt: HostRuntime) {
     let kills = "kill 5000000000 ruleset=0 action=0 /s/a\n";
     let end = "end 5000000000 ticks=5 events=0 kills=1\n";
-    assert_tells(&rt, AT_END, KILLS, kills, end);
+    assert_shows(&rt, AT_END, KILLS, kills, end);
 }
 
 #[test]

@@ -14,7 +14,7 @@ const NO_FILE: Status = Status::NoFile {
 };
 
 /// Checks that a command line prints nothing, and ends with this status and note.
-fn assert_told(rt: &impl Host, line: &str, status: Status, note: &str) {
+fn assert_reported(rt: &impl Host, line: &str, status: Status, note: &str) {
     assert_prints_nothing(rt, line, ONE_WAIT, 7, NONE, status, note);
 }
 
@@ -23,14 +23,14 @@ fn assert_told(rt: &impl Host, line: &str, status: Status, note: &str) {
 fn words_and_names(rt: HostRuntime) {
     let usage =
         "usage: psi_oomd stall or check or replay or gen or stress or import or rules or whatif\n";
-    assert_told(&rt, "stall", Status::Usage, usage);
-    assert_told(&rt, "stall u", NO_FILE, "no file: u\n");
-    assert_told(&rt, "check u", NO_FILE, "no file: u\n");
-    assert_told(&rt, "stall -", NO_FILE, "no file: -\n");
+    assert_reported(&rt, "stall", Status::Usage, usage);
+    assert_reported(&rt, "stall u", NO_FILE, "no file: u\n");
+    assert_reported(&rt, "check u", NO_FILE, "no file: u\n");
+    assert_reported(&rt, "stall -", NO_FILE, "no file: -\n");
 }
 
 // An out-of-memory failure, as returned by an allocation that always fails.
-fn wanting(rt: &impl Abort, alloc: Global) -> NoMemory {
+fn short_of_memory(rt: &impl Abort, alloc: Global) -> NoMemory {
     match Vec::<u8>::with_capacity(alloc, usize::MAX) {
         Ok(_) => panic!(rt; "there is room for all bytes that can be named"),
         Err(refused) => NoMemory::from(refused),
@@ -47,7 +47,7 @@ fn codes_of_statuses(rt: HostRuntime) {
         NO_FILE.code(),
         Status::ReadFault.code(),
         Status::WriteFault.code(),
-        Status::NoMemory(wanting(&rt, rt.alloc())).code(),
+        Status::NoMemory(short_of_memory(&rt, rt.alloc())).code(),
         Status::Import {
             line: 1,
             cause: ImportCause::Cut,

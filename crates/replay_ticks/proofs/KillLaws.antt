@@ -10,7 +10,7 @@ use Rattle.psi_spec.specs.LegalGroups.{IsPathOrder}
 use Rattle.psi_spec.specs.Trace.{Trace, limits_of}
 use Rattle.psi_spec.specs.World.{after, up_to}
 use Rattle.plan_laws.specs.Moments.{is_live_slot}
-use Rattle.plan_laws.proofs.MomentsOrder.{order_tells_slots}
+use Rattle.plan_laws.proofs.MomentsOrder.{order_shows_slots}
 use Rattle.pressure_spec.specs.Ticks.{is_evaluation, tick_moment}
 use Rattle.ruleset_json.specs.declared.types.Action.{Action}
 use Rattle.ruleset_json.specs.declared.types.Rule.{Rule}
@@ -24,7 +24,7 @@ use Rattle.kill_spec.specs.Evaluations.{averages_at, group_seen, reading_at, rea
 use Rattle.kill_spec.proofs.KillLaws.{of_actions}
 use Rattle.kill_spec.proofs.VictimLaws.{victims_match}
 use Rattle.proc_plan.specs.Plans.{PlansView}
-use Rattle.run_spec.specs.Replay.{Pace, kills_in, kills_until, lives_of, tick_count}
+use Rattle.run_spec.specs.Replay.{Timing, kills_in, kills_until, lives_of, tick_count}
 use Rattle.run_laws.proofs.OneMore.{kills_more}
 use Rattle.group_tree.specs.Tree.{numbers_of}
 use Rattle.replay_rules.specs.Planned.{IsPlanned}
@@ -44,9 +44,9 @@ and_then_short false (Some kill) rest = omega arith
 chain_short : (lives : List GroupLife) (rule act : ℕ) (actions : List Action) (now : Reading) (past : List Reading) → length (chain lives rule act actions now past) ≤ length actions
 chain_short lives rule act [] now past = omega arith
 chain_short lives rule act (first ∷ rest) now past =
-    let behind = chain_short lives rule (act + 1) rest now past in
+    let not_past = chain_short lives rule (act + 1) rest now past in
     let more = and_then_short (after_of first).always_continue (kill_by rule act now (victim lives first now past)) (chain lives rule (act + 1) rest now past) in
-    omega (arith, more, behind)
+    omega (arith, more, not_past)
 
 if_short : (b : Bool) (xs : List Kill) (most : ℕ) → length xs ≤ most → length (if b then xs else []) ≤ most
 if_short true xs most short = short
@@ -73,38 +73,38 @@ kills_short lives rules now past fits =
     omega (arith, all, fits.few)
 
 -- a tick has at most 1,024 kills
-pub tick_short : (trace : Trace) (pace : Pace) (rules : List Rule) (i : ℕ) → FitsRules rules → length (kills_in trace pace rules i) ≤ 1024
-tick_short trace pace rules i fits =
-    if_short (is_evaluation pace.interval pace.length i) _ 1024
-    (kills_short (lives_of trace) rules (reading_at trace.cpus trace.events pace.length i) (readings_until trace.cpus trace.events pace.length pace.interval (i - 1)) fits)
+pub tick_short : (trace : Trace) (timing : Timing) (rules : List Rule) (i : ℕ) → FitsRules rules → length (kills_in trace timing rules i) ≤ 1024
+tick_short trace timing rules i fits =
+    if_short (is_evaluation timing.interval timing.length i) _ 1024
+    (kills_short (lives_of trace) rules (reading_at trace.cpus trace.events timing.length i) (readings_until trace.cpus trace.events timing.length timing.interval (i - 1)) fits)
 
-kills_few : (trace : Trace) (pace : Pace) (rules : List Rule) (n : ℕ) → FitsRules rules → kills_until trace pace rules n ≤ 1024 * n
-kills_few trace pace rules zero fits = omega arith
-kills_few trace pace rules (suc n) fits =
+kills_few : (trace : Trace) (timing : Timing) (rules : List Rule) (n : ℕ) → FitsRules rules → kills_until trace timing rules n ≤ 1024 * n
+kills_few trace timing rules zero fits = omega arith
+kills_few trace timing rules (suc n) fits =
     let next : suc n ≡ n + 1 = omega arith in
-    let before = kills_few trace pace rules n fits in
-    let more = kills_more trace pace rules n in
-    let one = tick_short trace pace rules (n + 1) fits in
-    subst (λ k. kills_until trace pace rules k ≤ 1024 * k) (sym next) (let all : kills_until trace pace rules (n + 1) ≤ 1024 * (n + 1) = omega (arith, before, more, one) in all)
+    let before = kills_few trace timing rules n fits in
+    let more = kills_more trace timing rules n in
+    let one = tick_short trace timing rules (n + 1) fits in
+    subst (λ k. kills_until trace timing rules k ≤ 1024 * k) (sym next) (let all : kills_until trace timing rules (n + 1) ≤ 1024 * (n + 1) = omega (arith, before, more, one) in all)
 
 -- a trace has at most a million ticks
-ticks_million : (plans : PlansView) (trace : Trace) (pace : Pace) (n : ℕ) → IsPlanned plans trace pace → n ≤ tick_count trace pace → n ≤ 1000000
-ticks_million plans trace pace n planned within =
-    let early = (legal_after (limits_of pace.length trace.cpus) trace.events planned.accepted.legal).early in
+ticks_million : (plans : PlansView) (trace : Trace) (timing : Timing) (n : ℕ) → IsPlanned plans trace timing → n ≤ tick_count trace timing → n ≤ 1000000
+ticks_million plans trace timing n planned within =
+    let early = (legal_after (limits_of timing.length trace.cpus) trace.events planned.accepted.legal).early in
     by_test _ (nat_le 1000001 n)
     (λ many.
-    let few : 1000001 ≤ tick_count trace pace = grind (arith, many, within) in
-    let here : 1000001 * pace.length ≤ (after trace.events).last = (le-div_iff_mul-le planned.some).0 few in
+    let few : 1000001 ≤ tick_count trace timing = grind (arith, many, within) in
+    let here : 1000001 * timing.length ≤ (after trace.events).last = (le-div_iff_mul-le planned.some).0 few in
     absurd (let no : ⊥ = omega (arith, here, early, planned.some) in no))
     (λ few. grind (arith, few))
 
 -- so kills can be counted
-pub kills_fit : (plans : PlansView) (trace : Trace) (pace : Pace) (rules : List Rule) (i so_far : ℕ) → IsPlanned plans trace pace → FitsRules rules → i < tick_count trace pace → so_far ≡ kills_until trace pace rules i
-    → so_far + length (kills_in trace pace rules (i + 1)) < 2 ^ 64
-kills_fit plans trace pace rules i so_far planned fits left is =
-    let all = kills_more trace pace rules i in
-    let few = kills_few trace pace rules (i + 1) fits in
-    let ticks = ticks_million plans trace pace (i + 1) planned (omega (arith, left)) in
+pub kills_fit : (plans : PlansView) (trace : Trace) (timing : Timing) (rules : List Rule) (i so_far : ℕ) → IsPlanned plans trace timing → FitsRules rules → i < tick_count trace timing → so_far ≡ kills_until trace timing rules i
+    → so_far + length (kills_in trace timing rules (i + 1)) < 2 ^ 64
+kills_fit plans trace timing rules i so_far planned fits left is =
+    let all = kills_more trace timing rules i in
+    let few = kills_few trace timing rules (i + 1) fits in
+    let ticks = ticks_million plans trace timing (i + 1) planned (omega (arith, left)) in
     omega (arith, all, few, ticks, is)
 
 -- ---- whom
@@ -139,30 +139,30 @@ pairs_below n pairs all = λ k d below.
     subst (λ s. s < n) (get_or-map slot pairs k d 0 below) (all k 0 (omega (arith, below, length-map pairs slot)))
 
 -- each group that is read at a tick is one of those of the trace
-read_below : (plans : PlansView) (trace : Trace) (pace : Pace) (order : List ℕ) (i : ℕ) → IsPlanned plans trace pace → IsPathOrder (lives_of trace) order
-    → All (IsBelow (length (lives_of trace))) (reading_at trace.cpus trace.events pace.length i).groups
+read_below : (plans : PlansView) (trace : Trace) (timing : Timing) (order : List ℕ) (i : ℕ) → IsPlanned plans trace timing → IsPathOrder (lives_of trace) order
+    → All (IsBelow (length (lives_of trace))) (reading_at trace.cpus trace.events timing.length i).groups
 unfolding reading_at
-read_below plans trace pace order i planned ordered =
+read_below plans trace timing order i planned ordered =
     let n = length (lives_of trace) in
-    let at = tick_moment pace.length i in
+    let at = tick_moment timing.length i in
     let pairs = live_groups (after (up_to trace.events at)).groups in
-    let same = order_tells_slots (limits_of pace.length trace.cpus) trace.events planned.accepted.legal order ordered at in
+    let same = order_shows_slots (limits_of timing.length trace.cpus) trace.events planned.accepted.legal order ordered at in
     let slots : All (λ slot. slot < n) (map (λ (pair : List ℕ × ℕ). pair.1) pairs) =
     subst (All (λ slot. slot < n)) (sym same) (All-filter (is_live_slot (lives_of trace) at) (λ slot. slot < n) order (order_below (lives_of trace) order ordered)) in
-    All-map (IsBelow n) (λ (pair : List ℕ × ℕ). group_seen (up_to trace.events at) (averages_at trace.cpus trace.events pace.length i pair.1) pair.1) pairs (pairs_below n pairs slots)
+    All-map (IsBelow n) (λ (pair : List ℕ × ℕ). group_seen (up_to trace.events at) (averages_at trace.cpus trace.events timing.length i pair.1) pair.1) pairs (pairs_below n pairs slots)
 
 if_below : (b : Bool) (n : ℕ) (xs : List Kill) → All (IsOf n) xs → All (IsOf n) (if b then xs else [])
 if_below true n xs all = all
 if_below false n xs all = All-nil (IsOf n)
 
 -- so each kill of a tick is of an existing group
-pub kills_below : (plans : PlansView) (trace : Trace) (pace : Pace) (rules : List Rule) (order : List Slot) (i : ℕ) → IsPlanned plans trace pace → IsPathOrder plans.lives (numbers_of order)
-    → All (λ (kill : Kill). kill.victim.0 < length plans.lives) (kills_in trace pace rules i)
+pub kills_below : (plans : PlansView) (trace : Trace) (timing : Timing) (rules : List Rule) (order : List Slot) (i : ℕ) → IsPlanned plans trace timing → IsPathOrder plans.lives (numbers_of order)
+    → All (λ (kill : Kill). kill.victim.0 < length plans.lives) (kills_in trace timing rules i)
 unfolding kills
-kills_below plans trace pace rules order i planned ordered =
-    let here : IsPathOrder (lives_of trace) (numbers_of order) = subst (λ lives. IsPathOrder lives (numbers_of order)) planned.stand.lives ordered in
-    let read = read_below plans trace pace (numbers_of order) i planned here in
-    let now = reading_at trace.cpus trace.events pace.length i in
-    let past = readings_until trace.cpus trace.events pace.length pace.interval (i - 1) in
-    subst (λ (lives : List GroupLife). All (IsOf (length lives)) (kills_in trace pace rules i)) (sym planned.stand.lives)
-    (if_below (is_evaluation pace.interval pace.length i) (length (lives_of trace)) (kills_from (lives_of trace) 0 rules now past) (rules_below (lives_of trace) (length (lives_of trace)) 0 rules now past read))
+kills_below plans trace timing rules order i planned ordered =
+    let here : IsPathOrder (lives_of trace) (numbers_of order) = subst (λ lives. IsPathOrder lives (numbers_of order)) planned.word_state.lives ordered in
+    let read = read_below plans trace timing (numbers_of order) i planned here in
+    let now = reading_at trace.cpus trace.events timing.length i in
+    let past = readings_until trace.cpus trace.events timing.length timing.interval (i - 1) in
+    subst (λ (lives : List GroupLife). All (IsOf (length lives)) (kills_in trace timing rules i)) (sym planned.word_state.lives)
+    (if_below (is_evaluation timing.interval timing.length i) (length (lives_of trace)) (kills_from (lives_of trace) 0 rules now past) (rules_below (lives_of trace) (length (lives_of trace)) 0 rules now past read))

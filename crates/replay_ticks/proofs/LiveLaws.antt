@@ -13,14 +13,14 @@ use Rattle.psi_spec.specs.Within.{last_moment}
 use Rattle.psi_counts.specs.declared.changes.Change.{Change}
 use Rattle.psi_counts.specs.Clock.{ClockView, IsInTime, opened}
 use Rattle.plan_laws.specs.Plan.{AreInOrder, IsClock, IsPlan, PlanView, changes_up_to, last_change, plan_of}
-use Rattle.plan_laws.proofs.PlanClocks.{clock_is_in_time, clock_tells_planned}
+use Rattle.plan_laws.proofs.PlanClocks.{clock_is_in_time, clock_shows_planned}
 use Rattle.plan_laws.proofs.PlanLaws.{changes_are_numbered}
 use Rattle.plan_laws.proofs.PlanPlanned.{planned_after}
 use Rattle.plan_laws.proofs.PlanUpTo.{counts_by_plan}
 use Rattle.pressure_spec.specs.Ticks.{tick_moment}
 use Rattle.run_spec.specs.Lines.{live_line}
 use Rattle.run_spec.specs.Live.{AreCounts, IsLiveOf, IsLiveText, LiveWatch, changes_until, live_lines, live_slot_at, sample_lines}
-use Rattle.run_spec.specs.Replay.{Pace, tick_count}
+use Rattle.run_spec.specs.Replay.{Timing, tick_count}
 use Rattle.run_laws.specs.Live.{live_slot}
 use Rattle.run_laws.proofs.LiveSlots.{slot_by_lives}
 use Rattle.proc_plan.specs.Plans.{PlansView, plan_at}
@@ -28,8 +28,8 @@ use Rattle.proc_plan.proofs.Finishing.{standing_plans}
 use Rattle.clock_row.specs.declared.reader.Sample.{Sample}
 use Rattle.replay_workers.specs.Crew.{AreAt, AreSampled, CrewView, IsSampled, WatchView, clocks_at, counts_sampled, watch_at}
 use Rattle.replay_rules.specs.Planned.{IsPlanned}
-use Rattle.replay_ticks.specs.declared.pacing.Pacing.{Pacing}
-use Rattle.replay_ticks.specs.Replays.{AreIdle, AreInTime, GoesByTick, IsLiveTick, IsPaced, IsReached, IsSlotAt, IsWatching, asked_by, watched_path, handed, samples_text, watched_at, watches_text}
+use Rattle.replay_ticks.specs.declared.run_timing.RunTiming.{RunTiming}
+use Rattle.replay_ticks.specs.Replays.{AreIdle, AreInTime, GoesByTick, IsLiveTick, IsPaced, IsReached, IsSlotAt, IsWatching, requested_by, watched_path, handed, samples_text, watched_at, watches_text}
 
 -- ---- numbers that never fall
 
@@ -69,16 +69,16 @@ early_enough plan k last at order low within past =
 -- ---- one sample
 
 -- a clock after some changes of a trace opens to the times after them
-sample_times : (plans : PlansView) (trace : Trace) (pace : Pace) (clock : ClockView) (slot cpu k at : ℕ) → IsPlanned plans trace pace → cpu < trace.cpus → IsClock clock (plan_at plans cpu) slot k → last_change (plan_at plans cpu) k ≤ at
+sample_times : (plans : PlansView) (trace : Trace) (timing : Timing) (clock : ClockView) (slot cpu k at : ℕ) → IsPlanned plans trace timing → cpu < trace.cpus → IsClock clock (plan_at plans cpu) slot k → last_change (plan_at plans cpu) k ≤ at
     → opened clock at ≡ times_after cpu slot trace.events k at
-sample_times plans trace pace clock slot cpu k at planned below is past =
-    let plan_is = standing_plans plans trace.cpus trace.events planned.stand cpu below in
+sample_times plans trace timing clock slot cpu k at planned below is past =
+    let plan_is = standing_plans plans trace.cpus trace.events planned.word_state cpu below in
     let own : IsClock clock (plan_of cpu trace.events) slot k = subst (λ plan. IsClock clock plan slot k) plan_is is in
     let there : last_change (plan_of cpu trace.events) k ≤ at = subst (λ plan. last_change plan k ≤ at) plan_is past in
     let many = (changes_are_numbered cpu trace.events).2 in
     let within : k ≤ length (changes_of cpu trace.events) = omega (arith, own.within, many) in
-    clock_tells_planned clock (plan_of cpu trace.events) slot k at own there
-    ∙ planned_after (limits_of pace.length trace.cpus) trace.events planned.accepted.legal cpu slot k at within there
+    clock_shows_planned clock (plan_of cpu trace.events) slot k at own there
+    ∙ planned_after (limits_of timing.length trace.cpus) trace.events planned.accepted.legal cpu slot k at within there
 
 -- the samples of a processor are taken during the changes of its plan up to a time
 pub record AreBeside (plans : PlansView) (slot cpu low high at : ℕ) (samples : List Sample) : Type 0 where
@@ -103,13 +103,13 @@ first_past plans slot cpu low high at sample samples are =
     early_enough (plan_at plans cpu) sample.count high at are.whole.order (rise_ends sample.count high (counts_sampled samples) are.rise.1) are.within are.past
 
 -- their lines are those of their counts
-sampled_text : (plans : PlansView) (trace : Trace) (pace : Pace) (slot cpu low high at : ℕ) (samples : List Sample) → IsPlanned plans trace pace → cpu < trace.cpus → AreBeside plans slot cpu low high at samples
+sampled_text : (plans : PlansView) (trace : Trace) (timing : Timing) (slot cpu low high at : ℕ) (samples : List Sample) → IsPlanned plans trace timing → cpu < trace.cpus → AreBeside plans slot cpu low high at samples
     → samples_text at cpu samples ≡ sample_lines trace slot at cpu (counts_sampled samples)
-sampled_text plans trace pace slot cpu low high at [] planned below are = refl
-sampled_text plans trace pace slot cpu low high at (sample ∷ samples) planned below are =
+sampled_text plans trace timing slot cpu low high at [] planned below are = refl
+sampled_text plans trace timing slot cpu low high at (sample ∷ samples) planned below are =
     let past = first_past plans slot cpu low high at sample samples are in
-    let times = sample_times plans trace pace sample.clock slot cpu sample.count at planned below (are.clocks zero sample (omega arith)) past in
-    let rest = sampled_text plans trace pace slot cpu sample.count high at samples planned below (beside_rest plans slot cpu low high at sample samples are) in
+    let times = sample_times plans trace timing sample.clock slot cpu sample.count at planned below (are.clocks zero sample (omega arith)) past in
+    let rest = sampled_text plans trace timing slot cpu sample.count high at samples planned below (beside_rest plans slot cpu low high at sample samples are) in
     ap (λ seven. live_line at cpu sample.count seven ++ samples_text at cpu samples) times
     ∙ ap (λ text. live_line at cpu sample.count (times_after cpu slot trace.events sample.count at) ++ text) rest
 
@@ -139,9 +139,9 @@ up_to_within plan at =
     omega (arith, passed, most)
 
 -- the samples of a processor were taken during its changes up to the tick that a crew reached
-beside_cpu : (plans : PlansView) (old new : CrewView) (slot cpu asked low at : ℕ) → IsSampled (plan_at plans cpu) slot asked low (clocks_at new.clocks cpu).made (watch_at old.watches cpu) (watch_at new.watches cpu) → AreAt plans new.clocks at → cpu < length new.clocks
+beside_cpu : (plans : PlansView) (old new : CrewView) (slot cpu requested low at : ℕ) → IsSampled (plan_at plans cpu) slot requested low (clocks_at new.clocks cpu).made (watch_at old.watches cpu) (watch_at new.watches cpu) → AreAt plans new.clocks at → cpu < length new.clocks
     → AreBeside plans slot cpu low (clocks_at new.clocks cpu).made at (watch_at new.watches cpu).samples
-beside_cpu plans old new slot cpu asked low at is there below =
+beside_cpu plans old new slot cpu requested low at is there below =
     let plan = plan_at plans cpu in
     let made = there.there cpu below in
     record {
@@ -167,24 +167,24 @@ no_pieces f from (suc count) none = ap (λ text. text ++ flat_map f (range_with_
 -- ---- a slot is watched
 
 -- The facts about a crew that reached the tick after the first i, at which a slot is watched.
-pub record HasReached (plans : PlansView) (old new : CrewView) (trace : Trace) (pace : Pace) (i at : ℕ) : Type 0 where
-  pub planned : IsPlanned plans trace pace
-  pub left : i < tick_count trace pace
+pub record HasReached (plans : PlansView) (old new : CrewView) (trace : Trace) (timing : Timing) (i at : ℕ) : Type 0 where
+  pub planned : IsPlanned plans trace timing
+  pub left : i < tick_count trace timing
   pub same : old.plans ≡ plans
-  pub at_is : at ≡ tick_moment pace.length (i + 1)
+  pub at_is : at ≡ tick_moment timing.length (i + 1)
   pub there : AreAt plans new.clocks at
   pub ready : new.ready ≡ at ∷ []
-  pub asked : new.asked ≡ old.asked
+  pub requested : new.requested ≡ old.requested
 
 -- how many changes of a processor come up to the tick
-made_now : (plans : PlansView) (old new : CrewView) (trace : Trace) (pace : Pace) (i at cpu : ℕ) → HasReached plans old new trace pace i at → cpu < trace.cpus → (clocks_at new.clocks cpu).made ≡ changes_until trace pace.length cpu (i + 1)
-made_now plans old new trace pace i at cpu is below =
-    let inside : cpu < length new.clocks = omega (arith, below, is.planned.stand.each, is.there.on_plans.each) in
+made_now : (plans : PlansView) (old new : CrewView) (trace : Trace) (timing : Timing) (i at cpu : ℕ) → HasReached plans old new trace timing i at → cpu < trace.cpus → (clocks_at new.clocks cpu).made ≡ changes_until trace timing.length cpu (i + 1)
+made_now plans old new trace timing i at cpu is below =
+    let inside : cpu < length new.clocks = omega (arith, below, is.planned.word_state.each, is.there.on_plans.each) in
     let next : i + 1 ≡ suc i = omega arith in
-    let plan_is = standing_plans plans trace.cpus trace.events is.planned.stand cpu below in
-    let count = (counts_by_plan (limits_of pace.length trace.cpus) trace.events is.planned.accepted.legal cpu at).0 in
-    let here : count_at cpu trace.events at ≡ changes_until trace pace.length cpu (i + 1) =
-    ap (count_at cpu trace.events) (is.at_is ∙ ap (tick_moment pace.length) next) ∙ ap (changes_until trace pace.length cpu) (sym next) in
+    let plan_is = standing_plans plans trace.cpus trace.events is.planned.word_state cpu below in
+    let count = (counts_by_plan (limits_of timing.length trace.cpus) trace.events is.planned.accepted.legal cpu at).0 in
+    let here : count_at cpu trace.events at ≡ changes_until trace timing.length cpu (i + 1) =
+    ap (count_at cpu trace.events) (is.at_is ∙ ap (tick_moment timing.length) next) ∙ ap (changes_until trace timing.length cpu) (sym next) in
     is.there.there cpu inside ∙ ap (λ plan. changes_up_to plan at) plan_is ∙ sym count ∙ here
 
 length-counts : (samples : List Sample) → length (counts_sampled samples) ≡ length samples
@@ -192,43 +192,43 @@ length-counts [] = refl
 length-counts (sample ∷ samples) = ap (λ n. suc n) (length-counts samples)
 
 -- the samples of a slot at a tick have valid numbers of changes
-counts_allowed : (plans : PlansView) (old new : CrewView) (trace : Trace) (pace : Pace) (i at slot cpu asked : ℕ) → HasReached plans old new trace pace i at → cpu < trace.cpus →
-    (clocks_at old.clocks cpu).made ≡ changes_until trace pace.length cpu i →
-    IsSampled (plan_at plans cpu) slot asked (clocks_at old.clocks cpu).made (clocks_at new.clocks cpu).made (watch_at old.watches cpu) (watch_at new.watches cpu) →
-    AreCounts trace pace.length (i + 1) cpu asked (counts_sampled (watch_at new.watches cpu).samples)
-counts_allowed plans old new trace pace i at slot cpu asked is below before sampled =
+counts_allowed : (plans : PlansView) (old new : CrewView) (trace : Trace) (timing : Timing) (i at slot cpu requested : ℕ) → HasReached plans old new trace timing i at → cpu < trace.cpus →
+    (clocks_at old.clocks cpu).made ≡ changes_until trace timing.length cpu i →
+    IsSampled (plan_at plans cpu) slot requested (clocks_at old.clocks cpu).made (clocks_at new.clocks cpu).made (watch_at old.watches cpu) (watch_at new.watches cpu) →
+    AreCounts trace timing.length (i + 1) cpu requested (counts_sampled (watch_at new.watches cpu).samples)
+counts_allowed plans old new trace timing i at slot cpu requested is below before sampled =
     let back : i ≡ i + 1 - 1 = omega arith in
     record {
       many = length-counts (watch_at new.watches cpu).samples ∙ sampled.many;
-      rise = rise_between (clocks_at old.clocks cpu).made (clocks_at new.clocks cpu).made (changes_until trace pace.length cpu (i + 1 - 1)) (changes_until trace pace.length cpu (i + 1)) (counts_sampled (watch_at new.watches cpu).samples) (before ∙ ap (changes_until trace pace.length cpu) back) (made_now plans old new trace pace i at cpu is below) sampled.rise;
+      rise = rise_between (clocks_at old.clocks cpu).made (clocks_at new.clocks cpu).made (changes_until trace timing.length cpu (i + 1 - 1)) (changes_until trace timing.length cpu (i + 1)) (counts_sampled (watch_at new.watches cpu).samples) (before ∙ ap (changes_until trace timing.length cpu) back) (made_now plans old new trace timing i at cpu is below) sampled.rise;
     }
 
 -- their lines are live lines of the slot
-slot_lines : (plans : PlansView) (old new : CrewView) (trace : Trace) (pace : Pace) (watch : LiveWatch) (i at : ℕ) (slot : Slot) → HasReached plans old new trace pace i at → GoesByTick (Some watch) 0 old trace pace.length i → old.asked ≡ watch.count → AreSampled (Some slot) old new →
-    IsLiveOf trace pace.length (i + 1) watch.count (Some slot.0) (watches_text (tick_moment pace.length (i + 1)) trace.cpus new.watches)
-slot_lines plans old new trace pace watch i at slot is by_tick asked sampled =
+slot_lines : (plans : PlansView) (old new : CrewView) (trace : Trace) (timing : Timing) (watch : LiveWatch) (i at : ℕ) (slot : Slot) → HasReached plans old new trace timing i at → GoesByTick (Some watch) 0 old trace timing.length i → old.requested ≡ watch.count → AreSampled (Some slot) old new →
+    IsLiveOf trace timing.length (i + 1) watch.count (Some slot.0) (watches_text (tick_moment timing.length (i + 1)) trace.cpus new.watches)
+slot_lines plans old new trace timing watch i at slot is by_tick requested sampled =
     let own : (cpu : ℕ) → cpu < trace.cpus → IsSampled (plan_at plans cpu) slot.0 watch.count (clocks_at old.clocks cpu).made (clocks_at new.clocks cpu).made (watch_at old.watches cpu) (watch_at new.watches cpu) = λ cpu below.
-    subst (λ n. IsSampled (plan_at plans cpu) slot.0 n (clocks_at old.clocks cpu).made (clocks_at new.clocks cpu).made (watch_at old.watches cpu) (watch_at new.watches cpu)) asked
-    (subst (λ (p : PlansView). IsSampled (plan_at p cpu) slot.0 old.asked (clocks_at old.clocks cpu).made (clocks_at new.clocks cpu).made (watch_at old.watches cpu) (watch_at new.watches cpu)) is.same
-    (sampled cpu (let each = ap (λ (p : PlansView). length p.plans) is.same in omega (arith, below, each, is.planned.stand.each)))) in
+    subst (λ n. IsSampled (plan_at plans cpu) slot.0 n (clocks_at old.clocks cpu).made (clocks_at new.clocks cpu).made (watch_at old.watches cpu) (watch_at new.watches cpu)) requested
+    (subst (λ (p : PlansView). IsSampled (plan_at p cpu) slot.0 old.requested (clocks_at old.clocks cpu).made (clocks_at new.clocks cpu).made (watch_at old.watches cpu) (watch_at new.watches cpu)) is.same
+    (sampled cpu (let each = ap (λ (p : PlansView). length p.plans) is.same in omega (arith, below, each, is.planned.word_state.each)))) in
     let counts : ℕ → List ℕ = λ cpu. counts_sampled (watch_at new.watches cpu).samples in
     let text = same_pieces (λ cpu. samples_text at cpu (watch_at new.watches cpu).samples) (λ cpu. sample_lines trace slot.0 at cpu (counts cpu)) 0 trace.cpus
     (λ cpu _ below.
-    let inside : cpu < length new.clocks = omega (arith, below, is.planned.stand.each, is.there.on_plans.each) in
+    let inside : cpu < length new.clocks = omega (arith, below, is.planned.word_state.each, is.there.on_plans.each) in
     let there : cpu < trace.cpus = omega (arith, below) in
-    sampled_text plans trace pace slot.0 cpu (clocks_at old.clocks cpu).made (clocks_at new.clocks cpu).made at (watch_at new.watches cpu).samples is.planned there (beside_cpu plans old new slot.0 cpu watch.count (clocks_at old.clocks cpu).made at (own cpu there) is.there inside)) in (
+    sampled_text plans trace timing slot.0 cpu (clocks_at old.clocks cpu).made (clocks_at new.clocks cpu).made at (watch_at new.watches cpu).samples is.planned there (beside_cpu plans old new slot.0 cpu watch.count (clocks_at old.clocks cpu).made at (own cpu there) is.there inside)) in (
       counts,
-      λ cpu below. counts_allowed plans old new trace pace i at slot.0 cpu watch.count is below (by_tick.1 cpu below) (own cpu below),
+      λ cpu below. counts_allowed plans old new trace timing i at slot.0 cpu watch.count is below (by_tick.1 cpu below) (own cpu below),
       subst (λ m. watches_text m trace.cpus new.watches ≡ live_lines trace slot.0 m counts) is.at_is text,
     )
 
 -- their clocks may be opened at the tick
-slot_in_time : (plans : PlansView) (old new : CrewView) (trace : Trace) (pace : Pace) (i at : ℕ) (slot : Slot) → HasReached plans old new trace pace i at → at ≤ last_moment → AreSampled (Some slot) old new → AreInTime trace.cpus new.watches at
-slot_in_time plans old new trace pace i at slot is early sampled = λ cpu below.
-    let inside : cpu < length new.clocks = omega (arith, below, is.planned.stand.each, is.there.on_plans.each) in
-    let own = subst (λ (p : PlansView). IsSampled (plan_at p cpu) slot.0 old.asked (clocks_at old.clocks cpu).made (clocks_at new.clocks cpu).made (watch_at old.watches cpu) (watch_at new.watches cpu)) is.same
-    (sampled cpu (let each = ap (λ (p : PlansView). length p.plans) is.same in omega (arith, below, each, is.planned.stand.each))) in
-    sampled_in_time plans slot.0 cpu (clocks_at old.clocks cpu).made (clocks_at new.clocks cpu).made at (watch_at new.watches cpu).samples early (beside_cpu plans old new slot.0 cpu old.asked (clocks_at old.clocks cpu).made at own is.there inside)
+slot_in_time : (plans : PlansView) (old new : CrewView) (trace : Trace) (timing : Timing) (i at : ℕ) (slot : Slot) → HasReached plans old new trace timing i at → at ≤ last_moment → AreSampled (Some slot) old new → AreInTime trace.cpus new.watches at
+slot_in_time plans old new trace timing i at slot is early sampled = λ cpu below.
+    let inside : cpu < length new.clocks = omega (arith, below, is.planned.word_state.each, is.there.on_plans.each) in
+    let own = subst (λ (p : PlansView). IsSampled (plan_at p cpu) slot.0 old.requested (clocks_at old.clocks cpu).made (clocks_at new.clocks cpu).made (watch_at old.watches cpu) (watch_at new.watches cpu)) is.same
+    (sampled cpu (let each = ap (λ (p : PlansView). length p.plans) is.same in omega (arith, below, each, is.planned.word_state.each))) in
+    sampled_in_time plans slot.0 cpu (clocks_at old.clocks cpu).made (clocks_at new.clocks cpu).made at (watch_at new.watches cpu).samples early (beside_cpu plans old new slot.0 cpu old.requested (clocks_at old.clocks cpu).made at own is.there inside)
 
 -- ---- nothing is watched
 
@@ -245,51 +245,51 @@ idle_in_time watches at cpus idle = λ cpu below. no_samples (watch_at watches c
 -- ---- the tick
 
 -- a crew that advanced with nothing watched reached the tick
-pub reached_unwatched : (slot : Option Slot) (old new : CrewView) (trace : Trace) (pace : Pace) (i : ℕ) → pace.watch ≡ None → AreIdle new.watches → new.asked ≡ old.asked → IsReached slot old new trace pace i
-reached_unwatched slot old new trace pace i none idle asked = record {
+pub reached_unwatched : (slot : Option Slot) (old new : CrewView) (trace : Trace) (timing : Timing) (i : ℕ) → timing.watch ≡ None → AreIdle new.watches → new.requested ≡ old.requested → IsReached slot old new trace timing i
+reached_unwatched slot old new trace timing i none idle requested = record {
   live = λ _. record {
     watched = None;
     slot = rw none refl;
     sampled = idle;
-    text = subst (λ watch. IsLiveText trace pace.length watch (i + 1) (watches_text (tick_moment pace.length (i + 1)) trace.cpus new.watches)) (sym none) (idle_text new.watches (tick_moment pace.length (i + 1)) trace.cpus idle);
-    in_time = idle_in_time new.watches (tick_moment pace.length (i + 1)) trace.cpus idle;
+    text = subst (λ watch. IsLiveText trace timing.length watch (i + 1) (watches_text (tick_moment timing.length (i + 1)) trace.cpus new.watches)) (sym none) (idle_text new.watches (tick_moment timing.length (i + 1)) trace.cpus idle);
+    in_time = idle_in_time new.watches (tick_moment timing.length (i + 1)) trace.cpus idle;
   };
-  asked = asked;
-  by_tick = subst (λ watch. GoesByTick watch 1 new trace pace.length (i + 1)) (sym none) idle;
+  requested = requested;
+  by_tick = subst (λ watch. GoesByTick watch 1 new trace timing.length (i + 1)) (sym none) idle;
 }
 
 -- the live lines of a slot that may be watched
-lines_of : (plans : PlansView) (old new : CrewView) (trace : Trace) (pace : Pace) (watch : LiveWatch) (i at : ℕ) (slot : Option Slot) → HasReached plans old new trace pace i at → GoesByTick (Some watch) 0 old trace pace.length i → old.asked ≡ watch.count → AreSampled slot old new →
-    IsLiveOf trace pace.length (i + 1) watch.count (number_of_slot slot) (watches_text (tick_moment pace.length (i + 1)) trace.cpus new.watches)
-lines_of plans old new trace pace watch i at None is by_tick asked sampled = idle_text new.watches (tick_moment pace.length (i + 1)) trace.cpus sampled
-lines_of plans old new trace pace watch i at (Some slot) is by_tick asked sampled = slot_lines plans old new trace pace watch i at slot is by_tick asked sampled
+lines_of : (plans : PlansView) (old new : CrewView) (trace : Trace) (timing : Timing) (watch : LiveWatch) (i at : ℕ) (slot : Option Slot) → HasReached plans old new trace timing i at → GoesByTick (Some watch) 0 old trace timing.length i → old.requested ≡ watch.count → AreSampled slot old new →
+    IsLiveOf trace timing.length (i + 1) watch.count (number_of_slot slot) (watches_text (tick_moment timing.length (i + 1)) trace.cpus new.watches)
+lines_of plans old new trace timing watch i at None is by_tick requested sampled = idle_text new.watches (tick_moment timing.length (i + 1)) trace.cpus sampled
+lines_of plans old new trace timing watch i at (Some slot) is by_tick requested sampled = slot_lines plans old new trace timing watch i at slot is by_tick requested sampled
 
-times_of : (plans : PlansView) (old new : CrewView) (trace : Trace) (pace : Pace) (i at : ℕ) (slot : Option Slot) → HasReached plans old new trace pace i at → at ≤ last_moment → AreSampled slot old new → AreInTime trace.cpus new.watches at
-times_of plans old new trace pace i at None is early sampled = idle_in_time new.watches at trace.cpus sampled
-times_of plans old new trace pace i at (Some slot) is early sampled = slot_in_time plans old new trace pace i at slot is early sampled
+times_of : (plans : PlansView) (old new : CrewView) (trace : Trace) (timing : Timing) (i at : ℕ) (slot : Option Slot) → HasReached plans old new trace timing i at → at ≤ last_moment → AreSampled slot old new → AreInTime trace.cpus new.watches at
+times_of plans old new trace timing i at None is early sampled = idle_in_time new.watches at trace.cpus sampled
+times_of plans old new trace timing i at (Some slot) is early sampled = slot_in_time plans old new trace timing i at slot is early sampled
 
 -- a crew that took samples of the slot that is watched at a tick has those of the tick
-live_tick : (plans : PlansView) (old new : CrewView) (trace : Trace) (pace : Pace) (watch : LiveWatch) (i at : ℕ) (slot : Option Slot) → pace.watch ≡ Some watch → HasReached plans old new trace pace i at → at ≤ last_moment →
-    GoesByTick (Some watch) 0 old trace pace.length i → old.asked ≡ watch.count → AreSampled slot old new → IsSlotAt slot trace pace (i + 1) → IsLiveTick old new trace pace (i + 1)
-live_tick plans old new trace pace watch i at slot watches is early by_tick asked sampled found =
-    let here : number_of_slot slot ≡ live_slot_at trace.events watch.path (tick_moment pace.length (i + 1)) = found ∙ ap (λ w. watched_at trace (watched_path w) (tick_moment pace.length (i + 1))) watches in
-    let lines = subst (λ s. IsLiveOf trace pace.length (i + 1) watch.count s (watches_text (tick_moment pace.length (i + 1)) trace.cpus new.watches)) here (lines_of plans old new trace pace watch i at slot is by_tick asked sampled) in
+live_tick : (plans : PlansView) (old new : CrewView) (trace : Trace) (timing : Timing) (watch : LiveWatch) (i at : ℕ) (slot : Option Slot) → timing.watch ≡ Some watch → HasReached plans old new trace timing i at → at ≤ last_moment →
+    GoesByTick (Some watch) 0 old trace timing.length i → old.requested ≡ watch.count → AreSampled slot old new → IsSlotAt slot trace timing (i + 1) → IsLiveTick old new trace timing (i + 1)
+live_tick plans old new trace timing watch i at slot watches is early by_tick requested sampled found =
+    let here : number_of_slot slot ≡ live_slot_at trace.events watch.path (tick_moment timing.length (i + 1)) = found ∙ ap (λ w. watched_at trace (watched_path w) (tick_moment timing.length (i + 1))) watches in
+    let lines = subst (λ s. IsLiveOf trace timing.length (i + 1) watch.count s (watches_text (tick_moment timing.length (i + 1)) trace.cpus new.watches)) here (lines_of plans old new trace timing watch i at slot is by_tick requested sampled) in
     record {
       watched = slot;
       slot = found;
       sampled = sampled;
-      text = subst (λ w. IsLiveText trace pace.length w (i + 1) (watches_text (tick_moment pace.length (i + 1)) trace.cpus new.watches)) (sym watches) lines;
-      in_time = subst (AreInTime trace.cpus new.watches) is.at_is (times_of plans old new trace pace i at slot is early sampled);
+      text = subst (λ w. IsLiveText trace timing.length w (i + 1) (watches_text (tick_moment timing.length (i + 1)) trace.cpus new.watches)) (sym watches) lines;
+      in_time = subst (AreInTime trace.cpus new.watches) is.at_is (times_of plans old new trace timing i at slot is early sampled);
     }
 
 -- a crew that advanced to the tick with a watched path reached it
-pub reached_watched : (plans : PlansView) (old new : CrewView) (trace : Trace) (pace : Pace) (watch : LiveWatch) (i at : ℕ) (slot : Option Slot) → pace.watch ≡ Some watch → HasReached plans old new trace pace i at → at ≤ last_moment →
-    GoesByTick (Some watch) 0 old trace pace.length i → old.asked ≡ watch.count → AreSampled slot old new → IsReached slot old new trace pace i
-reached_watched plans old new trace pace watch i at slot watches is early by_tick asked sampled = record {
-  live = live_tick plans old new trace pace watch i at slot watches is early by_tick asked sampled;
-  asked = is.asked;
-  by_tick = subst (λ w. GoesByTick w 1 new trace pace.length (i + 1)) (sym watches)
-      (ap length is.ready, λ cpu below. made_now plans old new trace pace i at cpu is below);
+pub reached_watched : (plans : PlansView) (old new : CrewView) (trace : Trace) (timing : Timing) (watch : LiveWatch) (i at : ℕ) (slot : Option Slot) → timing.watch ≡ Some watch → HasReached plans old new trace timing i at → at ≤ last_moment →
+    GoesByTick (Some watch) 0 old trace timing.length i → old.requested ≡ watch.count → AreSampled slot old new → IsReached slot old new trace timing i
+reached_watched plans old new trace timing watch i at slot watches is early by_tick requested sampled = record {
+  live = live_tick plans old new trace timing watch i at slot watches is early by_tick requested sampled;
+  requested = is.requested;
+  by_tick = subst (λ w. GoesByTick w 1 new trace timing.length (i + 1)) (sym watches)
+      (ap length is.ready, λ cpu below. made_now plans old new trace timing i at cpu is below);
 }
 
 -- ---- the table is handed out
@@ -298,8 +298,8 @@ sampled_kept : (watched : Option Slot) (old new : CrewView) → AreSampled watch
 sampled_kept None old new sampled = sampled
 sampled_kept (Some slot) old new sampled = sampled
 
-live_kept : (old new : CrewView) (trace : Trace) (pace : Pace) (i : ℕ) → IsLiveTick old new trace pace i → IsLiveTick old (handed new) trace pace i
-live_kept old new trace pace i is = record {
+live_kept : (old new : CrewView) (trace : Trace) (timing : Timing) (i : ℕ) → IsLiveTick old new trace timing i → IsLiveTick old (handed new) trace timing i
+live_kept old new trace timing i is = record {
   watched = is.watched;
   slot = is.slot;
   sampled = sampled_kept is.watched old new is.sampled;
@@ -312,17 +312,17 @@ by_tick_kept None crew trace tick i is = is
 by_tick_kept (Some watch) crew trace tick i is = (length-drop 1 crew.ready ∙ ap (λ n. n - 1) is.0, is.1)
 
 -- a crew that reached a tick and returned its table took its samples
-pub live_next : (slot : Option Slot) (old mid new : CrewView) (trace : Trace) (pace : Pace) (i : ℕ) → IsReached slot old mid trace pace i → new ≡ handed mid → IsSlotAt slot trace pace (i + 1) → IsLiveTick old new trace pace (i + 1)
-live_next slot old mid new trace pace i is same found = subst (λ (crew : CrewView). IsLiveTick old crew trace pace (i + 1)) (sym same) (live_kept old mid trace pace (i + 1) (is.live found))
+pub live_next : (slot : Option Slot) (old mid new : CrewView) (trace : Trace) (timing : Timing) (i : ℕ) → IsReached slot old mid trace timing i → new ≡ handed mid → IsSlotAt slot trace timing (i + 1) → IsLiveTick old new trace timing (i + 1)
+live_next slot old mid new trace timing i is same found = subst (λ (crew : CrewView). IsLiveTick old crew trace timing (i + 1)) (sym same) (live_kept old mid trace timing (i + 1) (is.live found))
 
 -- and watches on
-pub watching_next : (slot : Option Slot) (old mid new : CrewView) (live : Option (List ℕ)) (trace : Trace) (pace : Pace) (i : ℕ) → IsWatching old live trace pace i → IsReached slot old mid trace pace i → new ≡ handed mid → IsWatching new live trace pace (i + 1)
-watching_next slot old mid new live trace pace i was is same =
-    subst (λ (crew : CrewView). IsWatching crew live trace pace (i + 1)) (sym same)
+pub watching_next : (slot : Option Slot) (old mid new : CrewView) (live : Option (List ℕ)) (trace : Trace) (timing : Timing) (i : ℕ) → IsWatching old live trace timing i → IsReached slot old mid trace timing i → new ≡ handed mid → IsWatching new live trace timing (i + 1)
+watching_next slot old mid new live trace timing i was is same =
+    subst (λ (crew : CrewView). IsWatching crew live trace timing (i + 1)) (sym same)
     (record {
       path = was.path;
-      asked = is.asked ∙ was.asked;
-      by_tick = by_tick_kept pace.watch mid trace pace.length (i + 1) is.by_tick;
+      requested = is.requested ∙ was.requested;
+      by_tick = by_tick_kept timing.watch mid trace timing.length (i + 1) is.by_tick;
     })
 
 -- ---- before the first tick
@@ -332,68 +332,68 @@ by_tick_new None crew trace tick none idle fresh = idle
 by_tick_new (Some watch) crew trace tick none idle fresh = (ap length none, fresh)
 
 -- a new crew watches what is asked for
-pub watching_new : (crew : CrewView) (live : Option (List ℕ)) (trace : Trace) (pace : Pace) → live ≡ watched_path pace.watch → crew.asked ≡ asked_by pace.watch → crew.ready ≡ [] → AreIdle crew.watches →
-    ((cpu : ℕ) → cpu < trace.cpus → (clocks_at crew.clocks cpu).made ≡ 0) → IsWatching crew live trace pace 0
-watching_new crew live trace pace path asked none idle fresh = record {
+pub watching_new : (crew : CrewView) (live : Option (List ℕ)) (trace : Trace) (timing : Timing) → live ≡ watched_path timing.watch → crew.requested ≡ requested_by timing.watch → crew.ready ≡ [] → AreIdle crew.watches →
+    ((cpu : ℕ) → cpu < trace.cpus → (clocks_at crew.clocks cpu).made ≡ 0) → IsWatching crew live trace timing 0
+watching_new crew live trace timing path requested none idle fresh = record {
   path = path;
-  asked = asked;
-  by_tick = by_tick_new pace.watch crew trace pace.length none idle fresh;
+  requested = requested;
+  by_tick = by_tick_new timing.watch crew trace timing.length none idle fresh;
 }
 
 -- ---- what a crew goes on from
 
 -- the watched path is that of the options
-pub watch_is : (crew : CrewView) (live : Option (List ℕ)) (path : List ℕ) (trace : Trace) (pace : Pace) (i : ℕ) → live ≡ Some path → IsWatching crew live trace pace i → (watch : LiveWatch) × (pace.watch ≡ Some watch) × (watch.path ≡ path)
-watch_is crew live path trace pace i named is = by_watch pace.watch refl
+pub watch_is : (crew : CrewView) (live : Option (List ℕ)) (path : List ℕ) (trace : Trace) (timing : Timing) (i : ℕ) → live ≡ Some path → IsWatching crew live trace timing i → (watch : LiveWatch) × (timing.watch ≡ Some watch) × (watch.path ≡ path)
+watch_is crew live path trace timing i named is = by_watch timing.watch refl
   where
-    by_watch : (watch : Option LiveWatch) → pace.watch ≡ watch → (found : LiveWatch) × (pace.watch ≡ Some found) × (found.path ≡ path)
+    by_watch : (watch : Option LiveWatch) → timing.watch ≡ watch → (found : LiveWatch) × (timing.watch ≡ Some found) × (found.path ≡ path)
     by_watch None none = absurd (let is_none = sym named ∙ is.path ∙ ap watched_path none in let no : ⊥ = cc in no)
     by_watch (Some watch) some = (watch, some, let paths = sym (is.path ∙ ap watched_path some) ∙ named in cc)
 
 -- without a watched path nothing is watched
-pub watch_none : (crew : CrewView) (live : Option (List ℕ)) (trace : Trace) (pace : Pace) (i : ℕ) → live ≡ None → IsWatching crew live trace pace i → pace.watch ≡ None
-watch_none crew live trace pace i none is = by_watch pace.watch refl
+pub watch_none : (crew : CrewView) (live : Option (List ℕ)) (trace : Trace) (timing : Timing) (i : ℕ) → live ≡ None → IsWatching crew live trace timing i → timing.watch ≡ None
+watch_none crew live trace timing i none is = by_watch timing.watch refl
   where
-    by_watch : (watch : Option LiveWatch) → pace.watch ≡ watch → pace.watch ≡ None
+    by_watch : (watch : Option LiveWatch) → timing.watch ≡ watch → timing.watch ≡ None
     by_watch None is_none = is_none
     by_watch (Some watch) some = absurd (let is_some = sym none ∙ is.path ∙ ap watched_path some in let no : ⊥ = cc in no)
 
 -- no table is ready if something is watched
-pub unwatched_ready : (crew : CrewView) (live : Option (List ℕ)) (trace : Trace) (pace : Pace) (i : ℕ) → 0 < length crew.ready → IsWatching crew live trace pace i → pace.watch ≡ None
-unwatched_ready crew live trace pace i some is = by_watch pace.watch refl
+pub unwatched_ready : (crew : CrewView) (live : Option (List ℕ)) (trace : Trace) (timing : Timing) (i : ℕ) → 0 < length crew.ready → IsWatching crew live trace timing i → timing.watch ≡ None
+unwatched_ready crew live trace timing i some is = by_watch timing.watch refl
   where
-    by_watch : (watch : Option LiveWatch) → pace.watch ≡ watch → pace.watch ≡ None
+    by_watch : (watch : Option LiveWatch) → timing.watch ≡ watch → timing.watch ≡ None
     by_watch None is_none = is_none
-    by_watch (Some watch) is_some = absurd (let by_tick = subst (λ w. GoesByTick w 0 crew trace pace.length i) is_some is.by_tick in omega (arith, some, by_tick.0))
+    by_watch (Some watch) is_some = absurd (let by_tick = subst (λ w. GoesByTick w 0 crew trace timing.length i) is_some is.by_tick in omega (arith, some, by_tick.0))
 
 -- nothing was sampled if nothing is watched
-pub idle_unwatched : (crew : CrewView) (live : Option (List ℕ)) (trace : Trace) (pace : Pace) (i : ℕ) → pace.watch ≡ None → IsWatching crew live trace pace i → AreIdle crew.watches
-idle_unwatched crew live trace pace i none is = subst (λ watch. GoesByTick watch 0 crew trace pace.length i) none is.by_tick
+pub idle_unwatched : (crew : CrewView) (live : Option (List ℕ)) (trace : Trace) (timing : Timing) (i : ℕ) → timing.watch ≡ None → IsWatching crew live trace timing i → AreIdle crew.watches
+idle_unwatched crew live trace timing i none is = subst (λ watch. GoesByTick watch 0 crew trace timing.length i) none is.by_tick
 
 -- how many samples are asked for by what is watched
-pub asked_is : (crew : CrewView) (live : Option (List ℕ)) (trace : Trace) (pace : Pace) (i : ℕ) (watch : LiveWatch) → pace.watch ≡ Some watch → IsWatching crew live trace pace i → crew.asked ≡ watch.count
-asked_is crew live trace pace i watch some is = is.asked ∙ ap asked_by some
+pub requested_is : (crew : CrewView) (live : Option (List ℕ)) (trace : Trace) (timing : Timing) (i : ℕ) (watch : LiveWatch) → timing.watch ≡ Some watch → IsWatching crew live trace timing i → crew.requested ≡ watch.count
+requested_is crew live trace timing i watch some is = is.requested ∙ ap requested_by some
 
 -- and how the crew goes then
-pub by_tick_is : (crew : CrewView) (live : Option (List ℕ)) (trace : Trace) (pace : Pace) (i : ℕ) (watch : LiveWatch) → pace.watch ≡ Some watch → IsWatching crew live trace pace i → GoesByTick (Some watch) 0 crew trace pace.length i
-by_tick_is crew live trace pace i watch some is = subst (λ w. GoesByTick w 0 crew trace pace.length i) some is.by_tick
+pub by_tick_is : (crew : CrewView) (live : Option (List ℕ)) (trace : Trace) (timing : Timing) (i : ℕ) (watch : LiveWatch) → timing.watch ≡ Some watch → IsWatching crew live trace timing i → GoesByTick (Some watch) 0 crew trace timing.length i
+by_tick_is crew live trace timing i watch some is = subst (λ w. GoesByTick w 0 crew trace timing.length i) some is.by_tick
 
 -- the moment of the next tick, by the length of a tick
-pub moment_same : (pacing : Pacing) (trace : Trace) (pace : Pace) (i : ℕ) → IsPaced pacing trace pace → tick_moment pacing.length (i + 1) ≡ tick_moment pace.length (i + 1)
-moment_same pacing trace pace i paced = ap (λ length. tick_moment length (i + 1)) paced.length
+pub moment_same : (run_timing : RunTiming) (trace : Trace) (timing : Timing) (i : ℕ) → IsPaced run_timing trace timing → tick_moment run_timing.length (i + 1) ≡ tick_moment timing.length (i + 1)
+moment_same run_timing trace timing i paced = ap (λ length. tick_moment length (i + 1)) paced.length
 
 -- all clocks of a crew are at a time
 abbrev pub AreThere : PlansView → CrewView → ℕ → Type 0
 AreThere plans crew at = AreAt plans crew.clocks at
 
 -- the slot that was found is watched at the next tick
-pub slot_is : (plans : PlansView) (lives : List GroupLife) (crew : CrewView) (live : Option (List ℕ)) (path : List ℕ) (trace : Trace) (pace : Pace) (i at : ℕ) (slot : Option Slot) → IsPlanned plans trace pace → IsWatching crew live trace pace i → live ≡ Some path → lives ≡ plans.lives
-    → at ≡ tick_moment pace.length (i + 1) → number_of_slot slot ≡ live_slot 0 lives path at → IsSlotAt slot trace pace (i + 1)
-slot_is plans lives crew live path trace pace i at slot planned is named same at_is found =
-    let by_lives = slot_by_lives (limits_of pace.length trace.cpus) trace.events planned.accepted.legal path at in
-    found ∙ ap (λ groups. live_slot 0 groups path at) (same ∙ planned.stand.lives) ∙ sym by_lives ∙ ap (live_slot_at trace.events path) at_is
-    ∙ ap (λ watched. watched_at trace watched (tick_moment pace.length (i + 1))) (sym named ∙ is.path)
+pub slot_is : (plans : PlansView) (lives : List GroupLife) (crew : CrewView) (live : Option (List ℕ)) (path : List ℕ) (trace : Trace) (timing : Timing) (i at : ℕ) (slot : Option Slot) → IsPlanned plans trace timing → IsWatching crew live trace timing i → live ≡ Some path → lives ≡ plans.lives
+    → at ≡ tick_moment timing.length (i + 1) → number_of_slot slot ≡ live_slot 0 lives path at → IsSlotAt slot trace timing (i + 1)
+slot_is plans lives crew live path trace timing i at slot planned is named same at_is found =
+    let by_lives = slot_by_lives (limits_of timing.length trace.cpus) trace.events planned.accepted.legal path at in
+    found ∙ ap (λ groups. live_slot 0 groups path at) (same ∙ planned.word_state.lives) ∙ sym by_lives ∙ ap (live_slot_at trace.events path) at_is
+    ∙ ap (λ watched. watched_at trace watched (tick_moment timing.length (i + 1))) (sym named ∙ is.path)
 
 -- if no path is watched there is no watched slot
-pub no_slot : (crew : CrewView) (live : Option (List ℕ)) (trace : Trace) (pace : Pace) (i : ℕ) → IsWatching crew live trace pace i → live ≡ None → IsSlotAt None trace pace (i + 1)
-no_slot crew live trace pace i is none = ap (λ watched. watched_at trace watched (tick_moment pace.length (i + 1))) (sym none ∙ is.path)
+pub no_slot : (crew : CrewView) (live : Option (List ℕ)) (trace : Trace) (timing : Timing) (i : ℕ) → IsWatching crew live trace timing i → live ≡ None → IsSlotAt None trace timing (i + 1)
+no_slot crew live trace timing i is none = ap (λ watched. watched_at trace watched (tick_moment timing.length (i + 1))) (sym none ∙ is.path)

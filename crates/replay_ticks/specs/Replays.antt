@@ -2,7 +2,7 @@
 use Rattle.std.specs.Prelude.{◌≡◌, ℕ, ◌+◌, ◌<◌, ◌≤◌, List, [], drop, length, map, Bool, true, false, if◌then◌else◌, Option, None, Some, Result, Ok, Err}
 use Rattle.std.specs.List.{All, flat_map, range_with_len}
 use Rattle.std.specs.Io.KnownBytes.{Appends, Keeps}
-use Rattle.outside.specs.Outside.{AppendsFront}
+use Rattle.outside.specs.Outside.{AppendsPrefix}
 use Rattle.psi_base.specs.declared.event.Slot.{Slot}
 use Rattle.psi_spec.specs.Header.{version_of}
 use Rattle.psi_spec.specs.LegalGroups.{IsPathOrder}
@@ -12,7 +12,7 @@ use Rattle.psi_counts.specs.Clock.{IsInTime, opened}
 use Rattle.pressure_spec.specs.Ticks.{is_report, tick_moment}
 use Rattle.run_spec.specs.Lines.{live_line}
 use Rattle.run_spec.specs.Live.{IsLiveText, LiveWatch, changes_until, live_slot_at}
-use Rattle.run_spec.specs.Replay.{Pace, group_report, kills_until, reports, root_group, signals_until, tick_count, tick_text}
+use Rattle.run_spec.specs.Replay.{Timing, group_report, kills_until, reports, root_group, signals_until, tick_count, tick_text}
 use Rattle.ruleset_json.specs.declared.types.Rule.{Rule}
 use Rattle.ruleset_json.specs.RuleRanges.{FitsRules}
 use Rattle.group_tree.specs.Tree.{numbers_of}
@@ -22,8 +22,8 @@ use Rattle.proc_plan.specs.Plans.{PlansView}
 use Rattle.aggregate.specs.Table.{HasSizes}
 use Rattle.tick_engine.specs.Engine.{EngineView}
 use Rattle.clock_row.specs.declared.reader.Sample.{Sample}
-use Rattle.replay_workers.specs.Crew.{AreBehind, AreSampled, CrewView, WatchView, clocks_at, watch_at}
-use Rattle.replay_ticks.specs.declared.pacing.Pacing.{Pacing}
+use Rattle.replay_workers.specs.Crew.{AreNotPast, AreSampled, CrewView, WatchView, clocks_at, watch_at}
+use Rattle.replay_ticks.specs.declared.run_timing.RunTiming.{RunTiming}
 use Rattle.replay_ticks.specs.declared.replay.TickFault.{TickFault}
 
 -- A replay: the plans of its trace, the clocks of all processors, the table of the last tick, the
@@ -36,18 +36,18 @@ pub record ReplayView : Type 0 where
   pub engine : EngineView
   pub judge : JudgeView
   pub order : List Slot
-  pub pacing : Pacing
+  pub run_timing : RunTiming
   pub live : Option (List ℕ)
   pub made : ℕ
   pub signals : ℕ
   pub kills : ℕ
 
 -- these are the ticks and reports of a trace's replay
-pub record IsPaced (pacing : Pacing) (trace : Trace) (pace : Pace) : Type 0 where
-  pub version : version_of pacing.version ≡ trace.version
-  pub length : pacing.length ≡ pace.length
-  pub report : pacing.report ≡ pace.report
-  pub last : pacing.last ≡ tick_count trace pace
+pub record IsPaced (run_timing : RunTiming) (trace : Trace) (timing : Timing) : Type 0 where
+  pub version : version_of run_timing.version ≡ trace.version
+  pub length : run_timing.length ≡ timing.length
+  pub report : run_timing.report ≡ timing.report
+  pub last : run_timing.last ≡ tick_count trace timing
 
 -- a table has an entry for each processor and group
 abbrev pub HasPlaces : PlansView → List (List (List ℕ)) → Type 0
@@ -56,27 +56,27 @@ HasPlaces plans rows = HasSizes (length plans.plans) (length plans.lives) rows
 -- ---- ticks ahead
 
 -- the moments (ns) of `count` ticks after the first i
-abbrev pub moments_behind : ℕ → ℕ → ℕ → List ℕ
-moments_behind length i count = map (tick_moment length) (range_with_len (i + 1) count)
+abbrev pub moments_after : ℕ → ℕ → ℕ → List ℕ
+moments_after length i count = map (tick_moment length) (range_with_len (i + 1) count)
 
 -- A crew is ahead of the first i ticks: the tables of the next ticks are ready, perhaps none, and
 -- no clock is past these ticks.
-pub record IsAhead (plans : PlansView) (crew : CrewView) (trace : Trace) (pace : Pace) (i : ℕ) : Type 0 where
+pub record IsAhead (plans : PlansView) (crew : CrewView) (trace : Trace) (timing : Timing) (i : ℕ) : Type 0 where
   pub same : crew.plans ≡ plans
-  pub ready : crew.ready ≡ moments_behind pace.length i (length crew.ready)
-  pub within : i + length crew.ready ≤ tick_count trace pace
-  pub behind : AreBehind plans crew.clocks (tick_moment pace.length (i + length crew.ready))
+  pub ready : crew.ready ≡ moments_after timing.length i (length crew.ready)
+  pub within : i + length crew.ready ≤ tick_count trace timing
+  pub not_past : AreNotPast plans crew.clocks (tick_moment timing.length (i + length crew.ready))
 
 -- The conditions for advancing by ticks after the first i.
-pub record IsToGo (plans : PlansView) (crew : CrewView) (pacing : Pacing) (trace : Trace) (pace : Pace) (i : ℕ) : Type 0 where
-  pub planned : IsPlanned plans trace pace
-  pub paced : IsPaced pacing trace pace
-  pub left : i < tick_count trace pace
-  pub ahead : IsAhead plans crew trace pace i
+pub record IsToGo (plans : PlansView) (crew : CrewView) (run_timing : RunTiming) (trace : Trace) (timing : Timing) (i : ℕ) : Type 0 where
+  pub planned : IsPlanned plans trace timing
+  pub paced : IsPaced run_timing trace timing
+  pub left : i < tick_count trace timing
+  pub ahead : IsAhead plans crew trace timing i
 
 -- The table of the tick after the first i is ready.
-pub record IsReady (plans : PlansView) (crew : CrewView) (trace : Trace) (pace : Pace) (i : ℕ) : Type 0 where
-  pub ahead : IsAhead plans crew trace pace i
+pub record IsReady (plans : PlansView) (crew : CrewView) (trace : Trace) (timing : Timing) (i : ℕ) : Type 0 where
+  pub ahead : IsAhead plans crew trace timing i
   pub some : 0 < length crew.ready
 
 -- ---- live samples
@@ -87,9 +87,9 @@ watched_path None = None
 watched_path (Some watch) = Some watch.path
 
 -- the number of samples of a processor in an interval
-abbrev pub asked_by : Option LiveWatch → ℕ
-asked_by None = 0
-asked_by (Some watch) = watch.count
+abbrev pub requested_by : Option LiveWatch → ℕ
+requested_by None = 0
+requested_by (Some watch) = watch.count
 
 -- the watched slot at `at` (ns): the slot of the live group with the watched path, if any
 abbrev pub watched_at : Trace → Option (List ℕ) → ℕ → Option ℕ
@@ -97,8 +97,8 @@ watched_at trace None at = None
 watched_at trace (Some path) at = live_slot_at trace.events path at
 
 -- a slot is the watched slot at tick i, if any
-abbrev pub IsSlotAt : Option Slot → Trace → Pace → ℕ → Type 0
-IsSlotAt slot trace pace i = number_of_slot slot ≡ watched_at trace (watched_path pace.watch) (tick_moment pace.length i)
+abbrev pub IsSlotAt : Option Slot → Trace → Timing → ℕ → Type 0
+IsSlotAt slot trace timing i = number_of_slot slot ≡ watched_at trace (watched_path timing.watch) (tick_moment timing.length i)
 
 -- there are no samples
 abbrev pub AreIdle : List WatchView → Type 0
@@ -114,10 +114,10 @@ GoesByTick (Some watch) count crew trace tick i =
 
 -- the watched path, the number of samples, and how far the crew has advanced after the first i
 -- ticks
-pub record IsWatching (crew : CrewView) (live : Option (List ℕ)) (trace : Trace) (pace : Pace) (i : ℕ) : Type 0 where
-  pub path : live ≡ watched_path pace.watch
-  pub asked : crew.asked ≡ asked_by pace.watch
-  pub by_tick : GoesByTick pace.watch 0 crew trace pace.length i
+pub record IsWatching (crew : CrewView) (live : Option (List ℕ)) (trace : Trace) (timing : Timing) (i : ℕ) : Type 0 where
+  pub path : live ≡ watched_path timing.watch
+  pub requested : crew.requested ≡ requested_by timing.watch
+  pub by_tick : GoesByTick timing.watch 0 crew trace timing.length i
 
 -- the lines of a processor's samples at `at` (ns)
 abbrev pub samples_text : ℕ → ℕ → List Sample → List ℕ
@@ -134,12 +134,12 @@ AreInTime cpus watches at =
 
 -- During the changes up to tick i a crew sampled the slot that is watched at that tick, and the
 -- lines of the samples are valid live lines of the tick.
-pub record IsLiveTick (old new : CrewView) (trace : Trace) (pace : Pace) (i : ℕ) : Type 0 where
+pub record IsLiveTick (old new : CrewView) (trace : Trace) (timing : Timing) (i : ℕ) : Type 0 where
   pub watched : Option Slot
-  pub slot : IsSlotAt watched trace pace i
+  pub slot : IsSlotAt watched trace timing i
   pub sampled : AreSampled watched old new
-  pub text : IsLiveText trace pace.length pace.watch i (watches_text (tick_moment pace.length i) trace.cpus new.watches)
-  pub in_time : AreInTime trace.cpus new.watches (tick_moment pace.length i)
+  pub text : IsLiveText trace timing.length timing.watch i (watches_text (tick_moment timing.length i) trace.cpus new.watches)
+  pub in_time : AreInTime trace.cpus new.watches (tick_moment timing.length i)
 
 -- a crew after it returned one more table
 abbrev pub handed : CrewView → CrewView
@@ -149,102 +149,106 @@ handed crew = record crew { ready = drop 1 crew.ready }
 
 -- The conditions for sampling the tick after the first i, whose moment is `at` (ns).
 pub record IsToSample (plans : PlansView) (crew : CrewView) (rows : List (List (List ℕ))) (engine : EngineView) (trace : Trace)
-    (pace : Pace) (i at : ℕ) : Type 0 where
-  pub planned : IsPlanned plans trace pace
-  pub left : i < tick_count trace pace
-  pub at_is : at ≡ tick_moment pace.length (i + 1)
-  pub ready : IsReady plans crew trace pace i
+    (timing : Timing) (i at : ℕ) : Type 0 where
+  pub planned : IsPlanned plans trace timing
+  pub left : i < tick_count trace timing
+  pub at_is : at ≡ tick_moment timing.length (i + 1)
+  pub ready : IsReady plans crew trace timing i
   pub sizes : HasPlaces plans rows
-  pub ticked : HasTicked engine trace pace i
+  pub ticked : HasTicked engine trace timing i
 
 -- Tick `number`, counted from 1, was sampled.
 pub record IsTickSampled (plans : PlansView) (crew : CrewView) (rows : List (List (List ℕ))) (engine : EngineView) (trace : Trace)
-    (pace : Pace) (number : ℕ) : Type 0 where
-  pub ahead : IsAhead plans crew trace pace number
+    (timing : Timing) (number : ℕ) : Type 0 where
+  pub ahead : IsAhead plans crew trace timing number
   pub sizes : HasPlaces plans rows
-  pub ticked : HasTicked engine trace pace number
+  pub ticked : HasTicked engine trace timing number
 
 -- The conditions for writing the lines of tick `number`, counted from 1: it was sampled last, and
 -- its moment is `at` (ns).
-pub record IsToPut (plans : PlansView) (engine : EngineView) (order : List Slot) (pacing : Pacing) (trace : Trace) (pace : Pace)
+pub record IsToPut (plans : PlansView) (engine : EngineView) (order : List Slot) (run_timing : RunTiming) (trace : Trace)
+    (timing : Timing)
     (number at : ℕ) : Type 0 where
-  pub planned : IsPlanned plans trace pace
-  pub paced : IsPaced pacing trace pace
+  pub planned : IsPlanned plans trace timing
+  pub paced : IsPaced run_timing trace timing
   pub some : 0 < number
-  pub at_is : at ≡ tick_moment pace.length number
-  pub ticked : HasTicked engine trace pace number
+  pub at_is : at ≡ tick_moment timing.length number
+  pub ticked : HasTicked engine trace timing number
   pub by_path : IsPathOrder plans.lives (numbers_of order)
 
 -- The conditions for writing the root's pressure files at tick `number`, counted from 1: it was
 -- sampled last.
-pub record IsToPutRoot (plans : PlansView) (engine : EngineView) (pacing : Pacing) (trace : Trace) (pace : Pace) (number : ℕ) : Type 0 where
-  pub planned : IsPlanned plans trace pace
-  pub paced : IsPaced pacing trace pace
-  pub within : number ≤ tick_count trace pace
-  pub ticked : HasTicked engine trace pace number
+pub record IsToPutRoot (plans : PlansView) (engine : EngineView) (run_timing : RunTiming) (trace : Trace) (timing : Timing)
+    (number : ℕ) : Type 0 where
+  pub planned : IsPlanned plans trace timing
+  pub paced : IsPaced run_timing trace timing
+  pub within : number ≤ tick_count trace timing
+  pub ticked : HasTicked engine trace timing number
 
 -- the lines of a tick's reports, if they are due
-abbrev pub due_text : Trace → Pace → ℕ → List ℕ
-due_text trace pace number =
-    if is_report pace.report pace.length (tick_count trace pace) number then reports trace pace number else []
+abbrev pub due_text : Trace → Timing → ℕ → List ℕ
+due_text trace timing number =
+    if is_report timing.report timing.length (tick_count trace timing) number then reports trace timing number else []
 
 -- ---- the whole replay
 
 -- A crew reached the tick after the first i. If it sampled the slot that is watched at that tick,
 -- its samples are the tick's. If it advances tick by tick, only that tick's table is ready.
-pub record IsReached (slot : Option Slot) (old new : CrewView) (trace : Trace) (pace : Pace) (i : ℕ) : Type 0 where
-  pub live : IsSlotAt slot trace pace (i + 1) → IsLiveTick old new trace pace (i + 1)
-  pub asked : new.asked ≡ old.asked
-  pub by_tick : GoesByTick pace.watch 1 new trace pace.length (i + 1)
+pub record IsReached (slot : Option Slot) (old new : CrewView) (trace : Trace) (timing : Timing) (i : ℕ) : Type 0 where
+  pub live : IsSlotAt slot trace timing (i + 1) → IsLiveTick old new trace timing (i + 1)
+  pub requested : new.requested ≡ old.requested
+  pub by_tick : GoesByTick timing.watch 1 new trace timing.length (i + 1)
 
 -- the lines of a tick, with these live lines
-abbrev pub tick_lines : Trace → Pace → List Rule → ℕ → List ℕ → List ℕ
-tick_lines trace pace rules i live = tick_text trace pace (record { live = λ _. live; rules = rules }) i
+abbrev pub tick_lines : Trace → Timing → List Rule → ℕ → List ℕ → List ℕ
+tick_lines trace timing rules i live = tick_text trace timing (record { live = λ _. live; rules = rules }) i
 
 -- A replay of a trace with rulesets after the first i ticks.
-pub record IsReplay (replay : ReplayView) (trace : Trace) (pace : Pace) (rules : List Rule) (i : ℕ) : Type 0 where
-  pub planned : IsPlanned replay.plans trace pace
-  pub paced : IsPaced replay.pacing trace pace
+pub record IsReplay (replay : ReplayView) (trace : Trace) (timing : Timing) (rules : List Rule) (i : ℕ) : Type 0 where
+  pub planned : IsPlanned replay.plans trace timing
+  pub paced : IsPaced replay.run_timing trace timing
   pub made : replay.made ≡ i
-  pub within : i ≤ tick_count trace pace
-  pub ahead : IsAhead replay.plans replay.crew trace pace i
-  pub watching : IsWatching replay.crew replay.live trace pace i
+  pub within : i ≤ tick_count trace timing
+  pub ahead : IsAhead replay.plans replay.crew trace timing i
+  pub watching : IsWatching replay.crew replay.live trace timing i
   pub sizes : HasPlaces replay.plans replay.rows
-  pub engine : HasTicked replay.engine trace pace i
-  pub judge : HasJudged replay.judge trace pace rules i
+  pub engine : HasTicked replay.engine trace timing i
+  pub judge : HasJudged replay.judge trace timing rules i
   pub fit : FitsRules rules
   pub order : IsPathOrder replay.plans.lives (numbers_of replay.order)
-  pub signals : replay.signals ≡ signals_until trace pace i
-  pub kills : replay.kills ≡ kills_until trace pace rules i
+  pub signals : replay.signals ≡ signals_until trace timing i
+  pub kills : replay.kills ≡ kills_until trace timing rules i
 
 -- it is a replay of some trace
 abbrev pub IsSomeReplay : ReplayView → Type 0
-IsSomeReplay replay = (trace : Trace) × (pace : Pace) × (rules : List Rule) × (i : ℕ) × IsReplay replay trace pace rules i
+IsSomeReplay replay = (trace : Trace) × (timing : Timing) × (rules : List Rule) × (i : ℕ) × IsReplay replay trace timing rules i
 
 -- a replay has a next tick
 abbrev pub IsTickLeft : ReplayView → Type 0
 IsTickLeft replay =
-    (trace : Trace) × (pace : Pace) × (rules : List Rule) × (i : ℕ) × IsReplay replay trace pace rules i × (i < tick_count trace pace)
+    (trace : Trace) × (timing : Timing) × (rules : List Rule) × (i : ℕ) × IsReplay replay trace timing rules i
+    × (i < tick_count trace timing)
 
 -- replaying the next tick: if there is one, samples were taken up to it; otherwise nothing changes
-abbrev pub Passes : Trace → Pace → List Rule → ℕ → ReplayView → ReplayView → Bool → Type 0
-Passes trace pace rules i old new true =
-    (i < tick_count trace pace) × IsReplay new trace pace rules (i + 1) × IsLiveTick old.crew new.crew trace pace (i + 1)
-Passes trace pace rules i old new false = (i ≡ tick_count trace pace) × (new ≡ old)
+abbrev pub Passes : Trace → Timing → List Rule → ℕ → ReplayView → ReplayView → Bool → Type 0
+Passes trace timing rules i old new true =
+    (i < tick_count trace timing) × IsReplay new trace timing rules (i + 1) × IsLiveTick old.crew new.crew trace timing (i + 1)
+Passes trace timing rules i old new false = (i ≡ tick_count trace timing) × (new ≡ old)
 
 -- the pressure files of the root at a tick
-abbrev pub root_report : Trace → Pace → ℕ → List ℕ
-root_report trace pace i = group_report trace pace i root_group
+abbrev pub root_report : Trace → Timing → ℕ → List ℕ
+root_report trace timing i = group_report trace timing i root_group
 
 -- The output of the next tick, if there is one: its lines, or a prefix of them after a fault. Its
 -- live lines are those of the samples that the crew took up to the tick.
-abbrev pub TickGives : Trace → Pace → List Rule → ℕ → ReplayView → ReplayView → Option (List ℕ) → Option (List ℕ)
+abbrev pub TickGives : Trace → Timing → List Rule → ℕ → ReplayView → ReplayView → Option (List ℕ) → Option (List ℕ)
     → Result Bool TickFault → Type 0
-TickGives trace pace rules i old new had has (Ok true) =
-    (i < tick_count trace pace) × IsReplay new trace pace rules (i + 1) × IsLiveTick old.crew new.crew trace pace (i + 1)
-    × Appends had has (tick_lines trace pace rules (i + 1) (watches_text (tick_moment pace.length (i + 1)) trace.cpus new.crew.watches))
-TickGives trace pace rules i old new had has (Ok false) = (i ≡ tick_count trace pace) × Keeps had has × IsReplay new trace pace rules i
-TickGives trace pace rules i old new had has (Err fault) =
-    (i < tick_count trace pace)
-    × ((live : List ℕ) × IsLiveText trace pace.length pace.watch (i + 1) live
-    × AppendsFront had has (tick_lines trace pace rules (i + 1) live))
+TickGives trace timing rules i old new had has (Ok true) =
+    (i < tick_count trace timing) × IsReplay new trace timing rules (i + 1) × IsLiveTick old.crew new.crew trace timing (i + 1)
+    × Appends had has (tick_lines trace timing rules (i + 1) (watches_text (tick_moment timing.length (i + 1)) trace.cpus new.crew.watches))
+TickGives trace timing rules i old new had has (Ok false) = (i ≡ tick_count trace timing) × Keeps had has
+    × IsReplay new trace timing rules i
+TickGives trace timing rules i old new had has (Err fault) =
+    (i < tick_count trace timing)
+    × ((live : List ℕ) × IsLiveText trace timing.length timing.watch (i + 1) live
+    × AppendsPrefix had has (tick_lines trace timing rules (i + 1) live))

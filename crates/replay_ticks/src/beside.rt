@@ -3,7 +3,7 @@
 ghost use Rattle.std.specs.Prelude.{◌≡◌, ◌+◌, ◌<◌, ◌≤◌, ℕ, List, length, IfOk, Some, is_some, true};
 ghost use Rattle.psi_spec.specs.Trace.{Trace};
 ghost use Rattle.plan_laws.specs.Plan.{IsClock};
-ghost use Rattle.run_spec.specs.Replay.{Pace, tick_count};
+ghost use Rattle.run_spec.specs.Replay.{Timing, tick_count};
 ghost use Rattle.ruleset_json.specs.declared.types.Rule.{Rule};
 ghost use Rattle.proc_plan.specs.Plans.{plan_at};
 ghost use Rattle.clock_row.specs.Steps.{count_shown, new_reader};
@@ -19,10 +19,10 @@ use std::thread::Threads;
 impl<'a> Replay<'a> {
     /// The number of ticks of the trace.
     pub fn ticks(&self) -> u64
-        ensures { (trace : Trace) (pace : Pace) (rules : List Rule) (i : ℕ) →
-            IsReplay self.now trace pace rules i → result ≡ tick_count trace pace }
+        ensures { (trace : Trace) (timing : Timing) (rules : List Rule) (i : ℕ) →
+            IsReplay self.now trace timing rules i → result ≡ tick_count trace timing }
     {
-        self.pacing.last
+        self.run_timing.last
     }
 
     /// The number of signals at the ticks replayed so far.
@@ -36,9 +36,9 @@ impl<'a> Replay<'a> {
     /// not allocate.
     pub fn pass_unwatched<R: Threads + Sync, G: Gate>(&mut self, rt: &R, gate: &G)
         requires { IsTickLeft self.old }
-        ensures passed { (trace : Trace) (pace : Pace) (rules : List Rule) (i : ℕ) →
-            IsReplay self.old trace pace rules i → i < tick_count trace pace →
-            IsReplay self.new trace pace rules (i + 1) }
+        ensures passed { (trace : Trace) (timing : Timing) (rules : List Rule) (i : ℕ) →
+            IsReplay self.old trace timing rules i → i < tick_count trace timing →
+            IsReplay self.new trace timing rules (i + 1) }
         ensures plans { self.new.plans ≡ self.old.plans }
         ensures rows { self.new.crew.rows ≡ self.old.crew.rows }
     {

@@ -8,9 +8,9 @@
 
 mod beside;
 mod live;
-mod pacing;
 mod replay;
 mod reports;
+mod run_timing;
 mod start;
 
 pub use replay::{Replay, TickFault};

@@ -1,7 +1,7 @@
 //! Live samples: the watched slot, and the lines of samples.
 ghost use Rattle.std.specs.Prelude.{◌≡◌, ◌<◌, ◌^◌, length, IfSome};
 ghost use Rattle.std.specs.List.{All};
-ghost use Rattle.outside.specs.Outside.{HasCause, StaysOver};
+ghost use Rattle.outside.specs.Outside.{HasCause, SameInner};
 ghost use Rattle.outside.specs.Calls.{PutsAll};
 ghost use Rattle.psi_base.specs.declared.event.Slot.{Slot};
 ghost use Rattle.psi_spec.specs.Stall.{number_of_slot};
@@ -44,7 +44,7 @@ fn put_samples<K: Sink>(
     ensures bytes { PutsAll (K.has out.old) (K.has out.new) result
         (samples_text at cpu.0 samples.now) }
     ensures cause { HasCause (K.faults out.old) (K.faults out.new) result }
-    ensures below { StaysOver (K.below out.old) (K.below out.new) }
+    ensures below { SameInner (K.below out.old) (K.below out.new) }
 {
     'samples: for sample in samples {
         let seven = sample.clock.opened(at);
@@ -65,7 +65,7 @@ pub(crate) fn put_live<K: Sink>(
     ensures bytes { PutsAll (K.has out.old) (K.has out.new) result
         (watches_text at cpus crew.now.watches) }
     ensures cause { HasCause (K.faults out.old) (K.faults out.new) result }
-    ensures below { StaysOver (K.below out.old) (K.below out.new) }
+    ensures below { SameInner (K.below out.old) (K.below out.new) }
 {
     'cpus: for cpu in 0..cpus {
         put_samples(out, at, Cpu(cpu), crew.live(Cpu(cpu)))?;

@@ -1,17 +1,17 @@
 //! A replay of a trace, tick by tick.
 ghost use Rattle.std.specs.Prelude.{◌≡◌, ◌+◌, ◌<◌, ℕ, List, length, IfSome};
 ghost use Rattle.psi_base.specs.declared.event.Slot.{Slot};
-ghost use Rattle.outside.specs.Outside.{HasCause, StaysOver};
+ghost use Rattle.outside.specs.Outside.{HasCause, SameInner};
 ghost use Rattle.outside.specs.Calls.{PutsAll};
 ghost use Rattle.psi_spec.specs.Trace.{Trace};
 ghost use Rattle.pressure_spec.specs.Ticks.{tick_moment};
-ghost use Rattle.run_spec.specs.Replay.{Pace, kills_in, last_line, tick_count, tick_text, with_rules};
+ghost use Rattle.run_spec.specs.Replay.{Timing, kills_in, last_line, tick_count, tick_text, with_rules};
 ghost use Rattle.ruleset_json.specs.declared.types.Rule.{Rule};
 ghost use Rattle.replay_ticks.specs.Replays.{IsLiveTick, IsReached, IsReady, IsReplay, IsSlotAt, IsSomeReplay, IsTickLeft, IsTickSampled, IsToGo, IsToPut, IsToPutRoot, IsToSample, IsWatching, Passes, TickGives, due_text, handed, root_report};
 
 use crate::live::{put_live, watched_slot};
-use crate::pacing::Pacing;
 use crate::reports::{put_files, put_kills, put_reports, put_signals};
+use crate::run_timing::RunTiming;
 use aggregate::Rows;
 use outside::{Gate, Sink, WriteFailed};
 use pressure_text::write_end;
@@ -54,7 +54,7 @@ pub struct Replay<'a> {
     pub(crate) judge: Judge,
     /// All slots, sorted by path (bytes).
     pub(crate) order: Vec<Slot>,
-    pub(crate) pacing: Pacing,
+    pub(crate) run_timing: RunTiming,
     /// The watched path.
     pub(crate) live: Option<Path>,
     /// The number of ticks replayed.
@@ -77,7 +77,7 @@ impl<'a> Model for Replay<'a> {
       engine = r.engine;
       judge = r.judge;
       order = r.order.items;
-      pacing = r.pacing;
+      run_timing = r.run_timing;
       live = r.live;
       made = r.made;
       signals = r.signals;
@@ -93,32 +93,32 @@ fn look_ahead<R: Threads + Sync, G: Gate>(
     crew: &mut Crew<'_>,
     live: &Option<Path>,
     watched: Option<Slot>,
-    pacing: Pacing,
+    run_timing: RunTiming,
     made: u64,
     gate: &G,
 )
     requires slot { IfSome watched (λ (slot : Slot). slot.0 < length crew.old.plans.lives) }
-    requires go { (trace : Trace) × (pace : Pace)
-        × IsToGo crew.old.plans crew.old pacing trace pace made
-        × IsWatching crew.old live.now trace pace made }
+    requires go { (trace : Trace) × (timing : Timing)
+        × IsToGo crew.old.plans crew.old run_timing trace timing made
+        × IsWatching crew.old live.now trace timing made }
     ensures rows { crew.new.rows ≡ crew.old.rows }
-    ensures reached { (trace : Trace) (pace : Pace) →
-        IsToGo crew.old.plans crew.old pacing trace pace made →
-        IsWatching crew.old live.now trace pace made →
-        IsReady crew.old.plans crew.new trace pace made
-        × IsReached watched crew.old crew.new trace pace made }
+    ensures reached { (trace : Trace) (timing : Timing) →
+        IsToGo crew.old.plans crew.old run_timing trace timing made →
+        IsWatching crew.old live.now trace timing made →
+        IsReady crew.old.plans crew.new trace timing made
+        × IsReached watched crew.old crew.new trace timing made }
 {
     if crew.ready() > 0 {
         return;
     }
-    let next = tick_moment(pacing.length, made + 1);
+    let next = tick_moment(run_timing.length, made + 1);
     match live {
         Some(_) => crew.interval(rt, next, watched, gate),
         None => {
-            let left = pacing.last - made;
+            let left = run_timing.last - made;
             let ticks = Ticks {
                 first: next,
-                length: pacing.length,
+                length: run_timing.length,
                 count: left.min(u64::from(crew.room())) as u32,
             };
             crew.intervals(rt, ticks, gate);
@@ -129,12 +129,12 @@ fn look_ahead<R: Threads + Sync, G: Gate>(
 // Samples all groups at the next tick (ns), whose table is ready, and gives their times to the
 // engine.
 fn sample(crew: &mut Crew<'_>, rows: &mut Rows, engine: &mut Engine, at: Ns)
-    requires { (trace : Trace) × (pace : Pace) × (i : ℕ)
-        × IsToSample crew.old.plans crew.old rows.old engine.old trace pace i at }
+    requires { (trace : Trace) × (timing : Timing) × (i : ℕ)
+        × IsToSample crew.old.plans crew.old rows.old engine.old trace timing i at }
     ensures handed { crew.new ≡ handed crew.old }
-    ensures sampled { (trace : Trace) (pace : Pace) (i : ℕ) →
-        IsToSample crew.old.plans crew.old rows.old engine.old trace pace i at →
-        IsTickSampled crew.old.plans crew.new rows.new engine.new trace pace (i + 1) }
+    ensures sampled { (trace : Trace) (timing : Timing) (i : ℕ) →
+        IsToSample crew.old.plans crew.old rows.old engine.old trace timing i at →
+        IsTickSampled crew.old.plans crew.new rows.new engine.new trace timing (i + 1) }
 {
     crew.fill(at, rows);
     engine.tick(at, rows);
@@ -147,20 +147,20 @@ fn put_due<K: Sink>(
     plans: &Plans,
     engine: &Engine,
     order: &[Slot],
-    pacing: Pacing,
+    run_timing: RunTiming,
     tick: u64,
     at: Ns,
 ) -> Result<(), WriteFailed>
-    requires { (trace : Trace) × (pace : Pace)
-        × IsToPut plans.now engine.now order.now pacing trace pace tick at }
-    ensures bytes { (trace : Trace) (pace : Pace) →
-        IsToPut plans.now engine.now order.now pacing trace pace tick at →
-        PutsAll (K.has out.old) (K.has out.new) result (due_text trace pace tick) }
+    requires { (trace : Trace) × (timing : Timing)
+        × IsToPut plans.now engine.now order.now run_timing trace timing tick at }
+    ensures bytes { (trace : Trace) (timing : Timing) →
+        IsToPut plans.now engine.now order.now run_timing trace timing tick at →
+        PutsAll (K.has out.old) (K.has out.new) result (due_text trace timing tick) }
     ensures cause { HasCause (K.faults out.old) (K.faults out.new) result }
-    ensures below { StaysOver (K.below out.old) (K.below out.new) }
+    ensures below { SameInner (K.below out.old) (K.below out.new) }
 {
-    if pacing.is_report(tick, at) {
-        return put_reports(out, pacing.version, at, plans.lives(), order, engine);
+    if run_timing.is_report(tick, at) {
+        return put_reports(out, run_timing.version, at, plans.lives(), order, engine);
     }
     Ok(())
 }
@@ -170,22 +170,22 @@ fn put_root<K: Sink>(
     out: &mut K,
     plans: &Plans,
     engine: &Engine,
-    pacing: Pacing,
+    run_timing: RunTiming,
     tick: u64,
 ) -> Result<(), WriteFailed>
-    requires { (trace : Trace) × (pace : Pace)
-        × IsToPutRoot plans.now engine.now pacing trace pace tick }
-    ensures bytes { (trace : Trace) (pace : Pace) →
-        IsToPutRoot plans.now engine.now pacing trace pace tick →
-        PutsAll (K.has out.old) (K.has out.new) result (root_report trace pace tick) }
+    requires { (trace : Trace) × (timing : Timing)
+        × IsToPutRoot plans.now engine.now run_timing trace timing tick }
+    ensures bytes { (trace : Trace) (timing : Timing) →
+        IsToPutRoot plans.now engine.now run_timing trace timing tick →
+        PutsAll (K.has out.old) (K.has out.new) result (root_report trace timing tick) }
     ensures cause { HasCause (K.faults out.old) (K.faults out.new) result }
-    ensures below { StaysOver (K.below out.old) (K.below out.new) }
+    ensures below { SameInner (K.below out.old) (K.below out.new) }
 {
-    let at = tick_moment(pacing.length, tick);
+    let at = tick_moment(run_timing.length, tick);
     let path = &plans.lives()[0].path;
     let totals = engine.totals(ROOT);
     let averages = engine.averages(ROOT);
-    put_files(out, pacing.version, at, path, ROOT, totals, averages)
+    put_files(out, run_timing.version, at, path, ROOT, totals, averages)
 }
 
 impl<'a> Replay<'a> {
@@ -193,17 +193,17 @@ impl<'a> Replay<'a> {
     /// live group has the path then.
     pub fn next_slot(&self) -> Option<Slot>
         requires { IsSomeReplay self.now }
-        ensures slot { (trace : Trace) (pace : Pace) (rules : List Rule) (i : ℕ) →
-            IsReplay self.now trace pace rules i → i < tick_count trace pace →
-            IsSlotAt result trace pace (i + 1) }
+        ensures slot { (trace : Trace) (timing : Timing) (rules : List Rule) (i : ℕ) →
+            IsReplay self.now trace timing rules i → i < tick_count trace timing →
+            IsSlotAt result trace timing (i + 1) }
         ensures made { IfSome result (λ (slot : Slot). slot.0 < length self.now.plans.lives) }
     {
-        if self.made == self.pacing.last {
+        if self.made == self.run_timing.last {
             return None;
         }
         match &self.live {
             Some(path) => {
-                let next = tick_moment(self.pacing.length, self.made + 1);
+                let next = tick_moment(self.run_timing.length, self.made + 1);
                 watched_slot(self.plans.lives(), path, next)
             }
             None => None,
@@ -221,23 +221,23 @@ impl<'a> Replay<'a> {
         requires left { IsTickLeft self.old }
         ensures plans { self.new.plans ≡ self.old.plans }
         ensures rows { self.new.crew.rows ≡ self.old.crew.rows }
-        ensures made { (trace : Trace) (pace : Pace) (rules : List Rule) (i : ℕ) →
-            IsReplay self.old trace pace rules i → i < tick_count trace pace →
-            IsReplay self.new trace pace rules (i + 1)
-            × (IsSlotAt watched trace pace (i + 1) →
-            IsLiveTick self.old.crew self.new.crew trace pace (i + 1)) }
+        ensures made { (trace : Trace) (timing : Timing) (rules : List Rule) (i : ℕ) →
+            IsReplay self.old trace timing rules i → i < tick_count trace timing →
+            IsReplay self.new trace timing rules (i + 1)
+            × (IsSlotAt watched trace timing (i + 1) →
+            IsLiveTick self.old.crew self.new.crew trace timing (i + 1)) }
     {
         look_ahead(
             rt,
             &mut self.crew,
             &self.live,
             watched,
-            self.pacing,
+            self.run_timing,
             self.made,
             gate,
         );
         self.made += 1;
-        let at = tick_moment(self.pacing.length, self.made);
+        let at = tick_moment(self.run_timing.length, self.made);
         sample(&mut self.crew, &mut self.rows, &mut self.engine, at);
         self.signals += self.engine.fired().len() as u64;
         self.judge.tick(
@@ -245,7 +245,7 @@ impl<'a> Replay<'a> {
             &self.engine,
             &self.order,
             at,
-            self.pacing.length,
+            self.run_timing.length,
         );
         self.kills += self.judge.kills().len() as u64;
     }
@@ -254,11 +254,11 @@ impl<'a> Replay<'a> {
     /// nothing changes. Does not allocate.
     pub fn pass<R: Threads + Sync, G: Gate>(&mut self, rt: &R, gate: &G) -> bool
         requires { IsSomeReplay self.old }
-        ensures { (trace : Trace) (pace : Pace) (rules : List Rule) (i : ℕ) →
-            IsReplay self.old trace pace rules i →
-            Passes trace pace rules i self.old self.new result }
+        ensures { (trace : Trace) (timing : Timing) (rules : List Rule) (i : ℕ) →
+            IsReplay self.old trace timing rules i →
+            Passes trace timing rules i self.old self.new result }
     {
-        if self.made == self.pacing.last {
+        if self.made == self.run_timing.last {
             return false;
         }
         let slot = self.next_slot();
@@ -269,15 +269,15 @@ impl<'a> Replay<'a> {
     // Writes the lines of the last tick, whose time is `at` (ns), except its live lines.
     #[tactic(auto, using(outside::proofs::Grows::growth))]
     fn put_tick<K: Sink>(&self, out: &mut K, at: Ns) -> Result<(), WriteFailed>
-        requires { (trace : Trace) × (pace : Pace) × (rules : List Rule) × (i : ℕ)
-            × IsReplay self.now trace pace rules (i + 1)
-            × (at ≡ tick_moment pace.length (i + 1)) }
-        ensures bytes { (trace : Trace) (pace : Pace) (rules : List Rule) (i : ℕ) →
-            IsReplay self.now trace pace rules (i + 1) → at ≡ tick_moment pace.length (i + 1) →
+        requires { (trace : Trace) × (timing : Timing) × (rules : List Rule) × (i : ℕ)
+            × IsReplay self.now trace timing rules (i + 1)
+            × (at ≡ tick_moment timing.length (i + 1)) }
+        ensures bytes { (trace : Trace) (timing : Timing) (rules : List Rule) (i : ℕ) →
+            IsReplay self.now trace timing rules (i + 1) → at ≡ tick_moment timing.length (i + 1) →
             PutsAll (K.has out.old) (K.has out.new) result
-            (tick_text trace pace (with_rules rules) (i + 1)) }
+            (tick_text trace timing (with_rules rules) (i + 1)) }
         ensures cause { HasCause (K.faults out.old) (K.faults out.new) result }
-        ensures below { StaysOver (K.below out.old) (K.below out.new) }
+        ensures below { SameInner (K.below out.old) (K.below out.new) }
     {
         let lives = self.plans.lives();
         put_signals(out, at, lives, self.plans.triggers(), self.engine.fired())?;
@@ -287,7 +287,7 @@ impl<'a> Replay<'a> {
             self.plans,
             &self.engine,
             &self.order,
-            self.pacing,
+            self.run_timing,
             self.made,
             at,
         )
@@ -302,16 +302,16 @@ impl<'a> Replay<'a> {
         gate: &G,
     ) -> Result<bool, TickFault>
         requires { IsSomeReplay self.old }
-        ensures tick { (trace : Trace) (pace : Pace) (rules : List Rule) (i : ℕ) →
-            IsReplay self.old trace pace rules i →
-            TickGives trace pace rules i self.old self.new (K.has out.old) (K.has out.new) result }
+        ensures tick { (trace : Trace) (timing : Timing) (rules : List Rule) (i : ℕ) →
+            IsReplay self.old trace timing rules i →
+            TickGives trace timing rules i self.old self.new (K.has out.old) (K.has out.new) result }
         ensures cause { HasCause (K.faults out.old) (K.faults out.new) result }
-        ensures below { StaysOver (K.below out.old) (K.below out.new) }
+        ensures below { SameInner (K.below out.old) (K.below out.new) }
     {
         if !self.pass(rt, gate) {
             return Ok(false);
         }
-        let at = tick_moment(self.pacing.length, self.made);
+        let at = tick_moment(self.run_timing.length, self.made);
         put_live(out, at, &self.crew, self.plans.cpus())?;
         self.put_tick(out, at)?;
         Ok(true)
@@ -319,36 +319,36 @@ impl<'a> Replay<'a> {
 
     /// The kills at the last tick, by ruleset and action; none before the first.
     pub fn kills(&self) -> &[Kill]
-        ensures { (trace : Trace) (pace : Pace) (rules : List Rule) (i : ℕ) →
-            IsReplay self.now trace pace rules i → result.now ≡ kills_in trace pace rules i }
+        ensures { (trace : Trace) (timing : Timing) (rules : List Rule) (i : ℕ) →
+            IsReplay self.now trace timing rules i → result.now ≡ kills_in trace timing rules i }
     {
         self.judge.kills()
     }
 
     /// Writes the root's pressure files at the last tick.
     pub fn put_root<K: Sink>(&self, out: &mut K) -> Result<(), WriteFailed>
-        requires { (trace : Trace) × (pace : Pace) × (rules : List Rule) × (i : ℕ)
-            × (0 < i) × IsReplay self.now trace pace rules i }
-        ensures bytes { (trace : Trace) (pace : Pace) (rules : List Rule) (i : ℕ) → 0 < i →
-            IsReplay self.now trace pace rules i →
-            PutsAll (K.has out.old) (K.has out.new) result (root_report trace pace i) }
+        requires { (trace : Trace) × (timing : Timing) × (rules : List Rule) × (i : ℕ)
+            × (0 < i) × IsReplay self.now trace timing rules i }
+        ensures bytes { (trace : Trace) (timing : Timing) (rules : List Rule) (i : ℕ) → 0 < i →
+            IsReplay self.now trace timing rules i →
+            PutsAll (K.has out.old) (K.has out.new) result (root_report trace timing i) }
         ensures cause { HasCause (K.faults out.old) (K.faults out.new) result }
-        ensures below { StaysOver (K.below out.old) (K.below out.new) }
+        ensures below { SameInner (K.below out.old) (K.below out.new) }
     {
-        put_root(out, self.plans, &self.engine, self.pacing, self.made)
+        put_root(out, self.plans, &self.engine, self.run_timing, self.made)
     }
 
     /// Writes the last line, after the last tick: the end time (ns), and the numbers of ticks,
     /// signals and kills.
     pub fn finish<K: Sink>(&mut self, out: &mut K) -> Result<(), WriteFailed>
-        requires { (trace : Trace) × (pace : Pace) × (rules : List Rule)
-            × IsReplay self.old trace pace rules (tick_count trace pace) }
-        ensures bytes { (trace : Trace) (pace : Pace) (rules : List Rule) →
-            IsReplay self.old trace pace rules (tick_count trace pace) →
+        requires { (trace : Trace) × (timing : Timing) × (rules : List Rule)
+            × IsReplay self.old trace timing rules (tick_count trace timing) }
+        ensures bytes { (trace : Trace) (timing : Timing) (rules : List Rule) →
+            IsReplay self.old trace timing rules (tick_count trace timing) →
             PutsAll (K.has out.old) (K.has out.new) result
-            (last_line trace pace (with_rules rules)) }
+            (last_line trace timing (with_rules rules)) }
         ensures cause { HasCause (K.faults out.old) (K.faults out.new) result }
-        ensures below { StaysOver (K.below out.old) (K.below out.new) }
+        ensures below { SameInner (K.below out.old) (K.below out.new) }
     {
         write_end(
             out,

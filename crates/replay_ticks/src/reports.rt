@@ -1,7 +1,7 @@
 //! The lines of a tick.
 ghost use Rattle.std.specs.Prelude.{◌≡◌, ◌<◌, length, ◌==◌};
 ghost use Rattle.std.specs.List.{All};
-ghost use Rattle.outside.specs.Outside.{HasCause, StaysOver};
+ghost use Rattle.outside.specs.Outside.{HasCause, SameInner};
 ghost use Rattle.outside.specs.Calls.{PutsAll};
 ghost use Rattle.psi_base.specs.declared.event.TriggerSpec.{TriggerSpec};
 ghost use Rattle.psi_spec.specs.Header.{version_of};
@@ -42,7 +42,7 @@ pub(crate) fn put_signals<K: Sink>(
     ensures bytes { PutsAll (K.has out.old) (K.has out.new) result
         (signal_lines at lives.now triggers.now fired.now) }
     ensures cause { HasCause (K.faults out.old) (K.faults out.new) result }
-    ensures below { StaysOver (K.below out.old) (K.below out.new) }
+    ensures below { SameInner (K.below out.old) (K.below out.new) }
 {
     'fired: for number in fired {
         let trigger = &triggers[*number as usize];
@@ -63,7 +63,7 @@ pub(crate) fn put_kills<K: Sink>(
     ensures bytes { PutsAll (K.has out.old) (K.has out.new) result
         (kill_lines lives.now kills.now) }
     ensures cause { HasCause (K.faults out.old) (K.faults out.new) result }
-    ensures below { StaysOver (K.below out.old) (K.below out.new) }
+    ensures below { SameInner (K.below out.old) (K.below out.new) }
 {
     'kills: for kill in kills {
         let path = &lives[kill.victim.0 as usize].path;
@@ -85,7 +85,7 @@ fn put_resources<K: Sink>(
     ensures bytes { PutsAll (K.has out.old) (K.has out.new) result
         (resource_files at path.now slot.0 totals averages.now.averages) }
     ensures cause { HasCause (K.faults out.old) (K.faults out.new) result }
-    ensures below { StaysOver (K.below out.old) (K.below out.new) }
+    ensures below { SameInner (K.below out.old) (K.below out.new) }
 {
     let is_root = slot.0 == 0;
     write_report(out, at, path, Res::Io, is_root, totals, averages)?;
@@ -105,7 +105,7 @@ fn put_irq<K: Sink>(
     ensures bytes { PutsAll (K.has out.old) (K.has out.new) result
         (irq_files (version_of version) at path.now totals averages.now.averages) }
     ensures cause { HasCause (K.faults out.old) (K.faults out.new) result }
-    ensures below { StaysOver (K.below out.old) (K.below out.new) }
+    ensures below { SameInner (K.below out.old) (K.below out.new) }
 {
     if version == WITH_IRQ {
         return write_irq(out, at, path, totals[IRQ], averages);
@@ -127,7 +127,7 @@ pub(crate) fn put_files<K: Sink>(
     ensures bytes { PutsAll (K.has out.old) (K.has out.new) result
         (files_text (version_of version) at path.now slot.0 totals averages.now.averages) }
     ensures cause { HasCause (K.faults out.old) (K.faults out.new) result }
-    ensures below { StaysOver (K.below out.old) (K.below out.new) }
+    ensures below { SameInner (K.below out.old) (K.below out.new) }
 {
     put_resources(out, at, path, slot, totals, averages)?;
     put_irq(out, version, at, path, totals, averages)
@@ -143,12 +143,12 @@ fn put_report<K: Sink>(
     engine: &Engine,
 ) -> Result<(), WriteFailed>
     requires made { slot.0 < length lives.now }
-    requires kept { length engine.now.groups ≡ length lives.now }
+    requires unchanged { length engine.now.groups ≡ length lives.now }
     ensures bytes { PutsAll (K.has out.old) (K.has out.new) result
         (slot_report (version_of version) at lives.now (totals_in engine.now)
         (averages_in engine.now) slot.0) }
     ensures cause { HasCause (K.faults out.old) (K.faults out.new) result }
-    ensures below { StaysOver (K.below out.old) (K.below out.new) }
+    ensures below { SameInner (K.below out.old) (K.below out.new) }
 {
     let life = &lives[slot.0 as usize];
     if !is_live_at(life, at) {
@@ -177,12 +177,12 @@ pub(crate) fn put_reports<K: Sink>(
     engine: &Engine,
 ) -> Result<(), WriteFailed>
     requires made { All (λ (slot : Slot). slot.0 < length lives.now) order.now }
-    requires kept { length engine.now.groups ≡ length lives.now }
+    requires unchanged { length engine.now.groups ≡ length lives.now }
     ensures bytes { PutsAll (K.has out.old) (K.has out.new) result
         (slot_reports (version_of version) at lives.now (totals_in engine.now)
         (averages_in engine.now) (numbers_of order.now)) }
     ensures cause { HasCause (K.faults out.old) (K.faults out.new) result }
-    ensures below { StaysOver (K.below out.old) (K.below out.new) }
+    ensures below { SameInner (K.below out.old) (K.below out.new) }
 {
     'slots: for slot in order {
         put_report(out, version, at, lives, *slot, engine)?;

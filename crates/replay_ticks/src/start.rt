@@ -2,19 +2,19 @@
 ghost use Rattle.std.specs.Prelude.{◌≡◌, ◌<◌, ◌≤◌, IfOk};
 ghost use Rattle.psi_spec.specs.Header.{IsVersion, version_of};
 ghost use Rattle.psi_spec.specs.Trace.{Trace};
-ghost use Rattle.run_spec.specs.Outputs.{pace_of, watch_of};
+ghost use Rattle.run_spec.specs.Outputs.{timing_of, watch_of};
 ghost use Rattle.run_spec.specs.LegalCommand.{IsWithin};
 ghost use Rattle.ruleset_json.specs.RuleRanges.{FitsRules};
-ghost use Rattle.replay_rules.specs.Judged.{given_rules};
+ghost use Rattle.replay_rules.specs.Judged.{rules_of_options};
 ghost use Rattle.replay_rules.specs.Planned.{IsPlanned};
 ghost use Rattle.replay_workers.specs.Crew.{AreInRows};
-ghost use Rattle.replay_ticks.specs.Replays.{IsReplay, asked_by, watched_path};
+ghost use Rattle.replay_ticks.specs.Replays.{IsReplay, requested_by, watched_path};
 
-use crate::pacing::Pacing;
 use crate::replay::Replay;
+use crate::run_timing::RunTiming;
 use aggregate::Rows;
 use proc_plan::Plans;
-use psi_base::{NoMemory, Ns, Path};
+use psi_base::{MILLISECOND, NoMemory, Ns, Path};
 use replay_rules::Judge;
 use replay_workers::Crew;
 use ruleset_json::Rules;
@@ -22,16 +22,13 @@ use run_spec::Options;
 use std::alloc::Global;
 use tick_engine::Engine;
 
-/// A millisecond in ns.
-const MILLISECOND: Ns = 1_000_000;
-
 /// A second in ns.
 const SECOND: Ns = 1_000_000_000;
 
 // The options' watched path, if any, and the number of samples of a processor in an interval.
 fn watched(alloc: Global, options: &Options) -> Result<(Option<Path>, u32), NoMemory>
     ensures path { IfOk result (λ watched. watched.0 ≡ watched_path (watch_of options.now)) }
-    ensures asked { IfOk result (λ watched. watched.1 ≡ asked_by (watch_of options.now)) }
+    ensures requested { IfOk result (λ watched. watched.1 ≡ requested_by (watch_of options.now)) }
 {
     match &options.live {
         Some(path) => Ok((Some(path.copy(alloc)?), options.live_count)),
@@ -50,23 +47,23 @@ pub fn prepare<'a>(
     options: &Options,
 ) -> Result<Replay<'a>, NoMemory>
     requires version { IsVersion version }
-    requires planned { (trace : Trace) × IsPlanned plans.now trace (pace_of options.now) }
-    requires fit { FitsRules (given_rules rules) }
+    requires planned { (trace : Trace) × IsPlanned plans.now trace (timing_of options.now) }
+    requires fit { FitsRules (rules_of_options rules) }
     requires often { options.now.interval_s ≤ 3600 }
     requires workers { IsWithin 1 64 options.now.workers }
     ensures replay { IfOk result (λ replay.
-        (trace : Trace) → IsPlanned plans.now trace (pace_of options.now) →
+        (trace : Trace) → IsPlanned plans.now trace (timing_of options.now) →
         version_of version ≡ trace.version →
-        IsReplay replay trace (pace_of options.now) (given_rules rules) 0) }
+        IsReplay replay trace (timing_of options.now) (rules_of_options rules) 0) }
     ensures plans { IfOk result (λ replay. replay.plans ≡ plans.now) }
-    ensures rows { 0 < asked_by (watch_of options.now) →
+    ensures rows { 0 < requested_by (watch_of options.now) →
         IfOk result (λ replay. AreInRows replay.plans replay.crew.rows) }
 {
     let slots = plans.groups().len() as u32;
     let length = Ns::from(options.tick_ms) * MILLISECOND;
     let interval = Ns::from(options.interval_s) * SECOND;
     let last = plans.finish() / length;
-    let (live, asked) = watched(alloc, options)?;
+    let (live, requested) = watched(alloc, options)?;
     // If a path is watched the crew advances tick by tick.
     let ahead = if live.is_some() { 1 } else { last };
     Ok(Replay {
@@ -75,9 +72,9 @@ pub fn prepare<'a>(
         order: plans.groups().path_order(alloc)?,
         rows: Rows::make(alloc, plans.cpus(), slots)?,
         engine: Engine::make(alloc, plans.lives(), plans.triggers(), plans.cpus())?,
-        crew: Crew::make(alloc, plans, options.workers, ahead, asked)?,
+        crew: Crew::make(alloc, plans, options.workers, ahead, requested)?,
         judge: Judge::make(alloc, plans, rules, interval)?,
-        pacing: Pacing {
+        run_timing: RunTiming {
             version,
             length,
             report: Ns::from(options.report_s) * SECOND,

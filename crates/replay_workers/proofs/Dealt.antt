@@ -12,7 +12,7 @@ use Rattle.plan_laws.specs.Plan.{IsPlan, PlanView, changes_up_to, last_change, n
 use Rattle.proc_plan.specs.Clocks.{OnPlan}
 use Rattle.proc_plan.specs.Plans.{PlansView, plan_at}
 use Rattle.replay_workers.specs.declared.ticks.Ticks.{Ticks}
-use Rattle.replay_workers.specs.Crew.{AreAt, AreBehind, AreInRows, AreOnPlans, CrewView, clocks_at, last_of, moment_in, moments_of, room_of, row_at, times_by}
+use Rattle.replay_workers.specs.Crew.{AreAt, AreNotPast, AreInRows, AreOnPlans, CrewView, clocks_at, last_of, moment_in, moments_of, room_of, row_at, times_by}
 use Rattle.replay_workers.specs.Lanes.{AreKept, AreNewBatches, HasGone, HaveAllGone, HaveGone, IsBatchOf, AreLanes, IsLaneOf, KeepsTicks, LaneView, MayAllGo, batch_at, clocks_of, kept_at, lane_at, lane_of, no_lane, no_ticks, rows_of}
 use Rattle.replay_workers.specs.Watches.{WatcherView, crew_of}
 use Rattle.replay_workers.proofs.Steps.{places_end}
@@ -119,26 +119,26 @@ on_plans plans batches ticks out room is =
 
 -- ---- before a fork
 
-batch_may_go : (plans : PlansView) (batches : List (List LaneView)) (old ticks : Ticks) (out room : ℕ) → AreLanes plans batches old out room → ticks.count ≤ room → AreBehind plans (clocks_of batches (length plans.plans)) ticks.first
+batch_may_go : (plans : PlansView) (batches : List (List LaneView)) (old ticks : Ticks) (out room : ℕ) → AreLanes plans batches old out room → ticks.count ≤ room → AreNotPast plans (clocks_of batches (length plans.plans)) ticks.first
     → (worker : ℕ) → worker < length batches → MayAllGo ticks (batch_at batches worker)
-batch_may_go plans batches old ticks out room is within behind worker below = λ k inside.
+batch_may_go plans batches old ticks out room is within not_past worker below = λ k inside.
     let lane = lane_at (batch_at batches worker) k in
     let cpu = k * length batches + worker in
     let own = (is.each worker below).each k inside in
     let slots : length lane.on.plan.parents ≡ length plans.lives = ap (λ (plan : PlanView). length plan.parents) own.plan ∙ own.slots in
     let few : ticks.count * length plans.lives ≤ room * length plans.lives = mul-le-mul_right (length plans.lives) within in
     let here : clocks_at (clocks_of batches (length plans.plans)) cpu ≡ lane.on = clocks_are batches (length plans.plans) cpu own.below ∙ ap (λ (l : LaneView). l.on) (lane_of_place batches worker k below) in
-    let made = behind.behind cpu (omega (arith, own.below, clocks_many batches (length plans.plans))) in
+    let made = not_past.not_past cpu (omega (arith, own.below, clocks_many batches (length plans.plans))) in
     record {
       room = subst (λ n. ticks.count * n ≤ length lane.kept) (sym slots) (omega (arith, few, own.size));
-      behind = subst (λ (plan : PlanView). lane.on.made ≤ changes_up_to plan ticks.first) (sym own.plan) (subst (λ (on : OnPlan). on.made ≤ changes_up_to (plan_at plans cpu) ticks.first) here made);
+      not_past = subst (λ (plan : PlanView). lane.on.made ≤ changes_up_to plan ticks.first) (sym own.plan) (subst (λ (on : OnPlan). on.made ≤ changes_up_to (plan_at plans cpu) ticks.first) here made);
     }
 
 -- each lane of a crew can advance by ticks, if no clock is ahead of the first
-pub may_go : (plans : PlansView) (batches : List (List LaneView)) (old ticks : Ticks) (out room : ℕ) → AreLanes plans batches old out room → ticks.count ≤ room → AreBehind plans (clocks_of batches (length plans.plans)) ticks.first
+pub may_go : (plans : PlansView) (batches : List (List LaneView)) (old ticks : Ticks) (out room : ℕ) → AreLanes plans batches old out room → ticks.count ≤ room → AreNotPast plans (clocks_of batches (length plans.plans)) ticks.first
     → All (MayAllGo ticks) batches
-may_go plans batches old ticks out room is within behind = λ worker d below.
-    subst (MayAllGo ticks) (get_or_default batches worker [] d below) (batch_may_go plans batches old ticks out room is within behind worker below)
+may_go plans batches old ticks out room is within not_past = λ worker d below.
+    subst (MayAllGo ticks) (get_or_default batches worker [] d below) (batch_may_go plans batches old ticks out room is within not_past worker below)
 
 -- ---- after it
 
@@ -242,10 +242,10 @@ ready_less (suc out) (x ∷ xs) =
     ap (λ n. drop n (x ∷ xs)) next ∙ ready_less out xs
 
 -- a crew after it returned one more table, as contracts see it
-pub crew_less : (plans : PlansView) (batches : List (List LaneView)) (ticks : Ticks) (out room asked : ℕ) (watchers : List WatcherView) (old : CrewView) → crew_of plans batches ticks out room asked watchers ≡ old
-    → crew_of plans batches ticks (out + 1) room asked watchers ≡ record old { ready = drop 1 old.ready }
-crew_less plans batches ticks out room asked watchers old same =
-    ap (λ ready. let crew : CrewView = record (crew_of plans batches ticks out room asked watchers) { ready = ready } in crew) (ready_less out (moments_of ticks))
+pub crew_less : (plans : PlansView) (batches : List (List LaneView)) (ticks : Ticks) (out room requested : ℕ) (watchers : List WatcherView) (old : CrewView) → crew_of plans batches ticks out room requested watchers ≡ old
+    → crew_of plans batches ticks (out + 1) room requested watchers ≡ record old { ready = drop 1 old.ready }
+crew_less plans batches ticks out room requested watchers old same =
+    ap (λ ready. let crew : CrewView = record (crew_of plans batches ticks out room requested watchers) { ready = ready } in crew) (ready_less out (moments_of ticks))
     ∙ ap (λ (view : CrewView). let crew : CrewView = record view { ready = drop 1 view.ready } in crew) same
 
 -- a crew is still a crew after it returned one more table

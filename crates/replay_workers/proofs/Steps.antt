@@ -33,7 +33,7 @@ each_changed R start now place x d inside before here k below =
 
 -- elements after the place are unchanged
 pub left_changed : {X : Type 0} → (start now : List X) (place : ℕ) (x d : X) → ((k : ℕ) → place ≤ k → get_or now k d ≡ get_or start k d) → (k : ℕ) → place + 1 ≤ k → get_or (set now place x) k d ≡ get_or start k d
-left_changed start now place x d left k behind = get_or-set_other now place k x d (λ same. omega (arith, same, behind)) ∙ left k (omega (arith, behind))
+left_changed start now place x d left k not_past = get_or-set_other now place k x d (λ same. omega (arith, same, not_past)) ∙ left k (omega (arith, not_past))
 
 -- ---- ticks
 

@@ -13,7 +13,7 @@ use Rattle.proc_plan.specs.Plans.{PlansView, plan_at}
 use Rattle.clock_row.specs.declared.reader.Sample.{Sample}
 use Rattle.clock_row.specs.Tries.{IsTried}
 use Rattle.replay_workers.specs.declared.ticks.Ticks.{Ticks}
-use Rattle.replay_workers.specs.Crew.{AreBehind, AreSampled, IsSampled, WatchView, clocks_at, counts_sampled, last_of, watch_at}
+use Rattle.replay_workers.specs.Crew.{AreNotPast, AreSampled, IsSampled, WatchView, clocks_at, counts_sampled, last_of, watch_at}
 use Rattle.replay_workers.specs.Lanes.{AreLanes, HaveAllGone, LaneView, clocks_of, lane_of, no_ticks}
 use Rattle.replay_workers.specs.Watches.{AreNewWatchers, AreSettled, AreWatchers, AreWatching, HasMet, HasSampled, HasWatched, HaveCleared, HaveMet, HaveSampled, HaveSlot, HaveWatched, IsCrew, IsLaneThere, IsSameWatcher, WatcherView, crew_of, no_watcher, watch_seen, watcher_at}
 use Rattle.replay_workers.proofs.Dealt.{clocks_are, clocks_many, gone_at, gone_there, lane_is, lane_there}
@@ -34,14 +34,14 @@ has_watched lane_old lane_new slot old met new one two settled =
         cpu = two.same.cpu ∙ one.same.cpu;
         row = two.same.row ∙ one.same.row;
         plan = two.same.plan ∙ one.same.plan;
-        asked = two.same.asked ∙ one.same.asked;
+        requested = two.same.requested ∙ one.same.requested;
       };
       sampled = record {
-        many = two.many ∙ one.same.asked;
+        many = two.many ∙ one.same.requested;
         clocks = subst (λ (plan : PlanView). All (λ (sample : Sample). IsClock sample.clock plan slot sample.count) new.samples) one.same.plan two.clocks;
         rise = rise_wider lane_old.on.made new.knows.seen lane_new.on.made counts settled (subst (λ n. RiseWithin n counts new.knows.seen) one.count two.rise);
         tried = tried_since counts lane_old.on.made old.knows met.knows new.knows one.got one.met (subst (λ n. IsTried counts n met.knows new.knows) one.count two.tried);
-        few = omega (arith, two.few, one.met, ap length one.got, one.same.asked);
+        few = omega (arith, two.few, one.met, ap length one.got, one.same.requested);
       };
     }
 
@@ -58,18 +58,18 @@ have_watched lanes_old lanes_new slot old met new is sampled settled = record {
 -- ---- the watchers of a crew
 
 -- only existing processors are watched
-pub watched_below : (plans : PlansView) (lanes : List (List LaneView)) (asked : ℕ) (watchers : List WatcherView) (cpu : ℕ) → AreWatchers plans lanes asked watchers → cpu < length watchers → cpu < length plans.plans
-watched_below plans lanes asked watchers cpu are below =
-    let case : (asked ≡ 0) ⊎ (0 < asked) = grind arith in
+pub watched_below : (plans : PlansView) (lanes : List (List LaneView)) (requested : ℕ) (watchers : List WatcherView) (cpu : ℕ) → AreWatchers plans lanes requested watchers → cpu < length watchers → cpu < length plans.plans
+watched_below plans lanes requested watchers cpu are below =
+    let case : (requested ≡ 0) ⊎ (0 < requested) = grind arith in
     ⊎_elim
     (λ none. absurd (let no : ⊥ = omega (arith, below, are.none none) in no))
     (λ some. omega (arith, below, are.all some))
     case
 
 -- each watches the lane of its processor
-pub are_watching : (plans : PlansView) (lanes : List (List LaneView)) (ticks : Ticks) (out room asked : ℕ) (watchers : List WatcherView) → AreLanes plans lanes ticks out room → AreWatchers plans lanes asked watchers → AreWatching lanes watchers
-are_watching plans lanes ticks out room asked watchers is are = λ k below.
-    let inside = watched_below plans lanes asked watchers k are below in
+pub are_watching : (plans : PlansView) (lanes : List (List LaneView)) (ticks : Ticks) (out room requested : ℕ) (watchers : List WatcherView) → AreLanes plans lanes ticks out room → AreWatchers plans lanes requested watchers → AreWatching lanes watchers
+are_watching plans lanes ticks out room requested watchers is are = λ k below.
+    let inside = watched_below plans lanes requested watchers k are below in
     let own = are.each k below in
     record {
       there = record { some = is.some; place = lane_there plans lanes ticks out room k is inside };
@@ -79,28 +79,28 @@ are_watching plans lanes ticks out room asked watchers is are = λ k below.
     }
 
 -- the plan of each has the slots of the plans
-pub have_slot : (plans : PlansView) (lanes : List (List LaneView)) (ticks : Ticks) (out room asked slot : ℕ) (watchers : List WatcherView) → AreLanes plans lanes ticks out room → AreWatchers plans lanes asked watchers → slot < length plans.lives → HaveSlot slot watchers
-have_slot plans lanes ticks out room asked slot watchers is are known = λ k below.
-    let inside = watched_below plans lanes asked watchers k are below in
+pub have_slot : (plans : PlansView) (lanes : List (List LaneView)) (ticks : Ticks) (out room requested slot : ℕ) (watchers : List WatcherView) → AreLanes plans lanes ticks out room → AreWatchers plans lanes requested watchers → slot < length plans.lives → HaveSlot slot watchers
+have_slot plans lanes ticks out room requested slot watchers is are known = λ k below.
+    let inside = watched_below plans lanes requested watchers k are below in
     let slots = (lane_is plans lanes ticks out room k is inside).slots in
     subst (λ (plan : PlanView). slot < length plan.parents) (sym (are.each k below).plan) (omega (arith, known, slots))
 
 -- the watchers are still those of the lanes after these advanced by ticks
-pub watchers_stay : (plans : PlansView) (lanes_old lanes_new : List (List LaneView)) (before ticks : Ticks) (out room asked : ℕ) (old new : List WatcherView) → AreLanes plans lanes_old before out room → HaveAllGone ticks lanes_old lanes_new
-    → AreWatchers plans lanes_old asked old → length new ≡ length old → ((k : ℕ) → k < length old → IsSameWatcher (watcher_at old k) (watcher_at new k)) → AreWatchers plans lanes_new asked new
-watchers_stay plans lanes_old lanes_new before ticks out room asked old new is gone are many same = record {
+pub watchers_stay : (plans : PlansView) (lanes_old lanes_new : List (List LaneView)) (before ticks : Ticks) (out room requested : ℕ) (old new : List WatcherView) → AreLanes plans lanes_old before out room → HaveAllGone ticks lanes_old lanes_new
+    → AreWatchers plans lanes_old requested old → length new ≡ length old → ((k : ℕ) → k < length old → IsSameWatcher (watcher_at old k) (watcher_at new k)) → AreWatchers plans lanes_new requested new
+watchers_stay plans lanes_old lanes_new before ticks out room requested old new is gone are many same = record {
   none = λ zero. many ∙ are.none zero;
   all = λ some. many ∙ are.all some;
   each = λ cpu below.
       let inside : cpu < length old = omega (arith, below, many) in
       let own = are.each cpu inside in
       let one = same cpu inside in
-      let lane = gone_there plans lanes_old lanes_new before ticks out room cpu is gone (watched_below plans lanes_old asked old cpu are inside) in
+      let lane = gone_there plans lanes_old lanes_new before ticks out room cpu is gone (watched_below plans lanes_old requested old cpu are inside) in
       record {
         cpu_is = one.cpu ∙ own.cpu_is;
         row = ap (λ (row : TableId). Some row) one.row ∙ own.row ∙ sym lane.row;
         plan = one.plan ∙ own.plan;
-        asked_is = one.asked ∙ own.asked_is;
+        requested_is = one.requested ∙ own.requested_is;
       };
 }
 
@@ -121,12 +121,12 @@ pub none_sampled : (old new : List WatcherView) → HaveCleared old new → (cpu
 none_sampled old new cleared = no_samples new (λ k below. (cleared.each k (omega (arith, below, cleared.many))).none)
 
 -- new watchers show no samples
-pub new_unsampled : (lanes : List (List LaneView)) (cpus asked : ℕ) (watchers : List WatcherView) → AreNewWatchers lanes cpus asked watchers → (cpu : ℕ) → (watch_at (map watch_seen watchers) cpu).samples ≡ []
-new_unsampled lanes cpus asked watchers new = no_samples watchers (λ k below. (new.each k below).none)
+pub new_unsampled : (lanes : List (List LaneView)) (cpus requested : ℕ) (watchers : List WatcherView) → AreNewWatchers lanes cpus requested watchers → (cpu : ℕ) → (watch_at (map watch_seen watchers) cpu).samples ≡ []
+new_unsampled lanes cpus requested watchers new = no_samples watchers (λ k below. (new.each k below).none)
 
--- if `asked` is 0, no sample was taken
-nothing_asked : (plan : PlanView) (slot asked before now : ℕ) (watch : WatchView) → asked ≡ 0 → watch.samples ≡ [] → before ≤ now → IsSampled plan slot asked before now watch watch
-nothing_asked plan slot asked before now watch zero none forward = record {
+-- if `requested` is 0, no sample was taken
+nothing_requested : (plan : PlanView) (slot requested before now : ℕ) (watch : WatchView) → requested ≡ 0 → watch.samples ≡ [] → before ≤ now → IsSampled plan slot requested before now watch watch
+nothing_requested plan slot requested before now watch zero none forward = record {
   many = ap length none ∙ sym zero;
   clocks = no_clocks plan slot watch.samples none;
   rise = subst (λ (samples : List Sample). RiseWithin before (counts_sampled samples) now) (sym none) forward;
@@ -135,48 +135,48 @@ nothing_asked plan slot asked before now watch zero none forward = record {
 }
 
 -- a processor has made at least as many changes after ticks as before
-made_more : (plans : PlansView) (old new : List (List LaneView)) (before ticks : Ticks) (out room cpu : ℕ) → AreLanes plans old before out room → ticks.count ≤ room → AreBehind plans (clocks_of old (length plans.plans)) ticks.first → HaveAllGone ticks old new → cpu < length plans.plans
+made_more : (plans : PlansView) (old new : List (List LaneView)) (before ticks : Ticks) (out room cpu : ℕ) → AreLanes plans old before out room → ticks.count ≤ room → AreNotPast plans (clocks_of old (length plans.plans)) ticks.first → HaveAllGone ticks old new → cpu < length plans.plans
     → (clocks_at (clocks_of old (length plans.plans)) cpu).made ≤ (clocks_at (clocks_of new (length plans.plans)) cpu).made
-made_more plans old new before ticks out room cpu is within behind gone below =
+made_more plans old new before ticks out room cpu is within not_past gone below =
     let plan = plan_at plans cpu in
-    let early = behind.behind cpu (omega (arith, below, clocks_many old (length plans.plans))) in
+    let early = not_past.not_past cpu (omega (arith, below, clocks_many old (length plans.plans))) in
     let late = (gone_at plans old new before ticks out room is within gone).there cpu (omega (arith, below, clocks_many new (length plans.plans))) in
     let later = changes_more plan ticks.first (last_of ticks) (omega arith) in
     omega (arith, early, late, later)
 
 -- watchers that took samples while the lanes made changes show them
-pub are_sampled : (plans : PlansView) (lanes_old lanes_new : List (List LaneView)) (before ticks : Ticks) (out room asked : ℕ) (slot : Slot) (old new : List WatcherView) (ready : ℕ) → IsCrew plans lanes_old before out room asked old → ticks.count ≤ room
-    → AreBehind plans (clocks_of lanes_old (length plans.plans)) ticks.first → HaveAllGone ticks lanes_old lanes_new → HaveWatched slot.0 lanes_old lanes_new old new
-    → AreSampled (Some slot) (crew_of plans lanes_old before out room asked old) (crew_of plans lanes_new ticks ready room asked new)
-are_sampled plans lanes_old lanes_new before ticks out room asked slot old new ready is within behind gone watched = λ cpu below.
+pub are_sampled : (plans : PlansView) (lanes_old lanes_new : List (List LaneView)) (before ticks : Ticks) (out room requested : ℕ) (slot : Slot) (old new : List WatcherView) (ready : ℕ) → IsCrew plans lanes_old before out room requested old → ticks.count ≤ room
+    → AreNotPast plans (clocks_of lanes_old (length plans.plans)) ticks.first → HaveAllGone ticks lanes_old lanes_new → HaveWatched slot.0 lanes_old lanes_new old new
+    → AreSampled (Some slot) (crew_of plans lanes_old before out room requested old) (crew_of plans lanes_new ticks ready room requested new)
+are_sampled plans lanes_old lanes_new before ticks out room requested slot old new ready is within not_past gone watched = λ cpu below.
     let cpus = length plans.plans in
     let plan = plan_at plans cpu in
     let made_old = (clocks_at (clocks_of lanes_old cpus) cpu).made in
     let made_new = (clocks_at (clocks_of lanes_new cpus) cpu).made in
-    let case : (asked ≡ 0) ⊎ (0 < asked) = grind arith in
-    let at_watchers : IsSampled plan slot.0 asked made_old made_new (watch_seen (watcher_at old cpu)) (watch_seen (watcher_at new cpu)) =
+    let case : (requested ≡ 0) ⊎ (0 < requested) = grind arith in
+    let at_watchers : IsSampled plan slot.0 requested made_old made_new (watch_seen (watcher_at old cpu)) (watch_seen (watcher_at new cpu)) =
     ⊎_elim
     (λ zero.
     let none : length old ≡ 0 = is.watched.none zero in
     let old_none : watcher_at old cpu ≡ no_watcher = get_or-eq_default old no_watcher (omega (arith, none)) in
     let new_none : watcher_at new cpu ≡ no_watcher = get_or-eq_default new no_watcher (omega (arith, none, watched.many)) in
-    let forward = made_more plans lanes_old lanes_new before ticks out room cpu is.lanes within behind gone below in
-    subst (λ (w : WatcherView). IsSampled plan slot.0 asked made_old made_new (watch_seen (watcher_at old cpu)) (watch_seen w)) (sym new_none)
-    (subst (λ (w : WatcherView). IsSampled plan slot.0 asked made_old made_new (watch_seen w) (watch_seen no_watcher)) (sym old_none) (nothing_asked plan slot.0 asked made_old made_new (watch_seen no_watcher) zero refl forward)))
+    let forward = made_more plans lanes_old lanes_new before ticks out room cpu is.lanes within not_past gone below in
+    subst (λ (w : WatcherView). IsSampled plan slot.0 requested made_old made_new (watch_seen (watcher_at old cpu)) (watch_seen w)) (sym new_none)
+    (subst (λ (w : WatcherView). IsSampled plan slot.0 requested made_old made_new (watch_seen w) (watch_seen no_watcher)) (sym old_none) (nothing_requested plan slot.0 requested made_old made_new (watch_seen no_watcher) zero refl forward)))
     (λ some.
     let inside : cpu < length old = omega (arith, below, is.watched.all some) in
     let own = is.watched.each cpu inside in
     let one = (watched.each cpu inside).sampled in
     let made_was : (lane_of lanes_old cpu).on.made ≡ made_old = ap (λ (on : OnPlan). on.made) (sym (clocks_are lanes_old cpus cpu below)) in
     let made_is : (lane_of lanes_new cpu).on.made ≡ made_new = ap (λ (on : OnPlan). on.made) (sym (clocks_are lanes_new cpus cpu below)) in
-    subst (λ (p : PlanView). IsSampled p slot.0 asked made_old made_new (watch_seen (watcher_at old cpu)) (watch_seen (watcher_at new cpu))) own.plan
-    (subst (λ n. IsSampled (watcher_at old cpu).knows.plan slot.0 n made_old made_new (watch_seen (watcher_at old cpu)) (watch_seen (watcher_at new cpu))) own.asked_is
-    (subst (λ n. IsSampled (watcher_at old cpu).knows.plan slot.0 (watcher_at old cpu).asked n made_new (watch_seen (watcher_at old cpu)) (watch_seen (watcher_at new cpu))) made_was
-    (subst (λ n. IsSampled (watcher_at old cpu).knows.plan slot.0 (watcher_at old cpu).asked (lane_of lanes_old cpu).on.made n (watch_seen (watcher_at old cpu)) (watch_seen (watcher_at new cpu))) made_is one))))
+    subst (λ (p : PlanView). IsSampled p slot.0 requested made_old made_new (watch_seen (watcher_at old cpu)) (watch_seen (watcher_at new cpu))) own.plan
+    (subst (λ n. IsSampled (watcher_at old cpu).knows.plan slot.0 n made_old made_new (watch_seen (watcher_at old cpu)) (watch_seen (watcher_at new cpu))) own.requested_is
+    (subst (λ n. IsSampled (watcher_at old cpu).knows.plan slot.0 (watcher_at old cpu).requested n made_new (watch_seen (watcher_at old cpu)) (watch_seen (watcher_at new cpu))) made_was
+    (subst (λ n. IsSampled (watcher_at old cpu).knows.plan slot.0 (watcher_at old cpu).requested (lane_of lanes_old cpu).on.made n (watch_seen (watcher_at old cpu)) (watch_seen (watcher_at new cpu))) made_is one))))
     case
     in
-    subst (λ (w : WatchView). IsSampled plan slot.0 asked made_old made_new w (watch_at (map watch_seen new) cpu)) (sym (watch_found old cpu))
-    (subst (λ (w : WatchView). IsSampled plan slot.0 asked made_old made_new (watch_seen (watcher_at old cpu)) w) (sym (watch_found new cpu)) at_watchers)
+    subst (λ (w : WatchView). IsSampled plan slot.0 requested made_old made_new w (watch_at (map watch_seen new) cpu)) (sym (watch_found old cpu))
+    (subst (λ (w : WatchView). IsSampled plan slot.0 requested made_old made_new (watch_seen (watcher_at old cpu)) w) (sym (watch_found new cpu)) at_watchers)
 
 -- ---- a new crew
 
@@ -184,14 +184,14 @@ are_sampled plans lanes_old lanes_new before ticks out room asked slot old new r
 pub new_there : (plans : PlansView) (lanes : List (List LaneView)) (room cpu : ℕ) → AreLanes plans lanes no_ticks 0 room → cpu < length plans.plans → IsLaneThere lanes cpu
 new_there plans lanes room cpu is below = record { some = is.some; place = lane_there plans lanes no_ticks 0 room cpu is below }
 
--- new watchers of all processors, or of none if `asked` is 0, are those of a crew
-pub watchers_new : (plans : PlansView) (lanes : List (List LaneView)) (room cpus asked : ℕ) (watchers : List WatcherView) → AreLanes plans lanes no_ticks 0 room → (asked ≡ 0 → cpus ≡ 0) → (0 < asked → cpus ≡ length plans.plans) → AreNewWatchers lanes cpus asked watchers
-    → AreWatchers plans lanes asked watchers
-watchers_new plans lanes room cpus asked watchers is none all new = record {
+-- new watchers of all processors, or of none if `requested` is 0, are those of a crew
+pub watchers_new : (plans : PlansView) (lanes : List (List LaneView)) (room cpus requested : ℕ) (watchers : List WatcherView) → AreLanes plans lanes no_ticks 0 room → (requested ≡ 0 → cpus ≡ 0) → (0 < requested → cpus ≡ length plans.plans) → AreNewWatchers lanes cpus requested watchers
+    → AreWatchers plans lanes requested watchers
+watchers_new plans lanes room cpus requested watchers is none all new = record {
   none = λ zero. new.many ∙ none zero;
   all = λ some. new.many ∙ all some;
   each = λ cpu below.
-      let case : (asked ≡ 0) ⊎ (0 < asked) = grind arith in
+      let case : (requested ≡ 0) ⊎ (0 < requested) = grind arith in
       let inside : cpu < length plans.plans = ⊎_elim
       (λ zero. absurd (let no : ⊥ = omega (arith, below, new.many, none zero) in no))
       (λ some. omega (arith, below, new.many, all some))
@@ -202,6 +202,6 @@ watchers_new plans lanes room cpus asked watchers is none all new = record {
         cpu_is = own.cpu_is;
         row = own.row_is;
         plan = own.plan_is ∙ (lane_is plans lanes no_ticks 0 room cpu is inside).plan;
-        asked_is = own.asked_is;
+        requested_is = own.requested_is;
       };
 }

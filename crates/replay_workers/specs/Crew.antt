@@ -10,7 +10,7 @@ use Rattle.psi_spec.specs.Changes.{RiseWithin}
 use Rattle.plan_laws.specs.Plan.{IsClock, IsPlan, PlanView, changes_up_to, last_change, no_plan, planned_irq, planned_time}
 use Rattle.pressure_spec.specs.Ticks.{table_until, times_with}
 use Rattle.proc_plan.specs.Clocks.{OnPlan}
-use Rattle.proc_plan.specs.Plans.{PlansView, StandFor, plan_at}
+use Rattle.proc_plan.specs.Plans.{PlansView, Represent, plan_at}
 use Rattle.clock_row.specs.declared.reader.Sample.{Sample}
 use Rattle.clock_row.specs.declared.view.ReaderView.{ReaderView}
 use Rattle.clock_row.specs.Steps.{new_reader}
@@ -40,16 +40,16 @@ pub record WatchView : Type 0 where
   pub reader : ReaderView
 
 -- A crew: the plans of a trace; the clocks of each processor, and their row if they are in one; the
--- moments (ns) whose tables are ready; `room`, the most ticks that it advances by at once; `asked`,
--- the number of live samples that it takes of a processor in an interval; and each processor's
--- samples, if it takes any.
+-- moments (ns) whose tables are ready; `room`, the most ticks that it advances by at once;
+-- `requested`, the number of live samples that it takes of a processor in an interval; and each
+-- processor's samples, if it takes any.
 pub record CrewView : Type 0 where
   pub plans : PlansView
   pub clocks : List OnPlan
   pub rows : List (Option TableId)
   pub ready : List ℕ
   pub room : ℕ
-  pub asked : ℕ
+  pub requested : ℕ
   pub watches : List WatchView
 
 -- the most bytes for the times of ticks ahead, unless one tick needs more: 64 MB
@@ -88,9 +88,9 @@ pub record AreOnPlans (plans : PlansView) (clocks : List OnPlan) : Type 0 where
   pub slots : (cpu : ℕ) → cpu < length clocks → length (plan_at plans cpu).parents ≡ length plans.lives
 
 -- no processor's clocks made a change that is later than a time (ns)
-pub record AreBehind (plans : PlansView) (clocks : List OnPlan) (at : ℕ) : Type 0 where
+pub record AreNotPast (plans : PlansView) (clocks : List OnPlan) (at : ℕ) : Type 0 where
   pub on_plans : AreOnPlans plans clocks
-  pub behind : (cpu : ℕ) → cpu < length clocks → (clocks_at clocks cpu).made ≤ changes_up_to (plan_at plans cpu) at
+  pub not_past : (cpu : ℕ) → cpu < length clocks → (clocks_at clocks cpu).made ≤ changes_up_to (plan_at plans cpu) at
 
 -- each processor's clocks made its changes up to a time (ns), and no others
 pub record AreAt (plans : PlansView) (clocks : List OnPlan) (at : ℕ) : Type 0 where
@@ -117,23 +117,23 @@ watch_at watches cpu = slice_index_or watches cpu (record { samples = []; reader
 abbrev pub counts_sampled : List Sample → List ℕ
 counts_sampled samples = map (λ (sample : Sample). sample.count) samples
 
--- A reader took `asked` samples of a slot's clock on a processor, while the writer went from
+-- A reader took `requested` samples of a slot's clock on a processor, while the writer went from
 -- `before` changes to `now`. Each sample is the clock after its number of changes. These numbers
 -- never decrease, and are from `before` to `now`. The reader took the samples with its own tries,
 -- at most eight for each; the first sample came after the writer's own clock.
-pub record IsSampled (plan : PlanView) (slot asked before now : ℕ) (old new : WatchView) : Type 0 where
-  pub many : length new.samples ≡ asked
+pub record IsSampled (plan : PlanView) (slot requested before now : ℕ) (old new : WatchView) : Type 0 where
+  pub many : length new.samples ≡ requested
   pub clocks : All (λ (sample : Sample). IsClock sample.clock plan slot sample.count) new.samples
   pub rise : RiseWithin before (counts_sampled new.samples) now
   pub tried : IsTried (counts_sampled new.samples) before old.reader new.reader
-  pub few : tries_of new.reader ≤ tries_of old.reader + 8 * asked
+  pub few : tries_of new.reader ≤ tries_of old.reader + 8 * requested
 
--- If a slot is watched, `asked` samples of it were taken on each processor, while the changes were
--- made; otherwise there are no samples.
+-- If a slot is watched, `requested` samples of it were taken on each processor, while the changes
+-- were made; otherwise there are no samples.
 abbrev pub AreSampled : Option Slot → CrewView → CrewView → Type 0
 AreSampled None old new = (cpu : ℕ) → (watch_at new.watches cpu).samples ≡ []
 AreSampled (Some slot) old new = (cpu : ℕ) → cpu < length old.plans.plans →
-    IsSampled (plan_at old.plans cpu) slot.0 old.asked (clocks_at old.clocks cpu).made (clocks_at new.clocks cpu).made
+    IsSampled (plan_at old.plans cpu) slot.0 old.requested (clocks_at old.clocks cpu).made (clocks_at new.clocks cpu).made
     (watch_at old.watches cpu) (watch_at new.watches cpu)
 
 -- ---- tables
@@ -157,4 +157,4 @@ RoomIsSmall = (cpus slots moments : ℕ) →
 -- interrupt times.
 abbrev pub TableIsOfEvents : Type 0
 TableIsOfEvents = (limits : Limits) (cpus : ℕ) (events : List Event) (plans : PlansView) (table : List (List (List ℕ))) (at : ℕ) →
-    AreLegal limits first_world events → StandFor plans cpus events → IsTableAt table plans at → table ≡ table_until cpus events at
+    AreLegal limits first_world events → Represent plans cpus events → IsTableAt table plans at → table ≡ table_until cpus events at

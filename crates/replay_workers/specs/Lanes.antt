@@ -68,7 +68,7 @@ pub record IsLane (plan : PlanView) (slots : ℕ) (on : OnPlan) : Type 0 where
 -- later than the first tick
 pub record MayGo (ticks : Ticks) (lane : LaneView) : Type 0 where
   pub room : ticks.count * length lane.on.plan.parents ≤ length lane.kept
-  pub behind : lane.on.made ≤ changes_up_to lane.on.plan ticks.first
+  pub not_past : lane.on.made ≤ changes_up_to lane.on.plan ticks.first
 
 -- A lane advanced by ticks: its clocks made the changes up to the last tick, and no others, and the
 -- times at each tick are stored.

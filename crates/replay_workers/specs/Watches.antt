@@ -26,7 +26,7 @@ pub record WatcherView : Type 0 where
   pub knows : ReaderView
   pub last : Sample
   pub samples : List Sample
-  pub asked : ℕ
+  pub requested : ℕ
 
 -- no row
 abbrev pub no_table_id : TableId
@@ -41,7 +41,7 @@ no_watcher =
       knows = new_reader no_plan 0;
       last = record { count = 0; clock = zero_clock };
       samples = [];
-      asked = 0;
+      requested = 0;
     }
 
 -- a watcher, by its place
@@ -57,14 +57,14 @@ pub record IsSameWatcher (old new : WatcherView) : Type 0 where
   pub cpu : new.cpu ≡ old.cpu
   pub row : new.row ≡ old.row
   pub plan : new.knows.plan ≡ old.knows.plan
-  pub asked : new.asked ≡ old.asked
+  pub requested : new.requested ≡ old.requested
 
 -- A new watcher of a lane's row has no sample.
-pub record IsNewWatcher (cpu asked : ℕ) (row : Option TableId) (plan : PlanView) (watcher : WatcherView) : Type 0 where
+pub record IsNewWatcher (cpu requested : ℕ) (row : Option TableId) (plan : PlanView) (watcher : WatcherView) : Type 0 where
   pub cpu_is : watcher.cpu ≡ cpu
   pub row_is : Some watcher.row ≡ row
   pub plan_is : watcher.knows.plan ≡ plan
-  pub asked_is : watcher.asked ≡ asked
+  pub requested_is : watcher.requested ≡ requested
   pub none : watcher.samples ≡ []
 
 -- A watcher may sample a slot: its last sample is the slot's clock after as many changes as it has
@@ -88,16 +88,16 @@ pub record HasMet (slot : ℕ) (on : OnPlan) (old new : WatcherView) : Type 0 wh
 -- each, up to the changes that it has seen now.
 pub record HasSampled (slot : ℕ) (old new : WatcherView) : Type 0 where
   pub same : IsSameWatcher old new
-  pub many : length new.samples ≡ old.asked
+  pub many : length new.samples ≡ old.requested
   pub clocks : All (λ (sample : Sample). IsClock sample.clock old.knows.plan slot sample.count) new.samples
   pub rise : RiseWithin old.last.count (counts_sampled new.samples) new.knows.seen
   pub tried : IsTried (counts_sampled new.samples) old.last.count old.knows new.knows
-  pub few : tries_of new.knows ≤ tries_of old.knows + 8 * old.asked
+  pub few : tries_of new.knows ≤ tries_of old.knows + 8 * old.requested
 
 -- A watcher sampled a slot while a lane made its changes.
 pub record HasWatched (slot : ℕ) (lane_old lane_new : LaneView) (old new : WatcherView) : Type 0 where
   pub same : IsSameWatcher old new
-  pub sampled : IsSampled old.knows.plan slot old.asked lane_old.on.made lane_new.on.made (watch_seen old) (watch_seen new)
+  pub sampled : IsSampled old.knows.plan slot old.requested lane_old.on.made lane_new.on.made (watch_seen old) (watch_seen new)
 
 -- A watcher discarded its samples.
 pub record HasCleared (old new : WatcherView) : Type 0 where
@@ -159,42 +159,42 @@ pub record HaveCleared (old new : List WatcherView) : Type 0 where
   pub many : length new ≡ length old
   pub each : (k : ℕ) → k < length old → HasCleared (watcher_at old k) (watcher_at new k)
 
--- New watchers of `cpus` processors, which take `asked` samples in an interval.
-pub record AreNewWatchers (batches : List (List LaneView)) (cpus asked : ℕ) (watchers : List WatcherView) : Type 0 where
+-- New watchers of `cpus` processors, which take `requested` samples in an interval.
+pub record AreNewWatchers (batches : List (List LaneView)) (cpus requested : ℕ) (watchers : List WatcherView) : Type 0 where
   pub many : length watchers ≡ cpus
-  pub each : (cpu : ℕ) → cpu < length watchers → IsNewWatcher cpu asked (lane_of batches cpu).row (lane_of batches cpu).on.plan
+  pub each : (cpu : ℕ) → cpu < length watchers → IsNewWatcher cpu requested (lane_of batches cpu).row (lane_of batches cpu).on.plan
       (watcher_at watchers cpu)
 
 -- ---- crews
 
--- A watcher of a crew is that of a processor: it has its lane's row and plan, and takes `asked`
+-- A watcher of a crew is that of a processor: it has its lane's row and plan, and takes `requested`
 -- samples in an interval.
-pub record IsWatcherOf (plans : PlansView) (batches : List (List LaneView)) (asked cpu : ℕ) (watcher : WatcherView) : Type 0 where
+pub record IsWatcherOf (plans : PlansView) (batches : List (List LaneView)) (requested cpu : ℕ) (watcher : WatcherView) : Type 0 where
   pub cpu_is : watcher.cpu ≡ cpu
   pub row : Some watcher.row ≡ (lane_of batches cpu).row
   pub plan : watcher.knows.plan ≡ plan_at plans cpu
-  pub asked_is : watcher.asked ≡ asked
+  pub requested_is : watcher.requested ≡ requested
 
 -- The watchers of a crew: one for each processor, if it takes samples.
-pub record AreWatchers (plans : PlansView) (batches : List (List LaneView)) (asked : ℕ) (watchers : List WatcherView) : Type 0 where
-  pub none : asked ≡ 0 → length watchers ≡ 0
-  pub all : 0 < asked → length watchers ≡ length plans.plans
-  pub each : (cpu : ℕ) → cpu < length watchers → IsWatcherOf plans batches asked cpu (watcher_at watchers cpu)
+pub record AreWatchers (plans : PlansView) (batches : List (List LaneView)) (requested : ℕ) (watchers : List WatcherView) : Type 0 where
+  pub none : requested ≡ 0 → length watchers ≡ 0
+  pub all : 0 < requested → length watchers ≡ length plans.plans
+  pub each : (cpu : ℕ) → cpu < length watchers → IsWatcherOf plans batches requested cpu (watcher_at watchers cpu)
 
 -- A crew has lanes, and watchers that sample them.
-pub record IsCrew (plans : PlansView) (batches : List (List LaneView)) (ticks : Ticks) (out room asked : ℕ)
+pub record IsCrew (plans : PlansView) (batches : List (List LaneView)) (ticks : Ticks) (out room requested : ℕ)
     (watchers : List WatcherView) : Type 0 where
   pub lanes : AreLanes plans batches ticks out room
-  pub watched : AreWatchers plans batches asked watchers
+  pub watched : AreWatchers plans batches requested watchers
 
 -- a crew with these parts
 abbrev pub crew_of : PlansView → List (List LaneView) → Ticks → ℕ → ℕ → ℕ → List WatcherView → CrewView
-crew_of plans batches ticks out room asked watchers = record {
+crew_of plans batches ticks out room requested watchers = record {
   plans = plans;
   clocks = clocks_of batches (length plans.plans);
   rows = rows_of batches (length plans.plans);
   ready = drop out (moments_of ticks);
   room = room;
-  asked = asked;
+  requested = requested;
   watches = map watch_seen watchers;
 }

@@ -19,41 +19,41 @@ fn watcher_of(
     alloc: Global,
     batches: &mut [Batch<'_>],
     cpu: Cpu,
-    asked: u32,
+    requested: u32,
 ) -> Result<Watcher, NoMemory>
     requires there { IsLaneThere batches.old cpu.0 }
     requires row { IsInRow (lane_of batches.old cpu.0) }
     ensures same { batches.new ≡ batches.old }
-    ensures new { IfOk result (IsNewWatcher (lane_of batches.old cpu.0).cpu asked
+    ensures new { IfOk result (IsNewWatcher (lane_of batches.old cpu.0).cpu requested
         (lane_of batches.old cpu.0).row (lane_of batches.old cpu.0).on.plan) }
 {
     let workers = batches.len();
     let batch = &mut batches[cpu.0 as usize % workers];
-    batch.lanes[cpu.0 as usize / workers].watcher(alloc, asked)
+    batch.lanes[cpu.0 as usize / workers].watcher(alloc, requested)
 }
 
 /// The number of changes that are worth a thread, if a crew advances one interval at a time: they
 /// take about as long as starting a thread.
 pub(crate) const WORTH_THREAD: u64 = 2_000;
 
-/// Watchers of the lanes of `cpus` processors, whose clocks are in rows. Each takes `asked` samples
-/// in an interval. Allocates everything that they need.
+/// Watchers of the lanes of `cpus` processors, whose clocks are in rows. Each takes `requested`
+/// samples in an interval. Allocates everything that they need.
 pub(crate) fn watch(
     alloc: Global,
     batches: &mut [Batch<'_>],
     cpus: u32,
-    asked: u32,
+    requested: u32,
 ) -> Result<Vec<Watcher>, NoMemory>
     requires there { (cpu : ℕ) → cpu < cpus → IsLaneThere batches.old cpu }
     requires rows { (cpu : ℕ) → cpu < cpus → IsInRow (lane_of batches.old cpu) }
     requires own { (cpu : ℕ) → cpu < cpus → (lane_of batches.old cpu).cpu ≡ cpu }
     ensures same { batches.new ≡ batches.old }
     ensures new { IfOk result (λ watchers.
-        AreNewWatchers batches.old cpus asked watchers.items) }
+        AreNewWatchers batches.old cpus requested watchers.items) }
 {
     let mut watchers = Vec::new(alloc);
     'cpus: for cpu in 0..cpus {
-        watchers.push(watcher_of(alloc, batches, Cpu(cpu), asked)?)?;
+        watchers.push(watcher_of(alloc, batches, Cpu(cpu), requested)?)?;
     }
     Ok(watchers)
 }

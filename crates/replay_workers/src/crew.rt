@@ -5,7 +5,7 @@ ghost use Rattle.psi_spec.specs.Within.{last_moment};
 ghost use Rattle.clock_row.specs.Steps.{count_shown, new_reader};
 ghost use Rattle.aggregate.specs.Table.{HasSizes};
 ghost use Rattle.proc_plan.specs.Plans.{plan_at};
-ghost use Rattle.replay_workers.specs.Crew.{AreAt, AreBehind, AreInRows, AreOnPlans, AreSampled, IsTableAt, clocks_at, last_of, moments_of, room_of, row_at, watch_at};
+ghost use Rattle.replay_workers.specs.Crew.{AreAt, AreNotPast, AreInRows, AreOnPlans, AreSampled, IsTableAt, clocks_at, last_of, moments_of, room_of, row_at, watch_at};
 
 use crate::batch::{Batch, go_all};
 use crate::beside::{WORTH_THREAD, clear, go_beside, watch};
@@ -47,7 +47,7 @@ pub struct Crew<'a> {
     /// The most ticks that the lanes can advance by at once.
     room: u32,
     /// The number of live samples of a processor in an interval.
-    asked: u32,
+    requested: u32,
     /// One watcher for each processor, if samples are taken.
     watchers: Vec<Watcher>,
 }
@@ -59,16 +59,16 @@ impl<'a> Model for Crew<'a> {
     ghost Value = { CrewView };
 
     ghost view = { λ c.
-        crew_of c.plans.now c.batches.items c.ticks c.out c.room c.asked c.watchers.items };
+        crew_of c.plans.now c.batches.items c.ticks c.out c.room c.requested c.watchers.items };
 
     ghost invariant = { λ c.
-        IsCrew c.plans.now c.batches.items c.ticks c.out c.room c.asked c.watchers.items };
+        IsCrew c.plans.now c.batches.items c.ticks c.out c.room c.requested c.watchers.items };
 }
 
 impl<'a> Crew<'a> {
     /// The clocks of all processors before the first change, for 1 to 64 workers. `moments` is the
-    /// trace's number of ticks; it bounds the look-ahead. `asked` live samples of a processor are
-    /// taken in an interval in which a group is watched. Allocates all that the crew needs.
+    /// trace's number of ticks; it bounds the look-ahead. `requested` live samples of a processor
+    /// are taken in an interval in which a group is watched. Allocates all that the crew needs.
     pub fn make(
         alloc: Global,
         plans: &'a Plans,
@@ -87,7 +87,7 @@ impl<'a> Crew<'a> {
         ensures none { IfOk result (λ crew. crew.ready ≡ []) }
         ensures room { IfOk result (λ crew. crew.room
             ≡ room_of (length crew.plans.plans) (length crew.plans.lives) moments) }
-        ensures asked { IfOk result (λ crew. crew.asked ≡ live) }
+        ensures requested { IfOk result (λ crew. crew.requested ≡ live) }
         ensures unwatched { IfOk result (λ crew.
             (cpu : ℕ) → (watch_at crew.watches cpu).samples ≡ []) }
     {
@@ -108,7 +108,7 @@ impl<'a> Crew<'a> {
             },
             out: 0,
             room,
-            asked: live,
+            requested: live,
             watchers,
         })
     }
@@ -134,18 +134,18 @@ impl<'a> Crew<'a> {
     pub fn intervals<R: Threads + Sync, G: Gate>(&mut self, rt: &R, ticks: Ticks, gate: &G)
         requires some { 0 < ticks.count }
         requires within { ticks.count ≤ self.old.room }
-        requires behind { AreBehind self.old.plans self.old.clocks ticks.first }
+        requires not_past { AreNotPast self.old.plans self.old.clocks ticks.first }
         requires early { last_of ticks ≤ last_moment }
         ensures plans { self.new.plans ≡ self.old.plans }
         ensures rows { self.new.rows ≡ self.old.rows }
         ensures room { self.new.room ≡ self.old.room }
-        ensures asked { self.new.asked ≡ self.old.asked }
+        ensures requested { self.new.requested ≡ self.old.requested }
         ensures there { AreAt self.new.plans self.new.clocks (last_of ticks) }
         ensures ready { self.new.ready ≡ moments_of ticks }
         ensures live { AreSampled None self.old self.new }
     {
         // A crew that takes samples advances one interval at a time, even if nothing is watched.
-        let worth = if self.asked > 0 { WORTH_THREAD } else { 1 };
+        let worth = if self.requested > 0 { WORTH_THREAD } else { 1 };
         go_all(rt, &mut self.batches, ticks, worth, gate);
         clear(&mut self.watchers);
         self.ticks = ticks;
@@ -162,13 +162,13 @@ impl<'a> Crew<'a> {
     )
         requires some { 0 < ticks.count }
         requires within { ticks.count ≤ self.old.room }
-        requires behind { AreBehind self.old.plans self.old.clocks ticks.first }
+        requires not_past { AreNotPast self.old.plans self.old.clocks ticks.first }
         requires early { last_of ticks ≤ last_moment }
         requires slot { slot.0 < length self.old.plans.lives }
         ensures plans { self.new.plans ≡ self.old.plans }
         ensures rows { self.new.rows ≡ self.old.rows }
         ensures room { self.new.room ≡ self.old.room }
-        ensures asked { self.new.asked ≡ self.old.asked }
+        ensures requested { self.new.requested ≡ self.old.requested }
         ensures there { AreAt self.new.plans self.new.clocks (last_of ticks) }
         ensures ready { self.new.ready ≡ moments_of ticks }
         ensures live { AreSampled (Some slot) self.old self.new }
@@ -184,7 +184,7 @@ impl<'a> Crew<'a> {
 
     /// Makes the changes of all processors up to and at a tick's time `at` (ns), and stores the
     /// times of all groups there. If a slot is watched and the crew takes samples, its clock is
-    /// sampled `asked` times on each processor meanwhile. Discards earlier samples. Does not
+    /// sampled `requested` times on each processor meanwhile. Discards earlier samples. Does not
     /// allocate.
     pub fn interval<R: Threads + Sync, G: Gate>(
         &mut self,
@@ -193,13 +193,13 @@ impl<'a> Crew<'a> {
         watched: Option<Slot>,
         gate: &G,
     )
-        requires behind { AreBehind self.old.plans self.old.clocks until }
+        requires not_past { AreNotPast self.old.plans self.old.clocks until }
         requires early { until ≤ last_moment }
         requires watched { IfSome watched (λ slot. slot.0 < length self.old.plans.lives) }
         ensures plans { self.new.plans ≡ self.old.plans }
         ensures rows { self.new.rows ≡ self.old.rows }
         ensures room { self.new.room ≡ self.old.room }
-        ensures asked { self.new.asked ≡ self.old.asked }
+        ensures requested { self.new.requested ≡ self.old.requested }
         ensures there { AreAt self.new.plans self.new.clocks until }
         ensures ready { self.new.ready ≡ until ∷ [] }
         ensures live { AreSampled watched self.old self.new }
@@ -232,7 +232,7 @@ impl<'a> Crew<'a> {
         requires first { slice_get self.old.ready 0 ≡ Some at }
         requires sizes { HasSizes (length self.old.plans.plans)
             (length self.old.plans.lives) rows.old }
-        ensures kept { self.new ≡ record self.old { ready = drop 1 self.old.ready } }
+        ensures unchanged { self.new ≡ record self.old { ready = drop 1 self.old.ready } }
         ensures table { IsTableAt rows.new self.old.plans at }
     {
         fill(self.plans, &self.batches, self.out, rows);
@@ -251,7 +251,7 @@ impl<'a> Crew<'a> {
     pub fn own(&mut self, cpu: Cpu, slot: Slot) -> Clock
         requires cpu { cpu.0 < length self.old.plans.plans }
         requires slot { slot.0 < length self.old.plans.lives }
-        ensures kept { self.new ≡ self.old }
+        ensures unchanged { self.new ≡ self.old }
         ensures clock { IsClock result (plan_at self.old.plans cpu.0) slot.0
             (clocks_at self.old.clocks cpu.0).made }
     {

@@ -65,7 +65,7 @@ pub(crate) fn lane_in<'b, 'a>(batches: &'b [Batch<'a>], cpu: Cpu) -> &'b Lane<'a
 fn fill_row(plans: &Plans, batches: &[Batch<'_>], tick: u32, slot: Slot, rows: &mut Rows)
     requires sizes { HasSizes (length plans.now.plans) (length plans.now.lives) rows.old }
     requires slot { slot.0 < length plans.now.lives }
-    requires kept { (at : ℕ) × AreKept plans.now batches.now tick at }
+    requires unchanged { (at : ℕ) × AreKept plans.now batches.now tick at }
     ensures sizes { HasSizes (length plans.now.plans) (length plans.now.lives) rows.new }
     ensures filled { (at : ℕ) → AreKept plans.now batches.now tick at →
         FillsRow rows.old rows.new plans.now slot.0 (length plans.now.plans) at }
@@ -87,7 +87,7 @@ fn fill_row(plans: &Plans, batches: &[Batch<'_>], tick: u32, slot: Slot, rows: &
 /// to a table: row by row, in the table's order.
 pub(crate) fn fill(plans: &Plans, batches: &[Batch<'_>], tick: u32, rows: &mut Rows)
     requires sizes { HasSizes (length plans.now.plans) (length plans.now.lives) rows.old }
-    requires kept { (at : ℕ) × AreKept plans.now batches.now tick at }
+    requires unchanged { (at : ℕ) × AreKept plans.now batches.now tick at }
     ensures { (at : ℕ) → AreKept plans.now batches.now tick at →
         IsTableAt rows.new plans.now at }
 {

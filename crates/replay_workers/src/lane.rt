@@ -101,7 +101,7 @@ impl<'a> Lane<'a> {
     /// The clock of a slot, after the changes made so far.
     pub(crate) fn own(&mut self, slot: Slot) -> Clock
         requires { slot.0 < length self.old.on.plan.parents }
-        ensures kept { self.new ≡ self.old }
+        ensures unchanged { self.new ≡ self.old }
         ensures clock { IsClock result self.old.on.plan slot.0 self.old.on.made }
     {
         self.clocks.own(slot)
@@ -158,18 +158,18 @@ impl<'a> Lane<'a> {
         writer.settle(reader)
     }
 
-    /// A watcher of the processor, whose clocks are in a row. It takes `asked` samples in an
+    /// A watcher of the processor, whose clocks are in a row. It takes `requested` samples in an
     /// interval. Allocates everything that it needs.
-    pub(crate) fn watcher(&mut self, alloc: Global, asked: u32) -> Result<Watcher, NoMemory>
+    pub(crate) fn watcher(&mut self, alloc: Global, requested: u32) -> Result<Watcher, NoMemory>
         requires { IsInRow self.old }
         ensures same { self.new ≡ self.old }
         ensures new { IfOk result
-            (IsNewWatcher self.old.cpu asked self.old.row self.old.on.plan) }
+            (IsNewWatcher self.old.cpu requested self.old.row self.old.on.plan) }
     {
         let LaneClocks::Row(writer) = &mut self.clocks else {
             unreachable!()
         };
-        Watcher::make(alloc, self.cpu, writer, asked)
+        Watcher::make(alloc, self.cpu, writer, requested)
     }
 
     /// Notifies the processor's watcher of the number of changes made, and of a slot's clock after

@@ -59,7 +59,7 @@ fn go_over<C: IrqClocks, G: Gate>(
     requires slots { slots ≡ length plan.now.parents }
     requires some { 0 < ticks.count }
     requires room { ticks.count * slots ≤ length kept.old }
-    requires behind { C.made clocks.old ≤ changes_up_to plan.now ticks.first }
+    requires not_past { C.made clocks.old ≤ changes_up_to plan.now ticks.first }
     requires early { last_of ticks ≤ last_moment }
     ensures plan { C.plan clocks.new ≡ plan.now }
     ensures made { C.made clocks.new ≡ changes_up_to plan.now (last_of ticks) }
@@ -108,7 +108,7 @@ impl<'a> LaneClocks<'a> {
     /// The clock of a slot, after the changes made so far.
     pub(crate) fn own(&mut self, slot: Slot) -> Clock
         requires { slot.0 < length (clocks_in self.old).plan.parents }
-        ensures kept { clocks_in self.new ≡ clocks_in self.old }
+        ensures unchanged { clocks_in self.new ≡ clocks_in self.old }
         ensures row { row_of_clocks self.new ≡ row_of_clocks self.old }
         ensures clock { IsClock result (clocks_in self.old).plan slot.0
             (clocks_in self.old).made }
@@ -134,7 +134,7 @@ impl<'a> LaneClocks<'a> {
         requires slots { slots ≡ length plan.now.parents }
         requires some { 0 < ticks.count }
         requires room { ticks.count * slots ≤ length kept.old }
-        requires behind { (clocks_in self.old).made ≤ changes_up_to plan.now ticks.first }
+        requires not_past { (clocks_in self.old).made ≤ changes_up_to plan.now ticks.first }
         requires early { last_of ticks ≤ last_moment }
         ensures plan { (clocks_in self.new).plan ≡ plan.now }
         ensures made { (clocks_in self.new).made ≡ changes_up_to plan.now (last_of ticks) }

@@ -27,7 +27,7 @@ pub(crate) struct Watcher {
     last: Sample,
     samples: Vec<Sample>,
     /// The number of samples in an interval.
-    asked: u32,
+    requested: u32,
 }
 
 impl Model for Watcher {
@@ -42,42 +42,42 @@ impl Model for Watcher {
       knows = w.reader.knows;
       last = w.last;
       samples = w.samples.items;
-      asked = w.asked;
+      requested = w.requested;
     } };
 
-    ghost invariant = { λ w. w.asked ≤ vec_capacity w.samples };
+    ghost invariant = { λ w. w.requested ≤ vec_capacity w.samples };
 }
 
-// Takes `asked` samples of a slot after the last one, and reports each to the gate. `samples` has
-// the capacity for them.
+// Takes `requested` samples of a slot after the last one, and reports each to the gate. `samples`
+// has the capacity for them.
 fn sample_on<G: Gate>(
     reader: &mut ClockReader,
     samples: &mut Vec<Sample>,
     cpu: Cpu,
     slot: Slot,
     last: &Sample,
-    asked: u32,
+    requested: u32,
     gate: &G,
 )
     requires slot { slot.0 < length reader.old.knows.plan.parents }
     requires last { IsClock last.now.clock reader.old.knows.plan slot.0 last.now.count }
     requires seen { last.now.count ≡ reader.old.knows.seen }
     requires none { samples.old.items ≡ [] }
-    requires room { asked ≤ vec_capacity samples.old }
+    requires room { requested ≤ vec_capacity samples.old }
     ensures row { reader.new.row ≡ reader.old.row }
     ensures plan { reader.new.knows.plan ≡ reader.old.knows.plan }
-    ensures room { asked ≤ vec_capacity samples.new }
-    ensures many { vec_len samples.new ≡ asked }
+    ensures room { requested ≤ vec_capacity samples.new }
+    ensures many { vec_len samples.new ≡ requested }
     ensures clocks { All (λ (sample : Sample).
         IsClock sample.clock reader.old.knows.plan slot.0 sample.count) samples.new.items }
     ensures rise { RiseWithin last.now.count (counts_sampled samples.new.items)
         reader.new.knows.seen }
     ensures tried { IsTried (counts_sampled samples.new.items) last.now.count
         reader.old.knows reader.new.knows }
-    ensures few { tries_of reader.new.knows ≤ tries_of reader.old.knows + 8 * asked }
+    ensures few { tries_of reader.new.knows ≤ tries_of reader.old.knows + 8 * requested }
 {
     let mut newest = *last;
-    'samples: for index in 0..asked {
+    'samples: for index in 0..requested {
         gate.before_sample(cpu, index);
         newest = reader.sample_or(slot, &newest);
         gate.sampled(cpu, newest.count);
@@ -88,17 +88,17 @@ fn sample_on<G: Gate>(
 }
 
 impl Watcher {
-    /// A watcher of a writer's row, which takes `asked` samples in an interval. Allocates
+    /// A watcher of a writer's row, which takes `requested` samples in an interval. Allocates
     /// everything that it needs.
     pub(crate) fn make(
         alloc: Global,
         cpu: Cpu,
         writer: &mut ClockWriter<'_>,
-        asked: u32,
+        requested: u32,
     ) -> Result<Watcher, NoMemory>
         ensures same { writer.new ≡ writer.old }
         ensures new { IfOk result
-            (IsNewWatcher cpu.0 asked (Some writer.old.row) writer.old.knows.plan) }
+            (IsNewWatcher cpu.0 requested (Some writer.old.row) writer.old.knows.plan) }
     {
         let reader = writer.reader()?;
         Ok(Watcher {
@@ -108,8 +108,8 @@ impl Watcher {
                 count: 0,
                 clock: Clock::zero(),
             },
-            samples: Vec::with_capacity(alloc, asked as usize)?,
-            asked,
+            samples: Vec::with_capacity(alloc, requested as usize)?,
+            requested,
         })
     }
 
@@ -144,7 +144,7 @@ impl Watcher {
         ensures met { HasMet slot.0 (on_of writer.old) self.old self.new }
     {
         // Both are always Ok.
-        let _told = writer.settle(&mut self.reader);
+        let _known = writer.settle(&mut self.reader);
         let _met = writer.meet(&mut self.reader);
         self.last = Sample {
             count: writer.count(),
@@ -162,7 +162,7 @@ impl Watcher {
         ensures seen { self.old.knows.seen ≤ writer.old.knows.count }
     {
         // It is always Ok.
-        let _told = writer.settle(&mut self.reader);
+        let _known = writer.settle(&mut self.reader);
     }
 
     /// Takes its samples of a slot, and reports each to the gate. Makes at most eight tries for
@@ -178,7 +178,7 @@ impl Watcher {
             self.cpu,
             slot,
             &self.last,
-            self.asked,
+            self.requested,
             gate,
         );
     }

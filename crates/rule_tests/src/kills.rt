@@ -149,17 +149,17 @@ fn resting_ruleset_sees_readings(rt: HostRuntime) {
     );
 }
 
-const BEHIND_FALSE: &str = "{'rulesets':[{'name':'r','detectors':[['g',
+const AFTER_FALSE: &str = "{'rulesets':[{'name':'r','detectors':[['g',
 {'name':'memory_above','args':{'cgroup':'a','threshold':150,'duration':0}},
 {'name':'memory_above','args':{'cgroup':'a','threshold':100,'duration':10}}]],
 'actions':[{'name':'kill_by_memory_size_or_growth','args':{'cgroup':'a'}}]}]}";
 
 #[test]
-fn detector_behind_a_false_one_sees_readings(rt: HostRuntime) {
+fn detector_after_a_false_one_sees_readings(rt: HostRuntime) {
     kills(
         &rt,
         rt.alloc(),
-        BEHIND_FALSE,
+        AFTER_FALSE,
         &[(Some(120), ""), (Some(120), ""), (Some(200), "15: 0 0 1;")],
     );
 }

@@ -30,20 +30,20 @@ of_cut most bytes enough = by_test _ (nat_lt most (length bytes))
     ap rulesets_of (take_all most bytes within))
 
 -- the prefix of a file gives the same list of rulesets, or the same error, as the whole file
-lists_of_front : (bytes : List ℕ) → rulesets_of (take 1048577 bytes) ≡ rulesets_of bytes
-lists_of_front bytes = of_cut 1048577 bytes (omega arith)
+lists_of_prefix : (bytes : List ℕ) → rulesets_of (take 1048577 bytes) ≡ rulesets_of bytes
+lists_of_prefix bytes = of_cut 1048577 bytes (omega arith)
 
 -- and thus the same rules
-pub of_front : (bytes : List ℕ) → rules_of (take 1048577 bytes) ≡ rules_of bytes
+pub of_prefix : (bytes : List ℕ) → rules_of (take 1048577 bytes) ≡ rules_of bytes
 unfolding rules_of
-of_front bytes = ap (λ items. items >>= (λ ds. each rule_at 0 ds >>= (λ rules. let made : Result Rules RulesFault = Ok (record { rules = rules }) in made))) (lists_of_front bytes)
+of_prefix bytes = ap (λ items. items >>= (λ ds. each rule_at 0 ds >>= (λ rules. let made : Result Rules RulesFault = Ok (record { rules = rules }) in made))) (lists_of_prefix bytes)
 
 -- or the same parts
-parts_of_front : (bytes : List ℕ) → parts_of (take 1048577 bytes) ≡ parts_of bytes
+parts_of_prefix : (bytes : List ℕ) → parts_of (take 1048577 bytes) ≡ parts_of bytes
 unfolding parts_of
-parts_of_front bytes = ap (λ items. items >>= (λ ds. each part_at 0 ds)) (lists_of_front bytes)
+parts_of_prefix bytes = ap (λ items. items >>= (λ ds. each part_at 0 ds)) (lists_of_prefix bytes)
 
 -- and the same rules if applied to other rules
-pub over_of_front : (base : Rules) (bytes : List ℕ) → dropped_in base (take 1048577 bytes) ≡ dropped_in base bytes
+pub over_of_prefix : (base : Rules) (bytes : List ℕ) → dropped_in base (take 1048577 bytes) ≡ dropped_in base bytes
 unfolding dropped_in
-over_of_front base bytes = ap (λ (parts : Result (List Part) RulesFault). parts_read parts >>= parts_joined base) (parts_of_front bytes)
+over_of_prefix base bytes = ap (λ (parts : Result (List Part) RulesFault). parts_read parts >>= parts_joined base) (parts_of_prefix bytes)

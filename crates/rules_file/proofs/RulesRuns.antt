@@ -2,7 +2,7 @@
 use Rattle.std.proofs.Common.{◌≡◌, ℕ, List, [], ◌++◌, refl, sym, ap, ◌∙◌, subst, Option, None, Some, Ok, Err, true≢false}
 use Rattle.std.specs.Prelude.{MatchResult, Result, codes, is_some, option_map}
 use Rattle.psi_base.specs.Memory.{no_memory}
-use Rattle.outside.specs.Outside.{Files, Lacks, ShelfCounts, counts_of, told}
+use Rattle.outside.specs.Outside.{Files, IsAbsent, ShelfCounts, counts_of, content_of}
 use Rattle.ruleset_json.specs.declared.fault.RulesFault.{RulesFault}
 use Rattle.ruleset_json.specs.declared.types.Rule.{Rule}
 use Rattle.ruleset_json.specs.declared.types.Rules.{Rules}
@@ -18,45 +18,45 @@ use Rattle.run_spec.specs.declared.status.Status.TheVariants as status
 use Rattle.run_spec.specs.declared.status.Which.{Which}
 use Rattle.run_spec.specs.declared.status.Which.TheVariants.{DropInFile, RulesFile, TraceFile}
 use Rattle.run_spec.specs.Outputs.{file_of, or_drop_fault, or_rules_fault, rules_from, rules_name, with_drop_in}
-use Rattle.run_spec.specs.Run.{FailuresAreCounted, IsPassed, IsThere, RunCounts, Runs, told_if_named}
+use Rattle.run_spec.specs.Run.{FailuresAreCounted, IsPassed, IsThere, RunCounts, Runs, content_if_named}
 use Rattle.trace_file.specs.Reads.{plain_trace}
-use Rattle.rules_file.specs.Files.{BaseFails, BaseGiven, EndsRun, IsFront, OverFails, OverGiven, Stays, Unread, counts_with}
-use Rattle.run_outcomes.specs.Rules.{RulesGiven}
+use Rattle.rules_file.specs.Files.{BaseFails, BaseOption, EndsRun, IsPrefixOf, OverFails, OverOption, Stays, Unread, counts_with}
+use Rattle.run_outcomes.specs.Rules.{RulesOption}
 use Rattle.run_outcomes.specs.Writes.{WritesText}
-use Rattle.rules_file.proofs.RulesLaws.{of_front, over_of_front}
-use Rattle.run_outcomes.proofs.RunLaws.{counts_written, file_there, is_named, keeps_same, memory_wanting, missed_counts, read_failed, rules_there, same_name, stays, takes_given}
+use Rattle.rules_file.proofs.RulesLaws.{of_prefix, over_of_prefix}
+use Rattle.run_outcomes.proofs.RunLaws.{counts_written, file_there, is_named, keeps_same, out_of_memory_at, missed_counts, read_failed, rules_there, same_name, stays, takes_events}
 
 -- ---- one file
 
 -- the rules of a rules file whose prefix was read
-pub base_read : (bytes name : List ℕ) (files : Option Files) (before now : ShelfCounts) (rules : Rules) → IsFront bytes name files before now → FitsRules rules.rules → rules_of bytes ≡ Ok rules → BaseGiven name files before now rules
-base_read bytes name files before now rules front fit is = record {
+pub base_read : (bytes name : List ℕ) (files : Option Files) (before now : ShelfCounts) (rules : Rules) → IsPrefixOf bytes name files before now → FitsRules rules.rules → rules_of bytes ≡ Ok rules → BaseOption name files before now rules
+base_read bytes name files before now rules prefix fit is = record {
   fit = fit;
-  read = λ whole tells. sym (of_front whole) ∙ ap rules_of (sym (front.front whole tells)) ∙ is;
-  held = front.held;
-  stays = front.stays;
+  read = λ whole shows. sym (of_prefix whole) ∙ ap rules_of (sym (prefix.prefix whole shows)) ∙ is;
+  held = prefix.held;
+  stays = prefix.stays;
 }
 
 -- or its first fault
-pub base_refused : (bytes name : List ℕ) (files : Option Files) (before now : ShelfCounts) (fault : RulesFault) → IsFront bytes name files before now → rules_of bytes ≡ Err fault → BaseFails name files before now (status.Rules fault)
-base_refused bytes name files before now fault front is =
-    (λ whole tells. sym (of_front whole) ∙ ap rules_of (sym (front.front whole tells)) ∙ is, front.held, front.stays)
+pub base_refused : (bytes name : List ℕ) (files : Option Files) (before now : ShelfCounts) (fault : RulesFault) → IsPrefixOf bytes name files before now → rules_of bytes ≡ Err fault → BaseFails name files before now (status.Rules fault)
+base_refused bytes name files before now fault prefix is =
+    (λ whole shows. sym (of_prefix whole) ∙ ap rules_of (sym (prefix.prefix whole shows)) ∙ is, prefix.held, prefix.stays)
 
 -- rules with a drop-in file applied whose prefix was read
-pub over_read : (base : Rules) (bytes name : List ℕ) (files : Option Files) (before now : ShelfCounts) (rules : Rules) → IsFront bytes name files before now → FitsRules rules.rules → dropped_in base bytes ≡ Ok rules
-    → OverGiven base name files before now rules
-over_read base bytes name files before now rules front fit is = record {
+pub over_read : (base : Rules) (bytes name : List ℕ) (files : Option Files) (before now : ShelfCounts) (rules : Rules) → IsPrefixOf bytes name files before now → FitsRules rules.rules → dropped_in base bytes ≡ Ok rules
+    → OverOption base name files before now rules
+over_read base bytes name files before now rules prefix fit is = record {
   fit = fit;
-  read = λ whole tells. sym (over_of_front base whole) ∙ ap (dropped_in base) (sym (front.front whole tells)) ∙ is;
-  held = front.held;
-  stays = front.stays;
+  read = λ whole shows. sym (over_of_prefix base whole) ∙ ap (dropped_in base) (sym (prefix.prefix whole shows)) ∙ is;
+  held = prefix.held;
+  stays = prefix.stays;
 }
 
 -- or its first fault
-pub over_refused : (base : Rules) (bytes name : List ℕ) (files : Option Files) (before now : ShelfCounts) (fault : DropFault) → IsFront bytes name files before now → dropped_in base bytes ≡ Err fault
+pub over_refused : (base : Rules) (bytes name : List ℕ) (files : Option Files) (before now : ShelfCounts) (fault : DropFault) → IsPrefixOf bytes name files before now → dropped_in base bytes ≡ Err fault
     → OverFails base name files before now (status.DropIn fault)
-over_refused base bytes name files before now fault front is =
-    (λ whole tells. sym (over_of_front base whole) ∙ ap (dropped_in base) (sym (front.front whole tells)) ∙ is, front.held, front.stays)
+over_refused base bytes name files before now fault prefix is =
+    (λ whole shows. sym (over_of_prefix base whole) ∙ ap (dropped_in base) (sym (prefix.prefix whole shows)) ∙ is, prefix.held, prefix.stays)
 
 -- ---- files of rules that couldn't be read, or were refused
 
@@ -82,7 +82,7 @@ unread_ends command which name files before now writes had (status.NoFile kind) 
 unread_ends command which name files before now writes had status.ReadFault named passed unread =
     read_failed command files (counts_with before writes) (counts_with now writes) had (which, is_named command which name named) unread.0 unread.1 refl
 unread_ends command which name files before now writes had (status.NoMemory _) named passed unread =
-    memory_wanting command files (counts_with before writes) (counts_with now writes) had unread.faults unread.absent refl
+    out_of_memory_at command files (counts_with before writes) (counts_with now writes) had unread.faults unread.absent refl
 unread_ends command which name files before now writes had _ named passed unread = absurd unread
 
 -- a rules file that wasn't read gives no rules
@@ -111,12 +111,12 @@ base_ends name drop_in files before now (status.NoMemory none) fails = λ comman
 base_ends name drop_in files before now _ fails = absurd fails
 
 -- the rules of the rules file are accepted before a drop-in file is read
-pub passed_base : (command : Command) (name : List ℕ) (files : Option Files) (before now : ShelfCounts) (base : Rules) → rules_name command ≡ Some name → BaseGiven name files before now base → IsPassed command files DropInFile
-passed_base command name files before now base named given = (
+pub passed_base : (command : Command) (name : List ℕ) (files : Option Files) (before now : ShelfCounts) (base : Rules) → rules_name command ≡ Some name → BaseOption name files before now base → IsPassed command files DropInFile
+passed_base command name files before now base named bytes_read = (
   base,
   is_named command RulesFile name named,
-  λ bytes known. given.read bytes (subst (λ n. told files n ≡ Some bytes) (same_name command RulesFile name known.0 named known.1) known.2),
-  file_there command RulesFile name files named given.held,
+  λ bytes known. bytes_read.read bytes (subst (λ n. content_of files n ≡ Some bytes) (same_name command RulesFile name known.0 named known.1) known.2),
+  file_there command RulesFile name files named bytes_read.held,
 )
 
 -- rules with a drop-in file applied are those of both files
@@ -124,30 +124,30 @@ pub joined_from : (bytes drop_in : List ℕ) (base : Rules) → rules_of bytes �
 joined_from bytes drop_in base is = ap (λ read. with_drop_in (Some drop_in) (or_rules_fault read)) is
 
 -- a failure at a drop-in file, if the shelf's counts are as they were at first
-fails_over : (name other : List ℕ) (files : Option Files) (first before now : ShelfCounts) (base : Rules) (result : Status) → BaseGiven name files first before base → OverFails base other files before now result
+fails_over : (name other : List ℕ) (files : Option Files) (first before now : ShelfCounts) (base : Rules) (result : Status) → BaseOption name files first before base → OverFails base other files before now result
     → EndsRun (Some name) (Some other) files before now result
-fails_over name other files first before now base (status.DropIn fault) given fails = λ command writes had named over. record {
+fails_over name other files first before now base (status.DropIn fault) bytes_read fails = λ command writes had named over. record {
   ends = (
     keeps_same had,
     is_named command DropInFile other over,
-    passed_base command name files first before base named given,
+    passed_base command name files first before base named bytes_read,
     file_there command DropInFile other files over fails.1,
     λ bytes drop_in known found.
-        joined_from bytes drop_in base (given.read bytes (subst (λ n. told files n ≡ Some bytes) (same_name command RulesFile name known.0 named known.1) known.2))
-        ∙ ap or_drop_fault (fails.0 drop_in (subst (λ n. told files n ≡ Some drop_in) (same_name command DropInFile other found.0 over found.1) found.2)),
+        joined_from bytes drop_in base (bytes_read.read bytes (subst (λ n. content_of files n ≡ Some bytes) (same_name command RulesFile name known.0 named known.1) known.2))
+        ∙ ap or_drop_fault (fails.0 drop_in (subst (λ n. content_of files n ≡ Some drop_in) (same_name command DropInFile other found.0 over found.1) found.2)),
   );
   counts = same_counts before now writes (status.DropIn fault) fails.2 (λ is. cc is) (λ is. cc is.1) (λ is. cc is);
 }
-fails_over name other files first before now base (status.NoFile kind) given fails = λ command writes had named over. unread_ends command DropInFile other files before now writes had (status.NoFile kind) over (passed_base command name files first before base named given) fails
-fails_over name other files first before now base status.ReadFault given fails = λ command writes had named over. unread_ends command DropInFile other files before now writes had status.ReadFault over (passed_base command name files first before base named given) fails
-fails_over name other files first before now base (status.NoMemory none) given fails = λ command writes had named over. unread_ends command DropInFile other files before now writes had (status.NoMemory none) over (passed_base command name files first before base named given) fails
-fails_over name other files first before now base _ given fails = absurd fails
+fails_over name other files first before now base (status.NoFile kind) bytes_read fails = λ command writes had named over. unread_ends command DropInFile other files before now writes had (status.NoFile kind) over (passed_base command name files first before base named bytes_read) fails
+fails_over name other files first before now base status.ReadFault bytes_read fails = λ command writes had named over. unread_ends command DropInFile other files before now writes had status.ReadFault over (passed_base command name files first before base named bytes_read) fails
+fails_over name other files first before now base (status.NoMemory none) bytes_read fails = λ command writes had named over. unread_ends command DropInFile other files before now writes had (status.NoMemory none) over (passed_base command name files first before base named bytes_read) fails
+fails_over name other files first before now base _ bytes_read fails = absurd fails
 
 -- a failure at a drop-in file ends a run
-pub over_ends : (name other : List ℕ) (files : Option Files) (before mid now : ShelfCounts) (base : Rules) (result : Status) → BaseGiven name files before mid base → OverFails base other files mid now result
+pub over_ends : (name other : List ℕ) (files : Option Files) (before mid now : ShelfCounts) (base : Rules) (result : Status) → BaseOption name files before mid base → OverFails base other files mid now result
     → EndsRun (Some name) (Some other) files before now result
-over_ends name other files before mid now base result given fails =
-    subst (λ n. EndsRun (Some name) (Some other) files n now result) (same_shelf before mid given.stays) (fails_over name other files before mid now base result given fails)
+over_ends name other files before mid now base result bytes_read fails =
+    subst (λ n. EndsRun (Some name) (Some other) files n now result) (same_shelf before mid bytes_read.stays) (fails_over name other files before mid now base result bytes_read fails)
 
 -- ---- files of rules that were read
 
@@ -157,43 +157,43 @@ mapped None found is = absurd (true≢false (sym (ap is_some is)))
 mapped (Some here) found is = (here, refl, let same : Some here ≡ found = cc is in same)
 
 -- the bytes of a drop-in file with this name are known
-pub named_bytes : (files : Option Files) (named : Option (List ℕ)) (name : List ℕ) (found : Option (List ℕ)) → named ≡ Some name → told_if_named files named ≡ Some found
-    → (here : List ℕ) × (told files name ≡ Some here) × (Some here ≡ found)
-named_bytes files named name found is tells = mapped (told files name) found (subst (λ n. told_if_named files n ≡ Some found) is tells)
+pub named_bytes : (files : Option Files) (named : Option (List ℕ)) (name : List ℕ) (found : Option (List ℕ)) → named ≡ Some name → content_if_named files named ≡ Some found
+    → (here : List ℕ) × (content_of files name ≡ Some here) × (Some here ≡ found)
+named_bytes files named name found is shows = mapped (content_of files name) found (subst (λ n. content_if_named files n ≡ Some found) is shows)
 
 -- rules of the rules file only
-pub base_alone : (name : List ℕ) (files : Option Files) (before now : ShelfCounts) (base : Rules) → BaseGiven name files before now base → RulesGiven (Some name) None files base.rules
-base_alone name files before now base given = record {
-  fit = given.fit;
+pub base_alone : (name : List ℕ) (files : Option Files) (before now : ShelfCounts) (base : Rules) → BaseOption name files before now base → RulesOption (Some name) None files base.rules
+base_alone name files before now base bytes_read = record {
+  fit = bytes_read.fit;
   none = λ is. absurd (true≢false (ap is_some is));
-  read = λ other bytes found is tells known.
+  read = λ other bytes found is shows known.
       let same : name ≡ other = cc is in
       let none : None ≡ found = cc known in
       subst (λ over. rules_from bytes over ≡ Ok base) none
-      (ap (λ read. with_drop_in None (or_rules_fault read)) (given.read bytes (subst (λ n. told files n ≡ Some bytes) (sym same) tells)));
+      (ap (λ read. with_drop_in None (or_rules_fault read)) (bytes_read.read bytes (subst (λ n. content_of files n ≡ Some bytes) (sym same) shows)));
   held = λ other is lacks.
       let same : name ≡ other = cc is in
-      given.held (subst (Lacks files) (sym same) lacks);
+      bytes_read.held (subst (IsAbsent files) (sym same) lacks);
   drop_in_held = λ other is. absurd (true≢false (sym (ap is_some is)));
 }
 
 -- rules of both files
-pub both_given : (name over : List ℕ) (files : Option Files) (before mid now : ShelfCounts) (base rules : Rules) → BaseGiven name files before mid base → OverGiven base over files mid now rules
-    → RulesGiven (Some name) (Some over) files rules.rules
-both_given name over files before mid now base rules given put = record {
+pub both_options : (name over : List ℕ) (files : Option Files) (before mid now : ShelfCounts) (base rules : Rules) → BaseOption name files before mid base → OverOption base over files mid now rules
+    → RulesOption (Some name) (Some over) files rules.rules
+both_options name over files before mid now base rules bytes_read put = record {
   fit = put.fit;
   none = λ is. absurd (true≢false (ap is_some is));
-  read = λ other bytes found is tells known.
+  read = λ other bytes found is shows known.
       let same : name ≡ other = cc is in
       let here = named_bytes files (Some over) over found refl known in
       subst (λ drop_in. rules_from bytes drop_in ≡ Ok rules) here.2
-      (joined_from bytes here.0 base (given.read bytes (subst (λ n. told files n ≡ Some bytes) (sym same) tells)) ∙ ap or_drop_fault (put.read here.0 here.1));
+      (joined_from bytes here.0 base (bytes_read.read bytes (subst (λ n. content_of files n ≡ Some bytes) (sym same) shows)) ∙ ap or_drop_fault (put.read here.0 here.1));
   held = λ other is lacks.
       let same : name ≡ other = cc is in
-      given.held (subst (Lacks files) (sym same) lacks);
+      bytes_read.held (subst (IsAbsent files) (sym same) lacks);
   drop_in_held = λ other is lacks.
       let same : over ≡ other = cc is in
-      put.held (subst (Lacks files) (sym same) lacks);
+      put.held (subst (IsAbsent files) (sym same) lacks);
 }
 
 -- counts that are unchanged twice
@@ -201,11 +201,11 @@ pub stays_on : (before mid now : ShelfCounts) → Stays before mid → Stays mid
 stays_on before mid now first then = record { faults = then.faults ∙ first.faults; absent = then.absent ∙ first.absent }
 
 -- the result of applying a drop-in file to the rules of a rules file
-pub over_answers : (name over : List ℕ) (files : Option Files) (before mid now : ShelfCounts) (base : Rules) (result : Result Rules Status) → BaseGiven name files before mid base
-    → MatchResult result (λ rules. OverGiven base over files mid now rules) (λ found. OverFails base over files mid now found)
-    → MatchResult result (λ rules. RulesGiven (Some name) (Some over) files rules.rules × Stays before now) (λ found. EndsRun (Some name) (Some over) files before now found)
-over_answers name over files before mid now base (Ok rules) given put = (both_given name over files before mid now base rules given put, stays_on before mid now given.stays put.stays)
-over_answers name over files before mid now base (Err found) given fails = over_ends name over files before mid now base found given fails
+pub over_answers : (name over : List ℕ) (files : Option Files) (before mid now : ShelfCounts) (base : Rules) (result : Result Rules Status) → BaseOption name files before mid base
+    → MatchResult result (λ rules. OverOption base over files mid now rules) (λ found. OverFails base over files mid now found)
+    → MatchResult result (λ rules. RulesOption (Some name) (Some over) files rules.rules × Stays before now) (λ found. EndsRun (Some name) (Some over) files before now found)
+over_answers name over files before mid now base (Ok rules) bytes_read put = (both_options name over files before mid now base rules bytes_read put, stays_on before mid now bytes_read.stays put.stays)
+over_answers name over files before mid now base (Err found) bytes_read fails = over_ends name over files before mid now base found bytes_read fails
 
 -- ---- rules that were written
 
@@ -215,18 +215,18 @@ no_source name drop_in files = λ other is lacks. true≢false (sym (ap is_some 
 
 -- a text of rules that was written
 pub rules_written : (name : List ℕ) (drop_in : Option (List ℕ)) (files : Option Files) (before now : RunCounts) (had has : Option (List ℕ)) (rules : List Rule) (result : Status)
-    → RulesGiven (Some name) drop_in files rules → now.shelf.faults ≡ before.shelf.faults → now.shelf.absent ≡ before.shelf.absent
+    → RulesOption (Some name) drop_in files rules → now.shelf.faults ≡ before.shelf.faults → now.shelf.absent ≡ before.shelf.absent
     → WritesText (rules_text rules ++ codes "\n") before.writes now.writes had has result → Runs (words.Rules name drop_in) files before now had has result
-rules_written name drop_in files before now had has rules status.Done given faults absent wrote = record {
-  ends = (plain_trace 1 [], rules, λ has. absurd has, takes_given (words.Rules name drop_in) _ _ files rules refl refl given, rules_there (words.Rules name drop_in) files rules given, no_source name drop_in files, (rules_text rules ++ codes "\n", refl, wrote.0));
+rules_written name drop_in files before now had has rules status.Done bytes_read faults absent wrote = record {
+  ends = (plain_trace 1 [], rules, λ has. absurd has, takes_events (words.Rules name drop_in) _ _ files rules refl refl bytes_read, rules_there (words.Rules name drop_in) files rules bytes_read, no_source name drop_in files, (rules_text rules ++ codes "\n", refl, wrote.0));
   counts = counts_written before now status.Done faults absent (λ is. cc is) (λ is. cc is.1) (stays _ before.writes now.writes (λ is. cc is) wrote.1);
 }
-rules_written name drop_in files before now had has rules status.WriteFault given faults absent wrote = record {
-  ends = (plain_trace 1 [], rules, λ has. absurd has, takes_given (words.Rules name drop_in) _ _ files rules refl refl given, rules_there (words.Rules name drop_in) files rules given, no_source name drop_in files, (rules_text rules ++ codes "\n", refl, wrote.0));
-  counts = counts_written before now status.WriteFault faults absent (λ is. cc is) (λ is. cc is.1) (record { rose = λ _. wrote.1; same = λ not. absurd (not refl) });
+rules_written name drop_in files before now had has rules status.WriteFault bytes_read faults absent wrote = record {
+  ends = (plain_trace 1 [], rules, λ has. absurd has, takes_events (words.Rules name drop_in) _ _ files rules refl refl bytes_read, rules_there (words.Rules name drop_in) files rules bytes_read, no_source name drop_in files, (rules_text rules ++ codes "\n", refl, wrote.0));
+  counts = counts_written before now status.WriteFault faults absent (λ is. cc is) (λ is. cc is.1) (record { increased = λ _. wrote.1; same = λ not. absurd (not refl) });
 }
-rules_written name drop_in files before now had has rules (status.NoMemory _) given faults absent wrote = record {
+rules_written name drop_in files before now had has rules (status.NoMemory _) bytes_read faults absent wrote = record {
   ends = wrote.0;
   counts = counts_written before now (status.NoMemory no_memory) faults absent (λ is. cc is) (λ is. cc is.1) (stays _ before.writes now.writes (λ is. cc is) wrote.1);
 }
-rules_written name drop_in files before now had has rules _ given faults absent wrote = absurd wrote
+rules_written name drop_in files before now had has rules _ bytes_read faults absent wrote = absurd wrote

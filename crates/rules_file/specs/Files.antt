@@ -1,6 +1,6 @@
 -- The result of reading a rules file and a drop-in file, given their bytes if these are known.
 use Rattle.std.specs.Prelude.{◌≡◌, ℕ, List, Option, Result, Ok, Err, None, Some, take}
-use Rattle.outside.specs.Outside.{Files, Lacks, Rose, ShelfCounts, told}
+use Rattle.outside.specs.Outside.{Files, IsAbsent, Increased, ShelfCounts, content_of}
 use Rattle.outside.specs.Reads.{ReadCall}
 use Rattle.outside.specs.declared.shelf.ShelfFault.{ShelfFault}
 use Rattle.outside.specs.declared.shelf.ShelfFault.TheVariants as shelf
@@ -28,43 +28,44 @@ pub record Stays (before now : ShelfCounts) : Type 0 where
 
 -- bytes were read of a name, without a fault: they are a prefix of its bytes, up to the size limit,
 -- if those are known, and the name isn't known to be missing
-pub record IsFront (bytes name : List ℕ) (files : Option Files) (before now : ShelfCounts) : Type 0 where
-  pub front : (whole : List ℕ) → told files name ≡ Some whole → bytes ≡ take most_of_rules whole
-  pub held : Lacks files name → ⊥
+pub record IsPrefixOf (bytes name : List ℕ) (files : Option Files) (before now : ShelfCounts) : Type 0 where
+  pub prefix : (whole : List ℕ) → content_of files name ≡ Some whole → bytes ≡ take most_of_rules whole
+  pub held : IsAbsent files name → ⊥
   pub stays : Stays before now
 
 -- a status says why nothing was read of a name, which belongs to a file of this kind
 abbrev pub Unread : Which → List ℕ → Option Files → ShelfCounts → ShelfCounts → Status → Type 0
 Unread which name files before now (status.NoFile kind) =
-    (kind ≡ which) × (told files name ≡ None) × (now.faults ≡ before.faults) × Rose before.absent now.absent
-Unread which name files before now status.ReadFault = Rose before.faults now.faults × (now.absent ≡ before.absent)
+    (kind ≡ which) × (content_of files name ≡ None) × (now.faults ≡ before.faults) × Increased before.absent now.absent
+Unread which name files before now status.ReadFault = Increased before.faults now.faults × (now.absent ≡ before.absent)
 Unread which name files before now (status.NoMemory _) = Stays before now
 Unread which name files before now _ = ⊥
 
 -- rules are those of the rules file with this name, each ruleset in its ranges
-pub record BaseGiven (name : List ℕ) (files : Option Files) (before now : ShelfCounts) (base : Rules) : Type 0 where
+pub record BaseOption (name : List ℕ) (files : Option Files) (before now : ShelfCounts) (base : Rules) : Type 0 where
   pub fit : FitsRules base.rules
-  pub read : (bytes : List ℕ) → told files name ≡ Some bytes → rules_of bytes ≡ Ok base
-  pub held : Lacks files name → ⊥
+  pub read : (bytes : List ℕ) → content_of files name ≡ Some bytes → rules_of bytes ≡ Ok base
+  pub held : IsAbsent files name → ⊥
   pub stays : Stays before now
 
 -- a status says why the rules file with this name gives no rules
 abbrev pub BaseFails : List ℕ → Option Files → ShelfCounts → ShelfCounts → Status → Type 0
 BaseFails name files before now (status.Rules fault) =
-    ((bytes : List ℕ) → told files name ≡ Some bytes → rules_of bytes ≡ Err fault) × (Lacks files name → ⊥) × Stays before now
+    ((bytes : List ℕ) → content_of files name ≡ Some bytes → rules_of bytes ≡ Err fault) × (IsAbsent files name → ⊥) × Stays before now
 BaseFails name files before now result = Unread RulesFile name files before now result
 
 -- rules are the base rules with the drop-in file with this name applied, each ruleset in its ranges
-pub record OverGiven (base : Rules) (name : List ℕ) (files : Option Files) (before now : ShelfCounts) (rules : Rules) : Type 0 where
+pub record OverOption (base : Rules) (name : List ℕ) (files : Option Files) (before now : ShelfCounts) (rules : Rules) : Type 0 where
   pub fit : FitsRules rules.rules
-  pub read : (bytes : List ℕ) → told files name ≡ Some bytes → dropped_in base bytes ≡ Ok rules
-  pub held : Lacks files name → ⊥
+  pub read : (bytes : List ℕ) → content_of files name ≡ Some bytes → dropped_in base bytes ≡ Ok rules
+  pub held : IsAbsent files name → ⊥
   pub stays : Stays before now
 
 -- a status says why the drop-in file with this name can't be applied to rules
 abbrev pub OverFails : Rules → List ℕ → Option Files → ShelfCounts → ShelfCounts → Status → Type 0
 OverFails base name files before now (status.DropIn fault) =
-    ((bytes : List ℕ) → told files name ≡ Some bytes → dropped_in base bytes ≡ Err fault) × (Lacks files name → ⊥) × Stays before now
+    ((bytes : List ℕ) → content_of files name ≡ Some bytes → dropped_in base bytes ≡ Err fault)
+    × (IsAbsent files name → ⊥) × Stays before now
 OverFails base name files before now result = Unread DropInFile name files before now result
 
 -- ---- both files, as a run
@@ -83,8 +84,9 @@ EndsRun named drop_in files before now result =
 -- a run of any command that names these files of rules stops reading here with this status, if
 -- these are the numbers of bytes read before it and up to its end
 abbrev pub StopsRun : Option (List ℕ) → Option (List ℕ) → Option Files → ℕ → ℕ → Status → Type 0
-StopsRun named drop_in files given given_now result =
-    (command : Command) → rules_name command ≡ named → drop_in_name command ≡ drop_in → StopsAtRefusal command files given given_now result
+StopsRun named drop_in files bytes_read read_now result =
+    (command : Command) → rules_name command ≡ named → drop_in_name command ≡ drop_in
+    → StopsAtRefusal command files bytes_read read_now result
 
 -- the shelf's fault that a status reports, if any
 abbrev pub status_fault : Status → Option ShelfFault

@@ -1,6 +1,6 @@
 //! `rules`: rules as one line of text.
 ghost use Rattle.std.specs.Prelude.{◌≡◌, ◌+◌, ◌≤◌, ◌++◌, IfOk, IfSome, IsUtf8, codes};
-ghost use Rattle.outside.specs.Outside.{StaysOver};
+ghost use Rattle.outside.specs.Outside.{SameInner};
 ghost use Rattle.dropin_rules.specs.RulesText.{rules_text};
 ghost use Rattle.run_spec.specs.MostRead.{most_read};
 ghost use Rattle.run_spec.specs.Run.{Runs, run_counts};
@@ -29,7 +29,7 @@ fn rules_line(alloc: Global, rules: &Rules) -> Result<Vec<u8>, NoMemory>
 fn put_line<K: Sink>(line: &[u8], out: &mut K) -> Status
     ensures writes { WritesText line.now (K.faults out.old) (K.faults out.new)
         (K.has out.old) (K.has out.new) result }
-    ensures below { StaysOver (K.below out.old) (K.below out.new) }
+    ensures below { SameInner (K.below out.old) (K.below out.new) }
 {
     match put_all(out, line) {
         Ok(()) => Status::Done,
@@ -41,7 +41,7 @@ fn put_line<K: Sink>(line: &[u8], out: &mut K) -> Status
 fn print_rules<K: Sink>(alloc: Global, rules: &Rules, out: &mut K) -> Status
     ensures writes { WritesText (rules_text rules.now.rules ++ codes "\n")
         (K.faults out.old) (K.faults out.new) (K.has out.old) (K.has out.new) result }
-    ensures below { StaysOver (K.below out.old) (K.below out.new) }
+    ensures below { SameInner (K.below out.old) (K.below out.new) }
 {
     match rules_line(alloc, rules) {
         Ok(line) => put_line(&line, out),
@@ -58,16 +58,16 @@ pub fn run_rules<S: Shelf, K: Sink>(
     out: &mut K,
 ) -> Status
     requires text { IfSome drop_in.now IsUtf8 }
-    ensures kept { S.holds shelf.new ≡ S.holds shelf.old }
+    ensures unchanged { S.holds shelf.new ≡ S.holds shelf.old }
     ensures runs { Runs (Command.Rules name.now drop_in.now) (S.holds shelf.old)
         (run_counts (S.faults shelf.old) (S.absent shelf.old) (K.faults out.old))
         (run_counts (S.faults shelf.new) (S.absent shelf.new) (K.faults out.new))
         (K.has out.old) (K.has out.new) result }
-    ensures reads { S.given shelf.new
-        ≤ S.given shelf.old + most_read (Command.Rules name.now drop_in.now) }
+    ensures reads { S.bytes_read shelf.new
+        ≤ S.bytes_read shelf.old + most_read (Command.Rules name.now drop_in.now) }
     ensures stops { StopsAtRefusal (Command.Rules name.now drop_in.now) (S.holds shelf.old)
-        (S.given shelf.old) (S.given shelf.new) result }
-    ensures below { StaysOver (K.below out.old) (K.below out.new) }
+        (S.bytes_read shelf.old) (S.bytes_read shelf.new) result }
+    ensures below { SameInner (K.below out.old) (K.below out.new) }
     ensures order { ReadsInOrder (Command.Rules name.now drop_in.now) (S.holds shelf.old)
         (S.reads shelf.old) (S.reads shelf.new) result }
 {

@@ -8,13 +8,13 @@ ghost use Rattle.ruleset_json.specs.RuleRanges.{FitsRules};
 ghost use Rattle.run_spec.specs.MostRead.{most_if_named, most_of_rules};
 ghost use Rattle.run_spec.specs.ReadOrder.{names_of_rules};
 ghost use Rattle.run_spec.specs.Stops.{read_of_rules};
-ghost use Rattle.rules_file.specs.Files.{BaseFails, BaseGiven, EndsRun, IsFront, OrdersRun, OverFails, OverGiven, Stays, StopsRun, Unread, status_fault_in};
-ghost use Rattle.run_outcomes.specs.Rules.{RulesGiven};
-ghost use Rattle.replay_rules.specs.Judged.{given_rules};
+ghost use Rattle.rules_file.specs.Files.{BaseFails, BaseOption, EndsRun, IsPrefixOf, OrdersRun, OverFails, OverOption, Stays, StopsRun, Unread, status_fault_in};
+ghost use Rattle.run_outcomes.specs.Rules.{RulesOption};
+ghost use Rattle.replay_rules.specs.Judged.{rules_of_options};
 
 use crate::name::name_of;
 use dropin_rules::{DropFault, join};
-use file_reader::{FileFault, read_front};
+use file_reader::{FileFault, read_prefix};
 use outside::Shelf;
 use psi_base::{Fault, Text};
 use ruleset_json::{RuleList, Rules, read, read_parts};
@@ -43,19 +43,19 @@ fn read_bytes<S: Shelf>(
     which: Which,
     shelf: &mut S,
 ) -> Result<Vec<u8>, Status>
-    ensures kept { S.holds shelf.new ≡ S.holds shelf.old }
+    ensures unchanged { S.holds shelf.new ≡ S.holds shelf.old }
     ensures answer { let before = counts_of (S.faults shelf.old) (S.absent shelf.old) in
         let now = counts_of (S.faults shelf.new) (S.absent shelf.new) in
         MatchResult result
-        (λ bytes. IsFront bytes.items name.now (S.holds shelf.old) before now)
+        (λ bytes. IsPrefixOf bytes.items name.now (S.holds shelf.old) before now)
         (λ status. Unread which name.now (S.holds shelf.old) before now status) }
-    ensures given { S.given shelf.new ≤ S.given shelf.old + most_of_rules }
-    ensures within { S.given shelf.new
-        ≤ S.given shelf.old + read_of_rules (S.holds shelf.old) (Some name.now) }
+    ensures bytes_read { S.bytes_read shelf.new ≤ S.bytes_read shelf.old + most_of_rules }
+    ensures within { S.bytes_read shelf.new
+        ≤ S.bytes_read shelf.old + read_of_rules (S.holds shelf.old) (Some name.now) }
     ensures order { ReadsFile name.now 0 (S.reads shelf.old) (S.reads shelf.new)
         (status_fault_in result) }
 {
-    match read_front(alloc, shelf, name, MOST) {
+    match read_prefix(alloc, shelf, name, MOST) {
         Ok(bytes) => Ok(bytes),
         Err(FileFault::NoFile) => Err(Status::NoFile { which }),
         Err(FileFault::ReadFault) => Err(Status::ReadFault),
@@ -64,15 +64,15 @@ fn read_bytes<S: Shelf>(
 }
 
 fn read_base<S: Shelf>(alloc: Global, name: &str, shelf: &mut S) -> Result<Rules, Status>
-    ensures kept { S.holds shelf.new ≡ S.holds shelf.old }
+    ensures unchanged { S.holds shelf.new ≡ S.holds shelf.old }
     ensures answer { let before = counts_of (S.faults shelf.old) (S.absent shelf.old) in
         let now = counts_of (S.faults shelf.new) (S.absent shelf.new) in
         MatchResult result
-        (λ rules. BaseGiven name.now (S.holds shelf.old) before now rules)
+        (λ rules. BaseOption name.now (S.holds shelf.old) before now rules)
         (λ status. BaseFails name.now (S.holds shelf.old) before now status) }
-    ensures given { S.given shelf.new ≤ S.given shelf.old + most_of_rules }
-    ensures within { S.given shelf.new
-        ≤ S.given shelf.old + read_of_rules (S.holds shelf.old) (Some name.now) }
+    ensures bytes_read { S.bytes_read shelf.new ≤ S.bytes_read shelf.old + most_of_rules }
+    ensures within { S.bytes_read shelf.new
+        ≤ S.bytes_read shelf.old + read_of_rules (S.holds shelf.old) (Some name.now) }
     ensures order { ReadsFile name.now 0 (S.reads shelf.old) (S.reads shelf.new)
         (status_fault_in result) }
 {
@@ -106,15 +106,15 @@ fn read_over<S: Shelf>(
     name: &str,
     shelf: &mut S,
 ) -> Result<Rules, Status>
-    ensures kept { S.holds shelf.new ≡ S.holds shelf.old }
+    ensures unchanged { S.holds shelf.new ≡ S.holds shelf.old }
     ensures answer { let before = counts_of (S.faults shelf.old) (S.absent shelf.old) in
         let now = counts_of (S.faults shelf.new) (S.absent shelf.new) in
         MatchResult result
-        (λ rules. OverGiven base name.now (S.holds shelf.old) before now rules)
+        (λ rules. OverOption base name.now (S.holds shelf.old) before now rules)
         (λ status. OverFails base name.now (S.holds shelf.old) before now status) }
-    ensures given { S.given shelf.new ≤ S.given shelf.old + most_of_rules }
-    ensures within { S.given shelf.new
-        ≤ S.given shelf.old + read_of_rules (S.holds shelf.old) (Some name.now) }
+    ensures bytes_read { S.bytes_read shelf.new ≤ S.bytes_read shelf.old + most_of_rules }
+    ensures within { S.bytes_read shelf.new
+        ≤ S.bytes_read shelf.old + read_of_rules (S.holds shelf.old) (Some name.now) }
     ensures order { ReadsFile name.now 0 (S.reads shelf.old) (S.reads shelf.new)
         (status_fault_in result) }
 {
@@ -138,24 +138,24 @@ pub fn read_joined<S: Shelf>(
     shelf: &mut S,
 ) -> Result<Rules, Status>
     requires text { IfSome drop_in.now IsUtf8 }
-    ensures kept { S.holds shelf.new ≡ S.holds shelf.old }
+    ensures unchanged { S.holds shelf.new ≡ S.holds shelf.old }
     ensures answer { let before = counts_of (S.faults shelf.old) (S.absent shelf.old) in
         let now = counts_of (S.faults shelf.new) (S.absent shelf.new) in
         MatchResult result
-        (λ rules. RulesGiven (Some name.now) drop_in.now (S.holds shelf.old) rules.rules
+        (λ rules. RulesOption (Some name.now) drop_in.now (S.holds shelf.old) rules.rules
         × Stays before now)
         (λ status. EndsRun (Some name.now) drop_in.now (S.holds shelf.old) before now status) }
-    ensures given { S.given shelf.new ≤ S.given shelf.old + (most_of_rules
+    ensures bytes_read { S.bytes_read shelf.new ≤ S.bytes_read shelf.old + (most_of_rules
         + most_if_named most_of_rules drop_in.now) }
-    ensures within { S.given shelf.new ≤ S.given shelf.old
+    ensures within { S.bytes_read shelf.new ≤ S.bytes_read shelf.old
         + (read_of_rules (S.holds shelf.old) (Some name.now)
         + read_of_rules (S.holds shelf.old) drop_in.now) }
     ensures stops { MatchResult result (λ rules. ⊤)
         (λ status. StopsRun (Some name.now) drop_in.now (S.holds shelf.old)
-        (S.given shelf.old) (S.given shelf.new) status) }
+        (S.bytes_read shelf.old) (S.bytes_read shelf.new) status) }
     ensures order { MatchResult result
         (λ rules. ReadsEach (names_of_rules (Some name.now) drop_in.now)
-        (S.reads shelf.old) (S.reads shelf.new) None)
+        (S.reads shelf.old) (S.reads shelf.new))
         (λ status. OrdersRun (Some name.now) drop_in.now (S.holds shelf.old)
         (S.reads shelf.old) (S.reads shelf.new) status) }
 {
@@ -178,26 +178,26 @@ pub fn read_rules<S: Shelf>(
     requires text { IfSome options.now.rules IsUtf8 }
     requires drop_in { IfSome options.now.drop_in IsUtf8 }
     requires over { options.now.rules ≡ None → options.now.drop_in ≡ None }
-    ensures kept { S.holds shelf.new ≡ S.holds shelf.old }
+    ensures unchanged { S.holds shelf.new ≡ S.holds shelf.old }
     ensures answer { let before = counts_of (S.faults shelf.old) (S.absent shelf.old) in
         let now = counts_of (S.faults shelf.new) (S.absent shelf.new) in
         MatchResult result
-        (λ rules. RulesGiven options.now.rules options.now.drop_in (S.holds shelf.old)
-        (given_rules rules) × Stays before now)
+        (λ rules. RulesOption options.now.rules options.now.drop_in (S.holds shelf.old)
+        (rules_of_options rules) × Stays before now)
         (λ status. EndsRun options.now.rules options.now.drop_in (S.holds shelf.old)
         before now status) }
-    ensures given { S.given shelf.new
-        ≤ S.given shelf.old + (most_if_named most_of_rules options.now.rules
+    ensures bytes_read { S.bytes_read shelf.new
+        ≤ S.bytes_read shelf.old + (most_if_named most_of_rules options.now.rules
         + most_if_named most_of_rules options.now.drop_in) }
-    ensures within { S.given shelf.new ≤ S.given shelf.old
+    ensures within { S.bytes_read shelf.new ≤ S.bytes_read shelf.old
         + (read_of_rules (S.holds shelf.old) options.now.rules
         + read_of_rules (S.holds shelf.old) options.now.drop_in) }
     ensures stops { MatchResult result (λ rules. ⊤)
         (λ status. StopsRun options.now.rules options.now.drop_in (S.holds shelf.old)
-        (S.given shelf.old) (S.given shelf.new) status) }
+        (S.bytes_read shelf.old) (S.bytes_read shelf.new) status) }
     ensures order { MatchResult result
         (λ rules. ReadsEach (names_of_rules options.now.rules options.now.drop_in)
-        (S.reads shelf.old) (S.reads shelf.new) None)
+        (S.reads shelf.old) (S.reads shelf.new))
         (λ status. OrdersRun options.now.rules options.now.drop_in (S.holds shelf.old)
         (S.reads shelf.old) (S.reads shelf.new) status) }
 {

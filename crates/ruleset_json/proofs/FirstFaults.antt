@@ -101,12 +101,12 @@ read_cons : {A : Type 0} (f : ℕ → Data → Result A RulesFault) (i : ℕ) (d
 read_cons f i d ds found (Err why) rest was next is = absurd cc
 read_cons f i d ds found (Ok x) (Err why) was next is = absurd cc
 read_cons {A} f i d ds found (Ok x) (Ok xs) was next is =
-    let behind = next xs refl in
+    let suffix = next xs refl in
     let same : x ∷ xs ≡ found = ok_same (x ∷ xs) found is in
     let P : List A → Type 0 = λ ys. AreRead f i (d ∷ ds) ys in
     subst P same (record {
-      equally_many = ap suc behind.equally_many;
-      each = each_later f i d ds x xs was behind.each;
+      equally_many = ap suc suffix.equally_many;
+      each = each_later f i d ds x xs was suffix.each;
     })
   where
     each_later : {A : Type 0} (f : ℕ → Data → Result A RulesFault) (i : ℕ) (d : Data) (ds : List Data) (x : A) (xs : List A) → f i d ≡ Ok x

@@ -65,8 +65,8 @@ abbrev pub last : List ℕ → ℕ
 last text = slice_index text (length text - 1)
 
 -- a text without its last byte
-abbrev pub front : List ℕ → List ℕ
-front text = take (length text - 1) text
+abbrev pub prefix : List ℕ → List ℕ
+prefix text = take (length text - 1) text
 
 -- the largest size, in bytes
 abbrev pub largest_size : ℕ
@@ -81,12 +81,12 @@ scaled unit text = do
 -- the bytes of a text with this unit, or with no unit
 abbrev pub bytes_in : Option ℕ → List ℕ → Option ℕ
 bytes_in None text = number_up_to largest_size text
-bytes_in (Some unit) text = scaled unit (front text)
+bytes_in (Some unit) text = scaled unit (prefix text)
 
 -- the size of a text: a number from 0 to 100 and `%`, or bytes with or without a unit letter
 unfoldable pub size_of : List ℕ → Option Size
 size_of text =
-    if last text == 37 then option_map size.Percent (number_up_to 100 (front text))
+    if last text == 37 then option_map size.Percent (number_up_to 100 (prefix text))
     else option_map size.Bytes (bytes_in (unit_of (last text)) text)
 
 -- ---- words

@@ -9,7 +9,7 @@ ghost use Rattle.ruleset_json.specs.Ranges.{FitsDetectors, FitsActions, IsTime};
 ghost use Rattle.ruleset_json.specs.RuleRanges.{FitsRule, FitsRules};
 ghost use Rattle.ruleset_json.specs.Rules.{each, detector_in, action_in, group_at, delay_at, groups_at, actions_at, data_of, rule_at, rulesets_in, rules_of};
 ghost use Rattle.ruleset_json.specs.Parts.{if_there, part_at, parts_of};
-ghost use Rattle.psi_base.specs.Gives.{Gives, lacks_memory};
+ghost use Rattle.psi_base.specs.Gives.{Gives, out_of_memory};
 ghost use Rattle.ruleset_json.specs.Gives.{GivesBy, ReadsBy};
 ghost use Rattle.ruleset_json.specs.declared.fault.Place.TheVariants as place;
 ghost use Rattle.ruleset_json.specs.declared.fault.RulesCause.TheVariants as cause;
@@ -299,7 +299,7 @@ fn value_in(alloc: Global, bytes: &[u8]) -> Result<Value, Fault<RulesFault>>
     ensures value { GivesBy view result (if nat_lt 1048576 (length bytes.now)
         then refused_for place.Whole cause.TooLong
         else or_fault place.Whole cause.BadJson (data_of bytes.now)) }
-    ensures memory { result ≡ Err lacks_memory → length bytes.now ≤ 1048576 }
+    ensures memory { result ≡ Err out_of_memory → length bytes.now ≤ 1048576 }
 {
     if bytes.len() > MOST_BYTES {
         return Err(refused(Place::Whole, RulesCause::TooLong));
@@ -316,7 +316,7 @@ fn value_in(alloc: Global, bytes: &[u8]) -> Result<Value, Fault<RulesFault>>
 #[tactic(auto, unfolding(crate::specs::Rules::rules_of))]
 pub fn read(alloc: Global, bytes: &[u8]) -> Result<Rules, Fault<RulesFault>>
     ensures exact { Gives result (rules_of bytes.now) }
-    ensures memory { result ≡ Err lacks_memory → length bytes.now ≤ 1048576 }
+    ensures memory { result ≡ Err out_of_memory → length bytes.now ≤ 1048576 }
 {
     let value = value_in(alloc, bytes)?;
     let rules = rules(alloc, rulesets(&value)?)?;
@@ -330,7 +330,7 @@ pub fn read(alloc: Global, bytes: &[u8]) -> Result<Rules, Fault<RulesFault>>
 pub fn read_parts(alloc: Global, bytes: &[u8]) -> Result<Vec<Part>, Fault<RulesFault>>
     ensures exact { GivesBy (λ parts. parts.items) result (parts_of bytes.now) }
     ensures few { IfOk result (λ parts. length parts.items ≤ 64) }
-    ensures memory { result ≡ Err lacks_memory → length bytes.now ≤ 1048576 }
+    ensures memory { result ≡ Err out_of_memory → length bytes.now ≤ 1048576 }
 {
     let value = value_in(alloc, bytes)?;
     parts(alloc, rulesets(&value)?)

@@ -121,13 +121,13 @@ fn scaled(text: &[u8], unit: u128) -> Option<u64>
 }
 
 // The bytes of a text whose last byte may be a unit letter.
-fn bytes(text: &[u8], front: &[u8], last: u8) -> Option<u64>
-    requires { front.now ≡ form.front text.now }
+fn bytes(text: &[u8], prefix: &[u8], last: u8) -> Option<u64>
+    requires { prefix.now ≡ form.prefix text.now }
     ensures value { result ≡ form.bytes_in (form.unit_of last) text.now }
     ensures range { IfSome result (λ n. n ≤ 2 ^ 60) }
 {
     match unit(last) {
-        Some(unit) => scaled(front, unit),
+        Some(unit) => scaled(prefix, unit),
         None => long_number(text, LARGEST_BYTES),
     }
 }
@@ -142,15 +142,15 @@ pub fn size(text: &[u8]) -> Option<Size>
     if text.is_empty() {
         return None;
     }
-    let front = &text[..text.len() - 1];
+    let prefix = &text[..text.len() - 1];
     let last = text[text.len() - 1];
     if last == b'%' {
-        match number(front, 100) {
+        match number(prefix, 100) {
             Some(percent) => Some(Size::Percent(percent)),
             None => None,
         }
     } else {
-        match bytes(text, front, last) {
+        match bytes(text, prefix, last) {
             Some(bytes) => Some(Size::Bytes(bytes)),
             None => None,
         }

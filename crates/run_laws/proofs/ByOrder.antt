@@ -6,7 +6,7 @@ use Rattle.psi_spec.specs.Groups.{is_live_at}
 use Rattle.pressure_spec.specs.Samples.{life_of}
 use Rattle.pressure_spec.specs.Ticks.{tick_moment}
 use Rattle.plan_laws.specs.Moments.{is_live_slot, with_path}
-use Rattle.plan_laws.proofs.MomentsOrder.{order_tells_live}
+use Rattle.plan_laws.proofs.MomentsOrder.{order_shows_live}
 use Rattle.run_spec.specs.Replay.{group_report, lives_of}
 use Rattle.run_laws.specs.Reports.{ReportsByOrder, average_state_at, slot_report, totals_at}
 
@@ -28,10 +28,10 @@ where_false : (b : Bool) (text : List ℕ) → b ≡ false → (if b then text e
 where_false b text is = rw is refl
 
 pub reports_by_order : ReportsByOrder
-reports_by_order limits trace pace i order legal is =
-    let at = tick_moment pace.length i in
+reports_by_order limits trace timing i order legal is =
+    let at = tick_moment timing.length i in
     let lives = lives_of trace in
-    ap (flat_map (group_report trace pace i)) (order_tells_live limits trace.events legal order is at)
-    ∙ pieces_where (is_live_slot lives at) (with_path lives) (group_report trace pace i) (slot_report trace.version at lives (totals_at trace pace i) (average_state_at trace pace i)) order
+    ap (flat_map (group_report trace timing i)) (order_shows_live limits trace.events legal order is at)
+    ∙ pieces_where (is_live_slot lives at) (with_path lives) (group_report trace timing i) (slot_report trace.version at lives (totals_at trace timing i) (average_state_at trace timing i)) order
     (λ slot live. where_true (is_live_at (life_of lives slot) at) _ live)
     (λ slot gone. where_false (is_live_at (life_of lives slot) at) _ gone)

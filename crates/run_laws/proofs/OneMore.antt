@@ -43,15 +43,15 @@ counted_more count i =
     ap (sum_by count) (range_more 1 i) ∙ omega (arith, split, one)
 
 pub signals_more : SignalsMore
-signals_more trace pace i = counted_more (λ k. length (fired_in trace pace k)) i
+signals_more trace timing i = counted_more (λ k. length (fired_in trace timing k)) i
 
 pub kills_more : KillsMore
-kills_more trace pace rules i = counted_more (λ k. length (kills_in trace pace rules k)) i
+kills_more trace timing rules i = counted_more (λ k. length (kills_in trace timing rules k)) i
 
 pub text_more : TextMore
-text_more trace pace beside i =
+text_more trace timing beside i =
     let next : 1 + i ≡ i + 1 = omega arith in
-    ap (flat_map (tick_text trace pace beside)) (range_more 1 i)
-    ∙ flat_map-append (tick_text trace pace beside) (range_with_len 1 i) ((1 + i) ∷ [])
-    ∙ ap (λ k. flat_map (tick_text trace pace beside) (range_with_len 1 i) ++ (tick_text trace pace beside k ++ [])) next
-    ∙ ap (λ text. flat_map (tick_text trace pace beside) (range_with_len 1 i) ++ text) (append-nil (tick_text trace pace beside (i + 1)))
+    ap (flat_map (tick_text trace timing beside)) (range_more 1 i)
+    ∙ flat_map-append (tick_text trace timing beside) (range_with_len 1 i) ((1 + i) ∷ [])
+    ∙ ap (λ k. flat_map (tick_text trace timing beside) (range_with_len 1 i) ++ (tick_text trace timing beside k ++ [])) next
+    ∙ ap (λ text. flat_map (tick_text trace timing beside) (range_with_len 1 i) ++ text) (append-nil (tick_text trace timing beside (i + 1)))

@@ -15,8 +15,8 @@ taken_more f xs i d inside =
 pub pieces_at : (f : ℕ → List ℕ) (n i : ℕ) → i < n → flat_map f (range_with_len 0 n) ≡ flat_map f (range_with_len 0 i) ++ (f i ++ flat_map f (range_with_len (i + 1) (n - (i + 1))))
 pieces_at f n i inside =
     let whole : n ≡ i + suc (n - (i + 1)) = omega (arith, inside) in
-    let behind : 0 + i ≡ i = omega arith in
-    ap (λ m. flat_map f (range_with_len 0 m)) whole ∙ ap (flat_map f) (range_parts 0 i (suc (n - (i + 1))) ∙ ap (λ j. range_with_len 0 i ++ range_with_len j (suc (n - (i + 1)))) behind) ∙ flat_map-append f (range_with_len 0 i) (range_with_len i (suc (n - (i + 1))))
+    let suffix : 0 + i ≡ i = omega arith in
+    ap (λ m. flat_map f (range_with_len 0 m)) whole ∙ ap (flat_map f) (range_parts 0 i (suc (n - (i + 1))) ∙ ap (λ j. range_with_len 0 i ++ range_with_len j (suc (n - (i + 1)))) suffix) ∙ flat_map-append f (range_with_len 0 i) (range_with_len i (suc (n - (i + 1))))
     ∙ ap (λ t. flat_map f (range_with_len 0 i) ++ t) (flat_map-cons f i (range_with_len (i + 1) (n - (i + 1))))
 
 -- one piece more

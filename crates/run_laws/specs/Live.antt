@@ -8,7 +8,7 @@ use Rattle.psi_spec.specs.Refusal.{AreLegal}
 use Rattle.psi_spec.specs.Trace.{Trace}
 use Rattle.psi_spec.specs.World.{Limits, after, first_world}
 use Rattle.run_spec.specs.Live.{IsLiveText, live_slot_at}
-use Rattle.run_spec.specs.Replay.{IsReplayText, Pace, last_line, replay_text, tick_count, tick_text, ticks_text, with_rules}
+use Rattle.run_spec.specs.Replay.{IsReplayText, Timing, last_line, replay_text, tick_count, tick_text, ticks_text, with_rules}
 use Rattle.ruleset_json.specs.declared.types.Rule.{Rule}
 
 -- the slot of the group with this path that is live at a time (ns); the first of the lives has
@@ -19,16 +19,16 @@ live_slot slot (life ∷ lives) path at =
     if is_live_at life at && bytes_eq life.path path then Some slot else live_slot (slot + 1) lives path at
 
 -- a text is the lines of a tick, with possible live lines
-abbrev pub IsTickText : Trace → Pace → List Rule → ℕ → List ℕ → Type 0
-IsTickText trace pace rules i text =
-    (live : List ℕ) × IsLiveText trace pace.length pace.watch i live
-    × (text ≡ tick_text trace pace (record { live = λ _. live; rules = rules }) i)
+abbrev pub IsTickText : Trace → Timing → List Rule → ℕ → List ℕ → Type 0
+IsTickText trace timing rules i text =
+    (live : List ℕ) × IsLiveText trace timing.length timing.watch i live
+    × (text ≡ tick_text trace timing (record { live = λ _. live; rules = rules }) i)
 
 -- a text is the lines of the first n ticks, each with possible live lines
-abbrev pub AreTickTexts : Trace → Pace → List Rule → ℕ → List ℕ → Type 0
-AreTickTexts trace pace rules count text =
-    (live : ℕ → List ℕ) × ((i : ℕ) → 1 ≤ i → i ≤ count → IsLiveText trace pace.length pace.watch i (live i))
-    × (text ≡ ticks_text trace pace (record { live = live; rules = rules }) count)
+abbrev pub AreTickTexts : Trace → Timing → List Rule → ℕ → List ℕ → Type 0
+AreTickTexts trace timing rules count text =
+    (live : ℕ → List ℕ) × ((i : ℕ) → 1 ≤ i → i ≤ count → IsLiveText trace timing.length timing.watch i (live i))
+    × (text ≡ ticks_text trace timing (record { live = live; rules = rules }) count)
 
 -- ---- laws
 
@@ -39,27 +39,27 @@ SlotByLives = (limits : Limits) (events : List Event) → AreLegal limits first_
 
 -- The lines of the next tick are appended to those of the previous ticks.
 abbrev pub OneTextMore : Type 0
-OneTextMore = (trace : Trace) (pace : Pace) (rules : List Rule) (i : ℕ) (text line : List ℕ) →
-    AreTickTexts trace pace rules i text → IsTickText trace pace rules (i + 1) line →
-    AreTickTexts trace pace rules (i + 1) (text ++ line)
+OneTextMore = (trace : Trace) (timing : Timing) (rules : List Rule) (i : ℕ) (text line : List ℕ) →
+    AreTickTexts trace timing rules i text → IsTickText trace timing rules (i + 1) line →
+    AreTickTexts trace timing rules (i + 1) (text ++ line)
 
 -- After the lines of all ticks, the last line ends the output.
 abbrev pub WholeText : Type 0
-WholeText = (trace : Trace) (pace : Pace) (rules : List Rule) (text : List ℕ) →
-    AreTickTexts trace pace rules (tick_count trace pace) text →
-    IsReplayText trace pace rules (text ++ last_line trace pace (with_rules rules))
+WholeText = (trace : Trace) (timing : Timing) (rules : List Rule) (text : List ℕ) →
+    AreTickTexts trace timing rules (tick_count trace timing) text →
+    IsReplayText trace timing rules (text ++ last_line trace timing (with_rules rules))
 
 -- The lines of some ticks of a legal trace are a prefix of an output, so there is an output.
 abbrev pub TextsGoOn : Type 0
-TextsGoOn = (limits : Limits) (trace : Trace) (pace : Pace) (rules : List Rule) (i : ℕ) (text : List ℕ) →
-    AreLegal limits first_world trace.events → i ≤ tick_count trace pace → AreTickTexts trace pace rules i text →
-    (rest : List ℕ) × IsReplayText trace pace rules (text ++ rest)
+TextsGoOn = (limits : Limits) (trace : Trace) (timing : Timing) (rules : List Rule) (i : ℕ) (text : List ℕ) →
+    AreLegal limits first_world trace.events → i ≤ tick_count trace timing → AreTickTexts trace timing rules i text →
+    (rest : List ℕ) × IsReplayText trace timing rules (text ++ rest)
 
 -- Before the first tick there is no line.
 abbrev pub NoTextAtFirst : Type 0
-NoTextAtFirst = (trace : Trace) (pace : Pace) (rules : List Rule) → AreTickTexts trace pace rules 0 []
+NoTextAtFirst = (trace : Trace) (timing : Timing) (rules : List Rule) → AreTickTexts trace timing rules 0 []
 
 -- If no group is watched there is exactly one output.
 abbrev pub OneTextUnwatched : Type 0
-OneTextUnwatched = (trace : Trace) (pace : Pace) (rules : List Rule) (text : List ℕ) →
-    pace.watch ≡ None → IsReplayText trace pace rules text → text ≡ replay_text trace pace (with_rules rules)
+OneTextUnwatched = (trace : Trace) (timing : Timing) (rules : List Rule) (text : List ℕ) →
+    timing.watch ≡ None → IsReplayText trace timing rules text → text ≡ replay_text trace timing (with_rules rules)

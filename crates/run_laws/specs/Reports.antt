@@ -11,7 +11,7 @@ use Rattle.psi_spec.specs.World.{Limits, first_world}
 use Rattle.pressure_spec.specs.Average.{AverageState}
 use Rattle.pressure_spec.specs.Ticks.{tick_moment, ticks_of}
 use Rattle.pressure_spec.specs.Samples.{group_averages, life_of, totals_after}
-use Rattle.run_spec.specs.Replay.{Pace, files_text, lives_of, reports}
+use Rattle.run_spec.specs.Replay.{Timing, files_text, lives_of, reports}
 
 -- the report of the group in a slot at a time (ns), empty if it isn't live, from the totals (ns)
 -- and averages by slot, in the format of a trace version
@@ -25,19 +25,19 @@ abbrev pub slot_reports : Version → ℕ → List GroupLife → (ℕ → List �
 slot_reports version at lives totals averages order = flat_map (slot_report version at lives totals averages) order
 
 -- the totals (ns) by slot after ticks of a trace
-abbrev pub totals_at : Trace → Pace → ℕ → ℕ → List ℕ
-totals_at trace pace i slot = totals_after trace.cpus (lives_of trace) (ticks_of trace.cpus trace.events pace.length i) slot
+abbrev pub totals_at : Trace → Timing → ℕ → ℕ → List ℕ
+totals_at trace timing i slot = totals_after trace.cpus (lives_of trace) (ticks_of trace.cpus trace.events timing.length i) slot
 
 -- the averages by slot after ticks of a trace
-abbrev pub average_state_at : Trace → Pace → ℕ → ℕ → AverageState
-average_state_at trace pace i slot = group_averages trace.cpus (lives_of trace) (ticks_of trace.cpus trace.events pace.length i) slot
+abbrev pub average_state_at : Trace → Timing → ℕ → ℕ → AverageState
+average_state_at trace timing i slot = group_averages trace.cpus (lives_of trace) (ticks_of trace.cpus trace.events timing.length i) slot
 
 -- ---- laws
 
 -- The reports of a tick are those of the slots that are live, in any fixed order of all slots by
 -- path.
 abbrev pub ReportsByOrder : Type 0
-ReportsByOrder = (limits : Limits) (trace : Trace) (pace : Pace) (i : ℕ) (order : List ℕ) →
+ReportsByOrder = (limits : Limits) (trace : Trace) (timing : Timing) (i : ℕ) (order : List ℕ) →
     AreLegal limits first_world trace.events → IsPathOrder (lives_of trace) order →
-    reports trace pace i ≡ slot_reports trace.version (tick_moment pace.length i) (lives_of trace) (totals_at trace pace i)
-    (average_state_at trace pace i) order
+    reports trace timing i ≡ slot_reports trace.version (tick_moment timing.length i) (lives_of trace) (totals_at trace timing i)
+    (average_state_at trace timing i) order

@@ -7,7 +7,7 @@ use Rattle.psi_spec.specs.Within.{last_moment, longest_tick}
 use Rattle.psi_spec.specs.World.{Limits, after, first_world, most_cpus}
 use Rattle.pressure_spec.specs.Ticks.{Tick, tick_moment, tick_of, ticks_of}
 use Rattle.pressure_spec.specs.NextTick.{IsNextTick, last_tick, no_tick}
-use Rattle.run_spec.specs.Replay.{Beside, Pace, fired_in, kills_in, kills_until, signals_until, tick_text, ticks_text}
+use Rattle.run_spec.specs.Replay.{Beside, Timing, fired_in, kills_in, kills_until, signals_until, tick_text, ticks_text}
 use Rattle.ruleset_json.specs.declared.types.Rule.{Rule}
 
 -- the state before the first tick, for a number of processors and events
@@ -29,15 +29,15 @@ TicksMore = (cpus : ℕ) (events : List Event) (length i : ℕ) →
 
 -- Its signals are counted with the previous ones.
 abbrev pub SignalsMore : Type 0
-SignalsMore = (trace : Trace) (pace : Pace) (i : ℕ) →
-    signals_until trace pace (i + 1) ≡ signals_until trace pace i + length (fired_in trace pace (i + 1))
+SignalsMore = (trace : Trace) (timing : Timing) (i : ℕ) →
+    signals_until trace timing (i + 1) ≡ signals_until trace timing i + length (fired_in trace timing (i + 1))
 
 -- Its kills are counted with the previous ones.
 abbrev pub KillsMore : Type 0
-KillsMore = (trace : Trace) (pace : Pace) (rules : List Rule) (i : ℕ) →
-    kills_until trace pace rules (i + 1) ≡ kills_until trace pace rules i + length (kills_in trace pace rules (i + 1))
+KillsMore = (trace : Trace) (timing : Timing) (rules : List Rule) (i : ℕ) →
+    kills_until trace timing rules (i + 1) ≡ kills_until trace timing rules i + length (kills_in trace timing rules (i + 1))
 
 -- Its lines are appended to the previous ones.
 abbrev pub TextMore : Type 0
-TextMore = (trace : Trace) (pace : Pace) (beside : Beside) (i : ℕ) →
-    ticks_text trace pace beside (i + 1) ≡ ticks_text trace pace beside i ++ tick_text trace pace beside (i + 1)
+TextMore = (trace : Trace) (timing : Timing) (beside : Beside) (i : ℕ) →
+    ticks_text trace timing beside (i + 1) ≡ ticks_text trace timing beside i ++ tick_text trace timing beside (i + 1)

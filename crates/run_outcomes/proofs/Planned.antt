@@ -4,9 +4,9 @@ use Rattle.psi_base.specs.declared.event.Event.{Event}
 use Rattle.psi_spec.specs.Grammar.{Version}
 use Rattle.psi_spec.specs.Trace.{IsAccepted, limits_of}
 use Rattle.psi_spec.specs.World.{Limits}
-use Rattle.proc_plan.specs.Plans.{HasTaken, PlannerView, PlansView, StandForTaken}
+use Rattle.proc_plan.specs.Plans.{HasTaken, PlannerView, PlansView, RepresentTaken}
 use Rattle.run_spec.specs.LegalCommand.{IsWithin}
-use Rattle.run_spec.specs.Outputs.{of_ms, pace_of}
+use Rattle.run_spec.specs.Outputs.{of_ms, timing_of}
 use Rattle.run_spec.specs.declared.command.Options.{Options}
 use Rattle.replay_rules.specs.Planned.{IsPlanned}
 use Rattle.trace_file.specs.Reads.{trace_with}
@@ -28,10 +28,10 @@ to_replay planner options cpus events taken ended some short interval often work
 }
 
 -- the plans of a planned trace represent it
-pub planned : (version : Version) (planner : PlannerView) (plans : PlansView) (options : Options) (limits : Limits) (events : List Event) → IsToReplay planner options limits events → StandForTaken planner plans → IsPlanned plans (trace_with version limits.cpus events) (pace_of options)
-planned version planner plans options limits events is stand = record {
+pub planned : (version : Version) (planner : PlannerView) (plans : PlansView) (options : Options) (limits : Limits) (events : List Event) → IsToReplay planner options limits events → RepresentTaken planner plans → IsPlanned plans (trace_with version limits.cpus events) (timing_of options)
+planned version planner plans options limits events is word_state = record {
   counted = is.taken.counted;
-  stand = stand limits events is.taken;
+  word_state = word_state limits events is.taken;
   accepted = subst (λ l. IsAccepted l events) is.latest is.ended;
   some = omega (arith, is.some);
   short = omega (arith, is.short);

@@ -3,7 +3,7 @@ use Rattle.std.proofs.Common.{◌≡◌, ℕ, List, [], arith, refl, sym, ap, �
 use Rattle.std.specs.Prelude.{IsErrOf, IsSome}
 use Rattle.std.specs.Io.KnownBytes.{Keeps}
 use Rattle.psi_base.specs.Memory.{no_memory}
-use Rattle.outside.specs.Outside.{Files, Lacks, Rose, told}
+use Rattle.outside.specs.Outside.{Files, IsAbsent, Increased, content_of}
 use Rattle.psi_base.specs.declared.event.Event.{Event}
 use Rattle.psi_spec.specs.Fields.{IsAmong}
 use Rattle.psi_spec.specs.Grammar.{One, Two, Version, verbs_of, versions}
@@ -15,13 +15,13 @@ use Rattle.run_spec.specs.declared.status.Status.{Status}
 use Rattle.run_spec.specs.declared.status.Status.TheVariants as status
 use Rattle.run_spec.specs.declared.status.Which.{Which}
 use Rattle.run_spec.specs.declared.status.Which.TheVariants.{TraceFile}
-use Rattle.run_spec.specs.Outputs.{IsOutput, accepts_of, drop_in_name, file_of, or_refused_trace, pace_of, rules_name, source_name, source_of, status_of_last, taken_of, tick_length, trace_name, versions_of}
-use Rattle.run_spec.specs.Run.{FailuresAreCounted, IsThere, ReadsFiles, RisesWhere, RulesAreThere, RunCounts, Runs, TakesRules, TakesTrace, told_if_named}
+use Rattle.run_spec.specs.Outputs.{IsOutput, accepts_of, drop_in_name, file_of, or_refused_trace, timing_of, rules_name, source_name, source_of, status_of_last, parse_of, tick_length, trace_name, versions_of}
+use Rattle.run_spec.specs.Run.{FailuresAreCounted, IsThere, ReadsFiles, RisesWhere, RulesAreThere, RunCounts, Runs, TakesRules, TakesTrace, content_if_named}
 use Rattle.std.proofs.lemmas.List.Elements.{All-nil}
 use Rattle.ruleset_json.specs.RuleRanges.{FitsRule}
 use Rattle.ruleset_json.specs.declared.types.Rule.{Rule}
-use Rattle.run_outcomes.specs.Rules.{RulesGiven}
-use Rattle.trace_file.specs.Reads.{CausesTraceFault, RefusalOf, TellsNothing, trace_with}
+use Rattle.run_outcomes.specs.Rules.{RulesOption}
+use Rattle.trace_file.specs.Reads.{CausesTraceFault, RefusalOf, ShowsNothing, trace_with}
 use Rattle.run_outcomes.specs.Writes.{IsStatusOf, WritesLast, WritesText}
 use Rattle.trace_file.specs.declared.trace.TraceFault.{TraceFault}
 use Rattle.trace_file.specs.declared.trace.TraceFault.TheVariants as fault
@@ -34,7 +34,7 @@ keeps_same (Some bytes) = refl
 
 -- a count is unchanged if nothing happened that increases it
 pub stays : (Happened : Type 0) (before now : ℕ) → (Happened → ⊥) → now ≡ before → RisesWhere Happened before now
-stays Happened before now not same = record { rose = λ happened. absurd (not happened); same = λ _. same }
+stays Happened before now not same = record { increased = λ happened. absurd (not happened); same = λ _. same }
 
 -- ---- a text that was written
 
@@ -44,19 +44,19 @@ same_name command which name other is also = cc
 
 -- a command reads its trace from its file
 abbrev pub Reads : Command → Type 0
-Reads command = (bytes : List ℕ) → taken_of command bytes ≡ or_refused_trace (trace_of (accepts_of command) bytes)
+Reads command = (bytes : List ℕ) → parse_of command bytes ≡ or_refused_trace (trace_of (accepts_of command) bytes)
 
 -- a command takes the trace that was played
 pub takes_trace : (command : Command) (name : List ℕ) (files : Option Files) (version : Version) (cpus : ℕ) (events : List Event) → Reads command → source_name command ≡ Some name → IsAmong version (versions_of command) → IsCpuCount cpus
     → AreKnown (verbs_of version) events → IsAccepted (limits_of (tick_length command) cpus) events
-    → ((bytes : List ℕ) → told files name ≡ Some bytes → trace_of (accepts_of command) bytes ≡ Ok (trace_with version cpus events))
+    → ((bytes : List ℕ) → content_of files name ≡ Some bytes → trace_of (accepts_of command) bytes ≡ Ok (trace_with version cpus events))
     → TakesTrace command files (trace_with version cpus events)
 takes_trace command name files version cpus events reads named among counted known accepted read = record {
   version = among;
   cpus = counted;
   known = known;
   accepted = accepted;
-  read = λ bytes known. reads bytes ∙ ap or_refused_trace (read bytes (subst (λ n. told files n ≡ Some bytes) (same_name command (source_of command) name known.0 named known.1) known.2));
+  read = λ bytes known. reads bytes ∙ ap or_refused_trace (read bytes (subst (λ n. content_of files n ≡ Some bytes) (same_name command (source_of command) name known.0 named known.1) known.2));
 }
 
 -- each version is in the list of all
@@ -67,7 +67,7 @@ every Two = inr (inl refl)
 -- a trace of any version, if the command accepts all versions
 pub takes_any : (command : Command) (name : List ℕ) (files : Option Files) (version : Version) (cpus : ℕ) (events : List Event) → Reads command → source_name command ≡ Some name → versions_of command ≡ versions → IsCpuCount cpus
     → AreKnown (verbs_of version) events → IsAccepted (limits_of (tick_length command) cpus) events
-    → ((bytes : List ℕ) → told files name ≡ Some bytes → trace_of (accepts_of command) bytes ≡ Ok (trace_with version cpus events))
+    → ((bytes : List ℕ) → content_of files name ≡ Some bytes → trace_of (accepts_of command) bytes ≡ Ok (trace_with version cpus events))
     → TakesTrace command files (trace_with version cpus events)
 takes_any command name files version cpus events reads named all counted known accepted read =
     takes_trace command name files version cpus events reads named (subst (IsAmong version) (sym all) (every version)) counted known accepted read
@@ -85,16 +85,16 @@ counts_written before now result faults absent no_read no_file writes = record {
 -- ---- the rules came first
 
 -- rulesets are those of a command that names the same files of rules
-pub takes_given : (command : Command) (named drop_in : Option (List ℕ)) (files : Option Files) (rules : List Rule) → rules_name command ≡ named → drop_in_name command ≡ drop_in → RulesGiven named drop_in files rules → TakesRules command files rules
-takes_given command named drop_in files rules is over given = record {
-  fit = given.fit;
-  none = λ none. given.none (sym is ∙ none);
-  read = λ bytes found known tells. given.read known.0 bytes found (sym is ∙ known.1) known.2 (subst (λ n. told_if_named files n ≡ Some found) over tells);
+pub takes_events : (command : Command) (named drop_in : Option (List ℕ)) (files : Option Files) (rules : List Rule) → rules_name command ≡ named → drop_in_name command ≡ drop_in → RulesOption named drop_in files rules → TakesRules command files rules
+takes_events command named drop_in files rules is over bytes_read = record {
+  fit = bytes_read.fit;
+  none = λ none. bytes_read.none (sym is ∙ none);
+  read = λ bytes found known shows. bytes_read.read known.0 bytes found (sym is ∙ known.1) known.2 (subst (λ n. content_if_named files n ≡ Some found) over shows);
 }
 
 -- a command that names no rules file has no rulesets
-pub none_given : (files : Option Files) → RulesGiven None None files []
-none_given files = record {
+pub no_events : (files : Option Files) → RulesOption None None files []
+no_events files = record {
   fit = record { few = omega arith; each = All-nil FitsRule };
   none = λ _. refl;
   read = λ name bytes over is. absurd (let no : ⊥ = cc is in no);
@@ -103,66 +103,66 @@ none_given files = record {
 }
 
 -- the same if the options of a replay name no file
-pub empty_given : (named drop_in : Option (List ℕ)) (files : Option Files) → named ≡ None → drop_in ≡ None → RulesGiven named drop_in files []
-empty_given named drop_in files none over = subst (λ n. RulesGiven n drop_in files []) (sym none) (subst (λ d. RulesGiven None d files []) (sym over) (none_given files))
+pub empty_read : (named drop_in : Option (List ℕ)) (files : Option Files) → named ≡ None → drop_in ≡ None → RulesOption named drop_in files []
+empty_read named drop_in files none over = subst (λ n. RulesOption n drop_in files []) (sym none) (subst (λ d. RulesOption None d files []) (sym over) (no_events files))
 
 -- the files of rules of a command aren't known to be missing, if its rules were read
-pub rules_there : (command : Command) (files : Option Files) (rules : List Rule) → RulesGiven (rules_name command) (drop_in_name command) files rules → RulesAreThere command files
-rules_there command files rules given = (λ other is lacks. given.held other is lacks, λ other is lacks. given.drop_in_held other is lacks)
+pub rules_there : (command : Command) (files : Option Files) (rules : List Rule) → RulesOption (rules_name command) (drop_in_name command) files rules → RulesAreThere command files
+rules_there command files rules bytes_read = (λ other is lacks. bytes_read.held other is lacks, λ other is lacks. bytes_read.drop_in_held other is lacks)
 
 -- a file of a kind isn't known to be missing, if the file with its name isn't
-pub file_there : (command : Command) (which : Which) (name : List ℕ) (files : Option Files) → file_of command which ≡ Some name → (Lacks files name → ⊥) → IsThere command files which
-file_there command which name files named held = λ other is lacks. held (subst (Lacks files) (same_name command which name other named is) lacks)
+pub file_there : (command : Command) (which : Which) (name : List ℕ) (files : Option Files) → file_of command which ≡ Some name → (IsAbsent files name → ⊥) → IsThere command files which
+file_there command which name files named held = λ other is lacks. held (subst (IsAbsent files) (same_name command which name other named is) lacks)
 
 pub runs_written : (command : Command) (name : List ℕ) (files : Option Files) (before now : RunCounts) (had has : Option (List ℕ)) (trace : Trace) (rules : List Rule) (text : List ℕ) (result : Status)
-    → source_name command ≡ Some name → TakesTrace command files trace → RulesGiven (rules_name command) (drop_in_name command) files rules → (Lacks files name → ⊥) → IsOutput command trace rules text
+    → source_name command ≡ Some name → TakesTrace command files trace → RulesOption (rules_name command) (drop_in_name command) files rules → (IsAbsent files name → ⊥) → IsOutput command trace rules text
     → now.shelf.faults ≡ before.shelf.faults → now.shelf.absent ≡ before.shelf.absent
     → WritesText text before.writes now.writes had has result → Runs command files before now had has result
-runs_written command name files before now had has trace rules text status.Done named takes given held output faults absent wrote = record {
-  ends = (trace, rules, λ _. takes, takes_given command _ _ files rules refl refl given, rules_there command files rules given, file_there command (source_of command) name files named held, (text, output, wrote.0));
+runs_written command name files before now had has trace rules text status.Done named takes bytes_read held output faults absent wrote = record {
+  ends = (trace, rules, λ _. takes, takes_events command _ _ files rules refl refl bytes_read, rules_there command files rules bytes_read, file_there command (source_of command) name files named held, (text, output, wrote.0));
   counts = counts_written before now status.Done faults absent (λ is. cc is) (λ is. cc is.1) (stays _ before.writes now.writes (λ is. cc is) wrote.1);
 }
-runs_written command name files before now had has trace rules text status.WriteFault named takes given held output faults absent wrote = record {
-  ends = (trace, rules, λ _. takes, takes_given command _ _ files rules refl refl given, rules_there command files rules given, file_there command (source_of command) name files named held, (text, output, wrote.0));
-  counts = counts_written before now status.WriteFault faults absent (λ is. cc is) (λ is. cc is.1) (record { rose = λ _. wrote.1; same = λ not. absurd (not refl) });
+runs_written command name files before now had has trace rules text status.WriteFault named takes bytes_read held output faults absent wrote = record {
+  ends = (trace, rules, λ _. takes, takes_events command _ _ files rules refl refl bytes_read, rules_there command files rules bytes_read, file_there command (source_of command) name files named held, (text, output, wrote.0));
+  counts = counts_written before now status.WriteFault faults absent (λ is. cc is) (λ is. cc is.1) (record { increased = λ _. wrote.1; same = λ not. absurd (not refl) });
 }
-runs_written command name files before now had has trace rules text (status.NoMemory _) named takes given held output faults absent wrote = record {
+runs_written command name files before now had has trace rules text (status.NoMemory _) named takes bytes_read held output faults absent wrote = record {
   ends = wrote.0;
   counts = counts_written before now (status.NoMemory no_memory) faults absent (λ is. cc is) (λ is. cc is.1) (stays _ before.writes now.writes (λ is. cc is) wrote.1);
 }
-runs_written command name files before now had has trace rules text _ named takes given held output faults absent wrote = absurd wrote
+runs_written command name files before now had has trace rules text _ named takes bytes_read held output faults absent wrote = absurd wrote
 
 -- the output of `whatif` for a trace
 pub runs_supposed : (name : List ℕ) (options : Options) (files : Option Files) (before now : RunCounts) (had has : Option (List ℕ)) (trace : Trace) (rules : List Rule) (result : Status)
-    → TakesTrace (words.Whatif name options) files trace → RulesGiven options.rules options.drop_in files rules → (Lacks files name → ⊥)
+    → TakesTrace (words.Whatif name options) files trace → RulesOption options.rules options.drop_in files rules → (IsAbsent files name → ⊥)
     → now.shelf.faults ≡ before.shelf.faults → now.shelf.absent ≡ before.shelf.absent
-    → WritesLast trace (pace_of options) rules before.writes now.writes had has result → Runs (words.Whatif name options) files before now had has result
-runs_supposed name options files before now had has trace rules status.Done takes given held faults absent wrote =
+    → WritesLast trace (timing_of options) rules before.writes now.writes had has result → Runs (words.Whatif name options) files before now had has result
+runs_supposed name options files before now had has trace rules status.Done takes bytes_read held faults absent wrote =
     let some = wrote.2 in
-    runs_written (words.Whatif name options) name files before now had has trace rules some.0 status.Done refl takes given held (wrote.0, wrote.1, some.1) faults absent some.2
-runs_supposed name options files before now had has trace rules status.WriteFault takes given held faults absent wrote =
+    runs_written (words.Whatif name options) name files before now had has trace rules some.0 status.Done refl takes bytes_read held (wrote.0, wrote.1, some.1) faults absent some.2
+runs_supposed name options files before now had has trace rules status.WriteFault takes bytes_read held faults absent wrote =
     let some = wrote.2 in
-    runs_written (words.Whatif name options) name files before now had has trace rules some.0 status.WriteFault refl takes given held (wrote.0, wrote.1, some.1) faults absent some.2
-runs_supposed name options files before now had has trace rules (status.NoMemory _) takes given held faults absent wrote = record {
+    runs_written (words.Whatif name options) name files before now had has trace rules some.0 status.WriteFault refl takes bytes_read held (wrote.0, wrote.1, some.1) faults absent some.2
+runs_supposed name options files before now had has trace rules (status.NoMemory _) takes bytes_read held faults absent wrote = record {
   ends = wrote.0;
   counts = counts_written before now (status.NoMemory no_memory) faults absent (λ is. cc is) (λ is. cc is.1) (stays _ before.writes now.writes (λ is. cc is) wrote.1);
 }
-runs_supposed name options files before now had has trace rules (status.TooLarge events) takes given held faults absent wrote = record {
+runs_supposed name options files before now had has trace rules (status.TooLarge events) takes bytes_read held faults absent wrote = record {
   ends = (
     wrote.1,
     record {
       trace = trace;
       rules = rules;
       takes = λ _. takes;
-      takes_rules = takes_given (words.Whatif name options) _ _ files rules refl refl given;
-      rules_there = rules_there (words.Whatif name options) files rules given;
+      takes_rules = takes_events (words.Whatif name options) _ _ files rules refl refl bytes_read;
+      rules_there = rules_there (words.Whatif name options) files rules bytes_read;
       there = file_there (words.Whatif name options) TraceFile name files refl held;
       outcome = ap status_of_last wrote.0;
     },
   );
   counts = counts_written before now (status.TooLarge events) faults absent (λ is. cc is) (λ is. cc is.1) (stays _ before.writes now.writes (λ is. cc is) wrote.2);
 }
-runs_supposed name options files before now had has trace rules _ takes given held faults absent wrote = absurd wrote.2.2
+runs_supposed name options files before now had has trace rules _ takes bytes_read held faults absent wrote = absurd wrote.2.2
 
 -- ---- a file that couldn't be read
 
@@ -178,50 +178,50 @@ pub is_named : (command : Command) (which : Which) (name : List ℕ) → file_of
 is_named command which name named = subst IsSome (sym named) refl
 
 -- a read failed
-pub read_failed : (command : Command) (files : Option Files) (before now : RunCounts) (had : Option (List ℕ)) → ReadsFiles command → Rose before.shelf.faults now.shelf.faults → now.shelf.absent ≡ before.shelf.absent → now.writes ≡ before.writes
+pub read_failed : (command : Command) (files : Option Files) (before now : RunCounts) (had : Option (List ℕ)) → ReadsFiles command → Increased before.shelf.faults now.shelf.faults → now.shelf.absent ≡ before.shelf.absent → now.writes ≡ before.writes
     → Runs command files before now had had status.ReadFault
-read_failed command files before now had reads rose absent writes = record {
+read_failed command files before now had reads increased absent writes = record {
   ends = (keeps_same had, reads);
   counts = record {
-    faults = record { rose = λ _. rose; same = λ not. absurd (not refl) };
+    faults = record { increased = λ _. increased; same = λ not. absurd (not refl) };
     absent = stays _ before.shelf.absent now.shelf.absent (λ is. cc is.1) absent;
     writes = stays _ before.writes now.writes (λ is. cc is) writes;
   };
 }
 
 -- out of memory
-pub memory_wanting : (command : Command) (files : Option Files) (before now : RunCounts) (had : Option (List ℕ)) → now.shelf.faults ≡ before.shelf.faults → now.shelf.absent ≡ before.shelf.absent → now.writes ≡ before.writes
+pub out_of_memory_at : (command : Command) (files : Option Files) (before now : RunCounts) (had : Option (List ℕ)) → now.shelf.faults ≡ before.shelf.faults → now.shelf.absent ≡ before.shelf.absent → now.writes ≡ before.writes
     → Runs command files before now had had (status.NoMemory no_memory)
-memory_wanting command files before now had faults absent writes = record {
+out_of_memory_at command files before now had faults absent writes = record {
   ends = keeps_same had;
   counts = counts_written before now (status.NoMemory no_memory) faults absent (λ is. cc is) (λ is. cc is.1) (stays _ before.writes now.writes (λ is. cc is) writes);
 }
 
 -- counts if a name was missing
-pub missed_counts : (which : Which) (before now : RunCounts) → now.shelf.faults ≡ before.shelf.faults → Rose before.shelf.absent now.shelf.absent → now.writes ≡ before.writes → FailuresAreCounted before now (status.NoFile which)
-missed_counts which before now faults rose writes = record {
+pub missed_counts : (which : Which) (before now : RunCounts) → now.shelf.faults ≡ before.shelf.faults → Increased before.shelf.absent now.shelf.absent → now.writes ≡ before.writes → FailuresAreCounted before now (status.NoFile which)
+missed_counts which before now faults increased writes = record {
   faults = stays _ before.shelf.faults now.shelf.faults (λ is. cc is) faults;
-  absent = record { rose = λ _. rose; same = λ not. absurd (not (which, refl)) };
+  absent = record { increased = λ _. increased; same = λ not. absurd (not (which, refl)) };
   writes = stays _ before.writes now.writes (λ is. cc is) writes;
 }
 
 -- a trace that can't be read, after rules that were
 pub runs_refused : {T : Type 0} → (command : Command) (name : List ℕ) (files : Option Files) (before now : RunCounts) (had : Option (List ℕ)) (rules : List Rule) (found : TraceFault) (result : Status)
-    → Reads command → trace_name command ≡ Some name → RulesGiven (rules_name command) (drop_in_name command) files rules → ((bytes : List ℕ) → told files name ≡ Some bytes → RefusalOf found (trace_of (accepts_of command) bytes)) → (Lacks files name → TellsNothing {A = Unit {0}} (Err found))
-    → (IsErrOf {T = T} (Err found) fault.NoFile → told files name ≡ None)
+    → Reads command → trace_name command ≡ Some name → RulesOption (rules_name command) (drop_in_name command) files rules → ((bytes : List ℕ) → content_of files name ≡ Some bytes → RefusalOf found (trace_of (accepts_of command) bytes)) → (IsAbsent files name → ShowsNothing {A = Unit {0}} (Err found))
+    → (IsErrOf {T = T} (Err found) fault.NoFile → content_of files name ≡ None)
     → CausesTraceFault {A = T} before.shelf now.shelf (Err found) → now.writes ≡ before.writes
     → IsStatusOf found result → Runs command files before now had had result
-runs_refused command name files before now had rules (fault.Refused refusal) result reads named given refused lacking missed causes writes is =
+runs_refused command name files before now had rules (fault.Refused refusal) result reads named bytes_read refused lacking missed causes writes is =
     subst (Runs command files before now had had) (sym is) (record {
-      ends = (keeps_same had, is_named command TraceFile name named, (rules, takes_given command _ _ files rules refl refl given, rules_there command files rules given), file_there command TraceFile name files named lacking, λ bytes known. reads bytes ∙ ap or_refused_trace (refused bytes (subst (λ n. told files n ≡ Some bytes) (same_name command TraceFile name known.0 named known.1) known.2)));
+      ends = (keeps_same had, is_named command TraceFile name named, (rules, takes_events command _ _ files rules refl refl bytes_read, rules_there command files rules bytes_read), file_there command TraceFile name files named lacking, λ bytes known. reads bytes ∙ ap or_refused_trace (refused bytes (subst (λ n. content_of files n ≡ Some bytes) (same_name command TraceFile name known.0 named known.1) known.2)));
       counts = counts_written before now (status.Trace refusal.line refusal.cause) (causes.faults_same (λ is. cc is)) (causes.absent_same (λ is. cc is)) (λ is. cc is) (λ is. cc is.1) (stays _ before.writes now.writes (λ is. cc is) writes);
     })
-runs_refused command name files before now had rules fault.NoFile result reads named given refused lacking missed causes writes is =
+runs_refused command name files before now had rules fault.NoFile result reads named bytes_read refused lacking missed causes writes is =
     subst (Runs command files before now had had) (sym is) (record {
-      ends = (keeps_same had, (rules, takes_given command _ _ files rules refl refl given, rules_there command files rules given), (name, named, missed refl));
+      ends = (keeps_same had, (rules, takes_events command _ _ files rules refl refl bytes_read, rules_there command files rules bytes_read), (name, named, missed refl));
       counts = missed_counts TraceFile before now (causes.faults_same (λ is. cc is)) (causes.missed refl) writes;
     })
-runs_refused command name files before now had rules fault.ReadFault result reads named given refused lacking missed causes writes is =
+runs_refused command name files before now had rules fault.ReadFault result reads named bytes_read refused lacking missed causes writes is =
     subst (Runs command files before now had had) (sym is) (read_failed command files before now had (TraceFile, is_named command TraceFile name named) (causes.failed refl) (causes.absent_same (λ is. cc is)) writes)
-runs_refused command name files before now had rules (fault.NoMemory _) result reads named given refused lacking missed causes writes is =
-    subst (Runs command files before now had had) (sym is) (memory_wanting command files before now had (causes.faults_same (λ is. cc is)) (causes.absent_same (λ is. cc is)) writes)
+runs_refused command name files before now had rules (fault.NoMemory _) result reads named bytes_read refused lacking missed causes writes is =
+    subst (Runs command files before now had had) (sym is) (out_of_memory_at command files before now had (causes.faults_same (λ is. cc is)) (causes.absent_same (λ is. cc is)) writes)

@@ -1,11 +1,11 @@
 -- Where runs stop reading.
 use Rattle.std.proofs.Common.{◌≡◌, ℕ, ◌+◌, ◌-◌, ◌≤◌, List, length, take, refl, sym, ap, ◌∙◌, subst, arith, Option, Some, Ok, Err, true≢false}
 use Rattle.std.specs.Prelude.{Result, is_some}
-use Rattle.outside.specs.Outside.{Files, told}
+use Rattle.outside.specs.Outside.{Files, content_of}
 use Rattle.psi_base.specs.Path.{parts_at}
 use Rattle.psi_base.specs.declared.event.Refusal.{Refusal}
 use Rattle.psi_lines.specs.Next.{furthest}
-use Rattle.psi_lines.proofs.Counts.{count-front}
+use Rattle.psi_lines.proofs.Counts.{count-prefix}
 use Rattle.psi_spec.specs.Grammar.{versions}
 use Rattle.psi_spec.specs.Trace.{Trace, accepts_with, trace_of}
 use Rattle.ruleset_json.specs.declared.types.Rule.{Rule}
@@ -14,8 +14,8 @@ use Rattle.run_spec.specs.declared.command.Command.TheVariants as words
 use Rattle.run_spec.specs.declared.status.Status.{Status}
 use Rattle.run_spec.specs.declared.status.Status.TheVariants as status
 use Rattle.run_spec.specs.MostRead.{most_until}
-use Rattle.run_spec.specs.Outputs.{accepts_of, or_refused_trace, rules_name, source_name, source_of, taken_of}
-use Rattle.run_spec.specs.Replay.{Pace}
+use Rattle.run_spec.specs.Outputs.{accepts_of, or_refused_trace, rules_name, source_name, source_of, parse_of}
+use Rattle.run_spec.specs.Replay.{Timing}
 use Rattle.run_spec.specs.Stops.{IsNotWhole, StopsAtRefusal, refused_line, rules_read}
 use Rattle.trace_file.specs.Reads.{StopsAtRefusal as TraceStops}
 use Rattle.trace_file.specs.declared.trace.TraceFault.{TraceFault}
@@ -27,26 +27,26 @@ use Rattle.run_outcomes.proofs.RunLaws.{Reads, same_name}
 -- ---- a text that was written
 
 -- if a text was to be written, no line was rejected, and no read failed
-pub written_stops : (command : Command) (files : Option Files) (given given_now : ℕ) (text : List ℕ) (before now : ℕ) (had has : Option (List ℕ)) (result : Status) → WritesText text before now had has result → StopsAtRefusal command files given given_now result
-written_stops command files given given_now text before now had has status.Done wrote = tt
-written_stops command files given given_now text before now had has status.WriteFault wrote = tt
-written_stops command files given given_now text before now had has (status.NoMemory _) wrote = tt
-written_stops command files given given_now text before now had has _ wrote = absurd wrote
+pub written_stops : (command : Command) (files : Option Files) (bytes_read read_now : ℕ) (text : List ℕ) (before now : ℕ) (had has : Option (List ℕ)) (result : Status) → WritesText text before now had has result → StopsAtRefusal command files bytes_read read_now result
+written_stops command files bytes_read read_now text before now had has status.Done wrote = tt
+written_stops command files bytes_read read_now text before now had has status.WriteFault wrote = tt
+written_stops command files bytes_read read_now text before now had has (status.NoMemory _) wrote = tt
+written_stops command files bytes_read read_now text before now had has _ wrote = absurd wrote
 
 -- the same for the output of `whatif` for a trace
-pub supposed_stops : (command : Command) (files : Option Files) (given given_now : ℕ) (trace : Trace) (pace : Pace) (rules : List Rule) (before now : ℕ) (had has : Option (List ℕ)) (result : Status) → WritesLast trace pace rules before now had has result
-    → StopsAtRefusal command files given given_now result
-supposed_stops command files given given_now trace pace rules before now had has status.Done wrote = tt
-supposed_stops command files given given_now trace pace rules before now had has status.WriteFault wrote = tt
-supposed_stops command files given given_now trace pace rules before now had has (status.NoMemory _) wrote = tt
-supposed_stops command files given given_now trace pace rules before now had has (status.TooLarge events) wrote = tt
-supposed_stops command files given given_now trace pace rules before now had has _ wrote = absurd wrote.2.2
+pub supposed_stops : (command : Command) (files : Option Files) (bytes_read read_now : ℕ) (trace : Trace) (timing : Timing) (rules : List Rule) (before now : ℕ) (had has : Option (List ℕ)) (result : Status) → WritesLast trace timing rules before now had has result
+    → StopsAtRefusal command files bytes_read read_now result
+supposed_stops command files bytes_read read_now trace timing rules before now had has status.Done wrote = tt
+supposed_stops command files bytes_read read_now trace timing rules before now had has status.WriteFault wrote = tt
+supposed_stops command files bytes_read read_now trace timing rules before now had has (status.NoMemory _) wrote = tt
+supposed_stops command files bytes_read read_now trace timing rules before now had has (status.TooLarge events) wrote = tt
+supposed_stops command files bytes_read read_now trace timing rules before now had has _ wrote = absurd wrote.2.2
 
 -- ---- an incomplete line
 
 -- the line is also incomplete in fewer bytes
 pub fewer_read : (line few more : ℕ) (bytes : List ℕ) → few ≤ more → length (parts_at 10 (take more bytes)) ≤ line → IsNotWhole line few bytes
-fewer_read line few more bytes fewer within = omega (arith, within, count-front bytes few more fewer)
+fewer_read line few more bytes fewer within = omega (arith, within, count-prefix bytes few more fewer)
 
 -- every line is incomplete in no bytes
 pub none_read : (line count : ℕ) (bytes : List ℕ) → count ≡ 0 → 1 ≤ line → IsNotWhole line count bytes
@@ -63,24 +63,24 @@ refused_at (Err refusal) why is =
     (refusal, refl, ap refused_line (sym same))
 
 -- how far is read, after files of rules
-behind : (given middle given_now before line : ℕ) → middle ≤ given + before → given_now ≤ middle + furthest line → given_now ≤ given + (before + most_until line)
-behind given middle given_now before line first then = omega (arith, first, then)
+suffix : (bytes_read middle read_now before line : ℕ) → middle ≤ bytes_read + before → read_now ≤ middle + furthest line → read_now ≤ bytes_read + (before + most_until line)
+suffix bytes_read middle read_now before line first then = omega (arith, first, then)
 
 -- reading a trace after files of rules, within their size limits
-pub trace_stops : (command : Command) (name : List ℕ) (tick : ℕ) (files : Option Files) (given middle given_now : ℕ) (found : TraceFault) (result : Status)
-    → Reads command → source_name command ≡ Some name → accepts_of command ≡ accepts_with versions tick → middle ≤ given + rules_read command files
-    → TraceStops {A = Unit {0}} tick (told files name) middle given_now (Err found) → IsStatusOf found result → StopsAtRefusal command files given given_now result
-trace_stops command name tick files given middle given_now (fault.Refused refusal) result reads named same before stops is =
-    subst (StopsAtRefusal command files given given_now) (sym is) (behind given middle given_now (rules_read command files) refusal.line before stops)
-trace_stops command name tick files given middle given_now fault.NoFile result reads named same before stops is = subst (StopsAtRefusal command files given given_now) (sym is) tt
-trace_stops command name tick files given middle given_now fault.ReadFault result reads named same before stops is =
-    subst (StopsAtRefusal command files given given_now) (sym is) (λ bytes why known refuses.
-    let tells = subst (λ n. told files n ≡ Some bytes) (same_name command (source_of command) name known.0 named known.1) known.2 in
+pub trace_stops : (command : Command) (name : List ℕ) (tick : ℕ) (files : Option Files) (bytes_read middle read_now : ℕ) (found : TraceFault) (result : Status)
+    → Reads command → source_name command ≡ Some name → accepts_of command ≡ accepts_with versions tick → middle ≤ bytes_read + rules_read command files
+    → TraceStops {A = Unit {0}} tick (content_of files name) middle read_now (Err found) → IsStatusOf found result → StopsAtRefusal command files bytes_read read_now result
+trace_stops command name tick files bytes_read middle read_now (fault.Refused refusal) result reads named same before stops is =
+    subst (StopsAtRefusal command files bytes_read read_now) (sym is) (suffix bytes_read middle read_now (rules_read command files) refusal.line before stops)
+trace_stops command name tick files bytes_read middle read_now fault.NoFile result reads named same before stops is = subst (StopsAtRefusal command files bytes_read read_now) (sym is) tt
+trace_stops command name tick files bytes_read middle read_now fault.ReadFault result reads named same before stops is =
+    subst (StopsAtRefusal command files bytes_read read_now) (sym is) (λ bytes why known refuses.
+    let shows = subst (λ n. content_of files n ≡ Some bytes) (same_name command (source_of command) name known.0 named known.1) known.2 in
     let refused : or_refused_trace (trace_of (accepts_with versions tick) bytes) ≡ Err why = ap (λ accepts. or_refused_trace (trace_of accepts bytes)) (sym same) ∙ sym (reads bytes) ∙ refuses in
     let found = refused_at (trace_of (accepts_with versions tick) bytes) why refused in
-    let within = stops bytes found.0 tells found.1 in
-    fewer_read (refused_line why) (given_now - (given + rules_read command files)) (given_now - middle) bytes (omega (arith, before)) (omega (arith, within, found.2)))
-trace_stops command name tick files given middle given_now (fault.NoMemory none) result reads named same before stops is = subst (StopsAtRefusal command files given given_now) (sym is) tt
+    let within = stops bytes found.0 shows found.1 in
+    fewer_read (refused_line why) (read_now - (bytes_read + rules_read command files)) (read_now - middle) bytes (omega (arith, before)) (omega (arith, within, found.2)))
+trace_stops command name tick files bytes_read middle read_now (fault.NoMemory none) result reads named same before stops is = subst (StopsAtRefusal command files bytes_read read_now) (sym is) tt
 
 -- ---- files of rules that couldn't be read
 
@@ -90,7 +90,7 @@ first_refused read why later is =
     let found = refused_at read why is in
     omega (arith, later found.0 found.1, found.2)
 
-line_from_one : (command : Command) (name bytes : List ℕ) (why : Status) → rules_name command ≡ Some name → taken_of command bytes ≡ Err why → 1 ≤ refused_line why
+line_from_one : (command : Command) (name bytes : List ℕ) (why : Status) → rules_name command ≡ Some name → parse_of command bytes ≡ Err why → 1 ≤ refused_line why
 line_from_one (words.Import file cpus) name bytes why named is = absurd (true≢false (sym (ap is_some named)))
 line_from_one (words.Stall trace) name bytes why named is = first_refused _ why (trace-line (accepts_of (words.Stall trace)) bytes) is
 line_from_one (words.Check trace tick_ms) name bytes why named is = first_refused _ why (trace-line (accepts_of (words.Check trace tick_ms)) bytes) is
@@ -101,6 +101,6 @@ line_from_one (words.Rules file drop_in) name bytes why named is = first_refused
 line_from_one (words.Whatif trace options) name bytes why named is = first_refused _ why (trace-line (accepts_of (words.Whatif trace options)) bytes) is
 
 -- a read of files of rules fails before anything is read of a trace
-pub rules_stop : (command : Command) (name : List ℕ) (files : Option Files) (given given_now : ℕ) → rules_name command ≡ Some name → given_now ≤ given + rules_read command files → StopsAtRefusal command files given given_now status.ReadFault
-rules_stop command name files given given_now named within = λ bytes why known refuses.
-    none_read (refused_line why) (given_now - (given + rules_read command files)) bytes (omega (arith, within)) (line_from_one command name bytes why named refuses)
+pub rules_stop : (command : Command) (name : List ℕ) (files : Option Files) (bytes_read read_now : ℕ) → rules_name command ≡ Some name → read_now ≤ bytes_read + rules_read command files → StopsAtRefusal command files bytes_read read_now status.ReadFault
+rules_stop command name files bytes_read read_now named within = λ bytes why known refuses.
+    none_read (refused_line why) (read_now - (bytes_read + rules_read command files)) bytes (omega (arith, within)) (line_from_one command name bytes why named refuses)

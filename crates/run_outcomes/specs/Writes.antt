@@ -1,7 +1,7 @@
 -- The status of a run, from the results of reading and writing.
 use Rattle.std.specs.Prelude.{◌≡◌, ◌≤◌, ℕ, List, Option, Result, Ok, Err}
 use Rattle.std.specs.Io.KnownBytes.{Appends, Keeps}
-use Rattle.outside.specs.Outside.{AppendsFront, Rose}
+use Rattle.outside.specs.Outside.{AppendsPrefix, Increased}
 use Rattle.outside.specs.Calls.{PutsAll}
 use Rattle.psi_base.specs.declared.event.Event.{Event}
 use Rattle.psi_base.specs.declared.event.Fault.{Fault}
@@ -11,7 +11,7 @@ use Rattle.psi_spec.specs.World.{Limits}
 use Rattle.proc_plan.specs.Plans.{HasTaken, PlannerView}
 use Rattle.ruleset_json.specs.declared.types.Rule.{Rule}
 use Rattle.run_spec.specs.Outputs.{of_ms}
-use Rattle.run_spec.specs.Replay.{IsReplayText, Pace}
+use Rattle.run_spec.specs.Replay.{IsReplayText, Timing}
 use Rattle.run_spec.specs.Whatif.{last_trace}
 use Rattle.run_spec.specs.LegalCommand.{IsWithin}
 use Rattle.run_spec.specs.declared.command.Options.{Options}
@@ -27,7 +27,7 @@ use Rattle.trace_file.specs.declared.trace.TraceFault.TheVariants as fault
 -- otherwise.
 abbrev pub WritesText : List ℕ → ℕ → ℕ → Option (List ℕ) → Option (List ℕ) → Status → Type 0
 WritesText text before now had has status.Done = Appends had has text × (now ≡ before)
-WritesText text before now had has status.WriteFault = AppendsFront had has text × Rose before now
+WritesText text before now had has status.WriteFault = AppendsPrefix had has text × Increased before now
 WritesText text before now had has (status.NoMemory _) = Keeps had has × (now ≡ before)
 WritesText text before now had has _ = ⊥
 
@@ -41,12 +41,12 @@ PutsSome IsSo had has result = (text : List ℕ) × IsSo text × PutsAll had has
 
 -- The output of `whatif` for a trace: some output of `replay` for the last trace, or none if a
 -- round left too many events.
-abbrev pub WritesLast : Trace → Pace → List Rule → ℕ → ℕ → Option (List ℕ) → Option (List ℕ) → Status → Type 0
-WritesLast trace pace rules before now had has (status.TooLarge events) =
-    (last_trace trace pace rules ≡ Err events) × Keeps had has × (now ≡ before)
-WritesLast trace pace rules before now had has (status.NoMemory _) = Keeps had has × (now ≡ before)
-WritesLast trace pace rules before now had has result =
-    (last : Trace) × (last_trace trace pace rules ≡ Ok last) × WritesSome (IsReplayText last pace rules) before now had has result
+abbrev pub WritesLast : Trace → Timing → List Rule → ℕ → ℕ → Option (List ℕ) → Option (List ℕ) → Status → Type 0
+WritesLast trace timing rules before now had has (status.TooLarge events) =
+    (last_trace trace timing rules ≡ Err events) × Keeps had has × (now ≡ before)
+WritesLast trace timing rules before now had has (status.NoMemory _) = Keeps had has × (now ≡ before)
+WritesLast trace timing rules before now had has result =
+    (last : Trace) × (last_trace trace timing rules ≡ Ok last) × WritesSome (IsReplayText last timing rules) before now had has result
 
 -- the status of a trace that can't be read
 abbrev pub IsStatusOf : TraceFault → Status → Type 0

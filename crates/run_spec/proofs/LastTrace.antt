@@ -6,7 +6,7 @@ use Rattle.std.proofs.lemmas.Bool.Decides.{nat_tests}
 use Rattle.psi_spec.specs.World.{most_events}
 use Rattle.psi_spec.specs.Trace.{Trace}
 use Rattle.ruleset_json.specs.declared.types.Rule.{Rule}
-use Rattle.run_spec.specs.Replay.{Pace}
+use Rattle.run_spec.specs.Replay.{Timing}
 use Rattle.run_spec.specs.Whatif.{after_rounds, all_kills, bounded_trace, most_rounds, round, then_round, without_kill}
 use Rattle.run_spec.specs.Laws.{LastOutgrown, LastWithoutKill, OutgrownAtRound}
 
@@ -20,8 +20,8 @@ past_none : {A : Type 0} (xs : List A) (i : ℕ) → slice_get xs i ≡ None →
 past_none xs i is = past_if xs i is (slice_get_cases xs i).1
 
 -- if there is no element at a place, there is none at a later place
-none_behind : {A : Type 0} (xs : List A) (i j : ℕ) → i ≤ j → slice_get xs i ≡ None → slice_get xs j ≡ None
-none_behind xs i j low is = slice_get_past xs j (omega (arith, past_none xs i is, low))
+none_following : {A : Type 0} (xs : List A) (i j : ℕ) → i ≤ j → slice_get xs i ≡ None → slice_get xs j ≡ None
+none_following xs i j low is = slice_get_past xs j (omega (arith, past_none xs i is, low))
 
 -- ---- rounds
 
@@ -38,16 +38,16 @@ beyond_bounds trace many =
     rw is refl
 
 -- one more round
-pub one_round : (trace left : Trace) (pace : Pace) (rules : List Rule) (count : ℕ) → after_rounds trace pace rules count ≡ Ok left
-    → after_rounds trace pace rules (suc count) ≡ round pace rules count left
+pub one_round : (trace left : Trace) (timing : Timing) (rules : List Rule) (count : ℕ) → after_rounds trace timing rules count ≡ Ok left
+    → after_rounds trace timing rules (suc count) ≡ round timing rules count left
 unfolding after_rounds
-one_round trace left pace rules count is = ap (then_round pace rules count) is
+one_round trace left timing rules count is = ap (then_round timing rules count) is
 
 -- after a round that left too much
-no_round : (trace : Trace) (pace : Pace) (rules : List Rule) (count events : ℕ) → after_rounds trace pace rules count ≡ Err events
-    → after_rounds trace pace rules (suc count) ≡ Err events
+no_round : (trace : Trace) (timing : Timing) (rules : List Rule) (count events : ℕ) → after_rounds trace timing rules count ≡ Err events
+    → after_rounds trace timing rules (suc count) ≡ Err events
 unfolding after_rounds
-no_round trace pace rules count events is = ap (then_round pace rules count) is
+no_round trace timing rules count events is = ap (then_round timing rules count) is
 
 -- a number is at most another, or at most its predecessor
 or_before : (i n : ℕ) → i ≤ suc n → (i ≡ suc n) ⊎ (i ≤ n)
@@ -66,27 +66,27 @@ lasts P i first goes zero low = subst P (omega (arith, low)) first
 lasts P i first goes (suc n) low = lasts_by P i n first (lasts P i first goes n) (goes n) (or_before i n low)
 
 -- a round without a kill leaves the trace
-idle_round : (left : Trace) (pace : Pace) (rules : List Rule) (number : ℕ) → length left.events ≤ most_events → slice_get (all_kills left pace rules) number ≡ None
-    → round pace rules number left ≡ Ok left
-idle_round left pace rules number few none = ap (λ kill. bounded_trace (without_kill left kill)) none ∙ within_bounds left few
+idle_round : (left : Trace) (timing : Timing) (rules : List Rule) (number : ℕ) → length left.events ≤ most_events → slice_get (all_kills left timing rules) number ≡ None
+    → round timing rules number left ≡ Ok left
+idle_round left timing rules number few none = ap (λ kill. bounded_trace (without_kill left kill)) none ∙ within_bounds left few
 
 pub last_without_kill : LastWithoutKill
-last_without_kill trace left pace rules count some few is none =
-    lasts (λ n. after_rounds trace pace rules n ≡ Ok left) count is
-    (λ n low so. one_round trace left pace rules n so ∙ idle_round left pace rules n few (none_behind (all_kills left pace rules) count n low none))
+last_without_kill trace left timing rules count some few is none =
+    lasts (λ n. after_rounds trace timing rules n ≡ Ok left) count is
+    (λ n low so. one_round trace left timing rules n so ∙ idle_round left timing rules n few (none_following (all_kills left timing rules) count n low none))
     most_rounds some
 
 pub last_outgrown : LastOutgrown
-last_outgrown trace pace rules count events some is =
-    lasts (λ n. after_rounds trace pace rules n ≡ Err events) count is (λ n low so. no_round trace pace rules n events so) most_rounds some
+last_outgrown trace timing rules count events some is =
+    lasts (λ n. after_rounds trace timing rules n ≡ Err events) count is (λ n low so. no_round trace timing rules n events so) most_rounds some
 
 -- ---- traces that grew too large
 
 -- some round before this one left too much
-abbrev pub GrewBefore : Trace → Pace → List Rule → ℕ → ℕ → Type 0
-GrewBefore trace pace rules events count =
-    (number : ℕ) × (left : Trace) × (number < count) × (after_rounds trace pace rules number ≡ Ok left)
-    × (length (without_kill left (slice_get (all_kills left pace rules) number)).events ≡ events) × (most_events < events)
+abbrev pub GrewBefore : Trace → Timing → List Rule → ℕ → ℕ → Type 0
+GrewBefore trace timing rules events count =
+    (number : ℕ) × (left : Trace) × (number < count) × (after_rounds trace timing rules number ≡ Ok left)
+    × (length (without_kill left (slice_get (all_kills left timing rules) number)).events ≡ events) × (most_events < events)
 
 -- if no trace is left, the trace was too large
 is_beyond : (trace : Trace) (events : ℕ) → bounded_trace trace ≡ Err events → (length trace.events ≡ events) × (most_events < events)
@@ -96,21 +96,21 @@ is_beyond trace events is = go (nat_lt most_events (length trace.events)) refl i
     go true large is = let same : length trace.events ≡ events = cc is in (same, grind (arith, nat_tests, large, same))
     go false small is = absurd (let no : ⊥ = cc is in no)
 
-grew_by : (trace : Trace) (pace : Pace) (rules : List Rule) (events n : ℕ) (before : Result Trace ℕ) → after_rounds trace pace rules n ≡ before
-    → (after_rounds trace pace rules n ≡ Err events → GrewBefore trace pace rules events n) → then_round pace rules n before ≡ Err events → GrewBefore trace pace rules events (suc n)
-grew_by trace pace rules events n (Ok left) so earlier is =
-    let found = is_beyond (without_kill left (slice_get (all_kills left pace rules) n)) events is in
+grew_by : (trace : Trace) (timing : Timing) (rules : List Rule) (events n : ℕ) (before : Result Trace ℕ) → after_rounds trace timing rules n ≡ before
+    → (after_rounds trace timing rules n ≡ Err events → GrewBefore trace timing rules events n) → then_round timing rules n before ≡ Err events → GrewBefore trace timing rules events (suc n)
+grew_by trace timing rules events n (Ok left) so earlier is =
+    let found = is_beyond (without_kill left (slice_get (all_kills left timing rules) n)) events is in
     (n, left, omega arith, so, found.0, found.1)
-grew_by trace pace rules events n (Err more) so earlier is =
+grew_by trace timing rules events n (Err more) so earlier is =
     let same : more ≡ events = cc is in
     let found = earlier (so ∙ ap (λ (k : ℕ). let left : Result Trace ℕ = Err k in left) same) in
     (found.0, found.1, omega (arith, found.2), found.3, found.4, found.5)
 
-grew : (trace : Trace) (pace : Pace) (rules : List Rule) (events n : ℕ) → after_rounds trace pace rules n ≡ Err events → GrewBefore trace pace rules events n
+grew : (trace : Trace) (timing : Timing) (rules : List Rule) (events n : ℕ) → after_rounds trace timing rules n ≡ Err events → GrewBefore trace timing rules events n
 unfolding after_rounds
-grew trace pace rules events zero is = absurd (let no : ⊥ = cc is in no)
-grew trace pace rules events (suc n) is =
-    grew_by trace pace rules events n (after_rounds trace pace rules n) refl (grew trace pace rules events n) is
+grew trace timing rules events zero is = absurd (let no : ⊥ = cc is in no)
+grew trace timing rules events (suc n) is =
+    grew_by trace timing rules events n (after_rounds trace timing rules n) refl (grew trace timing rules events n) is
 
 pub outgrown_at_round : OutgrownAtRound
-outgrown_at_round trace pace rules events is = grew trace pace rules events most_rounds is
+outgrown_at_round trace timing rules events is = grew trace timing rules events most_rounds is

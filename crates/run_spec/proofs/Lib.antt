@@ -1,5 +1,6 @@
 pub mod LastTrace
 pub mod Missing
+pub mod ReadCalls
 pub mod RangeLaws
 pub mod WordLaws
 pub mod WordTables

@@ -2,19 +2,23 @@
 use Rattle.std.proofs.Common.{◌≡◌, ◌⊎◌, inl, inr, ℕ, List, refl, sym, ap, ◌∙◌, Option, true≢false, Some}
 use Rattle.std.specs.Prelude.{IsSome, is_some}
 use Rattle.psi_base.specs.Memory.{no_memory}
-use Rattle.outside.specs.Outside.{Files, Lacks}
+use Rattle.outside.specs.Outside.{Files, IsAbsent}
+use Rattle.outside.specs.Reads.{ReadCall}
+use Rattle.outside.specs.declared.shelf.ShelfFault.TheVariants as shelf
 use Rattle.ruleset_json.specs.declared.fault.RulesFault.{RulesFault}
 use Rattle.dropin_rules.specs.declared.fault.DropFault.{DropFault}
 use Rattle.run_spec.specs.declared.command.Command.{Command}
 use Rattle.run_spec.specs.declared.command.Command.TheVariants as words
 use Rattle.run_spec.specs.declared.status.Status.{Status}
 use Rattle.run_spec.specs.declared.status.Status.TheVariants as status
+use Rattle.run_spec.specs.declared.status.Which.{Which}
 use Rattle.run_spec.specs.declared.status.Which.TheVariants.{DropInFile, ImportFile, RulesFile, TraceFile}
 use Rattle.run_spec.specs.Outputs.{drop_in_name, file_of, rules_name, source_name, source_of}
-use Rattle.run_spec.specs.Run.{Ends, HasTrace, IsNoFile}
+use Rattle.run_spec.specs.ReadOrder.{FailsAt, ReadsInOrder}
+use Rattle.run_spec.specs.Run.{Ends, HasTrace, IsNoFile, IsPassed}
 
 pub missing_rules : (command : Command) (files : Option Files) (old new : Option (List ℕ)) (result : Status) (name : List ℕ)
-    → Ends command files old new result → rules_name command ≡ Some name → Lacks files name
+    → Ends command files old new result → rules_name command ≡ Some name → IsAbsent files name
     → (result ≡ status.NoFile RulesFile) ⊎ (result ≡ status.ReadFault) ⊎ (result ≡ status.NoMemory no_memory)
 missing_rules command files old new status.Done name ends named lacks = absurd (ends.4.0 name named lacks)
 missing_rules command files old new status.WriteFault name ends named lacks = absurd (ends.4.0 name named lacks)
@@ -31,8 +35,30 @@ missing_rules command files old new status.ReadFault name ends named lacks = inr
 missing_rules command files old new (status.NoMemory _) name ends named lacks = inr (inr refl)
 missing_rules command files old new status.Usage name ends named lacks = absurd ends
 
+-- a failed read that is reported is one of the missing rules file, as no later file is read
+pub rules_first : (command : Command) (files : Option Files) (before now : List ReadCall) (name : List ℕ) → ReadsInOrder command files before now status.ReadFault → rules_name command ≡ Some name → IsAbsent files name
+    → FailsAt command before now RulesFile shelf.Failed
+rules_first command files before now name order named lacks = go order.0 order.1 order.2
+  where
+    go : (which : Which) → FailsAt command before now which shelf.Failed → IsPassed command files which → FailsAt command before now RulesFile shelf.Failed
+    go RulesFile fails passed = fails
+    go DropInFile fails passed = absurd (passed.3 name named lacks)
+    go TraceFile fails passed = absurd (passed.2.0 name named lacks)
+    go ImportFile fails passed = absurd (passed.2.0 name named lacks)
+
+-- or of the rules file, if the drop-in file is missing
+pub drop_in_first : (command : Command) (files : Option Files) (before now : List ReadCall) (name : List ℕ) → ReadsInOrder command files before now status.ReadFault → drop_in_name command ≡ Some name → IsAbsent files name
+    → FailsAt command before now RulesFile shelf.Failed ⊎ FailsAt command before now DropInFile shelf.Failed
+drop_in_first command files before now name order named lacks = go order.0 order.1 order.2
+  where
+    go : (which : Which) → FailsAt command before now which shelf.Failed → IsPassed command files which → FailsAt command before now RulesFile shelf.Failed ⊎ FailsAt command before now DropInFile shelf.Failed
+    go RulesFile fails passed = inl fails
+    go DropInFile fails passed = inr fails
+    go TraceFile fails passed = absurd (passed.2.1 name named lacks)
+    go ImportFile fails passed = absurd (passed.2.1 name named lacks)
+
 pub missing_drop_in : (command : Command) (files : Option Files) (old new : Option (List ℕ)) (result : Status) (name : List ℕ)
-    → Ends command files old new result → drop_in_name command ≡ Some name → Lacks files name
+    → Ends command files old new result → drop_in_name command ≡ Some name → IsAbsent files name
     → (result ≡ status.NoFile RulesFile) ⊎ (result ≡ status.NoFile DropInFile) ⊎ (result ≡ status.ReadFault)
     ⊎ (result ≡ status.NoMemory no_memory) ⊎ ((fault : RulesFault) × (result ≡ status.Rules fault))
 missing_drop_in command files old new status.Done name ends named lacks = absurd (ends.4.1 name named lacks)
@@ -84,7 +110,7 @@ has_trace (words.Rules file drop_in) name named = true≢false (sym (ap is_some 
 has_trace (words.Whatif trace options) name named = tt
 
 pub missing_source : (command : Command) (files : Option Files) (old new : Option (List ℕ)) (result : Status) (name : List ℕ)
-    → Ends command files old new result → source_name command ≡ Some name → Lacks files name
+    → Ends command files old new result → source_name command ≡ Some name → IsAbsent files name
     → IsNoFile result ⊎ (result ≡ status.ReadFault) ⊎ (result ≡ status.NoMemory no_memory)
     ⊎ ((fault : RulesFault) × (result ≡ status.Rules fault)) ⊎ ((fault : DropFault) × (result ≡ status.DropIn fault))
 missing_source command files old new status.Done name ends named lacks = absurd (ends.5 name named lacks)

@@ -9,8 +9,8 @@ use Rattle.std.specs.Str.{bytes_eq}
 use Rattle.std.proofs.lemmas.Slice.Eq.{bytes_eq-Decides}
 use Rattle.psi_base.specs.OptionSteps.{◌>>=◌}
 use Rattle.run_spec.specs.Words.{Word, assigned, opened, end, plain, unknown, is_dashed}
-use Rattle.run_spec.specs.Words.{is_among, is_equals, option_of, word_of, Given, value_given}
-use Rattle.run_spec.specs.Words.{with_option, with_positional, Stand, at_word, at_value, behind, by_word, said}
+use Rattle.run_spec.specs.Words.{is_among, is_equals, option_of, word_of, ParsedWords, option_value}
+use Rattle.run_spec.specs.Words.{with_option, with_positional, WordState, at_word, at_value, suffix, by_word, parsed_from}
 use Rattle.run_spec.specs.Laws.{assigned_word}
 use Rattle.run_spec.specs.Laws.{HasNoEquals}
 
@@ -98,31 +98,31 @@ assigned_is names name value none = rw (longer name value 61) (option_is names n
 -- ---- words with the same content
 
 -- each option has the same value in both, and so does the positional
-pub record SaysSame (one other : Given) : Type 0 where
-  pub values : (name : List ℕ) → value_given name one ≡ value_given name other
+pub record SaysSame (one other : ParsedWords) : Type 0 where
+  pub values : (name : List ℕ) → option_value name one ≡ option_value name other
   pub positional : one.positional ≡ other.positional
 
 -- both are rejected, or have the same content
-abbrev pub Same : Option Given → Option Given → Type 0
+abbrev pub Same : Option ParsedWords → Option ParsedWords → Type 0
 Same None None = ⊤
 Same None (Some other) = ⊥
 Same (Some one) None = ⊥
 Same (Some one) (Some other) = SaysSame one other
 
-same_itself : (r : Option Given) → Same r r
+same_itself : (r : Option ParsedWords) → Same r r
 same_itself None = tt
-same_itself (Some given) = record { values = λ name. refl; positional = refl }
+same_itself (Some parsed) = record { values = λ name. refl; positional = refl }
 
-pub same_if : (one other : Option Given) → one ≡ other → Same one other
+pub same_if : (one other : Option ParsedWords) → one ≡ other → Same one other
 same_if one other is = subst (Same one) is (same_itself one)
 
-value_under : (name value key : List ℕ) (given : Given) (b : Bool) → bytes_eq name key ≡ b
-    → value_given key (record given { options = (name, value) ∷ given.options })
-    ≡ (if b then Some value else value_given key given)
-value_under name value key given true is = rw is refl
-value_under name value key given false is = rw is refl
+value_under : (name value key : List ℕ) (parsed : ParsedWords) (b : Bool) → bytes_eq name key ≡ b
+    → option_value key (record parsed { options = (name, value) ∷ parsed.options })
+    ≡ (if b then Some value else option_value key parsed)
+value_under name value key parsed true is = rw is refl
+value_under name value key parsed false is = rw is refl
 
-same_more : (name value : List ℕ) (one other : Given) → SaysSame one other
+same_more : (name value : List ℕ) (one other : ParsedWords) → SaysSame one other
     → SaysSame (record one { options = (name, value) ∷ one.options })
     (record other { options = (name, value) ∷ other.options })
 same_more name value one other same = record {
@@ -132,21 +132,21 @@ same_more name value one other same = record {
   positional = same.positional;
 }
 
-with_option_same : (name value : List ℕ) (r s : Option Given) → Same r s
+with_option_same : (name value : List ℕ) (r s : Option ParsedWords) → Same r s
     → Same (r >>= with_option name value) (s >>= with_option name value)
 with_option_same name value None None same = tt
 with_option_same name value None (Some other) same = absurd same
 with_option_same name value (Some one) None same = absurd same
 with_option_same name value (Some one) (Some other) same =
-    go (is_some (value_given name one)) refl (sym (ap is_some (same.values name)))
+    go (is_some (option_value name one)) refl (sym (ap is_some (same.values name)))
   where
-    go : (b : Bool) → is_some (value_given name one) ≡ b
-        → is_some (value_given name other) ≡ is_some (value_given name one)
+    go : (b : Bool) → is_some (option_value name one) ≡ b
+        → is_some (option_value name other) ≡ is_some (option_value name one)
         → Same (with_option name value one) (with_option name value other)
     go true is is_other = rw (is_other, is) tt
     go false is is_other = rw (is_other, is) (same_more name value one other same)
 
-with_positional_same : (word : List ℕ) (r s : Option Given) → Same r s
+with_positional_same : (word : List ℕ) (r s : Option ParsedWords) → Same r s
     → Same (r >>= with_positional word) (s >>= with_positional word)
 with_positional_same word None None same = tt
 with_positional_same word None (Some other) same = absurd same
@@ -160,12 +160,12 @@ with_positional_same word (Some one) (Some other) same =
     go false is is_other = rw (is_other, is) (record { values = same.values; positional = refl })
 
 -- two options with different names may come in either order
-swapped : (name value other another : List ℕ) → name ≢ other → (r : Option Given)
+swapped : (name value other another : List ℕ) → name ≢ other → (r : Option ParsedWords)
     → Same ((r >>= with_option other another) >>= with_option name value)
     ((r >>= with_option name value) >>= with_option other another)
 swapped name value other another differ None = tt
-swapped name value other another differ (Some given) =
-    go (is_some (value_given name given)) (is_some (value_given other given)) refl refl
+swapped name value other another differ (Some parsed) =
+    go (is_some (option_value name parsed)) (is_some (option_value other parsed)) refl refl
   where
     first : (bytes_eq name other ≡ false)
     first = other_text name other differ
@@ -173,9 +173,9 @@ swapped name value other another differ (Some given) =
     second : (bytes_eq other name ≡ false)
     second = other_text other name (λ is. differ (sym is))
 
-    go : (b d : Bool) → is_some (value_given name given) ≡ b → is_some (value_given other given) ≡ d
-        → Same (with_option other another given >>= with_option name value)
-        (with_option name value given >>= with_option other another)
+    go : (b d : Bool) → is_some (option_value name parsed) ≡ b → is_some (option_value other parsed) ≡ d
+        → Same (with_option other another parsed >>= with_option name value)
+        (with_option name value parsed >>= with_option other another)
     go true true is is_other = rw (is, is_other) tt
     go true false is is_other = rw (is, is_other, second, is) tt
     go false true is is_other = rw (is, is_other, first, is_other) tt
@@ -187,11 +187,11 @@ swapped name value other another differ (Some given) =
         })
       where
         both : (key : List ℕ) (b d : Bool) → bytes_eq name key ≡ b → bytes_eq other key ≡ d
-            → value_given key (record given {
+            → option_value key (record parsed {
               options = (name, value) ∷ (other, another) ∷
-                  given.options;
-            }) ≡ value_given key
-            (record given { options = (other, another) ∷ (name, value) ∷ given.options })
+                  parsed.options;
+            }) ≡ option_value key
+            (record parsed { options = (other, another) ∷ (name, value) ∷ parsed.options })
         both key true true is_name is_other =
             absurd (differ (same_text name key is_name ∙ sym (same_text other key is_other)))
         both key true false is_name is_other = rw (is_name, is_other) refl
@@ -201,26 +201,26 @@ swapped name value other another differ (Some given) =
 -- ---- two options in either order
 
 -- two words are too many if neither is an option
-two_positionals : (one other : List ℕ) (r : Option Given)
+two_positionals : (one other : List ℕ) (r : Option ParsedWords)
     → (r >>= with_positional other) >>= with_positional one ≡ None
 two_positionals one other None = refl
-two_positionals one other (Some given) = go (is_some given.positional) refl
+two_positionals one other (Some parsed) = go (is_some parsed.positional) refl
   where
-    go : (b : Bool) → is_some given.positional ≡ b
-        → with_positional other given >>= with_positional one ≡ None
+    go : (b : Bool) → is_some parsed.positional ≡ b
+        → with_positional other parsed >>= with_positional one ≡ None
     go true is = rw is refl
     go false is = rw is refl
 
-both_positional : (one other : List ℕ) (r : Option Given)
+both_positional : (one other : List ℕ) (r : Option ParsedWords)
     → (r >>= with_positional other) >>= with_positional one
     ≡ (r >>= with_positional one) >>= with_positional other
 both_positional one other r = two_positionals one other r ∙ sym (two_positionals other one r)
 
 abbrev SameFrom : List (List ℕ) → List (List ℕ) → List (List ℕ) → Type 0
-SameFrom names one other = (stand : Stand) → Same (said names stand one) (said names stand other)
+SameFrom names one other = (word_state : WordState) → Same (parsed_from names word_state one) (parsed_from names word_state other)
 
 none_waits : (names : List (List ℕ)) (name word : List ℕ) (rest : List (List ℕ))
-    → is_dashed word ≡ true → said names (at_value name) (word ∷ rest) ≡ None
+    → is_dashed word ≡ true → parsed_from names (at_value name) (word ∷ rest) ≡ None
 none_waits names name word rest dashed = rw dashed refl
 
 -- before two words that are options, known or not
@@ -228,10 +228,10 @@ options_either : (names after : List (List ℕ)) (name value other another : Lis
     → name ≢ other
     → word_of names (assigned_word name value) ≡ assigned_among b name value
     → word_of names (assigned_word other another) ≡ assigned_among d other another
-    → Same (said names at_word (assigned_word name value ∷ assigned_word other another ∷ after))
-    (said names at_word (assigned_word other another ∷ assigned_word name value ∷ after))
+    → Same (parsed_from names at_word (assigned_word name value ∷ assigned_word other another ∷ after))
+    (parsed_from names at_word (assigned_word other another ∷ assigned_word name value ∷ after))
 options_either names after name value other another true true differ is is_other =
-    rw (is, is_other, is) (swapped name value other another differ (said names at_word after))
+    rw (is, is_other, is) (swapped name value other another differ (parsed_from names at_word after))
 options_either names after name value other another true false differ is is_other =
     rw (is, is_other) tt
 options_either names after name value other another false true differ is is_other =
@@ -244,25 +244,25 @@ word_either : (names : List (List ℕ)) (word : List ℕ) (one other : List (Lis
     → SameFrom names one other → SameFrom names (word ∷ one) (word ∷ other)
 word_either names word one other same (at_value name) = go (is_dashed word)
   where
-    go : (b : Bool) → Same (if b then None else said names at_word one >>= with_option name word)
-        (if b then None else said names at_word other >>= with_option name word)
+    go : (b : Bool) → Same (if b then None else parsed_from names at_word one >>= with_option name word)
+        (if b then None else parsed_from names at_word other >>= with_option name word)
     go true = tt
     go false =
-        with_option_same name word (said names at_word one) (said names at_word other)
+        with_option_same name word (parsed_from names at_word one) (parsed_from names at_word other)
         (same at_word)
-word_either names word one other same behind =
-    with_positional_same word (said names behind one) (said names behind other) (same behind)
+word_either names word one other same suffix =
+    with_positional_same word (parsed_from names suffix one) (parsed_from names suffix other) (same suffix)
 word_either names word one other same at_word = go (word_of names word)
   where
-    go : (w : Word) → Same (by_word w word (λ stand. said names stand one))
-        (by_word w word (λ stand. said names stand other))
+    go : (w : Word) → Same (by_word w word (λ word_state. parsed_from names word_state one))
+        (by_word w word (λ word_state. parsed_from names word_state other))
     go (assigned name value) =
-        with_option_same name value (said names at_word one) (said names at_word other)
+        with_option_same name value (parsed_from names at_word one) (parsed_from names at_word other)
         (same at_word)
     go (opened name) = same (at_value name)
-    go end = same behind
+    go end = same suffix
     go plain =
-        with_positional_same word (said names at_word one) (said names at_word other)
+        with_positional_same word (parsed_from names at_word one) (parsed_from names at_word other)
         (same at_word)
     go unknown = tt
 
@@ -274,14 +274,14 @@ all_either names [] after name value other another none none_other differ at_wor
     options_either names after name value other another (is_among name names) (is_among other names)
     differ (assigned_is names name value none) (assigned_is names other another none_other)
 all_either names [] after name value other another none none_other differ (at_value waiting) = tt
-all_either names [] after name value other another none none_other differ behind =
+all_either names [] after name value other another none none_other differ suffix =
     let one = assigned_word name value in
     let two = assigned_word other another in
-    let rest = said names behind after in
+    let rest = parsed_from names suffix after in
     same_if ((rest >>= with_positional two) >>= with_positional one)
     ((rest >>= with_positional one) >>= with_positional two) (both_positional one two rest)
-all_either names (word ∷ before) after name value other another none none_other differ stand =
+all_either names (word ∷ before) after name value other another none none_other differ word_state =
     word_either names word
     (before ++ assigned_word name value ∷ assigned_word other another ∷ after)
     (before ++ assigned_word other another ∷ assigned_word name value ∷ after)
-    (all_either names before after name value other another none none_other differ) stand
+    (all_either names before after name value other another none none_other differ) word_state

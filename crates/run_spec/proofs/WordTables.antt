@@ -8,8 +8,8 @@ use Rattle.std.specs.Str.{bytes_eq}
 use Rattle.run_spec.specs.declared.command.Command.{Command}
 use Rattle.psi_base.specs.OptionSteps.{◌>>=◌}
 use Rattle.run_spec.specs.Words.{Word, assigned, opened, end, plain, unknown, is_dashed}
-use Rattle.run_spec.specs.Words.{is_among, is_equals, option_of, word_of, Given}
-use Rattle.run_spec.specs.Words.{with_option, with_positional, at_word, at_value, by_word, said}
+use Rattle.run_spec.specs.Words.{is_among, is_equals, option_of, word_of, ParsedWords}
+use Rattle.run_spec.specs.Words.{with_option, with_positional, at_word, at_value, by_word, parsed_from}
 use Rattle.run_spec.specs.Words.{options_of, shape_of, stall_of, check_of, replay_of, gen_of}
 use Rattle.run_spec.specs.Words.{stress_of, import_command_of, rules_command_of, whatif_of, CommandForm, forms, command_of}
 use Rattle.run_spec.specs.Laws.{assigned_word}
@@ -19,8 +19,8 @@ use Rattle.run_spec.proofs.WordLaws.{or_false, name_alone, assigned_among, assig
 
 -- ---- tables depend only on content
 
-abbrev pub Respects : (Given → Option Command) → Type 0
-Respects read = (one other : Given) → SaysSame one other → read one ≡ read other
+abbrev pub Respects : (ParsedWords → Option Command) → Type 0
+Respects read = (one other : ParsedWords) → SaysSame one other → read one ≡ read other
 
 stall_respects : Respects stall_of
 unfolding stall_of
@@ -30,7 +30,7 @@ check_respects : Respects check_of
 unfolding check_of
 check_respects one other same = rw (same.positional, same.values (codes "tick-ms")) refl
 
-options_respects : (one other : Given) → SaysSame one other → options_of one ≡ options_of other
+options_respects : (one other : ParsedWords) → SaysSame one other → options_of one ≡ options_of other
 unfolding options_of
 options_respects one other same =
     rw (
@@ -49,7 +49,7 @@ replay_respects : Respects replay_of
 unfolding replay_of
 replay_respects one other same = rw (options_respects one other same, same.positional) refl
 
-shape_respects : (one other : Given) → SaysSame one other → shape_of one ≡ shape_of other
+shape_respects : (one other : ParsedWords) → SaysSame one other → shape_of one ≡ shape_of other
 unfolding shape_of
 shape_respects one other same = go (is_some one.positional) refl (sym (ap is_some same.positional))
   where
@@ -92,7 +92,7 @@ all_respect : OfEach Respects forms
 all_respect =
     (stall_respects, (check_respects, (replay_respects, (gen_respects, (stress_respects, (import_respects, (rules_respects, (whatif_respects, tt))))))))
 
-same_read : (read : Given → Option Command) (r s : Option Given) → Respects read → Same r s
+same_read : (read : ParsedWords → Option Command) (r s : Option ParsedWords) → Respects read → Same r s
     → r >>= read ≡ s >>= read
 same_read read None None respects same = refl
 same_read read None (Some other) respects same = absurd same
@@ -101,18 +101,18 @@ same_read read (Some one) (Some other) respects same = respects one other same
 
 -- the content of the words after the command's word determines the command
 same_command : (first : List ℕ) (one other : List (List ℕ))
-    → ((names : List (List ℕ)) → Same (said names at_word one) (said names at_word other))
+    → ((names : List (List ℕ)) → Same (parsed_from names at_word one) (parsed_from names at_word other))
     → command_of (first ∷ one) ≡ command_of (first ∷ other)
 unfolding command_of
 same_command first one other same =
     go (find (λ (form : CommandForm). bytes_eq first form.word) forms) refl
   where
     go : (r : Option CommandForm) → find (λ (form : CommandForm). bytes_eq first form.word) forms ≡ r
-        → (r >>= λ form. said form.options at_word one >>= λ given. form.command given)
-        ≡ (r >>= λ form. said form.options at_word other >>= λ given. form.command given)
+        → (r >>= λ form. parsed_from form.options at_word one >>= λ parsed. form.command parsed)
+        ≡ (r >>= λ form. parsed_from form.options at_word other >>= λ parsed. form.command parsed)
     go None is = refl
     go (Some form) is =
-        same_read form.command (said form.options at_word one) (said form.options at_word other)
+        same_read form.command (parsed_from form.options at_word one) (parsed_from form.options at_word other)
         (each_found Respects first forms form all_respect is)
         (same form.options)
 
@@ -161,8 +161,8 @@ not_end names word other =
 
 -- lists have the same content before a word and before a value
 record IsEqual (names one other : List (List ℕ)) : Type 0 where
-  word : said names at_word one ≡ said names at_word other
-  value : (name : List ℕ) → said names (at_value name) one ≡ said names (at_value name) other
+  word : parsed_from names at_word one ≡ parsed_from names at_word other
+  value : (name : List ℕ) → parsed_from names (at_value name) one ≡ parsed_from names (at_value name) other
 
 -- a word other than `--` before two lists with the same content doesn't make them differ
 word_equal : (names : List (List ℕ)) (word : List ℕ) (one other : List (List ℕ))
@@ -174,8 +174,8 @@ word_equal names word one other differs same = record {
 }
   where
     go : (w : Word) → is_end w ≡ false
-        → by_word w word (λ stand. said names stand one)
-        ≡ by_word w word (λ stand. said names stand other)
+        → by_word w word (λ word_state. parsed_from names word_state one)
+        ≡ by_word w word (λ word_state. parsed_from names word_state other)
     go (assigned name value) is = ap (λ r. r >>= with_option name value) same.word
     go (opened name) is = same.value name
     go end is = absurd (true≢false is)
@@ -186,8 +186,8 @@ value_here : (names after : List (List ℕ)) (name value : List ℕ) (b : Bool)
     → is_dashed value ≡ false
     → word_of names (assigned_word name value) ≡ assigned_among b name value
     → word_of names (codes "--" ++ name) ≡ (if b then opened name else unknown)
-    → said names at_word (assigned_word name value ∷ after)
-    ≡ said names at_word ((codes "--" ++ name) ∷ value ∷ after)
+    → parsed_from names at_word (assigned_word name value ∷ after)
+    ≡ parsed_from names at_word ((codes "--" ++ name) ∷ value ∷ after)
 value_here names after name value true bare is is_opened = rw (is, is_opened, bare) refl
 value_here names after name value false bare is is_opened = rw (is, is_opened) refl
 

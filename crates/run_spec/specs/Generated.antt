@@ -24,8 +24,8 @@ abbrev pub next_state : ℕ → ℕ
 next_state state = (state * 6364136223846793005 + 1442695040888963407) % 2 ^ 64
 
 -- the number below a bound that a state gives, from its 31 high bits
-abbrev pub drawn : ℕ → ℕ → ℕ
-drawn state bound = (state / 2 ^ 33) % bound
+abbrev pub random_event : ℕ → ℕ → ℕ
+random_event state bound = (state / 2 ^ 33) % bound
 
 -- ---- groups and tasks
 
@@ -64,14 +64,14 @@ first_events shape =
 -- ---- what a task does next
 
 -- a random act, and the state after the random numbers that it used
-pub record Drawn : Type 0 where
+pub record RandomEvent : Type 0 where
   pub act : Act
   pub state : ℕ
 
 -- a blocked task is woken on any processor
-abbrev pub woken : Shape → ℕ → ℕ → Drawn
+abbrev pub woken : Shape → ℕ → ℕ → RandomEvent
 woken shape state pid = record {
-  act = act.Wake (record { 0 = pid }) (record { 0 = drawn (next_state state) shape.cpus });
+  act = act.Wake (record { 0 = pid }) (record { 0 = random_event (next_state state) shape.cpus });
   state = next_state state;
 }
 
@@ -83,11 +83,11 @@ way_of (suc (suc more)) = IoWait
 
 -- a ready task runs next on its processor; if the processor is idle, no further random number is
 -- used
-abbrev pub started : Tasks → ℕ → ℕ → Task → Drawn
+abbrev pub started : Tasks → ℕ → ℕ → Task → RandomEvent
 started tasks state pid task =
     if is_some (running_on tasks task.cpu.0)
     then record {
-      act = act.Switch task.cpu (Some (record { 0 = pid })) (way_of (drawn (next_state state) 4));
+      act = act.Switch task.cpu (Some (record { 0 = pid })) (way_of (random_event (next_state state) 4));
       state = next_state state;
     }
     else record { act = act.Switch task.cpu (Some (record { 0 = pid })) Idle; state = state }
@@ -104,45 +104,45 @@ running_act pid task (suc zero) = act.Switch task.cpu None IoWait
 running_act pid task (suc (suc more)) = stall_turn pid task
 
 -- the next act of a task with this number, by its mode
-abbrev pub next_of : Shape → Tasks → ℕ → ℕ → Task → Mode → Drawn
+abbrev pub next_of : Shape → Tasks → ℕ → ℕ → Task → Mode → RandomEvent
 next_of shape tasks state pid task Blocked = woken shape state pid
 next_of shape tasks state pid task Waiting = woken shape state pid
 next_of shape tasks state pid task Ready = started tasks state pid task
 next_of shape tasks state pid task Running = record {
-  act = running_act pid task (drawn (next_state state) 4);
+  act = running_act pid task (random_event (next_state state) 4);
   state = next_state state;
 }
 
 -- the next act of the task with this number; a task that doesn't exist would be woken, but every
 -- task exists
-abbrev pub next_if : Shape → Tasks → ℕ → ℕ → Option Task → Drawn
+abbrev pub next_if : Shape → Tasks → ℕ → ℕ → Option Task → RandomEvent
 next_if shape tasks state pid None = woken shape state pid
 next_if shape tasks state pid (Some task) = next_of shape tasks state pid task task.mode
 
 -- the task that acts next, by a state
 abbrev pub chosen : Shape → ℕ → ℕ
-chosen shape state = 1 + drawn state (task_count shape)
+chosen shape state = 1 + random_event state (task_count shape)
 
 -- the next act: the first random number gives the time (ns) until it, the second the task
-unfoldable pub next_drawn : Shape → Tasks → ℕ → Drawn
-next_drawn shape tasks state =
+unfoldable pub next_random : Shape → Tasks → ℕ → RandomEvent
+next_random shape tasks state =
     next_if shape tasks (next_state (next_state state)) (chosen shape (next_state (next_state state)))
     (task_of tasks (chosen shape (next_state (next_state state))))
 
 -- the next event in a world: less than 2 ms later
 abbrev pub next_event : Shape → World → ℕ → Event
 next_event shape w state = record {
-  at = w.last + drawn (next_state state) 2000000;
-  act = (next_drawn shape w.tasks state).act;
+  at = w.last + random_event (next_state state) 2000000;
+  act = (next_random shape w.tasks state).act;
 }
 
 -- the next n events from a world and a state, and the end at the time of the last
-unfoldable pub drawn_events : Shape → ℕ → World → ℕ → List Event
-drawn_events shape zero w state = record { at = w.last; act = act.End } ∷ []
-drawn_events shape (suc left) w state =
+unfoldable pub random_events : Shape → ℕ → World → ℕ → List Event
+random_events shape zero w state = record { at = w.last; act = act.End } ∷ []
+random_events shape (suc left) w state =
     next_event shape w state
-    ∷ drawn_events shape left (after_event w (next_event shape w state))
-    (next_drawn shape w.tasks state).state
+    ∷ random_events shape left (after_event w (next_event shape w state))
+    (next_random shape w.tasks state).state
 
 -- ---- the trace
 
@@ -152,7 +152,7 @@ generated shape = record {
   version = One;
   cpus = shape.cpus;
   events = first_events shape
-      ++ drawn_events shape shape.events (after (first_events shape)) shape.seed;
+      ++ random_events shape shape.events (after (first_events shape)) shape.seed;
 }
 
 -- the text of `gen`

@@ -1,14 +1,17 @@
--- Consequences of what a run promises: laws of the words of commands, of missing files, and of
--- traces without kills.
-use Rattle.std.specs.Prelude.{◌≡◌, ◌≢◌, ℕ, ◌≤◌, ◌<◌, List, [], ◌∷◌, ◌++◌, length, false, codes, Option, None, Some, Ok, Err, slice_get, ◌⊎◌}
+-- Consequences of what a run promises: laws of the words of commands, of missing files, of the
+-- number of reads, and of traces without kills.
+use Rattle.std.specs.Prelude.{◌≡◌, ◌≢◌, ℕ, ◌+◌, ◌≤◌, ◌<◌, List, [], ◌∷◌, ◌++◌, length, false, codes, Option, None, Some, Ok, Err, slice_get, ◌⊎◌}
 use Rattle.std.specs.List.{list_any}
 use Rattle.run_spec.specs.declared.command.Command.{Command}
 use Rattle.psi_spec.specs.World.{most_events}
 use Rattle.psi_spec.specs.Trace.{Trace}
 use Rattle.ruleset_json.specs.declared.types.Rule.{Rule}
-use Rattle.run_spec.specs.Replay.{Pace}
+use Rattle.run_spec.specs.Replay.{Timing}
 use Rattle.psi_base.specs.Memory.{no_memory}
-use Rattle.outside.specs.Outside.{Files, Lacks}
+use Rattle.outside.specs.Outside.{Files, IsAbsent, count_read}
+use Rattle.outside.specs.Reads.{ReadCall, ReadsFile}
+use Rattle.outside.specs.declared.shelf.ShelfFault.{ShelfFault}
+use Rattle.outside.specs.declared.shelf.ShelfFault.TheVariants as shelf
 use Rattle.run_spec.specs.declared.status.Status.{Status}
 use Rattle.run_spec.specs.declared.status.Which.TheVariants.{DropInFile, RulesFile}
 use Rattle.ruleset_json.specs.declared.fault.RulesFault.{RulesFault}
@@ -17,6 +20,7 @@ use Rattle.run_spec.specs.Outputs.{drop_in_name, rules_name, source_name}
 use Rattle.run_spec.specs.Words.{command_of, is_among, is_dashed, is_equals}
 use Rattle.run_spec.specs.LegalCommand.{IsCommand}
 use Rattle.run_spec.specs.Whatif.{after_rounds, all_kills, last_trace, most_rounds, without_kill}
+use Rattle.run_spec.specs.ReadOrder.{FailsAt, ReadsInOrder, names_in_order}
 use Rattle.run_spec.specs.Run.{Ends, IsNoFile}
 use Rattle.run_spec.specs.declared.status.Status.TheVariants as status
 
@@ -53,44 +57,80 @@ ValueMayFollow = (before after : List (List ℕ)) (name value : List ℕ)
 -- ---- files that are missing
 
 -- if the rules file of a command is known to be missing, a run reports that, or another failure
-abbrev pub MissingRulesTell : Type 0
-MissingRulesTell = (command : Command) (files : Option Files) (old new : Option (List ℕ)) (result : Status) (name : List ℕ)
-    → Ends command files old new result → rules_name command ≡ Some name → Lacks files name
+abbrev pub MissingRulesShow : Type 0
+MissingRulesShow = (command : Command) (files : Option Files) (old new : Option (List ℕ)) (result : Status) (name : List ℕ)
+    → Ends command files old new result → rules_name command ≡ Some name → IsAbsent files name
     → (result ≡ status.NoFile RulesFile) ⊎ (result ≡ status.ReadFault) ⊎ (result ≡ status.NoMemory no_memory)
 
 -- if the drop-in file is known to be missing, a run reports that one of the two files is missing,
 -- or another failure, or an error in the rules file, which comes first
-abbrev pub MissingDropInTells : Type 0
-MissingDropInTells = (command : Command) (files : Option Files) (old new : Option (List ℕ)) (result : Status) (name : List ℕ)
-    → Ends command files old new result → drop_in_name command ≡ Some name → Lacks files name
+abbrev pub MissingDropInShows : Type 0
+MissingDropInShows = (command : Command) (files : Option Files) (old new : Option (List ℕ)) (result : Status) (name : List ℕ)
+    → Ends command files old new result → drop_in_name command ≡ Some name → IsAbsent files name
     → (result ≡ status.NoFile RulesFile) ⊎ (result ≡ status.NoFile DropInFile) ⊎ (result ≡ status.ReadFault)
     ⊎ (result ≡ status.NoMemory no_memory) ⊎ ((fault : RulesFault) × (result ≡ status.Rules fault))
 
 -- if the file of the trace is known to be missing, a run reports that a file is missing, or another
 -- failure, or an error in the rules or in the drop-in file, which come first
-abbrev pub MissingSourceTells : Type 0
-MissingSourceTells = (command : Command) (files : Option Files) (old new : Option (List ℕ)) (result : Status) (name : List ℕ)
-    → Ends command files old new result → source_name command ≡ Some name → Lacks files name
+abbrev pub MissingSourceShows : Type 0
+MissingSourceShows = (command : Command) (files : Option Files) (old new : Option (List ℕ)) (result : Status) (name : List ℕ)
+    → Ends command files old new result → source_name command ≡ Some name → IsAbsent files name
     → IsNoFile result ⊎ (result ≡ status.ReadFault) ⊎ (result ≡ status.NoMemory no_memory)
     ⊎ ((fault : RulesFault) × (result ≡ status.Rules fault)) ⊎ ((fault : DropFault) × (result ≡ status.DropIn fault))
+
+-- If the rules file of a command is known to be missing, a failed read that a run reports is one of
+-- that file.
+abbrev pub MissingRulesComeFirst : Type 0
+MissingRulesComeFirst = (command : Command) (files : Option Files) (before now : List ReadCall) (name : List ℕ)
+    → ReadsInOrder command files before now status.ReadFault → rules_name command ≡ Some name → IsAbsent files name
+    → FailsAt command before now RulesFile shelf.Failed
+
+-- if the drop-in file is known to be missing, it is one of that file or of the rules file
+abbrev pub MissingDropInComesFirst : Type 0
+MissingDropInComesFirst = (command : Command) (files : Option Files) (before now : List ReadCall) (name : List ℕ)
+    → ReadsInOrder command files before now status.ReadFault → drop_in_name command ≡ Some name → IsAbsent files name
+    → FailsAt command before now RulesFile shelf.Failed ⊎ FailsAt command before now DropInFile shelf.Failed
+
+-- ---- the number of reads
+
+-- the number of bytes that calls returned
+abbrev pub bytes_in : List ReadCall → ℕ
+bytes_in [] = 0
+bytes_in (call ∷ calls) = count_read call.outcome + bytes_in calls
+
+-- a log grew by calls, at most this many more than the bytes that they returned
+pub record CallsAreFew (more : ℕ) (before now : List ReadCall) : Type 0 where
+  pub calls : List ReadCall
+  pub grown : now ≡ before ++ calls
+  pub few : length calls ≤ bytes_in calls + more
+
+-- a file is read with at most one call more than the bytes that its calls return
+abbrev pub FileCallsAreFew : Type 0
+FileCallsAreFew = (name : List ℕ) (before now : List ReadCall) (fault : Option ShelfFault)
+    → ReadsFile name 0 before now fault → CallsAreFew 1 before now
+
+-- a command reads with at most one call more for each of its files
+abbrev pub CommandCallsAreFew : Type 0
+CommandCallsAreFew = (command : Command) (files : Option Files) (before now : List ReadCall) (result : Status)
+    → ReadsInOrder command files before now result → CallsAreFew (length (names_in_order command)) before now
 
 -- ---- traces without kills
 
 -- If a round finds no kill with its number, no later round does: the trace after that round is the
 -- last trace.
 abbrev pub LastWithoutKill : Type 0
-LastWithoutKill = (trace left : Trace) (pace : Pace) (rules : List Rule) (count : ℕ) → count ≤ most_rounds
+LastWithoutKill = (trace left : Trace) (timing : Timing) (rules : List Rule) (count : ℕ) → count ≤ most_rounds
     → length left.events ≤ most_events
-    → after_rounds trace pace rules count ≡ Ok left → slice_get (all_kills left pace rules) count ≡ None
-    → last_trace trace pace rules ≡ Ok left
+    → after_rounds trace timing rules count ≡ Ok left → slice_get (all_kills left timing rules) count ≡ None
+    → last_trace trace timing rules ≡ Ok left
 
 -- If a round leaves too many events, that number of events is the result.
 abbrev pub LastOutgrown : Type 0
-LastOutgrown = (trace : Trace) (pace : Pace) (rules : List Rule) (count events : ℕ) → count ≤ most_rounds
-    → after_rounds trace pace rules count ≡ Err events → last_trace trace pace rules ≡ Err events
+LastOutgrown = (trace : Trace) (timing : Timing) (rules : List Rule) (count events : ℕ) → count ≤ most_rounds
+    → after_rounds trace timing rules count ≡ Err events → last_trace trace timing rules ≡ Err events
 
 -- The result is such a number exactly if some round leaves more events than a trace may have.
 abbrev pub OutgrownAtRound : Type 0
-OutgrownAtRound = (trace : Trace) (pace : Pace) (rules : List Rule) (events : ℕ) → last_trace trace pace rules ≡ Err events
-    → (number : ℕ) × (left : Trace) × (number < most_rounds) × (after_rounds trace pace rules number ≡ Ok left)
-    × (length (without_kill left (slice_get (all_kills left pace rules) number)).events ≡ events) × (most_events < events)
+OutgrownAtRound = (trace : Trace) (timing : Timing) (rules : List Rule) (events : ℕ) → last_trace trace timing rules ≡ Err events
+    → (number : ℕ) × (left : Trace) × (number < most_rounds) × (after_rounds trace timing rules number ≡ Ok left)
+    × (length (without_kill left (slice_get (all_kills left timing rules) number)).events ≡ events) × (most_events < events)

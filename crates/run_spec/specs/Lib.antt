@@ -11,5 +11,6 @@ pub mod MostRead
 pub mod Status
 pub mod Run
 pub mod Stops
-pub mod Laws
 pub mod ReadOrder
+pub mod Promises
+pub mod Laws

@@ -26,10 +26,10 @@ abbrev pub changes_until : Trace → ℕ → ℕ → ℕ → ℕ
 changes_until trace tick cpu zero = 0
 changes_until trace tick cpu (suc i) = count_at cpu trace.events (tick_moment tick (suc i))
 
--- Samples of a processor in the interval that ends with a tick: `asked` of them, after numbers of
--- changes that never fall, between the number at the previous tick and the number at this tick.
-pub record AreCounts (trace : Trace) (tick i cpu asked : ℕ) (counts : List ℕ) : Type 0 where
-  pub many : length counts ≡ asked
+-- Samples of a processor in the interval that ends with a tick: `requested` of them, after numbers
+-- of changes that never fall, between the number at the previous tick and the number at this tick.
+pub record AreCounts (trace : Trace) (tick i cpu requested : ℕ) (counts : List ℕ) : Type 0 where
+  pub many : length counts ≡ requested
   pub rise : RiseWithin (changes_until trace tick cpu (i - 1)) counts (changes_until trace tick cpu i)
 
 -- the lines of samples of a slot on a processor at a tick (ns): each has the slot's times after
@@ -45,9 +45,9 @@ live_lines trace slot at counts = flat_map (λ cpu. sample_lines trace slot at c
 -- A text is the lines of samples of a slot at a tick, with any valid numbers of changes; it is
 -- empty if no slot is watched.
 abbrev pub IsLiveOf : Trace → ℕ → ℕ → ℕ → Option ℕ → List ℕ → Type 0
-IsLiveOf trace tick i asked None text = text ≡ []
-IsLiveOf trace tick i asked (Some slot) text =
-    (counts : ℕ → List ℕ) × ((cpu : ℕ) → cpu < trace.cpus → AreCounts trace tick i cpu asked (counts cpu))
+IsLiveOf trace tick i requested None text = text ≡ []
+IsLiveOf trace tick i requested (Some slot) text =
+    (counts : ℕ → List ℕ) × ((cpu : ℕ) → cpu < trace.cpus → AreCounts trace tick i cpu requested (counts cpu))
     × (text ≡ live_lines trace slot (tick_moment tick i) counts)
 
 -- A text is the live lines of a tick: those of the slot that the watched path has at the tick, if

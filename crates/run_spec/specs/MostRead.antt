@@ -17,22 +17,22 @@ read_ahead = 65536
 
 -- the most bytes buffered after the lines that were parsed: a line that is begun, and what is read
 -- ahead
-abbrev pub most_held : ℕ
-most_held = longest_line + read_ahead
+abbrev pub most_buffered : ℕ
+most_buffered = longest_line + read_ahead
 
 -- the most bytes read of a file whose line with this number is rejected: the lines before it, and
 -- the buffered bytes
 abbrev pub most_until : ℕ → ℕ
-most_until line = (longest_line + 1) * (line - 1) + most_held
+most_until line = (longest_line + 1) * (line - 1) + most_buffered
 
 -- the most bytes read of a trace: the most lines that it can have, and the buffered bytes
 abbrev pub most_of_trace : ℕ
-most_of_trace = most_lines * (longest_line + 1) + most_held
+most_of_trace = most_lines * (longest_line + 1) + most_buffered
 
 -- the most bytes read of an ftrace text: the most lines that it can have, one more line, which is
 -- rejected, and the buffered bytes
 abbrev pub most_of_import : ℕ
-most_of_import = 16000001 * (longest_line + 1) + most_held
+most_of_import = 16000001 * (longest_line + 1) + most_buffered
 
 -- the most bytes read of a rules file or drop-in file: one more than its size limit, so that a
 -- longer file is rejected

@@ -24,7 +24,7 @@ use Rattle.run_spec.specs.declared.status.Which.TheVariants.{DropInFile, ImportF
 use Rattle.run_spec.specs.Text.{check_text, stall_text}
 use Rattle.run_spec.specs.Generated.{generated}
 use Rattle.run_spec.specs.Live.{LiveWatch}
-use Rattle.run_spec.specs.Replay.{IsReplayText, Pace, stress_text}
+use Rattle.run_spec.specs.Replay.{IsReplayText, Timing, stress_text}
 use Rattle.run_spec.specs.Whatif.{last_trace}
 
 -- the name of the trace that a command reads, if any
@@ -111,9 +111,9 @@ or_not_imported cpus (Err refusal) = Err (status.Import refusal.line refusal.cau
 
 -- The trace that a command gets from the bytes of its file, or the status for the first rejected
 -- line: `import` converts an ftrace text, and each other command parses a trace.
-abbrev pub taken_of : Command → List ℕ → Result Trace Status
-taken_of (Import file cpus) bytes = or_not_imported cpus (import_of cpus bytes)
-taken_of command bytes = or_refused_trace (trace_of (accepts_of command) bytes)
+abbrev pub parse_of : Command → List ℕ → Result Trace Status
+parse_of (Import file cpus) bytes = or_not_imported cpus (import_of cpus bytes)
+parse_of command bytes = or_refused_trace (trace_of (accepts_of command) bytes)
 
 -- parsed rules, or the status for the first error in the rules file
 abbrev pub or_rules_fault : Result types.Rules RulesFault → Result types.Rules Status
@@ -147,8 +147,8 @@ abbrev pub watch_of : Options → Option LiveWatch
 watch_of options = watch_of_path options.live_count options.live
 
 -- how the options replay a trace
-abbrev pub pace_of : Options → Pace
-pace_of options = record {
+abbrev pub timing_of : Options → Timing
+timing_of options = record {
   length = of_ms options.tick_ms;
   report = of_seconds options.report_s;
   interval = of_seconds options.interval_s;
@@ -179,14 +179,14 @@ abbrev pub IsOutput : Command → Trace → List Rule → List ℕ → Type 0
 IsOutput (Stall name) trace rules text = text ≡ stall_text trace
 IsOutput (Check name tick_ms) trace rules text = text ≡ check_text trace
 IsOutput (Replay name options) trace rules text =
-    IsReplayText trace (pace_of options) rules text
+    IsReplayText trace (timing_of options) rules text
 IsOutput (Gen shape) trace rules text = (trace ≡ generated shape) × (text ≡ text_of trace)
 IsOutput (Stress shape workers) trace rules text =
-    (trace ≡ generated shape) × (text ≡ stress_text trace (pace_of (stress_options workers)))
+    (trace ≡ generated shape) × (text ≡ stress_text trace (timing_of (stress_options workers)))
 IsOutput (Import file cpus) trace rules text = (trace.cpus ≡ cpus) × (text ≡ text_of trace)
 IsOutput (Rules file drop_in) trace rules text = text ≡ rules_text rules ++ codes "\n"
 IsOutput (Whatif name options) trace rules text =
-    (last : Trace) × (last_trace trace (pace_of options) rules ≡ Ok last) × IsReplayText last (pace_of options) rules text
+    (last : Trace) × (last_trace trace (timing_of options) rules ≡ Ok last) × IsReplayText last (timing_of options) rules text
 
 -- the status for a last trace, or for a round that left more events than a trace may have
 abbrev pub status_of_last : Result Trace ℕ → Status
@@ -196,5 +196,5 @@ status_of_last (Err events) = status.TooLarge events
 -- How a command ends for an accepted trace and rulesets if nothing fails: Done, unless a round of
 -- `whatif` leaves more events than a trace may have.
 abbrev pub outcome_of : Command → Trace → List Rule → Status
-outcome_of (Whatif name options) trace rules = status_of_last (last_trace trace (pace_of options) rules)
+outcome_of (Whatif name options) trace rules = status_of_last (last_trace trace (timing_of options) rules)
 outcome_of command trace rules = status.Done

@@ -8,7 +8,7 @@ use Rattle.psi_spec.specs.Fields.{resources}
 use Rattle.psi_spec.specs.Grammar.{One, Two, Version}
 use Rattle.psi_spec.specs.World.{after, up_to}
 use Rattle.psi_spec.specs.Groups.{live_groups, path_at}
-use Rattle.psi_spec.specs.Told.{triggers_of}
+use Rattle.psi_spec.specs.Collected.{triggers_of}
 use Rattle.psi_spec.specs.Trace.{Trace}
 use Rattle.pressure_spec.specs.Share.{irq_quantity}
 use Rattle.pressure_spec.specs.Ticks.{is_evaluation, is_report, tick_moment, tick_of, ticks_of, ticks_until}
@@ -23,7 +23,7 @@ use Rattle.run_spec.specs.Live.{IsLiveText, LiveWatch}
 
 -- How a trace is replayed: the length of a tick (ns), the period of reports (ns; 0 for none), the
 -- interval of evaluations (ns), and the watched group, if any.
-pub record Pace : Type 0 where
+pub record Timing : Type 0 where
   pub length : ℕ
   pub report : ℕ
   pub interval : ℕ
@@ -40,8 +40,8 @@ abbrev pub with_rules : List Rule → Beside
 with_rules rules = record { live = λ _. []; rules = rules }
 
 -- the number of ticks of a trace
-abbrev pub tick_count : Trace → Pace → ℕ
-tick_count trace pace = ticks_until pace.length (end_of trace.events)
+abbrev pub tick_count : Trace → Timing → ℕ
+tick_count trace timing = ticks_until timing.length (end_of trace.events)
 
 -- all groups that a trace ever creates
 abbrev pub lives_of : Trace → List GroupLife
@@ -50,10 +50,10 @@ lives_of trace = (after trace.events).groups
 -- ---- signals
 
 -- the numbers of the triggers that signal at a tick
-abbrev pub fired_in : Trace → Pace → ℕ → List ℕ
-fired_in trace pace i =
-    fired_at trace.cpus (lives_of trace) (triggers_of trace.events) (ticks_of trace.cpus trace.events pace.length (i - 1))
-    (tick_of trace.cpus trace.events pace.length i)
+abbrev pub fired_in : Trace → Timing → ℕ → List ℕ
+fired_in trace timing i =
+    fired_at trace.cpus (lives_of trace) (triggers_of trace.events) (ticks_of trace.cpus trace.events timing.length (i - 1))
+    (tick_of trace.cpus trace.events timing.length i)
 
 -- the line of a trigger that signals at a tick (ns), if there is such a trigger
 abbrev pub signal_line : ℕ → List GroupLife → ℕ → Option TriggerSpec → List ℕ
@@ -65,18 +65,18 @@ abbrev pub signal_lines : ℕ → List GroupLife → List TriggerSpec → List �
 signal_lines at lives triggers numbers = flat_map (λ number. signal_line at lives number (slice_get triggers number)) numbers
 
 -- the number of signals at the first n ticks
-abbrev pub signals_until : Trace → Pace → ℕ → ℕ
-signals_until trace pace count = sum_by (λ i. length (fired_in trace pace i)) (range_with_len 1 count)
+abbrev pub signals_until : Trace → Timing → ℕ → ℕ
+signals_until trace timing count = sum_by (λ i. length (fired_in trace timing i)) (range_with_len 1 count)
 
 -- ---- kills
 
 -- the kills at a tick: those of the rulesets at an evaluation, after the readings of all earlier
 -- evaluations
-abbrev pub kills_in : Trace → Pace → List Rule → ℕ → List Kill
-kills_in trace pace rules i =
-    if is_evaluation pace.interval pace.length i
-    then deciding.kills (lives_of trace) rules (reading_at trace.cpus trace.events pace.length i)
-    (readings_until trace.cpus trace.events pace.length pace.interval (i - 1))
+abbrev pub kills_in : Trace → Timing → List Rule → ℕ → List Kill
+kills_in trace timing rules i =
+    if is_evaluation timing.interval timing.length i
+    then deciding.kills (lives_of trace) rules (reading_at trace.cpus trace.events timing.length i)
+    (readings_until trace.cpus trace.events timing.length timing.interval (i - 1))
     else []
 
 -- the lines of kills
@@ -85,8 +85,8 @@ kill_lines lives kills =
     flat_map (λ (kill : Kill). kill_line kill.at kill.rule kill.action (path_at lives kill.victim.0)) kills
 
 -- the number of kills at the first n ticks
-abbrev pub kills_until : Trace → Pace → List Rule → ℕ → ℕ
-kills_until trace pace rules count = sum_by (λ i. length (kills_in trace pace rules i)) (range_with_len 1 count)
+abbrev pub kills_until : Trace → Timing → List Rule → ℕ → ℕ
+kills_until trace timing rules count = sum_by (λ i. length (kills_in trace timing rules i)) (range_with_len 1 count)
 
 -- ---- reports
 
@@ -105,49 +105,49 @@ files_text version at path slot totals averages =
     resource_files at path slot totals averages ++ irq_files version at path totals averages
 
 -- the report of a group at a tick
-abbrev pub group_report : Trace → Pace → ℕ → List ℕ × ℕ → List ℕ
-group_report trace pace i group =
-    files_text trace.version (tick_moment pace.length i) group.0 group.1
-    (totals_after trace.cpus (lives_of trace) (ticks_of trace.cpus trace.events pace.length i) group.1)
-    (group_averages trace.cpus (lives_of trace) (ticks_of trace.cpus trace.events pace.length i) group.1).averages
+abbrev pub group_report : Trace → Timing → ℕ → List ℕ × ℕ → List ℕ
+group_report trace timing i group =
+    files_text trace.version (tick_moment timing.length i) group.0 group.1
+    (totals_after trace.cpus (lives_of trace) (ticks_of trace.cpus trace.events timing.length i) group.1)
+    (group_averages trace.cpus (lives_of trace) (ticks_of trace.cpus trace.events timing.length i) group.1).averages
 
 -- the groups that are live at a tick, sorted by the bytes of their paths, each with its slot
-abbrev pub live_groups_at : Trace → Pace → ℕ → List (List ℕ × ℕ)
-live_groups_at trace pace i = live_groups (after (up_to trace.events (tick_moment pace.length i))).groups
+abbrev pub live_groups_at : Trace → Timing → ℕ → List (List ℕ × ℕ)
+live_groups_at trace timing i = live_groups (after (up_to trace.events (tick_moment timing.length i))).groups
 
 -- the reports of all groups that are live at a tick
-abbrev pub reports : Trace → Pace → ℕ → List ℕ
-reports trace pace i = flat_map (group_report trace pace i) (live_groups_at trace pace i)
+abbrev pub reports : Trace → Timing → ℕ → List ℕ
+reports trace timing i = flat_map (group_report trace timing i) (live_groups_at trace timing i)
 
 -- ---- the whole output
 
 -- the lines of a tick: live samples, signals, kills, and the report if one is due
-unfoldable pub tick_text : Trace → Pace → Beside → ℕ → List ℕ
-tick_text trace pace beside i =
+unfoldable pub tick_text : Trace → Timing → Beside → ℕ → List ℕ
+tick_text trace timing beside i =
     beside.live i
-    ++ signal_lines (tick_moment pace.length i) (lives_of trace) (triggers_of trace.events) (fired_in trace pace i)
-    ++ kill_lines (lives_of trace) (kills_in trace pace beside.rules i)
-    ++ (if is_report pace.report pace.length (tick_count trace pace) i then reports trace pace i else [])
+    ++ signal_lines (tick_moment timing.length i) (lives_of trace) (triggers_of trace.events) (fired_in trace timing i)
+    ++ kill_lines (lives_of trace) (kills_in trace timing beside.rules i)
+    ++ (if is_report timing.report timing.length (tick_count trace timing) i then reports trace timing i else [])
 
 -- the lines of the first n ticks
-abbrev pub ticks_text : Trace → Pace → Beside → ℕ → List ℕ
-ticks_text trace pace beside count = flat_map (tick_text trace pace beside) (range_with_len 1 count)
+abbrev pub ticks_text : Trace → Timing → Beside → ℕ → List ℕ
+ticks_text trace timing beside count = flat_map (tick_text trace timing beside) (range_with_len 1 count)
 
 -- the last line: the end time (ns), and the numbers of ticks, signals and kills
-abbrev pub last_line : Trace → Pace → Beside → List ℕ
-last_line trace pace beside =
-    end_line (end_of trace.events) (tick_count trace pace) (signals_until trace pace (tick_count trace pace))
-    (kills_until trace pace beside.rules (tick_count trace pace))
+abbrev pub last_line : Trace → Timing → Beside → List ℕ
+last_line trace timing beside =
+    end_line (end_of trace.events) (tick_count trace timing) (signals_until trace timing (tick_count trace timing))
+    (kills_until trace timing beside.rules (tick_count trace timing))
 
 -- the text of `replay`
-unfoldable pub replay_text : Trace → Pace → Beside → List ℕ
-replay_text trace pace beside = ticks_text trace pace beside (tick_count trace pace) ++ last_line trace pace beside
+unfoldable pub replay_text : Trace → Timing → Beside → List ℕ
+replay_text trace timing beside = ticks_text trace timing beside (tick_count trace timing) ++ last_line trace timing beside
 
 -- A text is the whole output of `replay`: at each tick its live lines are valid for that tick.
-abbrev pub IsReplayText : Trace → Pace → List Rule → List ℕ → Type 0
-IsReplayText trace pace rules text =
-    (live : ℕ → List ℕ) × ((i : ℕ) → 1 ≤ i → i ≤ tick_count trace pace → IsLiveText trace pace.length pace.watch i (live i))
-    × (text ≡ replay_text trace pace (record { live = live; rules = rules }))
+abbrev pub IsReplayText : Trace → Timing → List Rule → List ℕ → Type 0
+IsReplayText trace timing rules text =
+    (live : ℕ → List ℕ) × ((i : ℕ) → 1 ≤ i → i ≤ tick_count trace timing → IsLiveText trace timing.length timing.watch i (live i))
+    × (text ≡ replay_text trace timing (record { live = live; rules = rules }))
 
 -- ---- the end alone
 
@@ -157,7 +157,7 @@ root_group = (codes "/", 0)
 
 -- the text of `stress`: the report of the root at the last tick, if there is a tick, and the last
 -- line
-abbrev pub stress_text : Trace → Pace → List ℕ
-stress_text trace pace =
-    (if tick_count trace pace == 0 then [] else group_report trace pace (tick_count trace pace) root_group)
-    ++ last_line trace pace (with_rules [])
+abbrev pub stress_text : Trace → Timing → List ℕ
+stress_text trace timing =
+    (if tick_count trace timing == 0 then [] else group_report trace timing (tick_count trace timing) root_group)
+    ++ last_line trace timing (with_rules [])

@@ -2,7 +2,7 @@
 -- counts of failures increase.
 use Rattle.std.specs.Prelude.{◌≡◌, ℕ, List, [], Option, None, Some, IsSome, MatchOption, option_map, Ok, Err, ⊤}
 use Rattle.std.specs.Io.KnownBytes.{Appends, Keeps}
-use Rattle.outside.specs.Outside.{Files, told, Lacks, Rose, AppendsFront, ShelfCounts, counts_of}
+use Rattle.outside.specs.Outside.{Files, content_of, IsAbsent, Increased, AppendsPrefix, ShelfCounts, counts_of}
 use Rattle.psi_spec.specs.Fields.{IsAmong}
 use Rattle.psi_spec.specs.Trace.{AreKnown, IsAccepted, IsCpuCount, Trace, limits_of}
 use Rattle.run_spec.specs.declared.command.Command.{Command}
@@ -15,7 +15,7 @@ use Rattle.ruleset_json.specs.declared.types.Rule.{Rule}
 use Rattle.ruleset_json.specs.declared.types.Rules.{Rules}
 use Rattle.ruleset_json.specs.RuleRanges.{FitsRules}
 use Rattle.ruleset_json.specs.Rules.{rules_of}
-use Rattle.run_spec.specs.Outputs.{IsOutput, accepts_of, drop_in_name, file_of, outcome_of, rules_from, rules_name, source_of, taken_of}
+use Rattle.run_spec.specs.Outputs.{IsOutput, accepts_of, drop_in_name, file_of, outcome_of, rules_from, rules_name, source_of, parse_of}
 
 -- ---- counts
 
@@ -30,7 +30,7 @@ run_counts faults absent writes = record { shelf = counts_of faults absent; writ
 
 -- a count increased if this happened, and is unchanged otherwise
 pub record RisesWhere (Happened : Type 0) (before now : ℕ) : Type 0 where
-  pub rose : Happened → Rose before now
+  pub increased : Happened → Increased before now
   pub same : ¬ Happened → now ≡ before
 
 -- the status says that a file is missing
@@ -48,18 +48,18 @@ pub record FailuresAreCounted (before now : RunCounts) (result : Status) : Type 
 
 -- the bytes of a command's file of this kind are known to be these: the command reads such a file,
 -- and the shelf's contents are known
-abbrev pub IsTold : Command → Which → Option Files → List ℕ → Type 0
-IsTold command which files bytes = (name : List ℕ) × (file_of command which ≡ Some name) × (told files name ≡ Some bytes)
+abbrev pub HasContent : Command → Which → Option Files → List ℕ → Type 0
+HasContent command which files bytes = (name : List ℕ) × (file_of command which ≡ Some name) × (content_of files name ≡ Some bytes)
 
 -- the bytes of an optional file, if known; that no file is named is known too
-abbrev pub told_if_named : Option Files → Option (List ℕ) → Option (Option (List ℕ))
-told_if_named files None = Some None
-told_if_named files (Some name) = option_map (λ bytes. Some bytes) (told files name)
+abbrev pub content_if_named : Option Files → Option (List ℕ) → Option (Option (List ℕ))
+content_if_named files None = Some None
+content_if_named files (Some name) = option_map (λ bytes. Some bytes) (content_of files name)
 
 -- the bytes of a command's drop-in file are known to be these, or it reads no such file and there
 -- are no bytes
-abbrev pub DropInTold : Command → Option Files → Option (List ℕ) → Type 0
-DropInTold command files drop_in = told_if_named files (drop_in_name command) ≡ Some drop_in
+abbrev pub DropInContent : Command → Option Files → Option (List ℕ) → Type 0
+DropInContent command files drop_in = content_if_named files (drop_in_name command) ≡ Some drop_in
 
 -- a command has a trace, which it reads, imports or generates: every command except `rules`
 abbrev pub HasTrace : Command → Type 0
@@ -74,32 +74,32 @@ pub record TakesTrace (command : Command) (files : Option Files) (trace : Trace)
   pub cpus : IsCpuCount trace.cpus
   pub known : AreKnown ((accepts_of command).verbs trace.version) trace.events
   pub accepted : IsAccepted (limits_of (accepts_of command).tick trace.cpus) trace.events
-  pub read : (bytes : List ℕ) → IsTold command (source_of command) files bytes → taken_of command bytes ≡ Ok trace
+  pub read : (bytes : List ℕ) → HasContent command (source_of command) files bytes → parse_of command bytes ≡ Ok trace
 
 -- A command takes rulesets: each is in its ranges. They are those of the bytes of its rules file
 -- and of the drop-in file, if these are known, and there are none if it reads no rules file.
 pub record TakesRules (command : Command) (files : Option Files) (rules : List Rule) : Type 0 where
   pub fit : FitsRules rules
   pub none : rules_name command ≡ None → rules ≡ []
-  pub read : (bytes : List ℕ) (drop_in : Option (List ℕ)) → IsTold command RulesFile files bytes → DropInTold command files drop_in
+  pub read : (bytes : List ℕ) (drop_in : Option (List ℕ)) → HasContent command RulesFile files bytes → DropInContent command files drop_in
       → rules_from bytes drop_in ≡ Ok (record { rules = rules })
 
 -- a command takes these rules from its rules file, before a drop-in file is applied
 abbrev pub TakesBase : Command → Option Files → Rules → Type 0
-TakesBase command files base = (bytes : List ℕ) → IsTold command RulesFile files bytes → rules_of bytes ≡ Ok base
+TakesBase command files base = (bytes : List ℕ) → HasContent command RulesFile files bytes → rules_of bytes ≡ Ok base
 
 -- the rulesets of a command are known to be these: those of its rules file with the drop-in file
 -- applied, if it reads one, or none if it reads no rules file
-abbrev pub RulesTold : Command → Option Files → List Rule → Type 0
-RulesTold command files rules = MatchOption (rules_name command) (rules ≡ [])
-    (λ name. (bytes : List ℕ) × (drop_in : Option (List ℕ)) × (told files name ≡ Some bytes) × DropInTold command files drop_in
+abbrev pub RulesContent : Command → Option Files → List Rule → Type 0
+RulesContent command files rules = MatchOption (rules_name command) (rules ≡ [])
+    (λ name. (bytes : List ℕ) × (drop_in : Option (List ℕ)) × (content_of files name ≡ Some bytes) × DropInContent command files drop_in
     × (rules_from bytes drop_in ≡ Ok (record { rules = rules })))
 
 -- ---- statuses
 
 -- no file of a command of this kind is known to be missing
 abbrev pub IsThere : Command → Option Files → Which → Type 0
-IsThere command files which = (name : List ℕ) → file_of command which ≡ Some name → Lacks files name → ⊥
+IsThere command files which = (name : List ℕ) → file_of command which ≡ Some name → IsAbsent files name → ⊥
 
 -- neither the rules file of a command nor its drop-in file is known to be missing
 abbrev pub RulesAreThere : Command → Option Files → Type 0
@@ -141,7 +141,7 @@ ReadsFiles command = (which : Which) × IsSome (file_of command which)
 abbrev pub Refuses : Command → Option Files → Option (List ℕ) → Option (List ℕ) → Which → Status → Type 0
 Refuses command files old new which result =
     Keeps old new × IsSome (file_of command which) × IsPassed command files which × IsThere command files which
-    × ((bytes : List ℕ) → IsTold command which files bytes → taken_of command bytes ≡ Err result)
+    × ((bytes : List ℕ) → HasContent command which files bytes → parse_of command bytes ≡ Err result)
 
 -- What a status says about a command, with the files of the shelf if known, and with the sink's
 -- bytes before and after: the whole output or a prefix of it, for an accepted trace and rulesets;
@@ -150,19 +150,19 @@ Refuses command files old new which result =
 -- missing file. Unless the status is Done or WriteFault, the sink is unchanged.
 abbrev pub Ends : Command → Option Files → Option (List ℕ) → Option (List ℕ) → Status → Type 0
 Ends command files old new status.Done = HasOutput command files (λ text. Appends old new text)
-Ends command files old new status.WriteFault = HasOutput command files (λ text. AppendsFront old new text)
+Ends command files old new status.WriteFault = HasOutput command files (λ text. AppendsPrefix old new text)
 Ends command files old new (status.Rules fault) =
     Keeps old new × IsThere command files RulesFile × ((name : List ℕ) × (rules_name command ≡ Some name)
-    × ((bytes : List ℕ) → told files name ≡ Some bytes → rules_of bytes ≡ Err fault))
+    × ((bytes : List ℕ) → content_of files name ≡ Some bytes → rules_of bytes ≡ Err fault))
 Ends command files old new (status.DropIn fault) =
     Keeps old new × IsSome (file_of command DropInFile) × IsPassed command files DropInFile × IsThere command files DropInFile
-    × ((bytes drop_in : List ℕ) → IsTold command RulesFile files bytes → IsTold command DropInFile files drop_in
+    × ((bytes drop_in : List ℕ) → HasContent command RulesFile files bytes → HasContent command DropInFile files drop_in
     → rules_from bytes (Some drop_in) ≡ Err (status.DropIn fault))
 Ends command files old new (status.Trace line why) = Refuses command files old new TraceFile (status.Trace line why)
 Ends command files old new (status.Import line why) = Refuses command files old new ImportFile (status.Import line why)
 Ends command files old new (status.TooLarge events) = Keeps old new × ComesTo command files (status.TooLarge events)
 Ends command files old new (status.NoFile which) =
-    Keeps old new × IsPassed command files which × ((name : List ℕ) × (file_of command which ≡ Some name) × (told files name ≡ None))
+    Keeps old new × IsPassed command files which × ((name : List ℕ) × (file_of command which ≡ Some name) × (content_of files name ≡ None))
 Ends command files old new status.ReadFault = Keeps old new × ReadsFiles command
 Ends command files old new (status.NoMemory _) = Keeps old new
 Ends command files old new status.Usage = ⊥

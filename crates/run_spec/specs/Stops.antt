@@ -1,12 +1,12 @@
 -- How far a command reads: up to the first rejected line of its trace, or of an ftrace text.
 use Rattle.std.specs.Prelude.{◌≡◌, ℕ, ◌+◌, ◌-◌, ◌≤◌, List, length, take, Option, None, Some, Err, ⊤}
-use Rattle.outside.specs.Outside.{Files, told}
+use Rattle.outside.specs.Outside.{Files, content_of}
 use Rattle.psi_base.specs.Path.{parts_at}
 use Rattle.run_spec.specs.declared.command.Command.{Command}
 use Rattle.run_spec.specs.declared.status.Status.{Status}
 use Rattle.run_spec.specs.declared.status.Status.TheVariants as status
-use Rattle.run_spec.specs.Outputs.{drop_in_name, rules_name, source_of, taken_of}
-use Rattle.run_spec.specs.Run.{IsTold}
+use Rattle.run_spec.specs.Outputs.{drop_in_name, rules_name, source_of, parse_of}
+use Rattle.run_spec.specs.Run.{HasContent}
 use Rattle.run_spec.specs.MostRead.{most_of_rules, most_until}
 
 -- the number of bytes, or this number if they are unknown
@@ -18,7 +18,7 @@ length_or number (Some bytes) = length bytes
 -- are known
 abbrev pub read_of_rules : Option Files → Option (List ℕ) → ℕ
 read_of_rules files None = 0
-read_of_rules files (Some name) = length_or most_of_rules (told files name)
+read_of_rules files (Some name) = length_or most_of_rules (content_of files name)
 
 -- the most bytes that a command reads before its trace or ftrace text: those of its rules file and
 -- of the drop-in file
@@ -40,9 +40,11 @@ IsNotWhole line count bytes = length (parts_at 10 (take count bytes)) ≤ line
 -- the buffered bytes were read. If it ends with a failed read, that line was incomplete in what was
 -- read after the files of rules.
 abbrev pub StopsAtRefusal : Command → Option Files → ℕ → ℕ → Status → Type 0
-StopsAtRefusal command files given given_now (status.Trace line why) = given_now ≤ given + (rules_read command files + most_until line)
-StopsAtRefusal command files given given_now (status.Import line why) = given_now ≤ given + (rules_read command files + most_until line)
-StopsAtRefusal command files given given_now status.ReadFault =
-    (bytes : List ℕ) (why : Status) → IsTold command (source_of command) files bytes → taken_of command bytes ≡ Err why
-    → IsNotWhole (refused_line why) (given_now - (given + rules_read command files)) bytes
-StopsAtRefusal command files given given_now _ = ⊤
+StopsAtRefusal command files bytes_read read_now (status.Trace line why) = read_now
+    ≤ bytes_read + (rules_read command files + most_until line)
+StopsAtRefusal command files bytes_read read_now (status.Import line why) = read_now
+    ≤ bytes_read + (rules_read command files + most_until line)
+StopsAtRefusal command files bytes_read read_now status.ReadFault =
+    (bytes : List ℕ) (why : Status) → HasContent command (source_of command) files bytes → parse_of command bytes ≡ Err why
+    → IsNotWhole (refused_line why) (read_now - (bytes_read + rules_read command files)) bytes
+StopsAtRefusal command files bytes_read read_now _ = ⊤

@@ -25,14 +25,14 @@ stall_times cpu slot events = map (λ state. stall state cpu slot events (end_of
 
 -- the times (ns) that are printed for a group on a processor: the stall times and, in version 2,
 -- the interrupt time after them
-abbrev pub told_times : Version → ℕ → ℕ → List Event → List ℕ
-told_times One cpu slot events = stall_times cpu slot events
-told_times Two cpu slot events = stall_times cpu slot events ++ irq_time cpu slot events ∷ []
+abbrev pub stall_times_of : Version → ℕ → ℕ → List Event → List ℕ
+stall_times_of One cpu slot events = stall_times cpu slot events
+stall_times_of Two cpu slot events = stall_times cpu slot events ++ irq_time cpu slot events ∷ []
 
 -- the lines of a processor
 abbrev pub stall_lines : Version → ℕ → List Event → List ℕ
 stall_lines version cpu events =
-    flat_map (λ (pair : List ℕ × ℕ). stall_line cpu pair.0 (told_times version cpu pair.1 events)) (live_groups (after events).groups)
+    flat_map (λ (pair : List ℕ × ℕ). stall_line cpu pair.0 (stall_times_of version cpu pair.1 events)) (live_groups (after events).groups)
 
 -- the text of `stall`: the lines of all processors
 unfoldable pub stall_text : Trace → List ℕ

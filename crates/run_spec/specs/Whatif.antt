@@ -6,19 +6,19 @@ use Rattle.psi_spec.specs.Trace.{Trace}
 use Rattle.ruleset_json.specs.declared.types.Rule.{Rule}
 use Rattle.kill_spec.specs.declared.kill.Kill.{Kill}
 use Rattle.whatif_spec.specs.Without.{trace_without}
-use Rattle.run_spec.specs.Replay.{Pace, kills_in, tick_count}
+use Rattle.run_spec.specs.Replay.{Timing, kills_in, tick_count}
 
 -- the largest number of kills that are removed
 abbrev pub most_rounds : ℕ
 most_rounds = 64
 
 -- the kills at the first n ticks, by tick, ruleset and action
-abbrev pub kills_by : Trace → Pace → List Rule → ℕ → List Kill
-kills_by trace pace rules count = flat_map (kills_in trace pace rules) (range_with_len 1 count)
+abbrev pub kills_by : Trace → Timing → List Rule → ℕ → List Kill
+kills_by trace timing rules count = flat_map (kills_in trace timing rules) (range_with_len 1 count)
 
 -- all kills of a trace
-abbrev pub all_kills : Trace → Pace → List Rule → List Kill
-all_kills trace pace rules = kills_by trace pace rules (tick_count trace pace)
+abbrev pub all_kills : Trace → Timing → List Rule → List Kill
+all_kills trace timing rules = kills_by trace timing rules (tick_count trace timing)
 
 -- a trace without the tasks of a kill's victim from the kill on, if there is a kill
 abbrev pub without_kill : Trace → Option Kill → Trace
@@ -31,22 +31,22 @@ bounded_trace trace = if nat_lt most_events (length trace.events) then Err (leng
 
 -- What one round leaves of a trace: it removes the kill with this number (from 0), if the trace has
 -- one.
-abbrev pub round : Pace → List Rule → ℕ → Trace → Result Trace ℕ
-round pace rules number trace = bounded_trace (without_kill trace (slice_get (all_kills trace pace rules) number))
+abbrev pub round : Timing → List Rule → ℕ → Trace → Result Trace ℕ
+round timing rules number trace = bounded_trace (without_kill trace (slice_get (all_kills trace timing rules) number))
 
 -- a round after others, unless one of them left too much
-abbrev pub then_round : Pace → List Rule → ℕ → Result Trace ℕ → Result Trace ℕ
-then_round pace rules number (Err events) = Err events
-then_round pace rules number (Ok trace) = round pace rules number trace
+abbrev pub then_round : Timing → List Rule → ℕ → Result Trace ℕ → Result Trace ℕ
+then_round timing rules number (Err events) = Err events
+then_round timing rules number (Ok trace) = round timing rules number trace
 
 -- What the first n rounds leave of a trace: the first round removes the first kill, the second
 -- round removes the second kill of what remains, and so on. If a round leaves more events than a
 -- trace may have, the result is that number of events.
-unfoldable pub after_rounds : Trace → Pace → List Rule → ℕ → Result Trace ℕ
-after_rounds trace pace rules zero = Ok trace
-after_rounds trace pace rules (suc count) = then_round pace rules count (after_rounds trace pace rules count)
+unfoldable pub after_rounds : Trace → Timing → List Rule → ℕ → Result Trace ℕ
+after_rounds trace timing rules zero = Ok trace
+after_rounds trace timing rules (suc count) = then_round timing rules count (after_rounds trace timing rules count)
 
 -- the trace that remains after all kills, at most 64, were removed, or the number of events of a
 -- round that left too many
-abbrev pub last_trace : Trace → Pace → List Rule → Result Trace ℕ
-last_trace trace pace rules = after_rounds trace pace rules most_rounds
+abbrev pub last_trace : Trace → Timing → List Rule → Result Trace ℕ
+last_trace trace timing rules = after_rounds trace timing rules most_rounds

@@ -62,54 +62,54 @@ word_of names word =
 -- ---- all words
 
 -- the content of words: the names of options with their values, and the positional, if any
-pub record Given : Type 0 where
+pub record ParsedWords : Type 0 where
   pub options : List (List ℕ × List ℕ)
   pub positional : Option (List ℕ)
 
 -- the content of no words
-abbrev pub nothing : Given
+abbrev pub nothing : ParsedWords
 nothing = record { options = []; positional = None }
 
 -- the value of the option with this name
-abbrev pub value_given : List ℕ → Given → Option (List ℕ)
-value_given name given =
-    option_map (λ option. option.1) (find (λ option. bytes_eq option.0 name) given.options)
+abbrev pub option_value : List ℕ → ParsedWords → Option (List ℕ)
+option_value name parsed =
+    option_map (λ option. option.1) (find (λ option. bytes_eq option.0 name) parsed.options)
 
 -- adds an option to the content of the other words, which must not have it: an option comes once
-abbrev pub with_option : List ℕ → List ℕ → Given → Option Given
-with_option name value given =
-    if is_some (value_given name given) then None
-    else Some (record given { options = (name, value) ∷ given.options })
+abbrev pub with_option : List ℕ → List ℕ → ParsedWords → Option ParsedWords
+with_option name value parsed =
+    if is_some (option_value name parsed) then None
+    else Some (record parsed { options = (name, value) ∷ parsed.options })
 
 -- adds the positional to the content of the other words, which must not have one
-abbrev pub with_positional : List ℕ → Given → Option Given
-with_positional word given =
-    if is_some given.positional then None else Some (record given { positional = Some word })
+abbrev pub with_positional : List ℕ → ParsedWords → Option ParsedWords
+with_positional word parsed =
+    if is_some parsed.positional then None else Some (record parsed { positional = Some word })
 
 -- the state of the parser: before a word, before the value of an option, or after `--`
-pub data Stand : Type 0 where
-  at_word : Stand
-  at_value : List ℕ → Stand
-  behind : Stand
+pub data WordState : Type 0 where
+  at_word : WordState
+  at_value : List ℕ → WordState
+  suffix : WordState
 
 -- the content of a word and of the words after it, which are read from a state
-abbrev pub by_word : Word → List ℕ → (Stand → Option Given) → Option Given
+abbrev pub by_word : Word → List ℕ → (WordState → Option ParsedWords) → Option ParsedWords
 by_word (assigned name value) word rest = rest at_word >>= with_option name value
 by_word (opened name) word rest = rest (at_value name)
-by_word end word rest = rest behind
+by_word end word rest = rest suffix
 by_word plain word rest = rest at_word >>= with_positional word
 by_word unknown word rest = None
 
 -- the content of words, read from a state, given the names of options
-abbrev pub said : List (List ℕ) → Stand → List (List ℕ) → Option Given
-said names at_word [] = Some nothing
-said names (at_value name) [] = None
-said names behind [] = Some nothing
-said names at_word (word ∷ words) =
-    by_word (word_of names word) word (λ stand. said names stand words)
-said names (at_value name) (word ∷ words) =
-    if is_dashed word then None else said names at_word words >>= with_option name word
-said names behind (word ∷ words) = said names behind words >>= with_positional word
+abbrev pub parsed_from : List (List ℕ) → WordState → List (List ℕ) → Option ParsedWords
+parsed_from names at_word [] = Some nothing
+parsed_from names (at_value name) [] = None
+parsed_from names suffix [] = Some nothing
+parsed_from names at_word (word ∷ words) =
+    by_word (word_of names word) word (λ word_state. parsed_from names word_state words)
+parsed_from names (at_value name) (word ∷ words) =
+    if is_dashed word then None else parsed_from names at_word words >>= with_option name word
+parsed_from names suffix (word ∷ words) = parsed_from names suffix words >>= with_positional word
 
 -- ---- values
 
@@ -134,63 +134,63 @@ abbrev pub is_name : List ℕ → Bool
 is_name name = nat_lt 0 (length name)
 
 -- the name of the trace's file, which may be `-`, the standard input
-abbrev pub trace_given : Given → Option (List ℕ)
-trace_given given = do
-  name ← given.positional
+abbrev pub trace_option : ParsedWords → Option (List ℕ)
+trace_option parsed = do
+  name ← parsed.positional
   if is_name name then Some name else None
 
 -- the name of a rules file or drop-in file, which isn't `-`; Some(None) if the option is absent
-abbrev pub rules_given : Option (List ℕ) → Option (Option (List ℕ))
-rules_given None = Some None
-rules_given (Some name) =
+abbrev pub rules_option : Option (List ℕ) → Option (Option (List ℕ))
+rules_option None = Some None
+rules_option (Some name) =
     if is_name name && not (bytes_eq name (codes "-")) then Some (Some name) else None
 
 -- the name of the drop-in file; Some(None) if the option is absent. It is only valid with a rules
 -- file.
-abbrev pub drop_in_given : Option (List ℕ) → Option (List ℕ) → Option (Option (List ℕ))
-drop_in_given rules None = Some None
-drop_in_given None (Some name) = None
-drop_in_given (Some rules) (Some name) = rules_given (Some name)
+abbrev pub drop_in_option : Option (List ℕ) → Option (List ℕ) → Option (Option (List ℕ))
+drop_in_option rules None = Some None
+drop_in_option None (Some name) = None
+drop_in_option (Some rules) (Some name) = rules_option (Some name)
 
 -- a group's path; Some(None) if the option is absent
-abbrev pub live_given : Option (List ℕ) → Option (Option (List ℕ))
-live_given None = Some None
-live_given (Some path) = if is_path path then Some (Some path) else None
+abbrev pub live_option : Option (List ℕ) → Option (Option (List ℕ))
+live_option None = Some None
+live_option (Some path) = if is_path path then Some (Some path) else None
 
 -- ---- one table a command
 
 -- the length of a tick in ms
-abbrev pub tick_given : Given → Option ℕ
-tick_given given = number_or 2000 1 60000 (value_given (codes "tick-ms") given)
+abbrev pub tick_option : ParsedWords → Option ℕ
+tick_option parsed = number_or 2000 1 60000 (option_value (codes "tick-ms") parsed)
 
 -- the number of threads
-abbrev pub workers_given : Given → Option ℕ
-workers_given given = number_or 64 1 64 (value_given (codes "workers") given)
+abbrev pub workers_option : ParsedWords → Option ℕ
+workers_option parsed = number_or 64 1 64 (option_value (codes "workers") parsed)
 
 -- `stall` needs a trace
-unfoldable pub stall_of : Given → Option Command
-stall_of given = do
-  trace ← trace_given given
+unfoldable pub stall_of : ParsedWords → Option Command
+stall_of parsed = do
+  trace ← trace_option parsed
   Some (Stall trace)
 
 -- `check` needs a trace, and may have the length of a tick
-unfoldable pub check_of : Given → Option Command
-check_of given = do
-  trace ← trace_given given
-  tick_ms ← tick_given given
+unfoldable pub check_of : ParsedWords → Option Command
+check_of parsed = do
+  trace ← trace_option parsed
+  tick_ms ← tick_option parsed
   Some (Check trace tick_ms)
 
 -- the options of `replay` and `whatif`, with the default of each
-unfoldable pub options_of : Given → Option Options
-options_of given = do
-  rules ← rules_given (value_given (codes "rules") given)
-  drop_in ← drop_in_given rules (value_given (codes "drop-in") given)
-  tick_ms ← tick_given given
-  interval_s ← number_or 5 1 3600 (value_given (codes "interval-s") given)
-  report_s ← number_or 10 0 3600 (value_given (codes "report-s") given)
-  workers ← workers_given given
-  live ← live_given (value_given (codes "live") given)
-  live_count ← number_or 1 1 16 (value_given (codes "live-count") given)
+unfoldable pub options_of : ParsedWords → Option Options
+options_of parsed = do
+  rules ← rules_option (option_value (codes "rules") parsed)
+  drop_in ← drop_in_option rules (option_value (codes "drop-in") parsed)
+  tick_ms ← tick_option parsed
+  interval_s ← number_or 5 1 3600 (option_value (codes "interval-s") parsed)
+  report_s ← number_or 10 0 3600 (option_value (codes "report-s") parsed)
+  workers ← workers_option parsed
+  live ← live_option (option_value (codes "live") parsed)
+  live_count ← number_or 1 1 16 (option_value (codes "live-count") parsed)
   Some (record {
     rules = rules;
     drop_in = drop_in;
@@ -203,55 +203,55 @@ options_of given = do
   })
 
 -- `replay` needs a trace, and may have options
-unfoldable pub replay_of : Given → Option Command
-replay_of given = do
-  trace ← trace_given given
-  options ← options_of given
+unfoldable pub replay_of : ParsedWords → Option Command
+replay_of parsed = do
+  trace ← trace_option parsed
+  options ← options_of parsed
   Some (Replay trace options)
 
 -- the shape of a generated trace: no positional is given, and all four options are
-unfoldable pub shape_of : Given → Option Shape
-shape_of given = do
-  options ← if is_some given.positional then None else Some given
-  seed ← needed 0 (2 ^ 64 - 1) (value_given (codes "seed") options)
-  cpus ← needed 1 64 (value_given (codes "cpus") options)
-  groups ← needed 0 1000 (value_given (codes "groups") options)
-  events ← needed 0 3900000 (value_given (codes "events") options)
+unfoldable pub shape_of : ParsedWords → Option Shape
+shape_of parsed = do
+  options ← if is_some parsed.positional then None else Some parsed
+  seed ← needed 0 (2 ^ 64 - 1) (option_value (codes "seed") options)
+  cpus ← needed 1 64 (option_value (codes "cpus") options)
+  groups ← needed 0 1000 (option_value (codes "groups") options)
+  events ← needed 0 3900000 (option_value (codes "events") options)
   Some (record { seed = seed; cpus = cpus; groups = groups; events = events })
 
 -- `gen` needs a shape
-unfoldable pub gen_of : Given → Option Command
-gen_of given = do
-  shape ← shape_of given
+unfoldable pub gen_of : ParsedWords → Option Command
+gen_of parsed = do
+  shape ← shape_of parsed
   Some (Gen shape)
 
 -- `stress` needs a shape, and may have the number of threads
-unfoldable pub stress_of : Given → Option Command
-stress_of given = do
-  shape ← shape_of given
-  workers ← workers_given given
+unfoldable pub stress_of : ParsedWords → Option Command
+stress_of parsed = do
+  shape ← shape_of parsed
+  workers ← workers_option parsed
   Some (Stress shape workers)
 
 -- `import` needs a file, and the number of processors of the machine
-unfoldable pub import_command_of : Given → Option Command
-import_command_of given = do
-  file ← trace_given given
-  cpus ← needed 1 64 (value_given (codes "cpus") given)
+unfoldable pub import_command_of : ParsedWords → Option Command
+import_command_of parsed = do
+  file ← trace_option parsed
+  cpus ← needed 1 64 (option_value (codes "cpus") parsed)
   Some (Import file cpus)
 
 -- `rules` needs a rules file, and may have a drop-in file
-unfoldable pub rules_command_of : Given → Option Command
-rules_command_of given = do
-  file ← trace_given given
-  drop_in ← rules_given (value_given (codes "drop-in") given)
+unfoldable pub rules_command_of : ParsedWords → Option Command
+rules_command_of parsed = do
+  file ← trace_option parsed
+  drop_in ← rules_option (option_value (codes "drop-in") parsed)
   Some (Rules file drop_in)
 
 -- `whatif` needs a trace and rules, and may have the other options of `replay` except those of live
 -- samples
-unfoldable pub whatif_of : Given → Option Command
-whatif_of given = do
-  trace ← trace_given given
-  options ← options_of given
+unfoldable pub whatif_of : ParsedWords → Option Command
+whatif_of parsed = do
+  trace ← trace_option parsed
+  options ← options_of parsed
   if is_some options.rules && not (is_some options.live) then Some (Whatif trace options) else None
 
 -- how a command is spelled: its own word, the names of its options, and its table, which gives the
@@ -259,7 +259,7 @@ whatif_of given = do
 pub record CommandForm : Type 0 where
   pub word : List ℕ
   pub options : List (List ℕ)
-  pub command : Given → Option Command
+  pub command : ParsedWords → Option Command
 
 -- `stall TRACE`
 abbrev pub stall_form : CommandForm
@@ -320,8 +320,8 @@ forms =
 -- the command of this form that the words after its own spell
 abbrev pub spelled : CommandForm → List (List ℕ) → Option Command
 spelled form words = do
-  given ← said form.options at_word words
-  form.command given
+  parsed ← parsed_from form.options at_word words
+  form.command parsed
 
 -- the command that words spell, if any: the first word is the command's own
 unfoldable pub command_of : List (List ℕ) → Option Command

@@ -6,7 +6,8 @@
 //! `Generated`, `Live` and `Replay` (what is printed), `Whatif` (what remains of a trace without
 //! the victims of its kills), `Outputs` (which files a command reads, and its whole output),
 //! `MostRead` (how many bytes are read), `Status` (exit status and message), `Run` (what a run
-//! promises), `Stops` (how far it reads); and `Laws`, their consequences.
+//! promises), `Stops` (how far it reads), `ReadOrder` (in which order), `Promises` (what accepted
+//! and rejected files give); and `Laws`, their consequences.
 #![tactic(auto)]
 
 mod command;
@@ -15,4 +16,4 @@ mod status;
 
 pub use command::{Command, Options, Shape, law_option_order, law_option_value, law_ranges};
 pub use rounds::law_last_trace;
-pub use status::{Status, Which, law_missing_files};
+pub use status::{Status, Which, law_missing_files, law_reads};

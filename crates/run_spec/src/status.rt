@@ -1,6 +1,6 @@
 //! How a run ends.
 ghost use Rattle.std.specs.Prelude.{◌≡◌};
-ghost use Rattle.run_spec.specs.Laws.{MissingDropInTells, MissingRulesTell, MissingSourceTells};
+ghost use Rattle.run_spec.specs.Laws.{CommandCallsAreFew, FileCallsAreFew, MissingDropInComesFirst, MissingDropInShows, MissingRulesComeFirst, MissingRulesShow, MissingSourceShows};
 ghost use Rattle.run_spec.specs.Status.{code_of};
 
 use dropin_rules::DropFault;
@@ -71,9 +71,18 @@ impl Status {
 
 /// If a file of a command is known to be missing, a run reports that, or another failure. If it is
 /// the trace's file, a run may also report an error in the rules or in the drop-in file, which come
-/// first; if it is the drop-in file, an error in the rules file.
+/// first; if it is the drop-in file, an error in the rules file. No later file was read.
 pub fn law_missing_files()
-    ensures rules { MissingRulesTell }
-    ensures drop_in { MissingDropInTells }
-    ensures source { MissingSourceTells }
+    ensures rules { MissingRulesShow }
+    ensures drop_in { MissingDropInShows }
+    ensures source { MissingSourceShows }
+    ensures rules_first { MissingRulesComeFirst }
+    ensures drop_in_first { MissingDropInComesFirst }
+{}
+
+/// A file is read with at most one call more than the bytes that its calls return, and a command
+/// reads with at most one more for each of its files.
+pub fn law_reads()
+    ensures file { FileCallsAreFew }
+    ensures command { CommandCallsAreFew }
 {}

@@ -16,7 +16,7 @@ use Rattle.psi_spec.specs.World.{World, Limits, Tasks, after, first_world, no_ta
 use Rattle.psi_spec.specs.Refusal.{AreLegal}
 use Rattle.psi_spec.specs.Stall.{is_under, number_of_slot, parents_of}
 use Rattle.psi_spec.specs.LegalGroups.{leads_to}
-use Rattle.psi_spec.specs.Told.{slot_named}
+use Rattle.psi_spec.specs.Collected.{slot_named}
 use Rattle.psi_spec.proofs.GroupLaws.{climbs_kept}
 use Rattle.psi_spec.proofs.TaskLaws.{found, no_entries}
 use Rattle.psi_counts.specs.Legal.{IsLegalWorld}
@@ -25,7 +25,7 @@ use Rattle.psi_spec.specs.Changes.{before}
 use Rattle.psi_counts.proofs.CountLaws.{one}
 use Rattle.psi_counts.proofs.LegalLaws.{chosen_fewer}
 use Rattle.plan_laws.proofs.MomentsEvents.{by_legal}
-use Rattle.plan_laws.proofs.MomentsTold.{told-push}
+use Rattle.plan_laws.proofs.MomentsKnown.{known-push}
 use Rattle.plan_laws.proofs.PlanLaws.{after-push}
 use Rattle.plan_laws.proofs.PlanStates.{Prolongs, legal_after, legal_last}
 use Rattle.psi_counts.proofs.TouchCounts.{counted, counted_remove, running_found, tally, tallied}
@@ -138,11 +138,11 @@ few_counted limits events legal p =
 none_first : (p : Task → Bool) → counted p no_tasks ≡ 0
 none_first p = ap (λ (es : List (ℕ × Task)). tally p (map (λ e. e.1) es)) no_entries
 
-abbrev Tells : List (Option ℕ) → ℕ → List Event → Type 0
-Tells parents slot events = (cell_by parents slot zero_side_cell (sides_of events)).tasks ≡ counted (is_below parents slot) (after events).tasks
+abbrev Shows : List (Option ℕ) → ℕ → List Event → Type 0
+Shows parents slot events = (cell_by parents slot zero_side_cell (sides_of events)).tasks ≡ counted (is_below parents slot) (after events).tasks
 
-tells-push : (limits : Limits) (parents : List (Option ℕ)) (slot : ℕ) (events : List Event) (event : Event) → AreLegal limits first_world (events ++ event ∷ []) → Tells parents slot events → Tells parents slot (events ++ event ∷ [])
-tells-push limits parents slot events event legal earlier =
+shows-push : (limits : Limits) (parents : List (Option ℕ)) (slot : ℕ) (events : List Event) (event : Event) → AreLegal limits first_world (events ++ event ∷ []) → Shows parents slot events → Shows parents slot (events ++ event ∷ [])
+shows-push limits parents slot events event legal earlier =
     let w : World = after events in
     let p : Task → Bool = is_below parents slot in
     let old : Option Slot = group_of (before w.tasks event.act) in
@@ -150,8 +150,8 @@ tells-push limits parents slot events event legal earlier =
     let sample : List Side = sample_by event.at w.groups event.act in
     let first : SideCell = cell_by parents slot zero_side_cell (sides_of events) in
     let middle : SideCell = cell_by parents slot first sample in
-    let told : cell_by parents slot zero_side_cell (sides_of (events ++ event ∷ [])) ≡ cell_by parents slot middle (passage event.at old new) =
-    ap (cell_by parents slot zero_side_cell) (told-push sides_by first_world events event) ∙ by_both parents slot zero_side_cell (sides_of events) (sample ++ passage event.at old new) ∙ by_both parents slot first sample (passage event.at old new) in
+    let known : cell_by parents slot zero_side_cell (sides_of (events ++ event ∷ [])) ≡ cell_by parents slot middle (passage event.at old new) =
+    ap (cell_by parents slot zero_side_cell) (known-push sides_by first_world events event) ∙ by_both parents slot zero_side_cell (sides_of events) (sample ++ passage event.at old new) ∙ by_both parents slot first sample (passage event.at old new) in
     let sampled : middle.tasks ≡ counted p w.tasks = sample_counts parents slot event.at first w.groups event.act ∙ earlier in
     let tasks : counted p (after (events ++ event ∷ [])).tasks ≡ counted p (tasks_after w.groups w.tasks event.act) = ap (λ (v : World). counted p v.tasks) (after-push events event) in
     let by_act = counted_act p (λ t ready. refl) limits w event.at event.act (legal_last limits first_world events event legal) in
@@ -159,11 +159,11 @@ tells-push limits parents slot events event legal earlier =
     let to = ap one (leads_by_task parents slot (task_after w.groups w.tasks event.act)) in
     let there = before_there p w.tasks event.act in
     let few = few_counted limits (events ++ event ∷ []) legal p in
-    ap (λ (cell : SideCell). cell.tasks) told
+    ap (λ (cell : SideCell). cell.tasks) known
     ∙ passage_counts parents slot event.at middle (counted p (after (events ++ event ∷ [])).tasks) old new (omega (arith, sampled, tasks, by_act, from, to)) (omega (arith, sampled, there, from)) few
 
-pub tasks_told : (limits : Limits) (parents : List (Option ℕ)) (slot : ℕ) (events : List Event) → AreLegal limits first_world events → Tells parents slot events
-tasks_told limits parents slot events legal = by_legal limits (Tells parents slot) (sym (none_first (is_below parents slot))) (tells-push limits parents slot) events legal
+pub tasks_known : (limits : Limits) (parents : List (Option ℕ)) (slot : ℕ) (events : List Event) → AreLegal limits first_world events → Shows parents slot events
+tasks_known limits parents slot events legal = by_legal limits (Shows parents slot) (sym (none_first (is_below parents slot))) (shows-push limits parents slot) events legal
 
 -- ---- groups created later
 

@@ -62,10 +62,10 @@ seen_due limits events (Some before) at legal turn =
 -- time
 pub taken_on : (limits : Limits) (events : List Event) (moment : Option ℕ) (at taken : ℕ) → AreLegal limits first_world events → IsNotAfter moment at → take taken (sides_of events) ≡ sides_of (seen_events events moment) →
     sides_of (seen_events events moment) ++ due_by at (drop taken (sides_of events)) ≡ sides_of (up_to events at)
-taken_on limits events moment at taken legal turn front =
+taken_on limits events moment at taken legal turn prefix =
     let sides : List Side = sides_of events in
     let order = IsNonDecreasingBy-drop (λ (side : Side). side.at) taken sides (sides_are_in_order limits events legal) in
-    let parts : sides ≡ sides_of (seen_events events moment) ++ drop taken sides = sym (take-append-drop taken sides) ∙ ap (λ xs. xs ++ drop taken sides) front in
+    let parts : sides ≡ sides_of (seen_events events moment) ++ drop taken sides = sym (take-append-drop taken sides) ∙ ap (λ xs. xs ++ drop taken sides) prefix in
     let split = filter-append (is_due at) (sides_of (seen_events events moment)) (drop taken sides) in
     sym (sides_up_to limits events legal at ∙ ap (filter (is_due at)) parts ∙ split
     ∙ ap (λ xs. xs ++ filter (is_due at) (drop taken sides)) (seen_due limits events moment at legal turn)

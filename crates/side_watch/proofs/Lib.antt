@@ -1,4 +1,4 @@
-pub mod Told
+pub mod SideValues
 pub mod Counting
 pub mod Due
 pub mod Watching

@@ -9,8 +9,8 @@ use Rattle.psi_spec.specs.World.{World, Limits, after, after_from, first_world}
 use Rattle.psi_spec.specs.Refusal.{AreLegal}
 use Rattle.psi_spec.specs.Stall.{parents_of}
 use Rattle.psi_spec.proofs.Following.{after_from-append}
-use Rattle.plan_laws.proofs.PlanStates.{Prolongs, legal_after, legal_front, prolongs_by}
-use Rattle.plan_laws.proofs.PlanUpTo.{up_to_front}
+use Rattle.plan_laws.proofs.PlanStates.{Prolongs, legal_after, legal_prefix, prolongs_by}
+use Rattle.plan_laws.proofs.PlanUpTo.{up_to_prefix}
 use Rattle.kill_spec.specs.declared.reading.HostReading.{HostReading}
 use Rattle.kill_spec.specs.Readings.{no_host}
 use Rattle.kill_spec.specs.Evaluations.{MemorySample, memory_of, preference_of, host_of}
@@ -20,71 +20,71 @@ use Rattle.side_watch.specs.declared.cell.SideCell.{SideCell}
 use Rattle.side_watch.specs.declared.cell.GroupMemory.{GroupMemory}
 use Rattle.side_watch.specs.Sides.{side_sample, zero_side_cell, side_cell_in, cell_by, host_after, host_by, due_by}
 use Rattle.side_watch.specs.Watch.{SideView, side_cell_at, first_watch, seen_events, tasks_under, HasFollowed, Begins, Advances}
-use Rattle.side_watch.proofs.Told.{memory_by, preference_by, hosts_by, memory_is_last, preference_is_last, host_is_last, populated_is_counted}
-use Rattle.side_watch.proofs.Counting.{by_both, tasks_told, tasks_later}
+use Rattle.side_watch.proofs.SideValues.{memory_by, preference_by, hosts_by, memory_is_last, preference_is_last, host_is_last, populated_is_counted}
+use Rattle.side_watch.proofs.Counting.{by_both, tasks_known, tasks_later}
 use Rattle.side_watch.proofs.Due.{taken_on, take_due_on}
 
 -- ---- events up to a time
 
 -- the events so far are a prefix of all
-seen_front : (limits : Limits) (events : List Event) (moment : Option ℕ) → AreLegal limits first_world events → (rest : List Event) × (events ≡ seen_events events moment ++ rest)
-seen_front limits events None legal = (events, refl)
-seen_front limits events (Some at) legal = up_to_front limits first_world events at legal
+seen_prefix : (limits : Limits) (events : List Event) (moment : Option ℕ) → AreLegal limits first_world events → (rest : List Event) × (events ≡ seen_events events moment ++ rest)
+seen_prefix limits events None legal = (events, refl)
+seen_prefix limits events (Some at) legal = up_to_prefix limits first_world events at legal
 
 seen_legal : (limits : Limits) (events : List Event) (moment : Option ℕ) → AreLegal limits first_world events → AreLegal limits first_world (seen_events events moment)
 seen_legal limits events moment legal =
-    let front = seen_front limits events moment legal in
-    legal_front limits first_world (seen_events events moment) front.0 (subst (AreLegal limits first_world) front.1 legal)
+    let prefix = seen_prefix limits events moment legal in
+    legal_prefix limits first_world (seen_events events moment) prefix.0 (subst (AreLegal limits first_world) prefix.1 legal)
 
 -- groups created by later events come after those created before
 seen_prolongs : (limits : Limits) (events : List Event) (moment : Option ℕ) → AreLegal limits first_world events → Prolongs (parents_of (after (seen_events events moment)).groups) (parents_of (after events).groups)
 seen_prolongs limits events moment legal =
-    let front = seen_front limits events moment legal in
-    let whole : after events ≡ after_from (after (seen_events events moment)) front.0 = ap after front.1 ∙ after_from-append first_world (seen_events events moment) front.0 in
-    let by = prolongs_by (after (seen_events events moment)) front.0 in
+    let prefix = seen_prefix limits events moment legal in
+    let whole : after events ≡ after_from (after (seen_events events moment)) prefix.0 = ap after prefix.1 ∙ after_from-append first_world (seen_events events moment) prefix.0 in
+    let by = prolongs_by (after (seen_events events moment)) prefix.0 in
     (by.0, ap (λ (w : World). parents_of w.groups) whole ∙ by.1)
 
 -- ---- a watch whose groups have the state after sides
 
 -- what is kept of the group in a slot once all sides of the events that were seen were taken
-abbrev told_cell : List Event → Option ℕ → ℕ → SideCell
-told_cell events moment slot = cell_by (parents_of (after events).groups) slot zero_side_cell (sides_of (seen_events events moment))
+abbrev known_cell : List Event → Option ℕ → ℕ → SideCell
+known_cell events moment slot = cell_by (parents_of (after events).groups) slot zero_side_cell (sides_of (seen_events events moment))
 
-abbrev told_host : List Event → Option ℕ → HostReading
-told_host events moment = host_by no_host (sides_of (seen_events events moment))
+abbrev known_host : List Event → Option ℕ → HostReading
+known_host events moment = host_by no_host (sides_of (seen_events events moment))
 
 -- the content of a watch
-told_memory : (events : List Event) (moment : Option ℕ) (slot : ℕ) → side_sample (told_cell events moment slot).memory ≡ memory_of slot (seen_events events moment)
-told_memory events moment slot = memory_by (parents_of (after events).groups) slot zero_side_cell (sides_of (seen_events events moment)) ∙ sym (memory_is_last (seen_events events moment) slot)
+known_memory : (events : List Event) (moment : Option ℕ) (slot : ℕ) → side_sample (known_cell events moment slot).memory ≡ memory_of slot (seen_events events moment)
+known_memory events moment slot = memory_by (parents_of (after events).groups) slot zero_side_cell (sides_of (seen_events events moment)) ∙ sym (memory_is_last (seen_events events moment) slot)
 
-told_preference : (events : List Event) (moment : Option ℕ) (slot : ℕ) → (told_cell events moment slot).preference ≡ preference_of slot (seen_events events moment)
-told_preference events moment slot = preference_by (parents_of (after events).groups) slot zero_side_cell (sides_of (seen_events events moment)) ∙ sym (preference_is_last (seen_events events moment) slot)
+known_preference : (events : List Event) (moment : Option ℕ) (slot : ℕ) → (known_cell events moment slot).preference ≡ preference_of slot (seen_events events moment)
+known_preference events moment slot = preference_by (parents_of (after events).groups) slot zero_side_cell (sides_of (seen_events events moment)) ∙ sym (preference_is_last (seen_events events moment) slot)
 
-told_tasks : (limits : Limits) (events : List Event) (moment : Option ℕ) (slot : ℕ) → AreLegal limits first_world events → (told_cell events moment slot).tasks ≡ tasks_under (after (seen_events events moment)) slot
-told_tasks limits events moment slot legal =
+known_tasks : (limits : Limits) (events : List Event) (moment : Option ℕ) (slot : ℕ) → AreLegal limits first_world events → (known_cell events moment slot).tasks ≡ tasks_under (after (seen_events events moment)) slot
+known_tasks limits events moment slot legal =
     let legally = seen_legal limits events moment legal in
-    tasks_told limits (parents_of (after events).groups) slot (seen_events events moment) legally
+    tasks_known limits (parents_of (after events).groups) slot (seen_events events moment) legally
     ∙ tasks_later limits (after (seen_events events moment)) (legal_after limits (seen_events events moment) legally) (parents_of (after events).groups) (seen_prolongs limits events moment legal) slot
 
-told_hosts : (events : List Event) (moment : Option ℕ) → told_host events moment ≡ host_of (seen_events events moment)
-told_hosts events moment = hosts_by no_host (sides_of (seen_events events moment)) ∙ sym (host_is_last (seen_events events moment))
+known_hosts : (events : List Event) (moment : Option ℕ) → known_host events moment ≡ host_of (seen_events events moment)
+known_hosts events moment = hosts_by no_host (sides_of (seen_events events moment)) ∙ sym (host_is_last (seen_events events moment))
 
 -- a watch with this invariant has the state after the events
 pub watching : (limits : Limits) (events : List Event) (moment : Option ℕ) (watch : SideView) → AreLegal limits first_world events →
     watch.parents ≡ parents_of (after events).groups → length watch.cells ≡ length (after events).groups → take watch.taken (sides_of events) ≡ sides_of (seen_events events moment) →
-    ((slot : ℕ) → slot < length (after events).groups → side_cell_at watch slot ≡ told_cell events moment slot) → watch.host ≡ told_host events moment → HasFollowed events moment watch
+    ((slot : ℕ) → slot < length (after events).groups → side_cell_at watch slot ≡ known_cell events moment slot) → watch.host ≡ known_host events moment → HasFollowed events moment watch
 watching limits events moment watch legal parents each taken cells host =
     let tasks : (slot : ℕ) → slot < length (after events).groups → (side_cell_at watch slot).tasks ≡ tasks_under (after (seen_events events moment)) slot =
-    λ slot room. ap (λ (cell : SideCell). cell.tasks) (cells slot room) ∙ told_tasks limits events moment slot legal in
+    λ slot room. ap (λ (cell : SideCell). cell.tasks) (cells slot room) ∙ known_tasks limits events moment slot legal in
     record {
       parents = parents;
       each = each;
       taken = taken;
-      memory = λ slot room. ap (λ (cell : SideCell). side_sample cell.memory) (cells slot room) ∙ told_memory events moment slot;
-      preference = λ slot room. ap (λ (cell : SideCell). cell.preference) (cells slot room) ∙ told_preference events moment slot;
+      memory = λ slot room. ap (λ (cell : SideCell). side_sample cell.memory) (cells slot room) ∙ known_memory events moment slot;
+      preference = λ slot room. ap (λ (cell : SideCell). cell.preference) (cells slot room) ∙ known_preference events moment slot;
       tasks = tasks;
       populated = λ slot room. ap (nat_lt 0) (tasks slot room) ∙ sym (populated_is_counted (seen_events events moment) slot);
-      host = host ∙ told_hosts events moment;
+      host = host ∙ known_hosts events moment;
     }
 
 -- ---- at first
@@ -117,10 +117,10 @@ hosts_both host [] more = refl
 hosts_both host (side ∷ some) more = hosts_both (host_after host side.what) some more
 
 -- the state in a watch is what the sides give
-kept_cell : (limits : Limits) (events : List Event) (moment : Option ℕ) (watch : SideView) (slot : ℕ) → AreLegal limits first_world events → HasFollowed events moment watch → slot < length (after events).groups → side_cell_at watch slot ≡ told_cell events moment slot
+kept_cell : (limits : Limits) (events : List Event) (moment : Option ℕ) (watch : SideView) (slot : ℕ) → AreLegal limits first_world events → HasFollowed events moment watch → slot < length (after events).groups → side_cell_at watch slot ≡ known_cell events moment slot
 kept_cell limits events moment watch slot legal is room =
-    same_cell (side_cell_at watch slot) (told_cell events moment slot)
-    (is.memory slot room ∙ sym (told_memory events moment slot)) (is.preference slot room ∙ sym (told_preference events moment slot)) (is.tasks slot room ∙ sym (told_tasks limits events moment slot legal))
+    same_cell (side_cell_at watch slot) (known_cell events moment slot)
+    (is.memory slot room ∙ sym (known_memory events moment slot)) (is.preference slot room ∙ sym (known_preference events moment slot)) (is.tasks slot room ∙ sym (known_tasks limits events moment slot legal))
 
 -- a watch took the sides that were due
 pub record TookDue (old new : SideView) (sides : List Side) (at : ℕ) : Type 0 where
@@ -145,7 +145,7 @@ advances old new sides at took limits events moment legal are turn is =
     ∙ ap (λ cell. cell_by (parents_of (after events).groups) slot cell due) (kept_cell limits events moment old slot legal is room)
     ∙ sym (by_both (parents_of (after events).groups) slot zero_side_cell (sides_of (seen_events events moment)) due)
     ∙ ap (cell_by (parents_of (after events).groups) slot zero_side_cell) on)
-    (hosts ∙ ap (λ host. host_by host due) (is.host ∙ sym (told_hosts events moment)) ∙ sym (hosts_both no_host (sides_of (seen_events events moment)) due) ∙ ap (host_by no_host) on)
+    (hosts ∙ ap (λ host. host_by host due) (is.host ∙ sym (known_hosts events moment)) ∙ sym (hosts_both no_host (sides_of (seen_events events moment)) due) ∙ ap (host_by no_host) on)
 
 -- the same by the fields of the watch
 pub advances_by : (old : SideView) (cells new_cells : List SideCell) (parents : List (Option ℕ)) (host new_host : HostReading) (taken new_taken : ℕ) (sides : List Side) (at : ℕ) →
@@ -153,8 +153,8 @@ pub advances_by : (old : SideView) (cells new_cells : List SideCell) (parents : 
     ((slot : ℕ) → slot < length cells → side_cell_in new_cells slot ≡ cell_by parents slot (side_cell_in cells slot) (due_by at (drop taken sides))) →
     new_host ≡ host_by host (due_by at (drop taken sides)) → new_taken ≡ taken + length (due_by at (drop taken sides)) →
     Advances old (record { cells = new_cells; parents = parents; host = new_host; taken = new_taken }) sides at
-advances_by old cells new_cells parents host new_host taken new_taken sides at is each told hosts count =
+advances_by old cells new_cells parents host new_host taken new_taken sides at is each known hosts count =
     let before : SideView = record { cells = cells; parents = parents; host = host; taken = taken } in
     let now : SideView = record { cells = new_cells; parents = parents; host = new_host; taken = new_taken } in
     subst (λ (watch : SideView). Advances watch now sides at) (sym is)
-    (advances before now sides at (record { parents = refl; each = each; cells = told; hosts = hosts; taken = count }))
+    (advances before now sides at (record { parents = refl; each = each; cells = known; hosts = hosts; taken = count }))

@@ -33,23 +33,23 @@ host_in (side.Host mem_total swap_total swap_free) =
 host_in _ = []
 
 -- the values of all sides, in order
-abbrev pub told_in : {A : Type 0} → (SideAct → List A) → List Side → List A
-told_in tells sides = flat_map (λ (side : Side). tells side.what) sides
+abbrev pub known_in : {A : Type 0} → (SideAct → List A) → List Side → List A
+known_in shows sides = flat_map (λ (side : Side). shows side.what) sides
 
 -- The last memory sample of a group among the sides of events is its last among the events.
 abbrev pub MemoryIsLastSide : Type 0
 MemoryIsLastSide = (events : List Event) (slot : ℕ) →
-    memory_of slot events ≡ last_or no_memory_sample (told_in (memory_in slot) (sides_of events))
+    memory_of slot events ≡ last_or no_memory_sample (known_in (memory_in slot) (sides_of events))
 
 -- The same for its last preference.
 abbrev pub PreferenceIsLastSide : Type 0
 PreferenceIsLastSide = (events : List Event) (slot : ℕ) →
-    preference_of slot events ≡ last_or Plain (told_in (preference_in slot) (sides_of events))
+    preference_of slot events ≡ last_or Plain (known_in (preference_in slot) (sides_of events))
 
 -- The same for the last sample of the host.
 abbrev pub HostIsLastSide : Type 0
 HostIsLastSide = (events : List Event) →
-    host_of events ≡ last_or no_host (told_in host_in (sides_of events))
+    host_of events ≡ last_or no_host (known_in host_in (sides_of events))
 
 -- A group is populated if and only if the number of live tasks in it or below it is greater than 0.
 abbrev pub PopulatedIsCounted : Type 0

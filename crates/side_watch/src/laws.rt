@@ -5,7 +5,7 @@ ghost use Rattle.side_watch.specs.Laws.{PopulatedIsCounted, PreferenceIsLastSide
 
 /// The last sample and the last preference among the sides of events are the last among the events,
 /// and a group is populated if and only if a live task is counted in it or below it.
-pub fn law_sides_tell()
+pub fn law_sides_show()
     ensures memory { MemoryIsLastSide }
     ensures preference { PreferenceIsLastSide }
     ensures host { HostIsLastSide }

@@ -14,5 +14,5 @@ mod steps;
 mod watch;
 
 pub use cell::GroupMemory;
-pub use laws::law_sides_tell;
+pub use laws::law_sides_show;
 pub use watch::SideWatch;

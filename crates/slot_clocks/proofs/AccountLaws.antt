@@ -11,7 +11,7 @@ use Rattle.psi_spec.specs.LegalGroups.{AreOlder}
 use Rattle.psi_spec.specs.Stall.{state_number}
 use Rattle.psi_spec.specs.Within.{last_moment}
 use Rattle.slot_clocks.specs.declared.cell.Cell.{Cell}
-use Rattle.slot_clocks.specs.Clocks.{AreUpTo, CanFollow, IsUpTo, MaskTells, StaysByMask, cell_in, parent_numbers}
+use Rattle.slot_clocks.specs.Clocks.{AreUpTo, CanFollow, IsUpTo, MaskShows, StaysByMask, cell_in, parent_numbers}
 use Rattle.slot_clocks.specs.Walk.{AreOnWith, CanClimb, IsApart, IsOnWith, IsTurned, chains_of}
 use Rattle.slot_clocks.proofs.StartLaws.{may_start, starts_low}
 
@@ -23,10 +23,10 @@ apart_stays slot on (Some account) apart =
     ap (λ b. if b then account.1 else on) other
 
 -- so their masks still have the states of their counts
-pub told_apart : (parents : List (Option ℕ)) (current : Option (Slot × Bool)) (account : Option (Slot × Bool)) (slot : ℕ) (old middle : Cell) → IsOnWith account slot old middle → IsApart account slot → MaskTells parents current slot old → MaskTells parents current slot middle
-told_apart parents current account slot old middle is apart told =
+pub known_apart : (parents : List (Option ℕ)) (current : Option (Slot × Bool)) (account : Option (Slot × Bool)) (slot : ℕ) (old middle : Cell) → IsOnWith account slot old middle → IsApart account slot → MaskShows parents current slot old → MaskShows parents current slot middle
+known_apart parents current account slot old middle is apart known =
     let on : middle.on ≡ old.on = is.on ∙ apart_stays slot old.on account apart in
-    rw (is.clock, is.counts, on) told
+    rw (is.clock, is.counts, on) known
 
 -- a clock that is up to a time is up to a later one
 up_later : (last at : ℕ) → last ≤ at → (clock : ClockView) → IsUpTo last clock → IsUpTo at clock
@@ -43,14 +43,14 @@ up_later last at low clock is = record {
 -- after the switch of accounting, the change can be applied to the groups
 pub can_climb : (parents : List (Option Slot)) (current : Option (Slot × Bool)) (change : Change) (last : ℕ) (olds middles : List Cell)
     → AreOlder (parent_numbers parents) → HasSlotsBelow (length parents) change → IfSome current (λ running. running.0.0 < length parents) → IfSome change.account (λ _. change.minus ≡ None) → length parents ≤ length olds
-    → ((slot : ℕ) → MaskTells (parent_numbers parents) current slot (cell_in olds slot)) → ((slot : ℕ) → CanFollow (cell_in olds slot).counts (on_chain (parent_numbers parents) slot change.minus) (on_chain (parent_numbers parents) slot change.plus))
+    → ((slot : ℕ) → MaskShows (parent_numbers parents) current slot (cell_in olds slot)) → ((slot : ℕ) → CanFollow (cell_in olds slot).counts (on_chain (parent_numbers parents) slot change.minus) (on_chain (parent_numbers parents) slot change.plus))
     → AreUpTo olds last → last ≤ change.at → change.at ≤ last_moment → length middles ≡ length olds → AreOnWith change.account olds middles → CanClimb parents current change (chains_of current change) middles
-can_climb parents current change last olds middles older slots below alone room told fits up_to later early same is = record {
+can_climb parents current change last olds middles older slots below alone room known fits up_to later early same is = record {
   older = older;
   start = may_start current change alone;
   slots = starts_low current change (length parents) slots below;
   room = omega (arith, room, same);
-  told = λ slot apart. told_apart (parent_numbers parents) current change.account slot (cell_in olds slot) (cell_in middles slot) (is slot) apart (told slot);
+  known = λ slot apart. known_apart (parent_numbers parents) current change.account slot (cell_in olds slot) (cell_in middles slot) (is slot) apart (known slot);
   fits = λ slot. subst (λ counts. CanFollow counts (on_chain (parent_numbers parents) slot change.minus) (on_chain (parent_numbers parents) slot change.plus)) (sym (is slot).counts) (fits slot);
   up_to = λ slot. subst (IsUpTo change.at) (sym (is slot).clock) (up_later last change.at later (cell_in olds slot).clock (up_to.each slot));
   early = early;

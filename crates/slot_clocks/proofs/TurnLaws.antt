@@ -6,12 +6,12 @@ use Rattle.psi_base.specs.declared.event.State.{State}
 use Rattle.psi_base.specs.declared.event.State.TheVariants.{IoSome, IoFull, MemSome, MemFull, CpuSome, CpuFull, Nonidle}
 use Rattle.psi_counts.specs.declared.changes.Counts.{Counts}
 use Rattle.psi_counts.specs.declared.changes.Change.{Change}
-use Rattle.psi_counts.specs.Counts.{tells}
+use Rattle.psi_counts.specs.Counts.{shows}
 use Rattle.psi_counts.specs.Touch.{Follows, is_current_in, is_current_stalled, no_counts, on_chain}
 use Rattle.psi_counts.proofs.ClockLaws.{clock_stays}
 use Rattle.psi_spec.specs.LegalGroups.{AreOlder}
 use Rattle.slot_clocks.specs.declared.cell.Cell.{Cell}
-use Rattle.slot_clocks.specs.Clocks.{IsUpTo, MaskTells}
+use Rattle.slot_clocks.specs.Clocks.{IsUpTo, MaskShows}
 use Rattle.slot_clocks.specs.declared.chains.Chains.{Chains}
 use Rattle.slot_clocks.specs.Walk.{IsApart, IsTurned, MayStart, MayStartAt, counts_in, height, reaches, slot_in}
 use Rattle.slot_clocks.proofs.ChainLaws.{stands}
@@ -32,14 +32,14 @@ current_is parents slot (Some running) here reached = reached
 -- ---- a group that isn't reached
 
 -- if the running task isn't in the group, it doesn't matter whether it is in a stall
-told_off : (state : State) (counts : Counts) (one other : Bool) → tells state counts false one ≡ tells state counts false other
-told_off IoSome counts one other = refl
-told_off IoFull counts one other = refl
-told_off MemSome counts one other = refl
-told_off MemFull counts one other = refl
-told_off CpuSome counts one other = refl
-told_off CpuFull counts one other = refl
-told_off Nonidle counts one other = refl
+known_off : (state : State) (counts : Counts) (one other : Bool) → shows state counts false one ≡ shows state counts false other
+known_off IoSome counts one other = refl
+known_off IoFull counts one other = refl
+known_off MemSome counts one other = refl
+known_off MemFull counts one other = refl
+known_off CpuSome counts one other = refl
+known_off CpuFull counts one other = refl
+known_off Nonidle counts one other = refl
 
 follows_none : (counts : Counts) → Follows counts no_counts no_counts counts
 follows_none counts = record { io = refl; stalled = refl; running = refl; stalled_running = refl }
@@ -59,9 +59,9 @@ is_apart parents slot (Some account) place older start reached = λ same. cc (re
 
 -- a group that no chain of a change reaches is unchanged
 pub stays_turned : (parents : List (Option ℕ)) (current : Option (Slot × Bool)) (change : Change) (starts : Chains) (slot : ℕ) (cell : Cell) → MayStart current change starts → reaches parents starts.minus slot ≡ false → reaches parents starts.plus slot ≡ false
-    → reaches parents starts.before slot ≡ false → reaches parents starts.after slot ≡ false → AreOlder parents → (IsApart change.account slot → MaskTells parents current slot cell) → IsUpTo change.at cell.clock → IsTurned parents change slot cell cell
-stays_turned parents current change starts slot cell start minus plus before after older told_apart up_to =
-    let told = told_apart (is_apart parents slot change.account starts.minus older start.account minus) in
+    → reaches parents starts.before slot ≡ false → reaches parents starts.after slot ≡ false → AreOlder parents → (IsApart change.account slot → MaskShows parents current slot cell) → IsUpTo change.at cell.clock → IsTurned parents change slot cell cell
+stays_turned parents current change starts slot cell start minus plus before after older known_apart up_to =
+    let known = known_apart (is_apart parents slot change.account starts.minus older start.account minus) in
     let taken : on_chain parents slot change.minus ≡ no_counts = chain_is parents slot change.minus starts.minus false start.minus minus in
     let added : on_chain parents slot change.plus ≡ no_counts = chain_is parents slot change.plus starts.plus false start.plus plus in
     let runs : is_current_in parents slot change.current ≡ false = current_is parents slot change.current false (ap (λ (h : ℕ). reaches parents h slot) (sym start.after) ∙ after) in
@@ -72,9 +72,9 @@ stays_turned parents current change starts slot cell start minus plus before aft
       clock = clock_stays cell.clock change.at up_to.start;
       kept = λ _. refl;
       up_to = up_to;
-      told = λ state.
-          told state
-          ∙ ap (λ b. cell.on && b) (ap (λ on. tells state cell.counts on (is_current_stalled current)) ran
-          ∙ told_off state cell.counts (is_current_stalled current) (is_current_stalled change.current)
-          ∙ ap (λ on. tells state cell.counts on (is_current_stalled change.current)) (sym runs));
+      known = λ state.
+          known state
+          ∙ ap (λ b. cell.on && b) (ap (λ on. shows state cell.counts on (is_current_stalled current)) ran
+          ∙ known_off state cell.counts (is_current_stalled current) (is_current_stalled change.current)
+          ∙ ap (λ on. shows state cell.counts on (is_current_stalled change.current)) (sym runs));
     }

@@ -7,13 +7,13 @@ use Rattle.psi_base.specs.declared.event.Slot.{Slot}
 use Rattle.psi_base.specs.declared.event.State.{State}
 use Rattle.psi_counts.specs.declared.changes.Change.{Change}
 use Rattle.psi_counts.specs.Clock.{ClockFollows}
-use Rattle.psi_counts.specs.Counts.{mask_holds, tells}
+use Rattle.psi_counts.specs.Counts.{mask_holds, shows}
 use Rattle.psi_spec.specs.LegalGroups.{AreOlder}
 use Rattle.psi_spec.specs.Stall.{number_of_slot}
 use Rattle.psi_counts.specs.Touch.{Follows, is_current_in, is_current_stalled, no_counts, on_chain}
 use Rattle.slot_clocks.specs.declared.cell.Cell.{Cell}
 use Rattle.slot_clocks.specs.declared.chains.Chains.{Chains}
-use Rattle.slot_clocks.specs.Clocks.{CanFollow, IsUpTo, MaskTells, StaysByMask, cell_in, parent_numbers, zero_cell}
+use Rattle.slot_clocks.specs.Clocks.{CanFollow, IsUpTo, MaskShows, StaysByMask, cell_in, parent_numbers, zero_cell}
 use Rattle.slot_clocks.specs.Walk.{AreTogether, IsApart, IsTurned, MayStart, all_passed, counts_in, height, passed, reaches, top}
 use Rattle.slot_clocks.proofs.ChainLaws.{ended, not_at, passed_height, reaches_at, reaches_passed, stands}
 use Rattle.slot_clocks.proofs.TurnLaws.{chain_is, current_is, is_apart, stays_turned}
@@ -21,7 +21,7 @@ use Rattle.slot_clocks.proofs.TurnLaws.{chain_is, current_is, is_apart, stays_tu
 -- ---- how far a walk is
 
 -- no chain reaches a slot any more
-pub record IsBehind (parents : List (Option ℕ)) (chains : Chains) (slot : ℕ) : Type 0 where
+pub record IsNotPast (parents : List (Option ℕ)) (chains : Chains) (slot : ℕ) : Type 0 where
   pub minus : reaches parents chains.minus slot ≡ false
   pub plus : reaches parents chains.plus slot ≡ false
   pub before : reaches parents chains.before slot ≡ false
@@ -37,7 +37,7 @@ pub record IsAhead (parents : List (Option ℕ)) (starts chains : Chains) (slot 
 -- the change was applied to a group, or the group is unchanged, and the walk is yet to visit it if
 -- a chain reaches it
 abbrev pub IsWalked : List (Option ℕ) → Change → Chains → Chains → ℕ → Cell → Cell → Type 0
-IsWalked parents change starts chains slot old now = (IsTurned parents change slot old now × IsBehind parents chains slot) ⊎ ((now ≡ old) × IsAhead parents starts chains slot)
+IsWalked parents change starts chains slot old now = (IsTurned parents change slot old now × IsNotPast parents chains slot) ⊎ ((now ≡ old) × IsAhead parents starts chains slot)
 
 -- at first the walk has visited no group
 pub none_walked : (parents : List (Option ℕ)) (change : Change) (starts : Chains) (slot : ℕ) (cell : Cell) → IsWalked parents change starts starts slot cell cell
@@ -59,21 +59,21 @@ some_top : (a b c d limit : ℕ) → max (max a b) (max c d) ≡ limit → (a �
 some_top a b c d limit is = grind (arith, is)
 
 -- the walk hasn't visited the highest slot
-not_behind : (parents : List (Option ℕ)) (chains : Chains) (slot : ℕ) → AreOlder parents → top chains ≡ slot + 1 → IsBehind parents chains slot → ⊥
-not_behind parents chains slot older is behind =
+not_after_it : (parents : List (Option ℕ)) (chains : Chains) (slot : ℕ) → AreOlder parents → top chains ≡ slot + 1 → IsNotPast parents chains slot → ⊥
+not_after_it parents chains slot older is suffix =
     ⊎_elim
-    (λ minus. cc (behind.minus, stands parents chains.minus slot older minus))
+    (λ minus. cc (suffix.minus, stands parents chains.minus slot older minus))
     (λ others. ⊎_elim
-    (λ plus. cc (behind.plus, stands parents chains.plus slot older plus))
+    (λ plus. cc (suffix.plus, stands parents chains.plus slot older plus))
     (λ running. ⊎_elim
-    (λ before. cc (behind.before, stands parents chains.before slot older before))
-    (λ after. cc (behind.after, stands parents chains.after slot older after))
+    (λ before. cc (suffix.before, stands parents chains.before slot older before))
+    (λ after. cc (suffix.after, stands parents chains.after slot older after))
     running)
     others)
     (some_top chains.minus chains.plus chains.before chains.after (slot + 1) is)
 
 pub ahead_at_top : (parents : List (Option ℕ)) (change : Change) (starts chains : Chains) (slot : ℕ) (old now : Cell) → AreOlder parents → top chains ≡ slot + 1 → IsWalked parents change starts chains slot old now → (now ≡ old) × IsAhead parents starts chains slot
-ahead_at_top parents change starts chains slot old now older is (inl done) = absurd (not_behind parents chains slot older is done.1)
+ahead_at_top parents change starts chains slot old now older is (inl done) = absurd (not_after_it parents chains slot older is done.1)
 ahead_at_top parents change starts chains slot old now older is (inr ahead) = ahead
 
 -- what the change takes, adds and runs at the slot of a height
@@ -86,19 +86,19 @@ pub record IsShare (parents : List (Option ℕ)) (change : Change) (chains : Cha
 pub share_at_top : (parents : List (Option ℕ)) (current : Option (Slot × Bool)) (change : Change) (starts chains : Chains) (here slot : ℕ) → AreOlder parents → MayStart current change starts → here ≡ slot + 1 → top chains ≡ here → IsAhead parents starts chains slot → IsShare parents change chains here slot
 share_at_top parents current change starts chains here slot older start at is ahead =
     let within = within_top chains here is in
-    let stands_here : (place : ℕ) → place ≤ here → reaches parents place slot ≡ (place == here) = λ place low. reaches_at parents place slot older (omega (arith, low, at)) ∙ ap (λ h. place == h) (sym at) in
+    let here_in : (place : ℕ) → place ≤ here → reaches parents place slot ≡ (place == here) = λ place low. reaches_at parents place slot older (omega (arith, low, at)) ∙ ap (λ h. place == h) (sym at) in
     record {
-      minus = chain_is parents slot change.minus starts.minus (chains.minus == here) start.minus (sym ahead.minus ∙ stands_here chains.minus within.minus);
-      plus = chain_is parents slot change.plus starts.plus (chains.plus == here) start.plus (sym ahead.plus ∙ stands_here chains.plus within.plus);
-      after = current_is parents slot change.current (chains.after == here) (ap (λ (h : ℕ). reaches parents h slot) (sym start.after) ∙ sym ahead.after ∙ stands_here chains.after within.after);
-      account = λ off. is_apart parents slot change.account starts.minus older start.account (sym ahead.minus ∙ stands_here chains.minus within.minus ∙ off);
+      minus = chain_is parents slot change.minus starts.minus (chains.minus == here) start.minus (sym ahead.minus ∙ here_in chains.minus within.minus);
+      plus = chain_is parents slot change.plus starts.plus (chains.plus == here) start.plus (sym ahead.plus ∙ here_in chains.plus within.plus);
+      after = current_is parents slot change.current (chains.after == here) (ap (λ (h : ℕ). reaches parents h slot) (sym start.after) ∙ sym ahead.after ∙ here_in chains.after within.after);
+      account = λ off. is_apart parents slot change.account starts.minus older start.account (sym ahead.minus ∙ here_in chains.minus within.minus ∙ off);
     }
 
 -- ---- one step
 
 -- the walk has visited the highest slot once it passed it
-behind_passed : (parents : List (Option ℕ)) (chains : Chains) (parent : Option Slot) (slot : ℕ) → AreOlder parents → number_of_slot parent ≡ slice_index_or parents slot None → top chains ≡ slot + 1 → IsBehind parents (all_passed (slot + 1) (height parent) chains) slot
-behind_passed parents chains parent slot older up is =
+after_passed : (parents : List (Option ℕ)) (chains : Chains) (parent : Option Slot) (slot : ℕ) → AreOlder parents → number_of_slot parent ≡ slice_index_or parents slot None → top chains ≡ slot + 1 → IsNotPast parents (all_passed (slot + 1) (height parent) chains) slot
+after_passed parents chains parent slot older up is =
     let within = within_top chains (slot + 1) is in
     let off : (place : ℕ) → place ≤ slot + 1 → reaches parents (passed (slot + 1) (height parent) place) slot ≡ false = λ place at.
     let low = passed_height parents place parent slot older up at in
@@ -144,7 +144,7 @@ walked_past parents change starts chains parent slot olds nows new older up is r
     let here : cell_in (slice_set nows slot new) other ≡ new = ap (cell_in (slice_set nows slot new)) same ∙ get_or-set_same nows slot new zero_cell room in
     subst (λ s. IsWalked parents change starts (all_passed (slot + 1) (height parent) chains) s (cell_in olds s) (cell_in (slice_set nows slot new) other)) (sym same)
     (subst (IsWalked parents change starts (all_passed (slot + 1) (height parent) chains) slot (cell_in olds slot)) (sym here)
-    (inl (turned, behind_passed parents chains parent slot older up is))))
+    (inl (turned, after_passed parents chains parent slot older up is))))
     (λ apart.
     subst (IsWalked parents change starts (all_passed (slot + 1) (height parent) chains) other (cell_in olds other)) (sym (get_or-set_other nows slot other new zero_cell apart))
     (other_walked parents change starts chains parent slot other (cell_in olds other) (cell_in nows other) older up apart (walked other)))
@@ -168,10 +168,10 @@ top_passed parents chains parent here slot older up at is =
 -- ---- the end
 
 -- after the roots the change was applied to each group
-pub all_walked : (parents : List (Option ℕ)) (current : Option (Slot × Bool)) (change : Change) (starts chains : Chains) (slot : ℕ) (old now : Cell) → AreOlder parents → MayStart current change starts → top chains ≡ 0 → (IsApart change.account slot → MaskTells parents current slot old) → IsUpTo change.at old.clock
+pub all_walked : (parents : List (Option ℕ)) (current : Option (Slot × Bool)) (change : Change) (starts chains : Chains) (slot : ℕ) (old now : Cell) → AreOlder parents → MayStart current change starts → top chains ≡ 0 → (IsApart change.account slot → MaskShows parents current slot old) → IsUpTo change.at old.clock
     → IsWalked parents change starts chains slot old now → IsTurned parents change slot old now
-all_walked parents current change starts chains slot old now older start is told up_to (inl done) = done.0
-all_walked parents current change starts chains slot old now older start is told up_to (inr ahead) =
+all_walked parents current change starts chains slot old now older start is known up_to (inl done) = done.0
+all_walked parents current change starts chains slot old now older start is known up_to (inr ahead) =
     let within = within_top chains 0 is in
     subst (IsTurned parents change slot old) (sym ahead.0)
     (stays_turned parents current change starts slot old start
@@ -179,7 +179,7 @@ all_walked parents current change starts chains slot old now older start is told
     (sym ahead.1.plus ∙ ended parents chains.plus slot (omega (arith, within.plus)))
     (sym ahead.1.before ∙ ended parents chains.before slot (omega (arith, within.before)))
     (sym ahead.1.after ∙ ended parents chains.after slot (omega (arith, within.after)))
-    older told up_to)
+    older known up_to)
 
 -- chains that are together still are after they were passed
 pub together_passed : (here parent : ℕ) (chains : Chains) → AreTogether chains → AreTogether (all_passed here parent chains)
@@ -199,8 +199,8 @@ cell_here cells slot other room = get_or_default cells slot other zero_cell room
 -- the effect of a change on a group, from what it subtracts, adds and runs there
 pub turned_here : (parents : List (Option ℕ)) (change : Change) (chains : Chains) (here slot : ℕ) (old now new : Cell) → IsShare parents change chains here slot → now ≡ old
     → Follows now.counts (if chains.minus == here then counts_in change.minus else no_counts) (if chains.plus == here then counts_in change.plus else no_counts) new.counts
-    → new.on ≡ now.on → ClockFollows now.clock change.at new.clock → StaysByMask now.clock new.clock → IsUpTo change.at new.clock → ((state : State) → mask_holds new.clock.mask state ≡ (new.on && tells state new.counts (chains.after == here) (is_current_stalled change.current))) → IsTurned parents change slot old new
-turned_here parents change chains here slot old now new share same counts on clock kept up_to told = record {
+    → new.on ≡ now.on → ClockFollows now.clock change.at new.clock → StaysByMask now.clock new.clock → IsUpTo change.at new.clock → ((state : State) → mask_holds new.clock.mask state ≡ (new.on && shows state new.counts (chains.after == here) (is_current_stalled change.current))) → IsTurned parents change slot old new
+turned_here parents change chains here slot old now new share same counts on clock kept up_to known = record {
   counts = subst (λ m. Follows old.counts m (on_chain parents slot change.plus) new.counts) (sym share.minus)
       (subst (λ p. Follows old.counts (if chains.minus == here then counts_in change.minus else no_counts) p new.counts) (sym share.plus)
       (subst (λ (n : Cell). Follows n.counts (if chains.minus == here then counts_in change.minus else no_counts) (if chains.plus == here then counts_in change.plus else no_counts) new.counts) same counts));
@@ -208,7 +208,7 @@ turned_here parents change chains here slot old now new share same counts on clo
   clock = subst (λ (n : Cell). ClockFollows n.clock change.at new.clock) same clock;
   kept = subst (λ (n : Cell). StaysByMask n.clock new.clock) same kept;
   up_to = up_to;
-  told = λ state. told state ∙ ap (λ runs. new.on && tells state new.counts runs (is_current_stalled change.current)) (sym share.after);
+  known = λ state. known state ∙ ap (λ runs. new.on && shows state new.counts runs (is_current_stalled change.current)) (sym share.after);
 }
 
 -- its counts can follow
@@ -220,9 +220,9 @@ can_turn parents change chains here slot old now share same fits =
     (subst (λ m. CanFollow old.counts m (on_chain parents slot change.plus)) share.minus fits))
 
 -- if the running task doesn't change, a group's mask has the states of its counts after the change
-pub told_here : (parents : List (Option ℕ)) (current : Option (Slot × Bool)) (change : Change) (chains : Chains) (here slot : ℕ) (old now : Cell) → IsShare parents change chains here slot → now ≡ old → (IsApart change.account slot → MaskTells parents current slot old) → current ≡ change.current → (chains.minus == here) ≡ false
-    → (state : State) → mask_holds now.clock.mask state ≡ (now.on && tells state now.counts (chains.after == here) (is_current_stalled change.current))
-told_here parents current change chains here slot old now share same told stays off =
-    let told_then : MaskTells parents change.current slot old = subst (λ c. MaskTells parents c slot old) stays (told (share.account off)) in
-    subst (λ (n : Cell). (state : State) → mask_holds n.clock.mask state ≡ (n.on && tells state n.counts (chains.after == here) (is_current_stalled change.current))) (sym same)
-    (λ state. told_then state ∙ ap (λ runs. old.on && tells state old.counts runs (is_current_stalled change.current)) share.after)
+pub known_at_place : (parents : List (Option ℕ)) (current : Option (Slot × Bool)) (change : Change) (chains : Chains) (here slot : ℕ) (old now : Cell) → IsShare parents change chains here slot → now ≡ old → (IsApart change.account slot → MaskShows parents current slot old) → current ≡ change.current → (chains.minus == here) ≡ false
+    → (state : State) → mask_holds now.clock.mask state ≡ (now.on && shows state now.counts (chains.after == here) (is_current_stalled change.current))
+known_at_place parents current change chains here slot old now share same known stays off =
+    let known_then : MaskShows parents change.current slot old = subst (λ c. MaskShows parents c slot old) stays (known (share.account off)) in
+    subst (λ (n : Cell). (state : State) → mask_holds n.clock.mask state ≡ (n.on && shows state n.counts (chains.after == here) (is_current_stalled change.current))) (sym same)
+    (λ state. known_then state ∙ ap (λ runs. old.on && shows state old.counts runs (is_current_stalled change.current)) share.after)

@@ -4,7 +4,7 @@ use Rattle.psi_base.specs.declared.event.Slot.{Slot}
 use Rattle.psi_base.specs.declared.event.State.{State}
 use Rattle.psi_counts.specs.declared.changes.Counts.{Counts}
 use Rattle.psi_counts.specs.declared.changes.Change.{Change}
-use Rattle.psi_counts.specs.Counts.{mask_holds, tells}
+use Rattle.psi_counts.specs.Counts.{mask_holds, shows}
 use Rattle.psi_counts.specs.Clock.{ClockFollows, ClockView, IsWholeClock, opened_time, zero_clock}
 use Rattle.psi_spec.specs.Within.{last_moment}
 use Rattle.psi_spec.specs.Stall.{number_of_slot}
@@ -46,14 +46,14 @@ cell_at clocks slot = cell_in clocks.cells slot
 
 -- a cell's mask has the states that follow from its counts and the running task, and none if its
 -- accounting is off
-abbrev pub MaskTells : List (Option ℕ) → Option (Slot × Bool) → ℕ → Cell → Type 0
-MaskTells parents current slot cell =
+abbrev pub MaskShows : List (Option ℕ) → Option (Slot × Bool) → ℕ → Cell → Type 0
+MaskShows parents current slot cell =
     (state : State) → mask_holds cell.clock.mask state ≡
-    (cell.on && tells state cell.counts (is_current_in parents slot current) (is_current_stalled current))
+    (cell.on && shows state cell.counts (is_current_in parents slot current) (is_current_stalled current))
 
 -- each group's mask has these states
-abbrev pub AreTold : List (Option ℕ) → ClocksView → Type 0
-AreTold parents clocks = (slot : ℕ) → MaskTells parents clocks.current slot (cell_at clocks slot)
+abbrev pub AreReported : List (Option ℕ) → ClocksView → Type 0
+AreReported parents clocks = (slot : ℕ) → MaskShows parents clocks.current slot (cell_at clocks slot)
 
 -- ---- changes
 
@@ -114,5 +114,5 @@ pub record AreUpTo (cells : List Cell) (last : ℕ) : Type 0 where
 -- ---- laws
 
 -- Before the first change each mask has no state, whatever the groups are.
-abbrev pub FirstAreTold : Type 0
-FirstAreTold = (parents : List (Option ℕ)) (slots : ℕ) → AreTold parents (first_clocks slots)
+abbrev pub FirstAreKnown : Type 0
+FirstAreKnown = (parents : List (Option ℕ)) (slots : ℕ) → AreReported parents (first_clocks slots)

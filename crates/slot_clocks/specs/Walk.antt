@@ -12,7 +12,7 @@ use Rattle.psi_counts.specs.Touch.{Follows, on_with, is_current_stalled, no_coun
 use Rattle.slot_clocks.specs.declared.cell.Cell.{Cell}
 use Rattle.slot_clocks.specs.declared.chains.Chains.{Chains}
 use Rattle.slot_clocks.specs.declared.chains.Parts.{Parts}
-use Rattle.slot_clocks.specs.Clocks.{CanFollow, IsUpTo, MaskTells, StaysByMask, cell_in, parent_numbers}
+use Rattle.slot_clocks.specs.Clocks.{CanFollow, IsUpTo, MaskShows, StaysByMask, cell_in, parent_numbers}
 
 -- the slot of a pair; `None` if there is no pair
 abbrev pub slot_in : {A : Type 0} → Option (Slot × A) → Option Slot
@@ -102,7 +102,7 @@ pub record IsTurned (parents : List (Option ℕ)) (change : Change) (slot : ℕ)
   pub clock : ClockFollows old.clock change.at new.clock
   pub kept : StaysByMask old.clock new.clock
   pub up_to : IsUpTo change.at new.clock
-  pub told : MaskTells parents change.current slot new
+  pub known : MaskShows parents change.current slot new
 
 -- all groups after a change
 abbrev pub AreTurned : List (Option ℕ) → Change → List Cell → List Cell → Type 0
@@ -132,7 +132,7 @@ pub record CanClimb (parents : List (Option Slot)) (current : Option (Slot × Bo
   pub start : MayStart current change starts
   pub slots : top starts ≤ length parents
   pub room : length parents ≤ length cells
-  pub told : (slot : ℕ) → IsApart change.account slot → MaskTells (parent_numbers parents) current slot (cell_in cells slot)
+  pub known : (slot : ℕ) → IsApart change.account slot → MaskShows (parent_numbers parents) current slot (cell_in cells slot)
   pub fits : (slot : ℕ) → CanFollow (cell_in cells slot).counts (on_chain (parent_numbers parents) slot change.minus)
       (on_chain (parent_numbers parents) slot change.plus)
   pub up_to : (slot : ℕ) → IsUpTo change.at (cell_in cells slot).clock

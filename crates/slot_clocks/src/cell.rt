@@ -3,7 +3,7 @@
 ghost use Rattle.std.specs.Prelude.{◌≡◌, ◌&&◌, ◌+◌, ◌<◌, ◌≤◌, ◌^◌};
 ghost use Rattle.psi_base.specs.declared.event.State.{State};
 ghost use Rattle.psi_counts.specs.Clock.{ClockFollows};
-ghost use Rattle.psi_counts.specs.Counts.{IsMask, mask_holds, tells};
+ghost use Rattle.psi_counts.specs.Counts.{IsMask, mask_holds, shows};
 ghost use Rattle.psi_spec.specs.Within.{last_moment};
 ghost use Rattle.psi_counts.specs.Touch.{Follows};
 ghost use Rattle.slot_clocks.specs.Clocks.{CanFollow, IsUpTo, StaysByMask, zero_cell};
@@ -73,7 +73,7 @@ impl Cell {
         ensures few { IsMask result }
         ensures states { (state : State) →
             mask_holds result state
-            ≡ (self.now.on && tells state self.now.counts on_cpu current_stalled) }
+            ≡ (self.now.on && shows state self.now.counts on_cpu current_stalled) }
     {
         if self.on {
             mask_of(&self.counts, on_cpu, current_stalled)
@@ -99,11 +99,11 @@ impl Cell {
         ensures counts { Follows self.old.counts minus.now plus.now self.new.counts }
         ensures on { self.new.on ≡ self.old.on }
         ensures clock { ClockFollows self.old.clock at self.new.clock }
-        ensures kept { StaysByMask self.old.clock self.new.clock }
+        ensures unchanged { StaysByMask self.old.clock self.new.clock }
         ensures up_to { IsUpTo at self.new.clock }
-        ensures told { (state : State) →
+        ensures known { (state : State) →
             mask_holds self.new.clock.mask state
-            ≡ (self.new.on && tells state self.new.counts on_cpu current_stalled) }
+            ≡ (self.new.on && shows state self.new.counts on_cpu current_stalled) }
     {
         self.counts = follow(&self.counts, minus, plus);
         let mask = self.mask(on_cpu, current_stalled);

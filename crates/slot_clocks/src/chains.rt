@@ -3,7 +3,7 @@
 ghost use Rattle.std.specs.Prelude.{◌≡◌, ◌&&◌, ◌⊎◌, ◌+◌, ◌==◌, ◌<◌, ◌≤◌, length, true, false, if◌then◌else◌, None, IfSome};
 ghost use Rattle.psi_base.specs.declared.event.State.{State};
 ghost use Rattle.psi_counts.specs.Clock.{ClockFollows};
-ghost use Rattle.psi_counts.specs.Counts.{mask_holds, tells};
+ghost use Rattle.psi_counts.specs.Counts.{mask_holds, shows};
 ghost use Rattle.psi_spec.specs.Within.{last_moment};
 ghost use Rattle.psi_counts.specs.Touch.{Follows, no_counts};
 ghost use Rattle.slot_clocks.specs.Clocks.{CanFollow, IsUpTo, StaysByMask, parent_numbers};
@@ -162,22 +162,22 @@ fn turn_at(cell: &mut Cell, parts: &Parts, chains: &Chains, here: u64)
         (if chains.now.plus == here then parts.now.plus else no_counts) }
     requires up_to { IsUpTo parts.now.at cell.old.clock }
     requires early { parts.now.at ≤ last_moment }
-    requires told { parts.now.stays ≡ true →
+    requires known { parts.now.stays ≡ true →
         (chains.now.minus == here) ≡ false → (state : State) →
         mask_holds cell.old.clock.mask state
         ≡ (cell.old.on
-        && tells state cell.old.counts (chains.now.after == here) parts.now.stalled) }
+        && shows state cell.old.counts (chains.now.after == here) parts.now.stalled) }
     ensures counts { Follows cell.old.counts
         (if chains.now.minus == here then parts.now.minus else no_counts)
         (if chains.now.plus == here then parts.now.plus else no_counts) cell.new.counts }
     ensures on { cell.new.on ≡ cell.old.on }
     ensures clock { ClockFollows cell.old.clock parts.now.at cell.new.clock }
-    ensures kept { StaysByMask cell.old.clock cell.new.clock }
+    ensures unchanged { StaysByMask cell.old.clock cell.new.clock }
     ensures up_to { IsUpTo parts.now.at cell.new.clock }
-    ensures told { (state : State) →
+    ensures known { (state : State) →
         mask_holds cell.new.clock.mask state
         ≡ (cell.new.on
-        && tells state cell.new.counts (chains.now.after == here) parts.now.stalled) }
+        && shows state cell.new.counts (chains.now.after == here) parts.now.stalled) }
 {
     let takes = chains.minus == here;
     let adds = chains.plus == here;

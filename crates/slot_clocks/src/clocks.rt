@@ -5,7 +5,7 @@ ghost use Rattle.psi_counts.specs.Clock.{IsInTime};
 ghost use Rattle.psi_spec.specs.LegalGroups.{AreOlder};
 ghost use Rattle.psi_spec.specs.Within.{last_moment};
 ghost use Rattle.psi_counts.specs.Touch.{HasSlotsBelow};
-ghost use Rattle.slot_clocks.specs.Clocks.{AllCanFollow, AllClocksFollow, AllFollow, AllOnWith, AllStayByMask, AreTold, AreWhole, cell_at, first_clocks, parent_numbers};
+ghost use Rattle.slot_clocks.specs.Clocks.{AllCanFollow, AllClocksFollow, AllFollow, AllOnWith, AllStayByMask, AreReported, AreWhole, cell_at, first_clocks, parent_numbers};
 
 use crate::cell::Cell;
 use crate::chains::{switch, walk};
@@ -65,7 +65,7 @@ impl SlotClocks {
         requires room { length parents.now ≤ length self.old.cells }
         requires slots { HasSlotsBelow (length parents.now) change.now }
         requires current { IfSome self.old.current (λ running. running.0.0 < length parents.now) }
-        requires told { AreTold (parent_numbers parents.now) self.old }
+        requires known { AreReported (parent_numbers parents.now) self.old }
         requires alone { IfSome change.now.account (λ _. change.now.minus ≡ None) }
         requires fits { AllCanFollow (parent_numbers parents.now) change.now self.old }
         requires later { self.old.last ≤ change.now.at }
@@ -75,9 +75,9 @@ impl SlotClocks {
         ensures counts { AllFollow (parent_numbers parents.now) change.now self.old self.new }
         ensures accounts { AllOnWith change.now self.old self.new }
         ensures clocks { AllClocksFollow change.now.at self.old self.new }
-        ensures kept { AllStayByMask self.old self.new }
+        ensures unchanged { AllStayByMask self.old self.new }
         ensures whole { AreWhole self.new }
-        ensures told { AreTold (parent_numbers parents.now) self.new }
+        ensures known { AreReported (parent_numbers parents.now) self.new }
 
         ensures current { self.new.current ≡ change.now.current }
         ensures last { self.new.last ≡ change.now.at }

@@ -15,5 +15,5 @@ small_bit (suc zero) power few some = let goal : not (nat_eq (1 * power) 0) ≡ 
 small_bit (suc (suc n)) power few some = absurd (omega arith)
 
 -- a mask has a bit exactly where the bits that it shares with that one aren't 0
-pub holds_told : (mask : ℕ) (state : State) → not (nat_eq (bit_and mask (2 ^ state_number state)) 0) ≡ mask_holds mask state
-holds_told mask state = rw (and_pow mask (state_number state)) (small_bit (bit_at mask (state_number state)) (2 ^ state_number state) (bit_at-lt mask (state_number state)) (pow_pos (state_number state)))
+pub holds_known : (mask : ℕ) (state : State) → not (nat_eq (bit_and mask (2 ^ state_number state)) 0) ≡ mask_holds mask state
+holds_known mask state = rw (and_pow mask (state_number state)) (small_bit (bit_at mask (state_number state)) (2 ^ state_number state) (bit_at-lt mask (state_number state)) (pow_pos (state_number state)))

@@ -5,8 +5,8 @@ use Rattle.std.proofs.lemmas.Bool.Decides.{nat_tests}
 use Rattle.psi_base.specs.declared.event.State.{State}
 use Rattle.psi_base.specs.declared.event.State.TheVariants.{IoSome, IoFull, MemSome, MemFull, CpuSome, CpuFull, Nonidle}
 use Rattle.psi_counts.specs.declared.changes.Counts.{Counts}
-use Rattle.psi_counts.specs.Counts.{IsMask, mask_holds, tells}
-use Rattle.state_mask.specs.Signs.{place_by, place_of, tells_by}
+use Rattle.psi_counts.specs.Counts.{IsMask, mask_holds, shows}
+use Rattle.state_mask.specs.Signs.{place_by, place_of, shows_by}
 
 -- both answers are the same
 abbrev same : Bool → Bool → Bool
@@ -39,7 +39,7 @@ both-each test is false = second (test true) (test false) is
 -- the mask at these signs has a state exactly if the signs give it
 abbrev is_right_at : List ℕ → State → (waits stalls ready all_stalled on_cpu current_stalled beside : Bool) → Bool
 is_right_at masks state waits stalls ready all_stalled on_cpu current_stalled beside =
-    same (mask_holds (slice_index_or masks (place_of waits stalls ready all_stalled on_cpu current_stalled beside) 0) state) (tells_by state waits stalls ready all_stalled on_cpu current_stalled beside)
+    same (mask_holds (slice_index_or masks (place_of waits stalls ready all_stalled on_cpu current_stalled beside) 0) state) (shows_by state waits stalls ready all_stalled on_cpu current_stalled beside)
 
 -- so it is at all signs
 abbrev is_right : List ℕ → State → Bool
@@ -75,9 +75,9 @@ each_right masks right state =
     picked all Nonidle = all.6
 
 -- a table that is right everywhere has the states that its signs give
-right_tells : (masks : List ℕ) → are_right masks ≡ true → (state : State) (waits stalls ready all_stalled on_cpu current_stalled beside : Bool) →
-    mask_holds (slice_index_or masks (place_of waits stalls ready all_stalled on_cpu current_stalled beside) 0) state ≡ tells_by state waits stalls ready all_stalled on_cpu current_stalled beside
-right_tells masks right state waits stalls ready all_stalled on_cpu current_stalled beside =
+right_shows : (masks : List ℕ) → are_right masks ≡ true → (state : State) (waits stalls ready all_stalled on_cpu current_stalled beside : Bool) →
+    mask_holds (slice_index_or masks (place_of waits stalls ready all_stalled on_cpu current_stalled beside) 0) state ≡ shows_by state waits stalls ready all_stalled on_cpu current_stalled beside
+right_shows masks right state waits stalls ready all_stalled on_cpu current_stalled beside =
     let one = both-each (λ a. both (λ b. both (λ c. both (λ d. both (λ e. both (λ f. both (λ g. is_right_at masks state a b c d e f g))))))) (each_right masks right state) waits in
     let two = both-each (λ b. both (λ c. both (λ d. both (λ e. both (λ f. both (λ g. is_right_at masks state waits b c d e f g)))))) one stalls in
     let three = both-each (λ c. both (λ d. both (λ e. both (λ f. both (λ g. is_right_at masks state waits stalls c d e f g))))) two ready in
@@ -91,23 +91,23 @@ right_tells masks right state waits stalls ready all_stalled on_cpu current_stal
 no_more : (n : ℕ) → (n == 0) ≡ not (nat_lt 0 n)
 no_more n = grind (arith, nat_tests)
 
-pub signs_tell : (state : State) (counts : Counts) (on_cpu current_stalled : Bool) →
-    tells_by state (nat_lt 0 counts.io) (nat_lt 0 counts.stalled) (nat_lt 0 counts.running) (counts.running == counts.stalled_running) on_cpu current_stalled (if on_cpu then nat_lt 1 counts.running else nat_lt 0 counts.running) ≡ tells state counts on_cpu current_stalled
-signs_tell IoSome counts on_cpu current_stalled = refl
-signs_tell IoFull counts on_cpu current_stalled = ap (λ b. nat_lt 0 counts.io && b) (sym (no_more counts.running))
-signs_tell MemSome counts on_cpu current_stalled = refl
-signs_tell MemFull counts on_cpu current_stalled = refl
-signs_tell CpuSome counts on_cpu current_stalled = refl
-signs_tell CpuFull counts on_cpu current_stalled = refl
-signs_tell Nonidle counts on_cpu current_stalled = refl
+pub signs_show : (state : State) (counts : Counts) (on_cpu current_stalled : Bool) →
+    shows_by state (nat_lt 0 counts.io) (nat_lt 0 counts.stalled) (nat_lt 0 counts.running) (counts.running == counts.stalled_running) on_cpu current_stalled (if on_cpu then nat_lt 1 counts.running else nat_lt 0 counts.running) ≡ shows state counts on_cpu current_stalled
+signs_show IoSome counts on_cpu current_stalled = refl
+signs_show IoFull counts on_cpu current_stalled = ap (λ b. nat_lt 0 counts.io && b) (sym (no_more counts.running))
+signs_show MemSome counts on_cpu current_stalled = refl
+signs_show MemFull counts on_cpu current_stalled = refl
+signs_show CpuSome counts on_cpu current_stalled = refl
+signs_show CpuFull counts on_cpu current_stalled = refl
+signs_show Nonidle counts on_cpu current_stalled = refl
 
 -- so does the mask that it has at the place of counts
-pub table_tells : (masks : List ℕ) → are_right masks ≡ true → (counts : Counts) (on_cpu current_stalled : Bool) (mask place : ℕ) → place ≡ place_by counts on_cpu current_stalled → mask ≡ slice_index_or masks place 0
-    → (state : State) → mask_holds mask state ≡ tells state counts on_cpu current_stalled
-table_tells masks right counts on_cpu current_stalled mask place at is state =
+pub table_shows : (masks : List ℕ) → are_right masks ≡ true → (counts : Counts) (on_cpu current_stalled : Bool) (mask place : ℕ) → place ≡ place_by counts on_cpu current_stalled → mask ≡ slice_index_or masks place 0
+    → (state : State) → mask_holds mask state ≡ shows state counts on_cpu current_stalled
+table_shows masks right counts on_cpu current_stalled mask place at is state =
     ap (λ m. mask_holds m state) (is ∙ ap (λ n. slice_index_or masks n 0) at)
-    ∙ right_tells masks right state (nat_lt 0 counts.io) (nat_lt 0 counts.stalled) (nat_lt 0 counts.running) (counts.running == counts.stalled_running) on_cpu current_stalled (if on_cpu then nat_lt 1 counts.running else nat_lt 0 counts.running)
-    ∙ signs_tell state counts on_cpu current_stalled
+    ∙ right_shows masks right state (nat_lt 0 counts.io) (nat_lt 0 counts.stalled) (nat_lt 0 counts.running) (counts.running == counts.stalled_running) on_cpu current_stalled (if on_cpu then nat_lt 1 counts.running else nat_lt 0 counts.running)
+    ∙ signs_show state counts on_cpu current_stalled
 
 -- ---- masks alone
 

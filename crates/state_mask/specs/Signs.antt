@@ -25,11 +25,11 @@ place_by counts on_cpu current_stalled =
     (if on_cpu then nat_lt 1 counts.running else nat_lt 0 counts.running)
 
 -- the states, from the conditions
-abbrev pub tells_by : State → (waits stalls ready all_stalled on_cpu current_stalled beside : Bool) → Bool
-tells_by IoSome waits stalls ready all_stalled on_cpu current_stalled beside = waits
-tells_by IoFull waits stalls ready all_stalled on_cpu current_stalled beside = waits && not ready
-tells_by MemSome waits stalls ready all_stalled on_cpu current_stalled beside = stalls
-tells_by MemFull waits stalls ready all_stalled on_cpu current_stalled beside = (stalls && all_stalled) || (on_cpu && current_stalled)
-tells_by CpuSome waits stalls ready all_stalled on_cpu current_stalled beside = beside
-tells_by CpuFull waits stalls ready all_stalled on_cpu current_stalled beside = ready && not on_cpu
-tells_by Nonidle waits stalls ready all_stalled on_cpu current_stalled beside = waits || stalls || ready
+abbrev pub shows_by : State → (waits stalls ready all_stalled on_cpu current_stalled beside : Bool) → Bool
+shows_by IoSome waits stalls ready all_stalled on_cpu current_stalled beside = waits
+shows_by IoFull waits stalls ready all_stalled on_cpu current_stalled beside = waits && not ready
+shows_by MemSome waits stalls ready all_stalled on_cpu current_stalled beside = stalls
+shows_by MemFull waits stalls ready all_stalled on_cpu current_stalled beside = (stalls && all_stalled) || (on_cpu && current_stalled)
+shows_by CpuSome waits stalls ready all_stalled on_cpu current_stalled beside = beside
+shows_by CpuFull waits stalls ready all_stalled on_cpu current_stalled beside = ready && not on_cpu
+shows_by Nonidle waits stalls ready all_stalled on_cpu current_stalled beside = waits || stalls || ready

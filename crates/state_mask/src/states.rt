@@ -2,7 +2,7 @@
 
 ghost use Rattle.std.specs.Prelude.{◌≡◌, ◌<◌};
 ghost use Rattle.psi_base.specs.declared.event.State.{State};
-ghost use Rattle.psi_counts.specs.Counts.{IsMask, mask_holds, tells};
+ghost use Rattle.psi_counts.specs.Counts.{IsMask, mask_holds, shows};
 ghost use Rattle.state_mask.specs.Signs.{place_by};
 
 use crate::mask::Mask;
@@ -57,7 +57,7 @@ fn place(counts: &Counts, on_cpu: bool, current_stalled: bool) -> usize
 pub fn mask_of(counts: &Counts, on_cpu: bool, current_stalled: bool) -> Mask
     ensures few { IsMask result }
     ensures states { (state : State) →
-        mask_holds result state ≡ tells state counts.now on_cpu current_stalled }
+        mask_holds result state ≡ shows state counts.now on_cpu current_stalled }
 {
     Mask::from_bits(MASKS[place(counts, on_cpu, current_stalled)])
 }

@@ -100,8 +100,8 @@ there running tasks index cpu None at = tt
 there running tasks index cpu (Some e) at = (in_place running tasks index cpu e at).0
 
 -- the running task of a processor is the one in its place
-pub running_told : (running : List (Option (ℕ × Task))) (tasks : Tasks) → IsIndex running tasks → (cpu : ℕ) → running_on tasks cpu ≡ slice_index_or running cpu None
-running_told running tasks index cpu =
+pub running_known : (running : List (Option (ℕ × Task))) (tasks : Tasks) → IsIndex running tasks → (cpu : ℕ) → running_on tasks cpu ≡ slice_index_or running cpu None
+running_known running tasks index cpu =
     same_find (λ e. is_running_on cpu e.1) (λ e. numbered e.0 (slice_index_or running cpu None)) (map.entries tasks) (tests running tasks index cpu (map.entries tasks) (found tasks))
     ∙ search_place tasks (slice_index_or running cpu None) (there running tasks index cpu (slice_index_or running cpu None) refl)
 

@@ -6,7 +6,7 @@ use Rattle.psi_base.specs.Missing.{is_some_and}
 use Rattle.psi_spec.specs.declared.machine.Mode.{Mode}
 use Rattle.psi_spec.specs.declared.machine.Mode.TheVariants.{Blocked, Waiting, Ready, Running}
 use Rattle.psi_spec.specs.declared.machine.Task.{Task}
-use Rattle.psi_spec.specs.World.{Tasks, is_active, is_ready, is_running, readied, task_of}
+use Rattle.psi_spec.specs.World.{Tasks, is_active, is_ready, is_running, prepared_changes, task_of}
 use Rattle.psi_counts.specs.Touch.{changed}
 use Rattle.psi_spec.proofs.RefusalLaws.{not_false}
 use Rattle.task_table.proofs.Index.{and_false, ready_still}
@@ -37,7 +37,7 @@ not_running None h = tt
 not_running (Some t) h = ready_still t.mode (not_false (is_ready t.mode) h)
 
 -- a task that didn't run is ready
-pub may_ready : (slots cpu : ℕ) (o : Option Task) → IfSome o (λ t. is_running t.mode ≡ false) → IfSome o (λ t. t.slot.0 < slots) → MayReplaceIf slots o (changed (readied cpu) o)
+pub may_ready : (slots cpu : ℕ) (o : Option Task) → IfSome o (λ t. is_running t.mode ≡ false) → IfSome o (λ t. t.slot.0 < slots) → MayReplaceIf slots o (changed (prepared_changes cpu) o)
 may_ready slots cpu None off room = tt
 may_ready slots cpu (Some t) off room = record {
   runs = λ c. and_false (cpu == c) false refl ∙ sym (and_false (t.cpu.0 == c) (is_running t.mode) off);

@@ -10,8 +10,8 @@ use Rattle.psi_spec.specs.World.{Tasks, is_running_on, running_on, task_of}
 use Rattle.psi_counts.specs.Touch.{RunsOnce}
 
 -- the task of a number, in the first or the second part
-here_or_behind : (pid : ℕ) (e : ℕ × Task) (es : List (ℕ × Task)) (o : Option Task) → tasks_by.find nat_cmp pid (e ∷ es) ≡ o → cond (pid == e.0) (Some e.1) (tasks_by.find nat_cmp pid es) ≡ o
-here_or_behind pid e es o is = ap (λ b. cond b (Some e.1) (tasks_by.find nat_cmp pid es)) (sym (unsigned_tied pid e.0)) ∙ is
+here_or_after : (pid : ℕ) (e : ℕ × Task) (es : List (ℕ × Task)) (o : Option Task) → tasks_by.find nat_cmp pid (e ∷ es) ≡ o → cond (pid == e.0) (Some e.1) (tasks_by.find nat_cmp pid es) ≡ o
+here_or_after pid e es o is = ap (λ b. cond b (Some e.1) (tasks_by.find nat_cmp pid es)) (sym (unsigned_tied pid e.0)) ∙ is
 
 -- a task that passes a test and has a number is found by the test, or another is
 found_if : (test : Task → Bool) (es : List (ℕ × Task)) (pid : ℕ) (task : Task) → tasks_by.find nat_cmp pid es ≡ Some task → test task ≡ true → is_some (find (λ e. test e.1) es) ≡ true
@@ -23,7 +23,7 @@ found_if test (e ∷ es) pid task is passes =
           elim (pid == e.0) as (λ b. cond b (Some e.1) (tasks_by.find nat_cmp pid es) ≡ Some task → is_some (find (λ e. test e.1) es) ≡ true) [
             | true ↦ λ i. let same : e.1 ≡ task = cc i in absurd (cc (off, ap test same, passes))
             | false ↦ λ i. found_if test es pid task i passes
-          ] (here_or_behind pid e es (Some task) is)
+          ] (here_or_after pid e es (Some task) is)
     ] refl
 
 -- if a task is running on a processor, a search finds some task
@@ -44,7 +44,7 @@ counted_if test (e ∷ es) pid task is passes =
           elim (pid == e.0) as (λ b. cond b (Some e.1) (tasks_by.find nat_cmp pid es) ≡ Some task → 1 ≤ passing test es) [
             | true ↦ λ i. let same : e.1 ≡ task = cc i in absurd (cc (off, ap test same, passes))
             | false ↦ λ i. counted_if test es pid task i passes
-          ] (here_or_behind pid e es (Some task) is)
+          ] (here_or_after pid e es (Some task) is)
     ] refl
 
 -- numbers that a test shows equal
@@ -61,12 +61,12 @@ only_found test (x ∷ es) pid task e is passes found once =
           elim (pid == x.0) as (λ b. (pid == x.0) ≡ b → cond b (Some x.1) (tasks_by.find nat_cmp pid es) ≡ Some task → e.0 ≡ pid) [
             | true ↦ λ number i. ap (λ (y : ℕ × Task). y.0) (sym same) ∙ same_number pid x.0 number
             | false ↦ λ number i. let more = counted_if test es pid task i passes in absurd (omega (arith, few, more))
-          ] refl (here_or_behind pid x es (Some task) is)
-      | false ↦ λ off behind few.
+          ] refl (here_or_after pid x es (Some task) is)
+      | false ↦ λ off suffix few.
           elim (pid == x.0) as (λ b. cond b (Some x.1) (tasks_by.find nat_cmp pid es) ≡ Some task → e.0 ≡ pid) [
             | true ↦ λ i. let same : x.1 ≡ task = cc i in absurd (cc (off, ap test same, passes))
-            | false ↦ λ i. only_found test es pid task e i passes behind few
-          ] (here_or_behind pid x es (Some task) is)
+            | false ↦ λ i. only_found test es pid task e i passes suffix few
+          ] (here_or_after pid x es (Some task) is)
     ] refl found once
 
 -- the task found on a processor is any task known to be running there

@@ -12,8 +12,8 @@ use Rattle.psi_base.specs.Missing.{is_some_and}
 use Rattle.psi_spec.proofs.TaskLaws.{itself}
 use Rattle.psi_spec.specs.World.{Tasks, World, after_event, ends, groups_after, irqs_after, is_pressure, is_trigger, tasks_after}
 use Rattle.psi_spec.specs.Changes.{is_at, touched}
-use Rattle.psi_spec.specs.Stall.{irq_told}
-use Rattle.psi_counts.specs.Touch.{IsBeside, account_of, told_first}
+use Rattle.psi_spec.specs.Stall.{irq_time_by}
+use Rattle.psi_counts.specs.Touch.{IsBeside, account_of, known_first}
 use Rattle.trace_player.specs.declared.task_act.TaskAct.{TaskAct}
 use Rattle.trace_player.specs.declared.task_act.TaskAct.TheVariants as task_act
 use Rattle.trace_player.specs.TaskActs.{as_act, as_event, pid_of}
@@ -88,56 +88,56 @@ task_played cpus cpus_next latest tasks tasks_next groups irqs triggers pressure
 -- ---- its touch
 
 -- the change of either of two processors; the second may be left out if it equals the first
-either_told : (one other left : Bool) (x y z : Change) → (one ≡ true → x ≡ z) → (other ≡ true → y ≡ z) → (left ≡ true → other ≡ true → one ≡ true)
+either_known : (one other left : Bool) (x y z : Change) → (one ≡ true → x ≡ z) → (other ≡ true → y ≡ z) → (left ≡ true → other ≡ true → one ≡ true)
     → (if one then Some x else if left then None else if other then Some y else None) ≡ (if one || other then Some z else None)
-either_told true other left x y z of_one of_other same = ap Some (of_one refl)
-either_told false true true x y z of_one of_other same = absurd (false≢true (same refl refl))
-either_told false true false x y z of_one of_other same = ap Some (of_other refl)
-either_told false false true x y z of_one of_other same = refl
-either_told false false false x y z of_one of_other same = refl
+either_known true other left x y z of_one of_other same = ap Some (of_one refl)
+either_known false true true x y z of_one of_other same = absurd (false≢true (same refl refl))
+either_known false true false x y z of_one of_other same = ap Some (of_other refl)
+either_known false false true x y z of_one of_other same = refl
+either_known false false false x y z of_one of_other same = refl
 
 -- the change of one alone
-one_told : (one : Bool) (x z : Change) → (one ≡ true → x ≡ z) → (if one then Some x else None) ≡ (if one then Some z else None)
-one_told true x z of_one = ap Some (of_one refl)
-one_told false x z of_one = refl
+one_known : (one : Bool) (x z : Change) → (one ≡ true → x ≡ z) → (if one then Some x else None) ≡ (if one then Some z else None)
+one_known true x z of_one = ap Some (of_one refl)
+one_known false x z of_one = refl
 
 same_number : (one other : ℕ) → (one == other) ≡ true → one ≡ other
 same_number one other is = grind (arith, eqb_tells)
 
 -- the change of a processor, if there is one
-told_left : (at : ℕ) (changed : TaskUpdate) (running : List (Option (ℕ × Task))) (left : Bool) (there : Cpu) (cpu : ℕ) → told_first cpu (touched_change at changed running (if left then None else Some there)) None ≡ (if left then None else if there.0 == cpu then Some (change_for at changed (slice_index_or running there.0 None) 0 there.0) else None)
-told_left at changed running true there cpu = refl
-told_left at changed running false there cpu = refl
+known_left : (at : ℕ) (changed : TaskUpdate) (running : List (Option (ℕ × Task))) (left : Bool) (there : Cpu) (cpu : ℕ) → known_first cpu (touched_change at changed running (if left then None else Some there)) None ≡ (if left then None else if there.0 == cpu then Some (change_for at changed (slice_index_or running there.0 None) 0 there.0) else None)
+known_left at changed running true there cpu = refl
+known_left at changed running false there cpu = refl
 
 -- the changes of a processor and of a task's processor
-two_told : (at : ℕ) (changed : TaskUpdate) (running : List (Option (ℕ × Task))) (named : Cpu) (old : Option Task) (cpu : ℕ) → told_first cpu (touched_change at changed running (Some named)) (told_first cpu (touched_change at changed running (unless_on named old)) None) ≡ (if named.0 == cpu || is_some_and old (is_at cpu) then Some (change_for at changed (slice_index_or running cpu None) 0 cpu) else None)
-two_told at changed running named None cpu =
+two_known : (at : ℕ) (changed : TaskUpdate) (running : List (Option (ℕ × Task))) (named : Cpu) (old : Option Task) (cpu : ℕ) → known_first cpu (touched_change at changed running (Some named)) (known_first cpu (touched_change at changed running (unless_on named old)) None) ≡ (if named.0 == cpu || is_some_and old (is_at cpu) then Some (change_for at changed (slice_index_or running cpu None) 0 cpu) else None)
+two_known at changed running named None cpu =
     let change : ℕ → Change = λ n. change_for at changed (slice_index_or running n None) 0 n in
-    either_told (named.0 == cpu) false true (change named.0) (change named.0) (change cpu) (λ is. ap change (same_number named.0 cpu is)) (λ is. absurd (false≢true is)) (λ _ is. absurd (false≢true is))
-two_told at changed running named (Some task) cpu =
+    either_known (named.0 == cpu) false true (change named.0) (change named.0) (change cpu) (λ is. ap change (same_number named.0 cpu is)) (λ is. absurd (false≢true is)) (λ _ is. absurd (false≢true is))
+two_known at changed running named (Some task) cpu =
     let change : ℕ → Change = λ n. change_for at changed (slice_index_or running n None) 0 n in
-    ap (λ rest. if named.0 == cpu then Some (change named.0) else rest) (told_left at changed running (task.cpu.0 == named.0) task.cpu cpu)
-    ∙ either_told (named.0 == cpu) (task.cpu.0 == cpu) (task.cpu.0 == named.0) (change named.0) (change task.cpu.0) (change cpu) (λ is. ap change (same_number named.0 cpu is)) (λ is. ap change (same_number task.cpu.0 cpu is))
+    ap (λ rest. if named.0 == cpu then Some (change named.0) else rest) (known_left at changed running (task.cpu.0 == named.0) task.cpu cpu)
+    ∙ either_known (named.0 == cpu) (task.cpu.0 == cpu) (task.cpu.0 == named.0) (change named.0) (change task.cpu.0) (change cpu) (λ is. ap change (same_number named.0 cpu is)) (λ is. ap change (same_number task.cpu.0 cpu is))
     (λ left other. subst (λ n. (n == cpu) ≡ true) (same_number task.cpu.0 named.0 left) other)
 
 -- the change of a task's processor
-one_in : (at : ℕ) (changed : TaskUpdate) (running : List (Option (ℕ × Task))) (old : Option Task) (cpu : ℕ) → told_first cpu (touched_change at changed running (cpu_in old)) None ≡ (if is_some_and old (is_at cpu) then Some (change_for at changed (slice_index_or running cpu None) 0 cpu) else None)
+one_in : (at : ℕ) (changed : TaskUpdate) (running : List (Option (ℕ × Task))) (old : Option Task) (cpu : ℕ) → known_first cpu (touched_change at changed running (cpu_in old)) None ≡ (if is_some_and old (is_at cpu) then Some (change_for at changed (slice_index_or running cpu None) 0 cpu) else None)
 one_in at changed running None cpu = refl
 one_in at changed running (Some task) cpu =
     let change : ℕ → Change = λ n. change_for at changed (slice_index_or running n None) 0 n in
-    one_told (task.cpu.0 == cpu) (change task.cpu.0) (change cpu) (λ is. ap change (same_number task.cpu.0 cpu is))
+    one_known (task.cpu.0 == cpu) (change task.cpu.0) (change cpu) (λ is. ap change (same_number task.cpu.0 cpu is))
 
 -- the touch of a task act has its changes of processors
-pub task_told : (at : ℕ) (a : TaskAct) (changed : TaskUpdate) (running : List (Option (ℕ × Task))) (cpu : ℕ) →
-    told_first cpu (touched_change at changed running (cpus_touched a changed.old).0) (told_first cpu (touched_change at changed running (cpus_touched a changed.old).1) None)
-    ≡ (if touched (as_act a) changed.old cpu then Some (change_for at changed (slice_index_or running cpu None) (irq_told cpu (as_act a)) cpu) else None)
-task_told at (task_act.Wake pid named) changed running cpu = two_told at changed running named changed.old cpu
-task_told at (task_act.Migrate pid named) changed running cpu = two_told at changed running named changed.old cpu
-task_told at (task_act.Switch named next how) changed running cpu =
+pub task_known : (at : ℕ) (a : TaskAct) (changed : TaskUpdate) (running : List (Option (ℕ × Task))) (cpu : ℕ) →
+    known_first cpu (touched_change at changed running (cpus_touched a changed.old).0) (known_first cpu (touched_change at changed running (cpus_touched a changed.old).1) None)
+    ≡ (if touched (as_act a) changed.old cpu then Some (change_for at changed (slice_index_or running cpu None) (irq_time_by cpu (as_act a)) cpu) else None)
+task_known at (task_act.Wake pid named) changed running cpu = two_known at changed running named changed.old cpu
+task_known at (task_act.Migrate pid named) changed running cpu = two_known at changed running named changed.old cpu
+task_known at (task_act.Switch named next how) changed running cpu =
     let change : ℕ → Change = λ n. change_for at changed (slice_index_or running n None) 0 n in
-    one_told (named.0 == cpu) (change named.0) (change cpu) (λ is. ap change (same_number named.0 cpu is))
-task_told at (task_act.Stall pid) changed running cpu = one_in at changed running changed.old cpu
-task_told at (task_act.Unstall pid) changed running cpu = one_in at changed running changed.old cpu
+    one_known (named.0 == cpu) (change named.0) (change cpu) (λ is. ap change (same_number named.0 cpu is))
+task_known at (task_act.Stall pid) changed running cpu = one_in at changed running changed.old cpu
+task_known at (task_act.Unstall pid) changed running cpu = one_in at changed running changed.old cpu
 
 -- the second of two processors is another than the first
 two_beside : (at : ℕ) (changed : TaskUpdate) (running : List (Option (ℕ × Task))) (named there : Cpu) (left : Bool) → (there.0 == named.0) ≡ left → IsBeside (touched_change at changed running (Some named)) (touched_change at changed running (if left then None else Some there))

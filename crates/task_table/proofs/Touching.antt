@@ -9,29 +9,29 @@ use Rattle.psi_counts.specs.declared.changes.Touch.{Touch}
 use Rattle.psi_spec.specs.World.{World, Limits, Tasks, after_event, ends, groups_after, irqs_after, is_pressure, is_trigger, running_on, tasks_after}
 use Rattle.psi_spec.specs.declared.machine.GroupLife.{GroupLife}
 use Rattle.psi_counts.specs.Legal.{IsLegalWorld}
-use Rattle.psi_counts.proofs.AccountLaws.{change_account, account_told}
+use Rattle.psi_counts.proofs.AccountLaws.{change_account, account_known}
 use Rattle.psi_counts.proofs.LegalLaws.{legal_kept}
-use Rattle.task_table.proofs.Index.{running_told}
+use Rattle.task_table.proofs.Index.{running_known}
 use Rattle.task_table.specs.declared.task_update.TaskUpdate.{TaskUpdate}
 use Rattle.task_table.specs.Named.{IsChanged, change_for}
 use Rattle.task_table.specs.Stands.{HasPlayed, IsIndex, TableView, table_of}
 use Rattle.psi_spec.specs.Refusal.{cause_of}
-use Rattle.psi_counts.specs.Touch.{change_of, account_first, account_named, account_of, shown, told_of, IsBeside, IsTouch, AllTouched, HasSlotsBelow, IsOfOne, AreWithin}
+use Rattle.psi_counts.specs.Touch.{change_of, account_first, account_named, account_of, shown, change_by_cpu, IsBeside, IsTouch, AllTouched, HasSlotsBelow, IsOfOne, AreWithin}
 use Rattle.psi_spec.specs.Changes.{touched}
-use Rattle.psi_spec.specs.Stall.{irq_told}
+use Rattle.psi_spec.specs.Stall.{irq_time_by}
 use Rattle.psi_counts.proofs.TouchWithin.{changes_are_within, all_touched}
 
 -- what is read off the task that an event changes, and off the tasks that run after it, is what the
 -- event changes
-touch_told : (w : World) (event : Event) (tasks : Tasks) (changed : TaskUpdate) (running : List (Option (ℕ × Task))) (touch : Touch) → IsChanged w.groups w.tasks event.act changed → account_of w.groups event.act ≡ None → tasks ≡ tasks_after w.groups w.tasks event.act → IsIndex running tasks
-    → ((cpu : ℕ) → told_of touch cpu ≡ (if touched event.act changed.old cpu then Some (change_for event.at changed (slice_index_or running cpu None) (irq_told cpu event.act) cpu) else None))
-    → (cpu : ℕ) → told_of touch cpu ≡ change_of w event cpu
+touch_known : (w : World) (event : Event) (tasks : Tasks) (changed : TaskUpdate) (running : List (Option (ℕ × Task))) (touch : Touch) → IsChanged w.groups w.tasks event.act changed → account_of w.groups event.act ≡ None → tasks ≡ tasks_after w.groups w.tasks event.act → IsIndex running tasks
+    → ((cpu : ℕ) → change_by_cpu touch cpu ≡ (if touched event.act changed.old cpu then Some (change_for event.at changed (slice_index_or running cpu None) (irq_time_by cpu event.act) cpu) else None))
+    → (cpu : ℕ) → change_by_cpu touch cpu ≡ change_of w event cpu
 unfolding change_of
-touch_told w event tasks changed running touch is none are index told cpu = rw (none, ← are, running_told running tasks index cpu, ← is.new, ← is.old) (told cpu)
+touch_known w event tasks changed running touch is none are index known cpu = rw (none, ← are, running_known running tasks index cpu, ← is.new, ← is.old) (known cpu)
 
 -- The touch that a table returns is the event's. Each of its changes is on an existing processor,
 -- in existing slots, of one task, and at the event's time.
-pub record IsTold (limits : Limits) (w : World) (event : Event) (touch : Touch) : Type 0 where
+pub record HasContent (limits : Limits) (w : World) (event : Event) (touch : Touch) : Type 0 where
   pub is : IsTouch limits.cpus w event touch
   pub cpus : AllTouched (λ cpu change. cpu < limits.cpus) touch
   pub slots : AllTouched (λ cpu change. HasSlotsBelow (length w.groups) change) touch
@@ -39,29 +39,29 @@ pub record IsTold (limits : Limits) (w : World) (event : Event) (touch : Touch) 
   pub moment : AllTouched (λ cpu change. change.at ≡ event.at) touch
 
 -- a touch with each change of a legal event is such a touch, if no accounting is switched
-told_legal : (limits : Limits) (w : World) (event : Event) (touch : Touch) → cause_of limits w event ≡ None → AreWithin limits.cpus (length w.groups) w.tasks
-    → account_of w.groups event.act ≡ None → touch.account ≡ None → ((cpu : ℕ) → told_of touch cpu ≡ change_of w event cpu) → IsBeside touch.first touch.second → IsTold limits w event touch
-told_legal limits w event touch legal within plain none told beside =
+known_legal : (limits : Limits) (w : World) (event : Event) (touch : Touch) → cause_of limits w event ≡ None → AreWithin limits.cpus (length w.groups) w.tasks
+    → account_of w.groups event.act ≡ None → touch.account ≡ None → ((cpu : ℕ) → change_by_cpu touch cpu ≡ change_of w event cpu) → IsBeside touch.first touch.second → HasContent limits w event touch
+known_legal limits w event touch legal within plain none known beside =
     let laws = changes_are_within limits w event legal within in
     record {
       is = record {
-        told = λ cpu below. ap (λ account. account_first event.at (shown (running_on (after_event w event).tasks cpu)) account (told_of touch cpu)) none ∙ told cpu;
+        known = λ cpu below. ap (λ account. account_first event.at (shown (running_on (after_event w event).tasks cpu)) account (change_by_cpu touch cpu)) none ∙ known cpu;
         beside = beside;
         on_with = none ∙ sym plain;
         alone = subst (λ account. IfSome account (λ _. (touch.first ≡ None) × (touch.second ≡ None))) (sym none) tt;
       };
-      cpus = all_touched (λ cpu change. cpu < limits.cpus) w event touch told beside (λ cpu change so. (laws cpu change so).0 (change_account w event cpu change so ∙ plain));
-      slots = all_touched (λ cpu change. HasSlotsBelow (length w.groups) change) w event touch told beside (λ cpu change so. (laws cpu change so).1);
-      ones = all_touched (λ cpu change. IsOfOne change) w event touch told beside (λ cpu change so. (laws cpu change so).2);
-      moment = all_touched (λ cpu change. change.at ≡ event.at) w event touch told beside (λ cpu change so. (laws cpu change so).3);
+      cpus = all_touched (λ cpu change. cpu < limits.cpus) w event touch known beside (λ cpu change so. (laws cpu change so).0 (change_account w event cpu change so ∙ plain));
+      slots = all_touched (λ cpu change. HasSlotsBelow (length w.groups) change) w event touch known beside (λ cpu change so. (laws cpu change so).1);
+      ones = all_touched (λ cpu change. IsOfOne change) w event touch known beside (λ cpu change so. (laws cpu change so).2);
+      moment = all_touched (λ cpu change. change.at ≡ event.at) w event touch known beside (λ cpu change so. (laws cpu change so).3);
     }
 
 -- so is what a table that played an event reads off the changed task and the running ones
-pub told_played : (old new : TableView) (event : Event) (changed : TaskUpdate) (running : List (Option (ℕ × Task))) (touch : Touch) → HasPlayed old event new → IsChanged old.world.groups old.world.tasks event.act changed → IsIndex running new.world.tasks
-    → account_of old.world.groups event.act ≡ None → touch.account ≡ None → ((cpu : ℕ) → told_of touch cpu ≡ (if touched event.act changed.old cpu then Some (change_for event.at changed (slice_index_or running cpu None) (irq_told cpu event.act) cpu) else None)) → IsBeside touch.first touch.second → IsTold old.limits old.world event touch
-told_played old new event changed running touch played is index plain none told beside =
+pub known_played : (old new : TableView) (event : Event) (changed : TaskUpdate) (running : List (Option (ℕ × Task))) (touch : Touch) → HasPlayed old event new → IsChanged old.world.groups old.world.tasks event.act changed → IsIndex running new.world.tasks
+    → account_of old.world.groups event.act ≡ None → touch.account ≡ None → ((cpu : ℕ) → change_by_cpu touch cpu ≡ (if touched event.act changed.old cpu then Some (change_for event.at changed (slice_index_or running cpu None) (irq_time_by cpu event.act) cpu) else None)) → IsBeside touch.first touch.second → HasContent old.limits old.world event touch
+known_played old new event changed running touch played is index plain none known beside =
     let tasks : new.world.tasks ≡ tasks_after old.world.groups old.world.tasks event.act = ap (λ (w : World). w.tasks) played.world in
-    told_legal old.limits old.world event touch played.legal played.legal_before.within plain none (touch_told old.world event new.world.tasks changed running touch is plain tasks index told) beside
+    known_legal old.limits old.world event touch played.legal played.legal_before.within plain none (touch_known old.world event new.world.tasks changed running touch is plain tasks index known) beside
 
 -- an act that switches no accounting leaves them all
 pub unswitched : (groups : List GroupLife) (o : Option (List ℕ × Bool)) → account_named groups o ≡ None → o ≡ None
@@ -73,13 +73,13 @@ nowhere : (IsSo : ℕ → Change → Type 0) (touch : Touch) → touch.first ≡
 nowhere IsSo touch first second =
     (subst (λ o. IfSome o (λ touched. IsSo touched.0.0 touched.1)) (sym first) tt, subst (λ o. IfSome o (λ touched. IsSo touched.0.0 touched.1)) (sym second) tt)
 
-pub account_told_alone : (limits : Limits) (w : World) (event : Event) (touch : Touch) (account : Slot × Bool) → account_of w.groups event.act ≡ Some account → touch.account ≡ Some account → touch.first ≡ None → touch.second ≡ None → IsTold limits w event touch
-account_told_alone limits w event touch account is told first second = record {
+pub account_known_alone : (limits : Limits) (w : World) (event : Event) (touch : Touch) (account : Slot × Bool) → account_of w.groups event.act ≡ Some account → touch.account ≡ Some account → touch.first ≡ None → touch.second ≡ None → HasContent limits w event touch
+account_known_alone limits w event touch account is known first second = record {
   is = record {
-    told = λ cpu below. ap (λ g. account_first event.at (shown (running_on (after_event w event).tasks cpu)) g (told_of touch cpu)) told ∙ sym (account_told w event cpu account is);
+    known = λ cpu below. ap (λ g. account_first event.at (shown (running_on (after_event w event).tasks cpu)) g (change_by_cpu touch cpu)) known ∙ sym (account_known w event cpu account is);
     beside = subst (λ o. IsBeside o touch.second) (sym first) (subst (λ o. IsBeside None o) (sym second) tt);
-    on_with = told ∙ sym is;
-    alone = subst (λ g. IfSome g (λ _. (touch.first ≡ None) × (touch.second ≡ None))) (sym told) (first, second);
+    on_with = known ∙ sym is;
+    alone = subst (λ g. IfSome g (λ _. (touch.first ≡ None) × (touch.second ≡ None))) (sym known) (first, second);
   };
   cpus = nowhere (λ cpu change. cpu < limits.cpus) touch first second;
   slots = nowhere (λ cpu change. HasSlotsBelow (length w.groups) change) touch first second;

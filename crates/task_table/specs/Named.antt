@@ -9,7 +9,7 @@ use Rattle.psi_spec.specs.declared.machine.GroupLife.{GroupLife}
 use Rattle.psi_spec.specs.declared.machine.Task.{Task}
 use Rattle.psi_base.specs.declared.event.Slot.{Slot}
 use Rattle.psi_spec.specs.Names.{names}
-use Rattle.psi_spec.specs.Told.{slot_named}
+use Rattle.psi_spec.specs.Collected.{slot_named}
 use Rattle.psi_spec.specs.World.{Tasks, as_slot, is_running_on, slot_of, task_of}
 use Rattle.psi_counts.specs.Touch.{part, shown, task_after}
 use Rattle.psi_spec.specs.Changes.{before}

@@ -1,9 +1,9 @@
 //! What a legal act does to tasks and groups.
 ghost use Rattle.std.specs.Prelude.{◌≡◌, ℕ, ◌+◌, ◌<◌, ◌≤◌, ◌++◌, ◌||◌, if◌then◌else◌, List, [], ◌∷◌, Option, None, Some, IfOk, OnOk, OnErr, true, false, length, slice_index_or, slice_set, unwrap_or};
 ghost use Rattle.std.specs.FinMap as tasks_by;
-ghost use Rattle.psi_spec.specs.World.{change, ends, groups_after, irqs_after, is_pressure, is_running, is_trigger, most_tasks, new_group, new_task, put, readied, slot_of, task_of, tasks_after};
+ghost use Rattle.psi_spec.specs.World.{change, ends, groups_after, irqs_after, is_pressure, is_running, is_trigger, most_tasks, new_group, new_task, put, prepared_changes, slot_of, task_of, tasks_after};
 ghost use Rattle.psi_counts.specs.Touch.{changed};
-ghost use Rattle.psi_spec.specs.Told.{slot_named};
+ghost use Rattle.psi_spec.specs.Collected.{slot_named};
 ghost use Rattle.psi_spec.specs.declared.machine.GroupLife.{GroupLife};
 ghost use Rattle.group_tree.specs.Tree.{add_cause};
 ghost use Rattle.task_table.specs.Causes.{act_cause, groups_cause, makes_group, takes_memory};
@@ -93,8 +93,8 @@ fn forked(slot: Slot, cpu: Cpu) -> Task
 }
 
 /// The task, if any, on the run queue of a processor. Its memory stall continues.
-pub(crate) fn readied(task: Option<Task>, cpu: Cpu) -> Option<Task>
-    ensures { result ≡ changed (readied cpu.0) task }
+pub(crate) fn prepared_changes(task: Option<Task>, cpu: Cpu) -> Option<Task>
+    ensures { result ≡ changed (prepared_changes cpu.0) task }
 {
     match task {
         Some(task) => Some(Task {

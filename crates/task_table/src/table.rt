@@ -24,15 +24,12 @@ use crate::task_map::TaskMap;
 use crate::task_update::TaskUpdate;
 use crate::touch::{account_of, account_touch, current_on, touch_of};
 use group_tree::Tree;
-use psi_base::{Act, Cause, Cpu, Event, Fault, NoMemory, Ns, Pid, Slot};
+use psi_base::{Act, Cause, Cpu, Event, Fault, MOST_EVENTS, NoMemory, Ns, Pid, Slot};
 use psi_counts::Touch;
 use psi_spec::Task;
 use std::alloc::Global;
 use std::marker::Model;
 use trace_player::TaskAct;
-
-/// The maximum number of lines after the header.
-const MOST_EVENTS: u32 = 4_000_000;
 
 /// The world so far, and the limits of its trace.
 #[derive(Drop)]
@@ -161,7 +158,7 @@ impl Table {
     }
 
     /// The running task of a processor, or `None` if the processor idles.
-    #[tactic(auto, using(crate::proofs::Index::running_told))]
+    #[tactic(auto, using(crate::proofs::Index::running_known))]
     pub fn running(&self, cpu: Cpu) -> Option<Task>
         ensures { result ≡ task_part (running_on self.now.world.tasks cpu.0) }
     {
@@ -173,7 +170,7 @@ impl Table {
 
     /// The running task as a change of its processor contains it: its group, and whether it is in a
     /// memory stall.
-    #[tactic(auto, using(crate::proofs::Index::running_told))]
+    #[tactic(auto, using(crate::proofs::Index::running_known))]
     pub fn current(&self, cpu: Cpu) -> Option<(Slot, bool)>
         ensures { result ≡ shown (running_on self.now.world.tasks cpu.0) }
     {

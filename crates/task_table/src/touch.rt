@@ -2,11 +2,11 @@
 //! running tasks, without a walk over all tasks.
 ghost use Rattle.std.specs.Prelude.{◌≡◌, ℕ, if◌then◌else◌, Some, None, List, [], ◌∷◌, false, slice_index_or};
 ghost use Rattle.psi_counts.specs.Counts.{counts_among};
-ghost use Rattle.psi_counts.specs.Touch.{account_of, part, shown, told_of, IsBeside};
+ghost use Rattle.psi_counts.specs.Touch.{account_of, part, shown, change_by_cpu, IsBeside};
 ghost use Rattle.psi_spec.specs.declared.machine.GroupLife.{GroupLife};
 ghost use Rattle.psi_spec.specs.Names.{names};
 ghost use Rattle.psi_spec.specs.Changes.{touched};
-ghost use Rattle.psi_spec.specs.Stall.{irq_told};
+ghost use Rattle.psi_spec.specs.Stall.{irq_time_by};
 ghost use Rattle.task_table.specs.Acts.{cpu_in, unless_on};
 ghost use Rattle.task_table.specs.Named.{change_for, named_group, slot_or_root, touched_change};
 ghost use Rattle.trace_player.specs.TaskActs.{is_task_act};
@@ -105,11 +105,11 @@ pub(crate) fn account_touch(account: (Slot, bool)) -> Touch
 pub(crate) fn touch_of(at: Ns, act: &Act, changed: TaskUpdate, running: &[Running]) -> Touch
     requires other { is_task_act act.now ≡ false }
     requires plain { (names act.now).switched ≡ None }
-    ensures told { (cpu : ℕ) →
-        told_of result cpu
+    ensures known { (cpu : ℕ) →
+        change_by_cpu result cpu
         ≡ (if touched act.now changed.old cpu
         then Some (change_for at changed (slice_index_or running.now cpu None)
-        (irq_told cpu act.now) cpu) else None) }
+        (irq_time_by cpu act.now) cpu) else None) }
     ensures beside { IsBeside result.first result.second }
     ensures account { result.account ≡ None }
 {

@@ -1,3 +1,3 @@
 pub mod StepLaws
-pub mod StandLaws
+pub mod RepresentLaws
 pub mod MakeLaws

@@ -17,7 +17,7 @@ use Rattle.aggregate.proofs.TableLaws.{keeps_sizes}
 use Rattle.tick_engine.specs.declared.watch.TriggerWatch.{TriggerWatch}
 use Rattle.tick_engine.specs.Tables.{tick_at}
 use Rattle.tick_engine.specs.Step.{AreGroupsWithin, engine_group, new_watch, no_group, unsampled_group}
-use Rattle.tick_engine.specs.Engine.{EngineView, IsEngine, StandsFor, group_after}
+use Rattle.tick_engine.specs.Engine.{EngineView, IsEngine, Represents, group_after}
 
 -- an engine before the first tick
 abbrev pub first_engine : ℕ → List GroupLife → List TriggerSpec → EngineView
@@ -27,15 +27,15 @@ new_is_after : (cpus : ℕ) (lives : List GroupLife) (slot : ℕ) → unsampled_
 unfolding totals_after group_averages
 new_is_after cpus lives slot = refl
 
-pub first_stands : (cpus : ℕ) (lives : List GroupLife) (triggers : List TriggerSpec) → StandsFor (first_engine cpus lives triggers) cpus lives triggers []
-first_stands cpus lives triggers = record {
+pub first_is_in : (cpus : ℕ) (lives : List GroupLife) (triggers : List TriggerSpec) → Represents (first_engine cpus lives triggers) cpus lives triggers []
+first_is_in cpus lives triggers = record {
   ordered = tt;
   cpus_are = refl;
   last = refl;
   slots = length-map lives unsampled_group;
   groups = λ slot below. get_or-map unsampled_group lives slot root no_group below ∙ new_is_after cpus lives slot;
   watches = refl;
-  fired = λ front tick none. absurd (omega (arith, ap length none, length-append front (tick ∷ [])));
+  fired = λ prefix tick none. absurd (omega (arith, ap length none, length-append prefix (tick ∷ [])));
   unfired = λ none. refl;
 }
 

@@ -64,7 +64,7 @@ watch_after cpus lives ticks trigger =
 -- An engine represents these ticks, for groups with these lives on n processors and with these
 -- triggers: the ticks follow one another; the last tick, each group and each trigger are as they
 -- are after all of them; and its list has what fired at the last one.
-pub record StandsFor (engine : EngineView) (cpus : ℕ) (lives : List GroupLife) (triggers : List TriggerSpec)
+pub record Represents (engine : EngineView) (cpus : ℕ) (lives : List GroupLife) (triggers : List TriggerSpec)
     (ticks : List Tick) : Type 0 where
   pub ordered : AreNextTicks (no_tick cpus (length lives)) ticks
   pub cpus_are : engine.cpus ≡ cpus
@@ -72,14 +72,14 @@ pub record StandsFor (engine : EngineView) (cpus : ℕ) (lives : List GroupLife)
   pub slots : length engine.groups ≡ length lives
   pub groups : (slot : ℕ) → slot < length lives → engine_group engine.groups slot ≡ group_after cpus lives ticks slot
   pub watches : engine.watches ≡ map (watch_after cpus lives ticks) triggers
-  pub fired : (front : List Tick) (tick : Tick) → ticks ≡ front ++ tick ∷ [] → engine.fired ≡ fired_at cpus lives triggers front tick
+  pub fired : (prefix : List Tick) (tick : Tick) → ticks ≡ prefix ++ tick ∷ [] → engine.fired ≡ fired_at cpus lives triggers prefix tick
   pub unfired : ticks ≡ [] → engine.fired ≡ []
 
 -- An engine takes a tick: if it represented these ticks before, it represents them and this one
 -- afterwards.
 abbrev pub EngineTakes : EngineView → Tick → EngineView → Type 0
 EngineTakes old tick new = (cpus : ℕ) (lives : List GroupLife) (triggers : List TriggerSpec) (ticks : List Tick) →
-    StandsFor old cpus lives triggers ticks → StandsFor new cpus lives triggers (ticks ++ tick ∷ [])
+    Represents old cpus lives triggers ticks → Represents new cpus lives triggers (ticks ++ tick ∷ [])
 
 -- ---- the invariant of an engine
 
@@ -111,21 +111,21 @@ pub record IsLifeWithin (latest : ℕ) (life : GroupLife) : Type 0 where
 -- ---- laws
 
 -- The totals that an engine returns for a group are those after the ticks that it represents.
-abbrev pub TellsTotals : Type 0
-TellsTotals = (engine : EngineView) (cpus : ℕ) (lives : List GroupLife) (triggers : List TriggerSpec) (ticks : List Tick) (slot : ℕ) →
-    StandsFor engine cpus lives triggers ticks → slot < length lives → totals_in engine slot ≡ totals_after cpus lives ticks slot
+abbrev pub ShowsTotals : Type 0
+ShowsTotals = (engine : EngineView) (cpus : ℕ) (lives : List GroupLife) (triggers : List TriggerSpec) (ticks : List Tick) (slot : ℕ) →
+    Represents engine cpus lives triggers ticks → slot < length lives → totals_in engine slot ≡ totals_after cpus lives ticks slot
 
 -- The same for the averages.
-abbrev pub TellsAverages : Type 0
-TellsAverages = (engine : EngineView) (cpus : ℕ) (lives : List GroupLife) (triggers : List TriggerSpec) (ticks : List Tick) (slot : ℕ) →
-    StandsFor engine cpus lives triggers ticks → slot < length lives → averages_in engine slot ≡ group_averages cpus lives ticks slot
+abbrev pub ShowsAverages : Type 0
+ShowsAverages = (engine : EngineView) (cpus : ℕ) (lives : List GroupLife) (triggers : List TriggerSpec) (ticks : List Tick) (slot : ℕ) →
+    Represents engine cpus lives triggers ticks → slot < length lives → averages_in engine slot ≡ group_averages cpus lives ticks slot
 
 -- It returns the triggers that fired at the last of them.
-abbrev pub TellsFired : Type 0
-TellsFired = (engine : EngineView) (cpus : ℕ) (lives : List GroupLife) (triggers : List TriggerSpec) (front : List Tick) (tick : Tick) →
-    StandsFor engine cpus lives triggers (front ++ tick ∷ []) → engine.fired ≡ fired_at cpus lives triggers front tick
+abbrev pub ShowsFired : Type 0
+ShowsFired = (engine : EngineView) (cpus : ℕ) (lives : List GroupLife) (triggers : List TriggerSpec) (prefix : List Tick) (tick : Tick) →
+    Represents engine cpus lives triggers (prefix ++ tick ∷ []) → engine.fired ≡ fired_at cpus lives triggers prefix tick
 
 -- And its last tick is the last of them.
-abbrev pub TellsLast : Type 0
-TellsLast = (engine : EngineView) (cpus : ℕ) (lives : List GroupLife) (triggers : List TriggerSpec) (front : List Tick) (tick : Tick) →
-    StandsFor engine cpus lives triggers (front ++ tick ∷ []) → engine.last ≡ tick
+abbrev pub ShowsLast : Type 0
+ShowsLast = (engine : EngineView) (cpus : ℕ) (lives : List GroupLife) (triggers : List TriggerSpec) (prefix : List Tick) (tick : Tick) →
+    Represents engine cpus lives triggers (prefix ++ tick ∷ []) → engine.last ≡ tick

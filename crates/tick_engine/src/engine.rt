@@ -6,8 +6,8 @@ ghost use Rattle.pressure_spec.specs.NextTick.{IsNextTick};
 ghost use Rattle.psi_spec.specs.Within.{AreTriggersWithin};
 ghost use Rattle.psi_spec.specs.Within.{last_moment};
 ghost use Rattle.psi_spec.specs.World.{most_groups};
-ghost use Rattle.tick_engine.specs.Engine.{averages_in, totals_in, IsLifeWithin, StandsFor, EngineTakes};
-ghost use Rattle.tick_engine.specs.Engine.{TellsAverages, TellsFired, TellsLast, TellsTotals};
+ghost use Rattle.tick_engine.specs.Engine.{averages_in, totals_in, IsLifeWithin, Represents, EngineTakes};
+ghost use Rattle.tick_engine.specs.Engine.{ShowsAverages, ShowsFired, ShowsLast, ShowsTotals};
 ghost use Rattle.tick_engine.specs.Step.{new_watch, unsampled_group};
 ghost use Rattle.tick_engine.specs.Tables.{tick_at};
 
@@ -86,7 +86,7 @@ impl Engine {
         requires few_groups { length lives.now ≤ most_groups }
         requires lives { All (λ life. IsLifeWithin last_moment life) lives.now }
         requires triggers { AreTriggersWithin last_moment (length lives.now) triggers.now }
-        ensures { IfOk result (λ engine. StandsFor engine cpus lives.now triggers.now []) }
+        ensures { IfOk result (λ engine. Represents engine cpus lives.now triggers.now []) }
     {
         Ok(Engine {
             last: LastTick {
@@ -145,8 +145,8 @@ impl Engine {
 
 /// Laws of the engine: what it returns is what the definitions give for the ticks so far.
 pub fn law_engine()
-    ensures totals { TellsTotals }
-    ensures averages { TellsAverages }
-    ensures fired { TellsFired }
-    ensures last { TellsLast }
+    ensures totals { ShowsTotals }
+    ensures averages { ShowsAverages }
+    ensures fired { ShowsFired }
+    ensures last { ShowsLast }
 {}

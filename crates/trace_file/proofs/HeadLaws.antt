@@ -18,13 +18,13 @@ use Rattle.trace_laws.proofs.Accepting.{trace_of-line, trace_of-rest}
 use Rattle.trace_file.specs.Reads.{RefusalOf, rest_from, trace_fault, verbs_in}
 use Rattle.trace_file.proofs.LineLaws.{long_cut, not_long}
 
-pub header_read : (versions : List Version) (tick number cpus : ℕ) (bytes part behind : List ℕ) → BeginsWithLine bytes part behind → first_line versions part ≡ Ok (header_with number cpus) → trace_of (accepts_with versions tick) bytes ≡ with_events (header_with number cpus) (rest_from (verbs_in number) (limits_of tick cpus) first_world 2 behind)
-header_read versions tick number cpus bytes part behind begins is =
-    ap (trace_of (accepts_with versions tick)) begins.whole ∙ trace_of-line (accepts_with versions tick) part behind begins.one ∙ ap (λ r. headed (accepts_with versions tick) r (parts_at 10 behind)) is
+pub header_read : (versions : List Version) (tick number cpus : ℕ) (bytes part suffix : List ℕ) → BeginsWithLine bytes part suffix → first_line versions part ≡ Ok (header_with number cpus) → trace_of (accepts_with versions tick) bytes ≡ with_events (header_with number cpus) (rest_from (verbs_in number) (limits_of tick cpus) first_world 2 suffix)
+header_read versions tick number cpus bytes part suffix begins is =
+    ap (trace_of (accepts_with versions tick)) begins.whole ∙ trace_of-line (accepts_with versions tick) part suffix begins.one ∙ ap (λ r. headed (accepts_with versions tick) r (parts_at 10 suffix)) is
 
-pub header_refused : (versions : List Version) (tick : ℕ) (bytes part behind : List ℕ) (why : Cause) → BeginsWithLine bytes part behind → first_line versions part ≡ Err why → trace_of (accepts_with versions tick) bytes ≡ Err (refused 1 why)
-header_refused versions tick bytes part behind why begins is =
-    ap (trace_of (accepts_with versions tick)) begins.whole ∙ trace_of-line (accepts_with versions tick) part behind begins.one ∙ ap (λ r. headed (accepts_with versions tick) r (parts_at 10 behind)) is
+pub header_refused : (versions : List Version) (tick : ℕ) (bytes part suffix : List ℕ) (why : Cause) → BeginsWithLine bytes part suffix → first_line versions part ≡ Err why → trace_of (accepts_with versions tick) bytes ≡ Err (refused 1 why)
+header_refused versions tick bytes part suffix why begins is =
+    ap (trace_of (accepts_with versions tick)) begins.whole ∙ trace_of-line (accepts_with versions tick) part suffix begins.one ∙ ap (λ r. headed (accepts_with versions tick) r (parts_at 10 suffix)) is
 
 first_runs_out : (n : ℕ) → n ≤ 512 → (if nat_lt 512 n then cause.LineTooLong else cause.BadHeader) ≡ cause.BadHeader
 first_runs_out n short = grind (arith, short)
@@ -48,7 +48,7 @@ unfolding first_rest first_line
 header_long versions tick bytes is = ⊎_elim
     (λ none. trace_of-rest (accepts_with versions tick) bytes none ∙ ap (λ why. let r : Result Trace Refusal = Err (refused 1 why) in r) (first_too_long (length bytes) is.long))
     (λ (c : Cut 10 bytes).
-    ap (trace_of (accepts_with versions tick)) c.whole ∙ trace_of-line (accepts_with versions tick) c.line c.behind c.none ∙ ap (λ r. headed (accepts_with versions tick) r (parts_at 10 c.behind)) (line_too_long (length c.line) _ (long_cut bytes c is)))
+    ap (trace_of (accepts_with versions tick)) c.whole ∙ trace_of-line (accepts_with versions tick) c.line c.suffix c.none ∙ ap (λ r. headed (accepts_with versions tick) r (parts_at 10 c.suffix)) (line_too_long (length c.line) _ (long_cut bytes c is)))
     (cut 10 bytes)
 
 -- a fault of the first line is the trace's fault

@@ -13,7 +13,7 @@ use Rattle.psi_lines.specs.Lines.{BeginsWithLine, IsTooLong, IsCut, Reader, left
 use Rattle.psi_lines.specs.Next.{NextOf}
 use Rattle.psi_lines.specs.declared.lines.LineFault.{LineFault}
 use Rattle.psi_lines.specs.declared.lines.LineFault.TheVariants as lines
-use Rattle.psi_trace.specs.Front.{HasInFront}
+use Rattle.psi_trace.specs.Prefix.{BeginsBufferWith}
 use Rattle.trace_laws.proofs.GrammarReads.{known_still, reads_spelled, spelled_in_line}
 use Rattle.psi_spec.specs.World.{World, Limits, after, after_event, first_world}
 use Rattle.psi_spec.specs.Refusal.{cause_of}
@@ -38,30 +38,30 @@ followed-none (Ok events) = refl
 followed-none (Err refusal) = refl
 
 -- one more event of all events
-pub push_read : (front : List Event) (event : Event) (rest more whole : Events) → followed front rest ≡ whole → rest ≡ followed (event ∷ []) more → followed (front ++ event ∷ []) more ≡ whole
-push_read front event rest more whole is next = sym (followed-followed front (event ∷ []) more) ∙ ap (followed front) (sym next) ∙ is
+pub push_read : (prefix : List Event) (event : Event) (rest more whole : Events) → followed prefix rest ≡ whole → rest ≡ followed (event ∷ []) more → followed (prefix ++ event ∷ []) more ≡ whole
+push_read prefix event rest more whole is next = sym (followed-followed prefix (event ∷ []) more) ∙ ap (followed prefix) (sym next) ∙ is
 
 -- a rejection of the rest is a rejection of all
-pub whole_refused : (front : List Event) (rest whole : Events) (refusal : Refusal) → followed front rest ≡ whole → rest ≡ Err refusal → whole ≡ Err refusal
-whole_refused front rest whole refusal is refused = sym is ∙ ap (followed front) refused
+pub whole_refused : (prefix : List Event) (rest whole : Events) (refusal : Refusal) → followed prefix rest ≡ whole → rest ≡ Err refusal → whole ≡ Err refusal
+whole_refused prefix rest whole refusal is refused = sym is ∙ ap (followed prefix) refused
 
 -- a fault of the rest is a fault of all
-pub whole_fault : (front : List Event) (rest whole : Events) (fault : TraceFault) → followed front rest ≡ whole → RefusalOf fault rest → RefusalOf fault whole
-whole_fault front rest whole (Refused refusal) is found = whole_refused front rest whole refusal is found
-whole_fault front rest whole _ is found = tt
+pub whole_fault : (prefix : List Event) (rest whole : Events) (fault : TraceFault) → followed prefix rest ≡ whole → RefusalOf fault rest → RefusalOf fault whole
+whole_fault prefix rest whole (Refused refusal) is found = whole_refused prefix rest whole refusal is found
+whole_fault prefix rest whole _ is found = tt
 
 -- ---- a line
 
 pub not_long : (n : ℕ) → n ≤ 512 → nat_lt 512 n ≡ false
 not_long n short = grind (arith, short)
 
-pub line_taken : (verbs : List Verb) (limits : Limits) (w : World) (line : ℕ) (bytes part behind : List ℕ) (event : Event) → BeginsWithLine bytes part behind → line_event verbs limits w part ≡ Ok event → rest_from verbs limits w line bytes ≡ followed (event ∷ []) (rest_from verbs limits (after_event w event) (line + 1) behind)
-line_taken verbs limits w line bytes part behind event begins is =
-    ap (rest_from verbs limits w line) begins.whole ∙ rest_from-line verbs limits w line part behind begins.one ∙ ap (λ r. or_refused line r (λ e. followed (e ∷ []) (rest_from verbs limits (after_event w e) (line + 1) behind))) is
+pub line_taken : (verbs : List Verb) (limits : Limits) (w : World) (line : ℕ) (bytes part suffix : List ℕ) (event : Event) → BeginsWithLine bytes part suffix → line_event verbs limits w part ≡ Ok event → rest_from verbs limits w line bytes ≡ followed (event ∷ []) (rest_from verbs limits (after_event w event) (line + 1) suffix)
+line_taken verbs limits w line bytes part suffix event begins is =
+    ap (rest_from verbs limits w line) begins.whole ∙ rest_from-line verbs limits w line part suffix begins.one ∙ ap (λ r. or_refused line r (λ e. followed (e ∷ []) (rest_from verbs limits (after_event w e) (line + 1) suffix))) is
 
-pub line_refused : (verbs : List Verb) (limits : Limits) (w : World) (line : ℕ) (bytes part behind : List ℕ) (why : Cause) → BeginsWithLine bytes part behind → line_event verbs limits w part ≡ Err why → rest_from verbs limits w line bytes ≡ Err (refused line why)
-line_refused verbs limits w line bytes part behind why begins is =
-    ap (rest_from verbs limits w line) begins.whole ∙ rest_from-line verbs limits w line part behind begins.one ∙ ap (λ r. or_refused line r (λ e. followed (e ∷ []) (rest_from verbs limits (after_event w e) (line + 1) behind))) is
+pub line_refused : (verbs : List Verb) (limits : Limits) (w : World) (line : ℕ) (bytes part suffix : List ℕ) (why : Cause) → BeginsWithLine bytes part suffix → line_event verbs limits w part ≡ Err why → rest_from verbs limits w line bytes ≡ Err (refused line why)
+line_refused verbs limits w line bytes part suffix why begins is =
+    ap (rest_from verbs limits w line) begins.whole ∙ rest_from-line verbs limits w line part suffix begins.one ∙ ap (λ r. or_refused line r (λ e. followed (e ∷ []) (rest_from verbs limits (after_event w e) (line + 1) suffix))) is
 
 -- ---- a line that is played
 
@@ -94,25 +94,25 @@ takes_read verbs Before After line (Ok event) result short is takes = takes_even
 takes_read verbs Before After line (Err why) result short is same = subst (TakesLine verbs Before After line) (sym same) (takes_none verbs Before After line why short is)
 
 -- the line's event was played, and the rest of the input comes after it
-pub line_played : (verbs : List Verb) (Before After : Plays) (line : ℕ) (part : List ℕ) (before behind : List ℕ → List ℕ) (known : Option (List ℕ)) (x : Unit {0}) → TakesLine verbs Before After part (Ok x) → ((bytes : List ℕ) → known ≡ Some bytes → BeginsWithLine (before bytes) part (behind bytes))
-    → NextGives verbs Before After line before behind known (Ok x)
-line_played verbs Before After line part before behind known x takes begins = λ limits events played running.
+pub line_played : (verbs : List Verb) (Before After : Plays) (line : ℕ) (part : List ℕ) (before suffix : List ℕ → List ℕ) (known : Option (List ℕ)) (x : Unit {0}) → TakesLine verbs Before After part (Ok x) → ((bytes : List ℕ) → known ≡ Some bytes → BeginsWithLine (before bytes) part (suffix bytes))
+    → NextGives verbs Before After line before suffix known (Ok x)
+line_played verbs Before After line part before suffix known x takes begins = λ limits events played running.
     let taken = takes limits events played running in
     record {
       event = taken.0;
       played = taken.2;
       few = taken.3;
-      read = λ bytes tells.
-          line_taken verbs limits (after events) line (before bytes) part (behind bytes) taken.0 (begins bytes tells) taken.1
-          ∙ ap (λ w. followed (taken.0 ∷ []) (rest_from verbs limits w (line + 1) (behind bytes))) (sym (after-push events taken.0));
+      read = λ bytes shows.
+          line_taken verbs limits (after events) line (before bytes) part (suffix bytes) taken.0 (begins bytes shows) taken.1
+          ∙ ap (λ w. followed (taken.0 ∷ []) (rest_from verbs limits w (line + 1) (suffix bytes))) (sym (after-push events taken.0));
     }
 
 -- the fault of a line is the fault of the rest
-pub line_faulted : (verbs : List Verb) (Before After : Plays) (line : ℕ) (part : List ℕ) (before behind : List ℕ → List ℕ) (known : Option (List ℕ)) (why : Fault Cause) (found : TraceFault) → IsTraceFault line why found → TakesLine verbs Before After part (Err why) → ((bytes : List ℕ) → known ≡ Some bytes → BeginsWithLine (before bytes) part (behind bytes))
-    → NextGives verbs Before After line before behind known (Err found)
-line_faulted verbs Before After line part before behind known (fault.Refused why) found at takes begins = λ limits events played running bytes tells.
-    rw at (line_refused verbs limits (after events) line (before bytes) part (behind bytes) why (begins bytes tells) (takes limits events played running))
-line_faulted verbs Before After line part before behind known (fault.NoMemory _) found at takes begins = λ limits events played running bytes tells. rw at tt
+pub line_faulted : (verbs : List Verb) (Before After : Plays) (line : ℕ) (part : List ℕ) (before suffix : List ℕ → List ℕ) (known : Option (List ℕ)) (why : Fault Cause) (found : TraceFault) → IsTraceFault line why found → TakesLine verbs Before After part (Err why) → ((bytes : List ℕ) → known ≡ Some bytes → BeginsWithLine (before bytes) part (suffix bytes))
+    → NextGives verbs Before After line before suffix known (Err found)
+line_faulted verbs Before After line part before suffix known (fault.Refused why) found at takes begins = λ limits events played running bytes shows.
+    rw at (line_refused verbs limits (after events) line (before bytes) part (suffix bytes) why (begins bytes shows) (takes limits events played running))
+line_faulted verbs Before After line part before suffix known (fault.NoMemory _) found at takes begins = λ limits events played running bytes shows. rw at tt
 
 -- ---- players of legal events
 
@@ -135,21 +135,21 @@ legally verbs Before After event (Err (fault.NoMemory _)) fits known takes = tt
 -- ---- an event line at the start of the buffered bytes
 
 -- it is the next line of the file
-pub front_begins : (old new : Reader) (event : Event) (count : ℕ) (bytes : List ℕ) → HasInFront old.held event count → new.held ≡ drop (count + 1) old.held → new.at ≡ old.at → BeginsWithLine (left old bytes) (spelling event) (left new bytes)
-front_begins old new event count bytes front held at =
-    let is_line = spelled_in_line event front.begins.fits in
+pub prefix_begins : (old new : Reader) (event : Event) (count : ℕ) (bytes : List ℕ) → BeginsBufferWith old.buffered event count → new.buffered ≡ drop (count + 1) old.buffered → new.at ≡ old.at → BeginsWithLine (left old bytes) (spelling event) (left new bytes)
+prefix_begins old new event count bytes prefix buffered at =
+    let is_line = spelled_in_line event prefix.begins.fits in
     record {
-      whole = rw (held, at) (ap (λ bs. bs ++ drop old.at bytes) front.begins.whole ∙ append_assoc (spelling event) (10 ∷ drop (count + 1) old.held) (drop old.at bytes));
+      whole = rw (buffered, at) (ap (λ bs. bs ++ drop old.at bytes) prefix.begins.whole ∙ append_assoc (spelling event) (10 ∷ drop (count + 1) old.buffered) (drop old.at bytes));
       short = is_line.short;
       one = λ k below. is_line.one k below;
     }
 
 -- and it plays the line's event
-pub front_takes : (version : Version) (Before After : Plays) (held : List ℕ) (event : Event) (count : ℕ) (result : Result (Unit {0}) (Fault Cause)) → HasInFront held event count → PlayerTakes Before After event result → TakesLine (verbs_of version) (Legally (verbs_of version) Before) (Legally (verbs_of version) After) (spelling event) result
-front_takes version Before After held event count result front takes =
+pub prefix_takes : (version : Version) (Before After : Plays) (buffered : List ℕ) (event : Event) (count : ℕ) (result : Result (Unit {0}) (Fault Cause)) → BeginsBufferWith buffered event count → PlayerTakes Before After event result → TakesLine (verbs_of version) (Legally (verbs_of version) Before) (Legally (verbs_of version) After) (spelling event) result
+prefix_takes version Before After buffered event count result prefix takes =
     let verbs = verbs_of version in
-    let known = known_still version event front.begins.known in
-    takes_event verbs (Legally verbs Before) (Legally verbs After) (spelling event) event result (spelled_in_line event front.begins.fits).short ((reads_spelled verbs (spelling event) event).1 (front.begins.fits, known, refl)) (legally verbs Before After event result front.begins.fits known takes)
+    let known = known_still version event prefix.begins.known in
+    takes_event verbs (Legally verbs Before) (Legally verbs After) (spelling event) event result (spelled_in_line event prefix.begins.fits).short ((reads_spelled verbs (spelling event) event).1 (prefix.begins.fits, known, refl)) (legally verbs Before After event result prefix.begins.fits known takes)
 
 -- ---- the end of the input before the end of the trace
 
@@ -171,7 +171,7 @@ none_left verbs limits w line bytes is running =
 pub long_cut : (bytes : List ℕ) (c : Cut 10 bytes) → IsTooLong bytes → 513 ≤ length c.line
 long_cut bytes c is =
     let case : (513 ≤ length c.line) ⊎ (length c.line < 513) = grind arith in
-    ⊎_elim (λ long. long) (λ short. absurd (is.none (length c.line) short (ap (λ bs. get_or bs (length c.line) 0) c.whole ∙ get_or-append_seam c.line 10 c.behind 0))) case
+    ⊎_elim (λ long. long) (λ short. absurd (is.none (length c.line) short (ap (λ bs. get_or bs (length c.line) 0) c.whole ∙ get_or-append_seam c.line 10 c.suffix 0))) case
 
 too_long : (ended : Bool) (n : ℕ) (read : Result Event Cause) → ended ≡ false → 513 ≤ n → (if ended then Err cause.AfterEnd else if nat_lt 512 n then Err cause.LineTooLong else read) ≡ Err cause.LineTooLong
 too_long ended n read running long = grind (arith, running, long)
@@ -184,8 +184,8 @@ unfolding rest_cause line_event
 long_line verbs limits w line bytes is running = ⊎_elim
     (λ none. rest_from-rest verbs limits w line bytes none ∙ ap (at_end line) (rest_too_long w.ended (length bytes) running is.long))
     (λ (c : Cut 10 bytes).
-    ap (rest_from verbs limits w line) c.whole ∙ rest_from-line verbs limits w line c.line c.behind c.none
-    ∙ ap (λ r. or_refused line r (λ e. followed (e ∷ []) (rest_from verbs limits (after_event w e) (line + 1) c.behind))) (too_long w.ended (length c.line) _ running (long_cut bytes c is)))
+    ap (rest_from verbs limits w line) c.whole ∙ rest_from-line verbs limits w line c.line c.suffix c.none
+    ∙ ap (λ r. or_refused line r (λ e. followed (e ∷ []) (rest_from verbs limits (after_event w e) (line + 1) c.suffix))) (too_long w.ended (length c.line) _ running (long_cut bytes c is)))
     (cut 10 bytes)
 
 -- ---- a line that isn't read
@@ -215,43 +215,43 @@ unfolding rest_cause line_event
 after_end verbs limits w line bytes some ended = ⊎_elim
     (λ none. rest_from-rest verbs limits w line bytes none ∙ ap (at_end line) (ended_rest w.ended (length bytes) ended (some_left bytes some)))
     (λ (c : Cut 10 bytes).
-    ap (rest_from verbs limits w line) c.whole ∙ rest_from-line verbs limits w line c.line c.behind c.none
-    ∙ ap (λ r. or_refused line r (λ e. followed (e ∷ []) (rest_from verbs limits (after_event w e) (line + 1) c.behind))) (ended_line w.ended (nat_lt 512 (length c.line)) _ ended))
+    ap (rest_from verbs limits w line) c.whole ∙ rest_from-line verbs limits w line c.line c.suffix c.none
+    ∙ ap (λ r. or_refused line r (λ e. followed (e ∷ []) (rest_from verbs limits (after_event w e) (line + 1) c.suffix))) (ended_line w.ended (nat_lt 512 (length c.line)) _ ended))
     (cut 10 bytes)
 
 -- all events were read
-pub all_read : (verbs : List Verb) (front : List Event) (limits : Limits) (w : World) (line : ℕ) (bytes : List ℕ) (whole : Events) → followed front (rest_from verbs limits w line bytes) ≡ whole → bytes ≡ [] → w.ended ≡ true → whole ≡ Ok front
-all_read verbs front limits w line bytes whole is none ended =
-    sym is ∙ ap (λ bs. followed front (rest_from verbs limits w line bs)) none ∙ ap (followed front) (nothing_left verbs limits w line ended) ∙ ap (λ es. let r : Events = Ok es in r) (append-nil front)
+pub all_read : (verbs : List Verb) (prefix : List Event) (limits : Limits) (w : World) (line : ℕ) (bytes : List ℕ) (whole : Events) → followed prefix (rest_from verbs limits w line bytes) ≡ whole → bytes ≡ [] → w.ended ≡ true → whole ≡ Ok prefix
+all_read verbs prefix limits w line bytes whole is none ended =
+    sym is ∙ ap (λ bs. followed prefix (rest_from verbs limits w line bs)) none ∙ ap (followed prefix) (nothing_left verbs limits w line ended) ∙ ap (λ es. let r : Events = Ok es in r) (append-nil prefix)
 
 -- ---- all lines
 
 -- after the `end` line: all events were played, or the fault there is the trace's
-pub closes : (verbs : List Verb) (Played : Plays) (limits : Limits) (events : List Event) (line : ℕ) (before behind : List ℕ → List ℕ) (known : Option (List ℕ)) (result : Result (Unit {0}) TraceFault) → Played limits events → (after events).ended ≡ true
-    → ((bytes : List ℕ) → known ≡ Some bytes → followed events (rest_from verbs limits (after events) line (behind bytes)) ≡ rest_from verbs limits first_world 2 (before bytes))
-    → ((bytes : List ℕ) → known ≡ Some bytes → TailGives line (behind bytes) result) → RestGives verbs Played limits before known result
-closes verbs Played limits events line before behind known (Ok x) played ended read tail = record {
+pub closes : (verbs : List Verb) (Played : Plays) (limits : Limits) (events : List Event) (line : ℕ) (before suffix : List ℕ → List ℕ) (known : Option (List ℕ)) (result : Result (Unit {0}) TraceFault) → Played limits events → (after events).ended ≡ true
+    → ((bytes : List ℕ) → known ≡ Some bytes → followed events (rest_from verbs limits (after events) line (suffix bytes)) ≡ rest_from verbs limits first_world 2 (before bytes))
+    → ((bytes : List ℕ) → known ≡ Some bytes → TailGives line (suffix bytes) result) → RestGives verbs Played limits before known result
+closes verbs Played limits events line before suffix known (Ok x) played ended read tail = record {
   events = events;
   played = played;
   ended = ended;
-  read = λ bytes tells. all_read verbs events limits (after events) line (behind bytes) (rest_from verbs limits first_world 2 (before bytes)) (read bytes tells) (tail bytes tells) ended;
+  read = λ bytes shows. all_read verbs events limits (after events) line (suffix bytes) (rest_from verbs limits first_world 2 (before bytes)) (read bytes shows) (tail bytes shows) ended;
 }
-closes verbs Played limits events line before behind known (Err (Refused refusal)) played ended read tail = λ bytes tells.
-    let found = tail bytes tells in
-    whole_refused events (rest_from verbs limits (after events) line (behind bytes)) (rest_from verbs limits first_world 2 (before bytes)) refusal (read bytes tells)
-    (after_end verbs limits (after events) line (behind bytes) found.0 ended ∙ ap (λ r. let e : Events = Err r in e) (sym found.1))
-closes verbs Played limits events line before behind known (Err NoFile) played ended read tail = λ bytes tells. tt
-closes verbs Played limits events line before behind known (Err ReadFault) played ended read tail = λ bytes tells. tt
-closes verbs Played limits events line before behind known (Err (NoMemory _)) played ended read tail = λ bytes tells. tt
+closes verbs Played limits events line before suffix known (Err (Refused refusal)) played ended read tail = λ bytes shows.
+    let found = tail bytes shows in
+    whole_refused events (rest_from verbs limits (after events) line (suffix bytes)) (rest_from verbs limits first_world 2 (before bytes)) refusal (read bytes shows)
+    (after_end verbs limits (after events) line (suffix bytes) found.0 ended ∙ ap (λ r. let e : Events = Err r in e) (sym found.1))
+closes verbs Played limits events line before suffix known (Err NoFile) played ended read tail = λ bytes shows. tt
+closes verbs Played limits events line before suffix known (Err ReadFault) played ended read tail = λ bytes shows. tt
+closes verbs Played limits events line before suffix known (Err (NoMemory _)) played ended read tail = λ bytes shows. tt
 
 -- a player before the line with this number: the events that it has played, none of them the end,
 -- and the rest of the input
-pub record SoFar (verbs : List Verb) (Played : Plays) (limits : Limits) (line : ℕ) (before behind : List ℕ → List ℕ) (known : Option (List ℕ)) : Type 0 where
+pub record SoFar (verbs : List Verb) (Played : Plays) (limits : Limits) (line : ℕ) (before suffix : List ℕ → List ℕ) (known : Option (List ℕ)) : Type 0 where
   pub events : List Event
   pub played : Played limits events
   pub counted : length events + 2 ≡ line
   pub running : (after events).ended ≡ false
-  pub read : (bytes : List ℕ) → known ≡ Some bytes → followed events (rest_from verbs limits (after events) line (behind bytes)) ≡ rest_from verbs limits first_world 2 (before bytes)
+  pub read : (bytes : List ℕ) → known ≡ Some bytes → followed events (rest_from verbs limits (after events) line (suffix bytes)) ≡ rest_from verbs limits first_world 2 (before bytes)
 
 -- before the first line after the header
 pub none_so_far : (verbs : List Verb) (Played : Plays) (limits : Limits) (line : ℕ) (before : List ℕ → List ℕ) (known : Option (List ℕ)) → Played limits [] → line ≡ 2 → SoFar verbs Played limits line before before known
@@ -260,69 +260,69 @@ none_so_far verbs Played limits line before known played is = record {
   played = played;
   counted = sym is;
   running = refl;
-  read = λ bytes tells. rw is (followed-none (rest_from verbs limits first_world 2 (before bytes)));
+  read = λ bytes shows. rw is (followed-none (rest_from verbs limits first_world 2 (before bytes)));
 }
 
 -- one more event, before the line with this number
-pub record OneMore (verbs : List Verb) (Played : Plays) (limits : Limits) (line : ℕ) (before behind : List ℕ → List ℕ) (known : Option (List ℕ)) : Type 0 where
+pub record OneMore (verbs : List Verb) (Played : Plays) (limits : Limits) (line : ℕ) (before suffix : List ℕ → List ℕ) (known : Option (List ℕ)) : Type 0 where
   pub events : List Event
   pub played : Played limits events
   pub counted : length events + 2 ≡ line
   pub few : line ≤ 4000002
-  pub read : (bytes : List ℕ) → known ≡ Some bytes → followed events (rest_from verbs limits (after events) line (behind bytes)) ≡ rest_from verbs limits first_world 2 (before bytes)
+  pub read : (bytes : List ℕ) → known ≡ Some bytes → followed events (rest_from verbs limits (after events) line (suffix bytes)) ≡ rest_from verbs limits first_world 2 (before bytes)
 
-pub one_more : (verbs : List Verb) (Before After : Plays) (limits : Limits) (line next_line : ℕ) (before behind later : List ℕ → List ℕ) (known : Option (List ℕ)) (x : Unit {0}) → next_line ≡ line + 1 → SoFar verbs Before limits line before behind known → NextGives verbs Before After line behind later known (Ok x) → OneMore verbs After limits next_line before later known
-one_more verbs Before After limits line next_line before behind later known x is so next =
+pub one_more : (verbs : List Verb) (Before After : Plays) (limits : Limits) (line next_line : ℕ) (before suffix later : List ℕ → List ℕ) (known : Option (List ℕ)) (x : Unit {0}) → next_line ≡ line + 1 → SoFar verbs Before limits line before suffix known → NextGives verbs Before After line suffix later known (Ok x) → OneMore verbs After limits next_line before later known
+one_more verbs Before After limits line next_line before suffix later known x is so next =
     let p = next limits so.events so.played so.running in
     record {
       events = so.events ++ p.event ∷ [];
       played = p.played;
       counted = omega (arith, is, length-append so.events (p.event ∷ []), so.counted);
       few = omega (arith, is, p.few, so.counted);
-      read = λ bytes tells.
-          rw is (push_read so.events p.event (rest_from verbs limits (after so.events) line (behind bytes)) (rest_from verbs limits (after (so.events ++ p.event ∷ [])) (line + 1) (later bytes)) (rest_from verbs limits first_world 2 (before bytes)) (so.read bytes tells) (p.read bytes tells));
+      read = λ bytes shows.
+          rw is (push_read so.events p.event (rest_from verbs limits (after so.events) line (suffix bytes)) (rest_from verbs limits (after (so.events ++ p.event ∷ [])) (line + 1) (later bytes)) (rest_from verbs limits first_world 2 (before bytes)) (so.read bytes shows) (p.read bytes shows));
     }
 
 -- the end isn't among them
-pub goes_on : (verbs : List Verb) (Played : Plays) (limits : Limits) (line : ℕ) (before behind : List ℕ → List ℕ) (known : Option (List ℕ)) (ended : Bool) → OneMore verbs Played limits line before behind known
-    → ((limits : Limits) (events : List Event) → Played limits events → ended ≡ (after events).ended) → ended ≡ false → SoFar verbs Played limits line before behind known
-goes_on verbs Played limits line before behind known ended one told running = record {
+pub goes_on : (verbs : List Verb) (Played : Plays) (limits : Limits) (line : ℕ) (before suffix : List ℕ → List ℕ) (known : Option (List ℕ)) (ended : Bool) → OneMore verbs Played limits line before suffix known
+    → ((limits : Limits) (events : List Event) → Played limits events → ended ≡ (after events).ended) → ended ≡ false → SoFar verbs Played limits line before suffix known
+goes_on verbs Played limits line before suffix known ended one reported running = record {
   events = one.events;
   played = one.played;
   counted = one.counted;
-  running = sym (told limits one.events one.played) ∙ running;
+  running = sym (reported limits one.events one.played) ∙ running;
   read = one.read;
 }
 
-pub ends_here : (verbs : List Verb) (Played : Plays) (limits : Limits) (line : ℕ) (before behind : List ℕ → List ℕ) (known : Option (List ℕ)) (ended : Bool) (result : Result (Unit {0}) TraceFault) → OneMore verbs Played limits line before behind known
+pub ends_here : (verbs : List Verb) (Played : Plays) (limits : Limits) (line : ℕ) (before suffix : List ℕ → List ℕ) (known : Option (List ℕ)) (ended : Bool) (result : Result (Unit {0}) TraceFault) → OneMore verbs Played limits line before suffix known
     → ((limits : Limits) (events : List Event) → Played limits events → ended ≡ (after events).ended) → ended ≡ true
-    → ((bytes : List ℕ) → known ≡ Some bytes → TailGives line (behind bytes) result) → RestGives verbs Played limits before known result
-ends_here verbs Played limits line before behind known ended result one told over tail =
-    closes verbs Played limits one.events line before behind known result one.played (sym (told limits one.events one.played) ∙ over) one.read tail
+    → ((bytes : List ℕ) → known ≡ Some bytes → TailGives line (suffix bytes) result) → RestGives verbs Played limits before known result
+ends_here verbs Played limits line before suffix known ended result one reported over tail =
+    closes verbs Played limits one.events line before suffix known result one.played (sym (reported limits one.events one.played) ∙ over) one.read tail
 
 -- a fault of the next line is the trace's
-pub faults_here : (verbs : List Verb) (Before After Whole : Plays) (limits : Limits) (line : ℕ) (before behind later : List ℕ → List ℕ) (known : Option (List ℕ)) (found : TraceFault) → SoFar verbs Before limits line before behind known → NextGives verbs Before After line behind later known (Err found) → RestGives verbs Whole limits before known (Err found)
-faults_here verbs Before After Whole limits line before behind later known found so next = λ bytes tells.
-    whole_fault so.events (rest_from verbs limits (after so.events) line (behind bytes)) (rest_from verbs limits first_world 2 (before bytes)) found (so.read bytes tells) (next limits so.events so.played so.running bytes tells)
+pub faults_here : (verbs : List Verb) (Before After Whole : Plays) (limits : Limits) (line : ℕ) (before suffix later : List ℕ → List ℕ) (known : Option (List ℕ)) (found : TraceFault) → SoFar verbs Before limits line before suffix known → NextGives verbs Before After line suffix later known (Err found) → RestGives verbs Whole limits before known (Err found)
+faults_here verbs Before After Whole limits line before suffix later known found so next = λ bytes shows.
+    whole_fault so.events (rest_from verbs limits (after so.events) line (suffix bytes)) (rest_from verbs limits first_world 2 (before bytes)) found (so.read bytes shows) (next limits so.events so.played so.running bytes shows)
 
 -- ---- the trace
 
-pub trace_played : (number : ℕ) (Played : Plays) (tick cpus : ℕ) (named behind : List ℕ → List ℕ) (known : Option (List ℕ)) (x : Unit {0}) → IsVersion number → IsCpuCount cpus
-    → ((bytes : List ℕ) → known ≡ Some bytes → trace_of (accepts_with versions tick) bytes ≡ with_events (header_with number cpus) (rest_from (verbs_in number) (limits_of tick cpus) first_world 2 (behind bytes)))
-    → RestGives (verbs_in number) (Legally (verbs_in number) Played) (limits_of tick cpus) behind known (Ok x) → TracePlayed Played number tick known
-trace_played number Played tick cpus named behind known x numbered counted headed rest = record {
+pub trace_played : (number : ℕ) (Played : Plays) (tick cpus : ℕ) (named suffix : List ℕ → List ℕ) (known : Option (List ℕ)) (x : Unit {0}) → IsVersion number → IsCpuCount cpus
+    → ((bytes : List ℕ) → known ≡ Some bytes → trace_of (accepts_with versions tick) bytes ≡ with_events (header_with number cpus) (rest_from (verbs_in number) (limits_of tick cpus) first_world 2 (suffix bytes)))
+    → RestGives (verbs_in number) (Legally (verbs_in number) Played) (limits_of tick cpus) suffix known (Ok x) → TracePlayed Played number tick known
+trace_played number Played tick cpus named suffix known x numbered counted headed rest = record {
   numbered = numbered;
   cpus = cpus;
   counted = counted;
   events = rest.events;
   played = rest.played.0;
-  told = rest.played.2;
+  known_verbs = rest.played.2;
   accepted = record {
     fit = rest.played.1;
     legal = rest.played.3;
     ends = last_end (limits_of tick cpus) first_world rest.events refl rest.played.3 rest.ended;
   };
-  read = λ bytes tells. headed bytes tells ∙ ap (with_events (header_with number cpus)) (rest.read bytes tells);
+  read = λ bytes shows. headed bytes shows ∙ ap (with_events (header_with number cpus)) (rest.read bytes shows);
 }
 
 -- ---- what players of legal events read

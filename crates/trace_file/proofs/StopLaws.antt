@@ -2,7 +2,7 @@
 use Rattle.std.proofs.Common.{◌≡◌, ℕ, ◌+◌, ◌-◌, ◌≤◌, List, [], ◌∷◌, length, refl, sym, ap, ◌∙◌, subst, arith, Bool}
 use Rattle.std.specs.Prelude.{Option, None, Some, Result, Ok, Err, IsErrOf}
 use Rattle.std.specs.Borrow.{Bor}
-use Rattle.outside.specs.Outside.{Files, told}
+use Rattle.outside.specs.Outside.{Files, content_of}
 use Rattle.psi_base.specs.declared.event.Event.{Event}
 use Rattle.psi_base.specs.declared.event.Cause.{Cause}
 use Rattle.psi_base.specs.declared.event.Cause.TheVariants as cause
@@ -32,9 +32,9 @@ at_end-line line (Some why) refusal is =
     let number = ap (λ (r : Refusal). r.line) same in
     omega (arith, number)
 
-followed-err : (front : List Event) (rest : Events) (refusal : Refusal) → followed front rest ≡ Err refusal → rest ≡ Err refusal
-followed-err front (Ok events) refusal is = absurd (cc is)
-followed-err front (Err why) refusal is = is
+followed-err : (prefix : List Event) (rest : Events) (refusal : Refusal) → followed prefix rest ≡ Err refusal → rest ≡ Err refusal
+followed-err prefix (Ok events) refusal is = absurd (cc is)
+followed-err prefix (Err why) refusal is = is
 
 or_refused-line : (line : ℕ) (read : Result Event Cause) (next : Event → Events) (refusal : Refusal) → ((event : Event) → next event ≡ Err refusal → line ≤ refusal.line) → or_refused line read next ≡ Err refusal → line ≤ refusal.line
 or_refused-line line (Ok event) next refusal later is = later event is
@@ -127,31 +127,31 @@ err_same : {A : Type 0} (found other : TraceFault) → (let r : Result A TraceFa
 err_same found other is = cc is
 
 -- the number of remaining lines, from the result for a borrowed line
-keeps_lines : {A : Type 0} (files : Option Files) (given given_now : ℕ) (old new : Reader) (lent : Result (Option (Bor (List ℕ))) LineFault) (result : Result A TraceFault) → LendsLine files given given_now old new lent → (IsErrOf result ReadFault → lent ≡ Err lines.ReadFault)
-    → ((refusal : Refusal) → IsErrOf result (Refused refusal) → refusal.line ≡ old.number) → KeepsLines (told files old.name) old new result
-keeps_lines files given given_now old new lent result lends only at = record {
-  lines = λ bytes tells. lines_stay bytes old new (lent_line old.number lent) (lends.line bytes tells) lends.number;
-  failed = λ is. let from = only is in (rw from at lends.number, λ bytes tells. let found = rw from at (lends.line bytes tells) in found.1);
+keeps_lines : {A : Type 0} (files : Option Files) (bytes_read read_now : ℕ) (old new : Reader) (lent : Result (Option (Bor (List ℕ))) LineFault) (result : Result A TraceFault) → LendsLine files bytes_read read_now old new lent → (IsErrOf result ReadFault → lent ≡ Err lines.ReadFault)
+    → ((refusal : Refusal) → IsErrOf result (Refused refusal) → refusal.line ≡ old.number) → KeepsLines (content_of files old.name) old new result
+keeps_lines files bytes_read read_now old new lent result lends only at = record {
+  lines = λ bytes shows. lines_stay bytes old new (lent_line old.number lent) (lends.line bytes shows) lends.number;
+  failed = λ is. let from = only is in (rw from at lends.number, λ bytes shows. let found = rw from at (lends.line bytes shows) in found.1);
   refused = at;
 }
 
 -- if the line was consumed
-pub taken_keeps : {A : Type 0} (files : Option Files) (given given_now : ℕ) (old new : Reader) (lent : Result (Option (Bor (List ℕ))) LineFault) (x : A) → LendsLine files given given_now old new lent → KeepsLines (told files old.name) old new (Ok x)
-taken_keeps files given given_now old new lent x lends = keeps_lines files given given_now old new lent (Ok x) lends (λ is. absurd (cc is)) (λ refusal is. absurd (cc is))
+pub taken_keeps : {A : Type 0} (files : Option Files) (bytes_read read_now : ℕ) (old new : Reader) (lent : Result (Option (Bor (List ℕ))) LineFault) (x : A) → LendsLine files bytes_read read_now old new lent → KeepsLines (content_of files old.name) old new (Ok x)
+taken_keeps files bytes_read read_now old new lent x lends = keeps_lines files bytes_read read_now old new lent (Ok x) lends (λ is. absurd (cc is)) (λ refusal is. absurd (cc is))
 
 -- if the line was read, and rejected
-pub faulted_keeps : {A : Type 0} (files : Option Files) (given given_now : ℕ) (old new : Reader) (lent : Result (Option (Bor (List ℕ))) LineFault) (line : ℕ) (why : Fault Cause) (found : TraceFault) → LendsLine files given given_now old new lent → line ≡ old.number → IsTraceFault line why found
-    → KeepsLines {A = A} (told files old.name) old new (Err found)
-faulted_keeps files given given_now old new lent line why found lends at faults =
-    keeps_lines files given given_now old new lent (Err found) lends
+pub faulted_keeps : {A : Type 0} (files : Option Files) (bytes_read read_now : ℕ) (old new : Reader) (lent : Result (Option (Bor (List ℕ))) LineFault) (line : ℕ) (why : Fault Cause) (found : TraceFault) → LendsLine files bytes_read read_now old new lent → line ≡ old.number → IsTraceFault line why found
+    → KeepsLines {A = A} (content_of files old.name) old new (Err found)
+faulted_keeps files bytes_read read_now old new lent line why found lends at faults =
+    keeps_lines files bytes_read read_now old new lent (Err found) lends
     (λ is. absurd (line_was_read line why found faults (err_same found ReadFault is)))
     (λ refusal is. line_number line why found refusal faults (err_same found (Refused refusal) is) ∙ at)
 
 -- if the line wasn't read
-pub unread_keeps : {A : Type 0} (files : Option Files) (given given_now : ℕ) (old new : Reader) (lent : Result (Option (Bor (List ℕ))) LineFault) (why : LineFault) (cut : Cause) (found : TraceFault) → LendsLine files given given_now old new lent → lent ≡ Err why → IsNumbered old.number (lent_line old.number lent) → found ≡ trace_fault cut why
-    → KeepsLines {A = A} (told files old.name) old new (Err found)
-unread_keeps files given given_now old new lent why cut found lends is numbered from =
-    keeps_lines files given given_now old new lent (Err found) lends
+pub unread_keeps : {A : Type 0} (files : Option Files) (bytes_read read_now : ℕ) (old new : Reader) (lent : Result (Option (Bor (List ℕ))) LineFault) (why : LineFault) (cut : Cause) (found : TraceFault) → LendsLine files bytes_read read_now old new lent → lent ≡ Err why → IsNumbered old.number (lent_line old.number lent) → found ≡ trace_fault cut why
+    → KeepsLines {A = A} (content_of files old.name) old new (Err found)
+unread_keeps files bytes_read read_now old new lent why cut found lends is numbered from =
+    keeps_lines files bytes_read read_now old new lent (Err found) lends
     (λ read. same_fault lent why is (read_failed cut why (sym from ∙ err_same found ReadFault read)))
     (λ refusal refuses. fault_number old.number cut why refusal (rw is at numbered) (sym from ∙ err_same found (Refused refusal) refuses))
 
@@ -159,7 +159,7 @@ unread_keeps files given given_now old new lent why cut found lends is numbered 
 passes_line : {A : Type 0} (known : Option (List ℕ)) (old new : Reader) (part : List ℕ) (result : Result A TraceFault) → ((bytes : List ℕ) → known ≡ Some bytes → BeginsWithLine (left old bytes) part (left new bytes)) → new.number ≡ old.number + 1 → (IsErrOf result ReadFault → ⊥)
     → ((refusal : Refusal) → IsErrOf result (Refused refusal) → refusal.line ≡ old.number) → KeepsLines known old new result
 passes_line known old new part result begins number never at = record {
-  lines = λ bytes tells. let one = count-line (left old bytes) part (left new bytes) (begins bytes tells) in omega (arith, one, number);
+  lines = λ bytes shows. let one = count-line (left old bytes) part (left new bytes) (begins bytes shows) in omega (arith, one, number);
   failed = λ is. absurd (never is);
   refused = at;
 }
@@ -174,22 +174,22 @@ passed_faulted known old new part why found begins number faults =
     (λ is. line_was_read old.number why found faults (err_same found ReadFault is))
     (λ refusal is. line_number old.number why found refusal faults (err_same found (Refused refusal) is))
 
-no_newline : (held : List ℕ) → held ≡ [] → HasNoNewline held (length held)
-no_newline held none = rw none (λ k below. absurd (omega (arith, below)))
+no_newline : (buffered : List ℕ) → buffered ≡ [] → HasNoNewline buffered (length buffered)
+no_newline buffered none = rw none (λ k below. absurd (omega (arith, below)))
 
 -- a look after the end consumes no line
-pub look_keeps : {A : Type 0} (known : Option (List ℕ)) (old new : Reader) (result : Result A TraceFault) → ((bytes : List ℕ) → known ≡ Some bytes → left new bytes ≡ left old bytes) → new.number ≡ old.number → (IsErrOf result ReadFault → new.held ≡ [])
+pub look_keeps : {A : Type 0} (known : Option (List ℕ)) (old new : Reader) (result : Result A TraceFault) → ((bytes : List ℕ) → known ≡ Some bytes → left new bytes ≡ left old bytes) → new.number ≡ old.number → (IsErrOf result ReadFault → new.buffered ≡ [])
     → ((refusal : Refusal) → IsErrOf result (Refused refusal) → refusal.line ≡ old.number) → KeepsLines known old new result
 look_keeps known old new result same number none at = record {
-  lines = λ bytes tells. rw (number, same bytes tells) refl;
-  failed = λ is. (number, λ bytes tells. no_newline new.held (none is));
+  lines = λ bytes shows. rw (number, same bytes shows) refl;
+  failed = λ is. (number, λ bytes shows. no_newline new.buffered (none is));
   refused = at;
 }
 
 -- the same for the bytes that were known before
-pub known_keeps : {A : Type 0} (files files_now : Option Files) (name name_now : List ℕ) (old new : Reader) (result : Result A TraceFault) → files_now ≡ files → name_now ≡ name → KeepsLines (told files_now name_now) old new result → KeepsLines (told files name) old new result
+pub known_keeps : {A : Type 0} (files files_now : Option Files) (name name_now : List ℕ) (old new : Reader) (result : Result A TraceFault) → files_now ≡ files → name_now ≡ name → KeepsLines (content_of files_now name_now) old new result → KeepsLines (content_of files name) old new result
 known_keeps files files_now name name_now old new result same named keeps =
-    subst (λ n. KeepsLines (told files n) old new result) named (subst (λ f. KeepsLines (told f name_now) old new result) same keeps)
+    subst (λ n. KeepsLines (content_of files n) old new result) named (subst (λ f. KeepsLines (content_of f name_now) old new result) same keeps)
 
 -- ---- all lines
 
@@ -198,19 +198,19 @@ later_refusal : (verbs : List Verb) (limits : Limits) (events : List Event) (lin
 later_refusal verbs limits events line bytes whole refusal is refused = from_line verbs limits (after events) line _ refusal (followed-err events _ refusal (is ∙ refused))
 
 -- reading stops at the line that a reader has reached
-pub stops_here : {A : Type 0} (verbs : List Verb) (limits : Limits) (events : List Event) (known : Option (List ℕ)) (first old new : Reader) (given given_old given_now : ℕ) (result : Result A TraceFault) → given_old + first.at ≡ given + old.at → given_now + old.at ≡ given_old + new.at → new.at ≤ furthest old.number
+pub stops_here : {A : Type 0} (verbs : List Verb) (limits : Limits) (events : List Event) (known : Option (List ℕ)) (first old new : Reader) (bytes_read read_before read_now : ℕ) (result : Result A TraceFault) → read_before + first.at ≡ bytes_read + old.at → read_now + old.at ≡ read_before + new.at → new.at ≤ furthest old.number
     → ((bytes : List ℕ) → known ≡ Some bytes → old.number + line_count (left old bytes) ≡ first.number + line_count (left first bytes))
     → ((bytes : List ℕ) → known ≡ Some bytes → followed events (rest_from verbs limits (after events) old.number (left old bytes)) ≡ rest_from verbs limits first_world 2 (left first bytes))
-    → KeepsLines known old new result → StopsReading known first new given given_now (λ bytes. rest_from verbs limits first_world 2 (left first bytes)) result
-stops_here verbs limits events known first old new given given_old given_now result before counted place stay read keeps = record {
+    → KeepsLines known old new result → StopsReading known first new bytes_read read_now (λ bytes. rest_from verbs limits first_world 2 (left first bytes)) result
+stops_here verbs limits events known first old new bytes_read read_before read_now result before counted place stay read keeps = record {
   counted = omega (arith, before, counted);
   refused = λ refusal is. let at = keeps.refused refusal is in rw at place;
-  failed = λ is bytes tells.
+  failed = λ is bytes shows.
       let here = keeps.failed is in
       record {
-        lines = keeps.lines bytes tells ∙ stay bytes tells;
-        none = here.1 bytes tells;
-        later = λ refusal refused. rw here.0 (later_refusal verbs limits events old.number (left old bytes) (rest_from verbs limits first_world 2 (left first bytes)) refusal (read bytes tells) refused);
+        lines = keeps.lines bytes shows ∙ stay bytes shows;
+        none = here.1 bytes shows;
+        later = λ refusal refused. rw here.0 (later_refusal verbs limits events old.number (left old bytes) (rest_from verbs limits first_world 2 (left first bytes)) refusal (read bytes shows) refused);
       };
 }
 
@@ -218,48 +218,48 @@ stops_here verbs limits events known first old new given given_old given_now res
 
 -- a reader before the first line of a name
 abbrev pub fresh_reader : List ℕ → Reader
-fresh_reader name = record { name = name; number = 1; held = []; at = 0 }
+fresh_reader name = record { name = name; number = 1; buffered = []; at = 0 }
 
 -- reading stopped at the header
-pub head_stops : {A : Type 0} (B : Type 0) (tick : ℕ) (known : List ℕ → Option (List ℕ)) (name : List ℕ) (old new : Reader) (given given_now : ℕ) (found : TraceFault) → old ≡ fresh_reader name → given_now + old.at ≡ given + new.at → new.at ≤ furthest old.number → KeepsLines {A = A} (known old.name) old new (Err found)
-    → StopsAtRefusal {A = B} tick (known name) given given_now (Err found)
-head_stops B tick known name old new given given_now (Refused refusal) fresh counted place keeps =
+pub head_stops : {A : Type 0} (B : Type 0) (tick : ℕ) (known : List ℕ → Option (List ℕ)) (name : List ℕ) (old new : Reader) (bytes_read read_now : ℕ) (found : TraceFault) → old ≡ fresh_reader name → read_now + old.at ≡ bytes_read + new.at → new.at ≤ furthest old.number → KeepsLines {A = A} (known old.name) old new (Err found)
+    → StopsAtRefusal {A = B} tick (known name) bytes_read read_now (Err found)
+head_stops B tick known name old new bytes_read read_now (Refused refusal) fresh counted place keeps =
     let start : old.at ≡ 0 = ap (λ (r : Reader). r.at) fresh in
     let at = keeps.refused refusal refl in
     rw at (omega (arith, counted, place, start))
-head_stops B tick known name old new given given_now NoFile fresh counted place keeps = tt
-head_stops B tick known name old new given given_now ReadFault fresh counted place keeps = λ bytes refusal tells is.
+head_stops B tick known name old new bytes_read read_now NoFile fresh counted place keeps = tt
+head_stops B tick known name old new bytes_read read_now ReadFault fresh counted place keeps = λ bytes refusal shows is.
     let first : old.number ≡ 1 = ap (λ (r : Reader). r.number) fresh in
     let start : old.at ≡ 0 = ap (λ (r : Reader). r.at) fresh in
     let named : old.name ≡ name = ap (λ (r : Reader). r.name) fresh in
     let here = keeps.failed refl in
-    let known_here : known old.name ≡ Some bytes = ap known named ∙ tells in
+    let known_here : known old.name ≡ Some bytes = ap known named ∙ shows in
     let all : left old bytes ≡ bytes = rw fresh refl in
     let whole = ap line_count all in
     let stay = keeps.lines bytes known_here in
     let count = lines_read bytes new (omega (arith, stay, whole, first)) (here.1 bytes known_here) in
     let later = trace-line (accepts_with versions tick) bytes refusal is in
-    let total : given_now - given ≡ new.at = omega (arith, counted, start) in
+    let total : read_now - bytes_read ≡ new.at = omega (arith, counted, start) in
     let number = here.0 in
     rw total (omega (arith, count, number, first, later))
-head_stops B tick known name old new given given_now (NoMemory none) fresh counted place keeps = tt
+head_stops B tick known name old new bytes_read read_now (NoMemory none) fresh counted place keeps = tt
 
 -- or after it
-pub rest_stops : {A B : Type 0} (C : Type 0) (tick : ℕ) (known : List ℕ → Option (List ℕ)) (name : List ℕ) (old middle new : Reader) (given given_old given_now : ℕ) (head : Header) (header : B) (rest : List ℕ → Events) (found : TraceFault) → old ≡ fresh_reader name → middle.name ≡ old.name → given_old + old.at ≡ given + middle.at
-    → KeepsLines (known old.name) old middle (Ok header) → ((bytes : List ℕ) → known old.name ≡ Some bytes → trace_of (accepts_with versions tick) (left old bytes) ≡ with_events head (rest bytes)) → StopsReading {A = A} (known middle.name) middle new given_old given_now rest (Err found)
-    → StopsAtRefusal {A = C} tick (known name) given given_now (Err found)
-rest_stops C tick known name old middle new given given_old given_now head header rest (Refused refusal) fresh same counted keeps heads stops =
+pub rest_stops : {A B : Type 0} (C : Type 0) (tick : ℕ) (known : List ℕ → Option (List ℕ)) (name : List ℕ) (old middle new : Reader) (bytes_read read_before read_now : ℕ) (head : Header) (header : B) (rest : List ℕ → Events) (found : TraceFault) → old ≡ fresh_reader name → middle.name ≡ old.name → read_before + old.at ≡ bytes_read + middle.at
+    → KeepsLines (known old.name) old middle (Ok header) → ((bytes : List ℕ) → known old.name ≡ Some bytes → trace_of (accepts_with versions tick) (left old bytes) ≡ with_events head (rest bytes)) → StopsReading {A = A} (known middle.name) middle new read_before read_now rest (Err found)
+    → StopsAtRefusal {A = C} tick (known name) bytes_read read_now (Err found)
+rest_stops C tick known name old middle new bytes_read read_before read_now head header rest (Refused refusal) fresh same counted keeps heads stops =
     let start : old.at ≡ 0 = ap (λ (r : Reader). r.at) fresh in
     let more = stops.counted in
     let place = stops.refused refusal refl in
     omega (arith, counted, more, start, place)
-rest_stops C tick known name old middle new given given_old given_now head header rest NoFile fresh same counted keeps heads stops = tt
-rest_stops C tick known name old middle new given given_old given_now head header rest ReadFault fresh same counted keeps heads stops = λ bytes refusal tells is.
+rest_stops C tick known name old middle new bytes_read read_before read_now head header rest NoFile fresh same counted keeps heads stops = tt
+rest_stops C tick known name old middle new bytes_read read_before read_now head header rest ReadFault fresh same counted keeps heads stops = λ bytes refusal shows is.
     let first : old.number ≡ 1 = ap (λ (r : Reader). r.number) fresh in
     let start : old.at ≡ 0 = ap (λ (r : Reader). r.at) fresh in
     let named : old.name ≡ name = ap (λ (r : Reader). r.name) fresh in
     let more = stops.counted in
-    let known_here : known old.name ≡ Some bytes = ap known named ∙ tells in
+    let known_here : known old.name ≡ Some bytes = ap known named ∙ shows in
     let fails = stops.failed refl bytes (ap known same ∙ known_here) in
     let all : left old bytes ≡ bytes = rw fresh refl in
     let whole = ap line_count all in
@@ -268,6 +268,6 @@ rest_stops C tick known name old middle new given given_old given_now head heade
     let count = lines_read bytes new (omega (arith, on, stay, whole, first)) fails.none in
     let refuses = with_events-err head (rest bytes) refusal (sym (heads bytes known_here) ∙ ap (trace_of (accepts_with versions tick)) all ∙ is) in
     let later = fails.later refusal refuses in
-    let total : given_now - given ≡ new.at = omega (arith, counted, more, start) in
+    let total : read_now - bytes_read ≡ new.at = omega (arith, counted, more, start) in
     rw total (omega (arith, count, later))
-rest_stops C tick known name old middle new given given_old given_now head header rest (NoMemory none) fresh same counted keeps heads stops = tt
+rest_stops C tick known name old middle new bytes_read read_before read_now head header rest (NoMemory none) fresh same counted keeps heads stops = tt

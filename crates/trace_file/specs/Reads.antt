@@ -23,7 +23,7 @@ use Rattle.psi_lines.specs.declared.lines.LineFault.{LineFault}
 use Rattle.psi_lines.specs.declared.lines.LineFault.TheVariants as lines
 use Rattle.psi_trace.specs.declared.header.Header.{Header}
 use Rattle.trace_player.specs.Playing.{IsPlayed, PlayerTakes, Plays}
-use Rattle.proc_plan.specs.Plans.{PlansView, StandFor}
+use Rattle.proc_plan.specs.Plans.{PlansView, Represent}
 use Rattle.trace_file.specs.declared.trace.TraceFault.{TraceFault}
 use Rattle.trace_file.specs.declared.trace.TraceFault.TheVariants.{Refused, NoFile, ReadFault, NoMemory}
 
@@ -162,7 +162,7 @@ pub record TracePlayed (Played : Plays) (number tick : ℕ) (known : Option (Lis
   pub counted : IsCpuCount cpus
   pub events : List Event
   pub played : Played (limits_of tick cpus) events
-  pub told : AreKnown (verbs_in number) events
+  pub known_verbs : AreKnown (verbs_in number) events
   pub accepted : IsAccepted (limits_of tick cpus) events
   pub read : (bytes : List ℕ) → known ≡ Some bytes → trace_of (accepts_with versions tick) bytes
       ≡ Ok (trace_with (version_of number) cpus events)
@@ -174,7 +174,7 @@ pub record PlansRead (plans : PlansView) (number tick : ℕ) (known : Option (Li
   pub trace : Trace
   pub counted : IsCpuCount trace.cpus
   pub version : version_of number ≡ trace.version
-  pub stand : StandFor plans trace.cpus trace.events
+  pub word_state : Represent plans trace.cpus trace.events
   pub known_verbs : AreKnown (verbs_of trace.version) trace.events
   pub accepted : IsAccepted (limits_of tick trace.cpus) trace.events
   pub read : (bytes : List ℕ) → known ≡ Some bytes → trace_of (accepts_with versions tick) bytes ≡ Ok trace
@@ -206,13 +206,13 @@ LineInOrder name at place before now (Err found) = ReadsFile name at before now 
 
 -- The effect of reading the next line on the reader and the shelf, whatever the line is. The
 -- numbers are the bytes that the shelf had returned before, and has returned now.
-pub record ReadsLine {A : Type 0} (known : Option (List ℕ)) (old new : Reader) (counts counts_now : ShelfCounts) (given given_now : ℕ)
+pub record ReadsLine {A : Type 0} (known : Option (List ℕ)) (old new : Reader) (counts counts_now : ShelfCounts) (bytes_read read_now : ℕ)
     (result : Result A TraceFault) : Type 0 where
   pub name : new.name ≡ old.name
   pub number : OnOk result (new.number ≡ old.number + 1)
   pub missed : IsErrOf result NoFile → known ≡ None
   pub cause : CausesTraceFault counts counts_now result
-  pub counted : given_now + old.at ≡ given + new.at
+  pub counted : read_now + old.at ≡ bytes_read + new.at
   pub place : new.at ≤ furthest old.number
 
 -- The effect of reading the next line on the number of remaining lines. If a read failed, no line
@@ -220,39 +220,39 @@ pub record ReadsLine {A : Type 0} (known : Option (List ℕ)) (old new : Reader)
 pub record KeepsLines {A : Type 0} (known : Option (List ℕ)) (old new : Reader) (result : Result A TraceFault) : Type 0 where
   pub lines : (bytes : List ℕ) → known ≡ Some bytes → new.number + line_count (left new bytes) ≡ old.number + line_count (left old bytes)
   pub failed : IsErrOf result ReadFault → (new.number ≡ old.number)
-      × ((bytes : List ℕ) → known ≡ Some bytes → HasNoNewline new.held (length new.held))
+      × ((bytes : List ℕ) → known ≡ Some bytes → HasNoNewline new.buffered (length new.buffered))
   pub refused : (refusal : Refusal) → IsErrOf result (Refused refusal) → refusal.line ≡ old.number
 
 -- A read failed at the line with the reader's number, whose newline isn't buffered: no earlier line
 -- is rejected.
 pub record FailsAt {A : Type 0} (bytes : List ℕ) (old new : Reader) (read : Result A Refusal) : Type 0 where
   pub lines : new.number + line_count (left new bytes) ≡ old.number + line_count (left old bytes)
-  pub none : HasNoNewline new.held (length new.held)
+  pub none : HasNoNewline new.buffered (length new.buffered)
   pub later : (refusal : Refusal) → read ≡ Err refusal → new.number ≤ refusal.line
 
 -- Reading lines stops at the first rejected line: only the lines before it and the buffered bytes
 -- are read, and no later read fails.
-pub record StopsReading {A B : Type 0} (known : Option (List ℕ)) (old new : Reader) (given given_now : ℕ)
+pub record StopsReading {A B : Type 0} (known : Option (List ℕ)) (old new : Reader) (bytes_read read_now : ℕ)
     (read : List ℕ → Result B Refusal) (result : Result A TraceFault) : Type 0 where
-  pub counted : given_now + old.at ≡ given + new.at
+  pub counted : read_now + old.at ≡ bytes_read + new.at
   pub refused : (refusal : Refusal) → IsErrOf result (Refused refusal) → new.at ≤ furthest refusal.line
   pub failed : IsErrOf result ReadFault → (bytes : List ℕ) → known ≡ Some bytes → FailsAt bytes old new (read bytes)
 
 -- Reading a trace stops at the first rejected line: only the lines before it and the buffered bytes
 -- are read, and a read fails only if that line was incomplete in what was read.
 abbrev pub StopsAtRefusal : {A : Type 0} → ℕ → Option (List ℕ) → ℕ → ℕ → Result A TraceFault → Type 0
-StopsAtRefusal tick known given given_now (Ok x) = ⊤
-StopsAtRefusal tick known given given_now (Err (Refused refusal)) = given_now ≤ given + furthest refusal.line
-StopsAtRefusal tick known given given_now (Err NoFile) = ⊤
-StopsAtRefusal tick known given given_now (Err ReadFault) =
+StopsAtRefusal tick known bytes_read read_now (Ok x) = ⊤
+StopsAtRefusal tick known bytes_read read_now (Err (Refused refusal)) = read_now ≤ bytes_read + furthest refusal.line
+StopsAtRefusal tick known bytes_read read_now (Err NoFile) = ⊤
+StopsAtRefusal tick known bytes_read read_now (Err ReadFault) =
     (bytes : List ℕ) (refusal : Refusal) → known ≡ Some bytes → trace_of (accepts_with versions tick) bytes ≡ Err refusal
-    → line_count (take (given_now - given) bytes) ≤ refusal.line
-StopsAtRefusal tick known given given_now (Err (NoMemory _)) = ⊤
+    → line_count (take (read_now - bytes_read) bytes) ≤ refusal.line
+StopsAtRefusal tick known bytes_read read_now (Err (NoMemory _)) = ⊤
 
 -- says nothing about any bytes
-abbrev pub TellsNothing : {A : Type 0} → Result A TraceFault → Type 0
-TellsNothing (Ok x) = ⊥
-TellsNothing (Err (Refused refusal)) = ⊥
-TellsNothing (Err NoFile) = ⊤
-TellsNothing (Err ReadFault) = ⊤
-TellsNothing (Err (NoMemory _)) = ⊤
+abbrev pub ShowsNothing : {A : Type 0} → Result A TraceFault → Type 0
+ShowsNothing (Ok x) = ⊥
+ShowsNothing (Err (Refused refusal)) = ⊥
+ShowsNothing (Err NoFile) = ⊤
+ShowsNothing (Err ReadFault) = ⊤
+ShowsNothing (Err (NoMemory _)) = ⊤

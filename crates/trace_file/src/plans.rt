@@ -1,9 +1,9 @@
 //! Reads a trace into plans.
 ghost use Rattle.std.specs.Prelude.{◌≡◌, ◌+◌, ◌≤◌, None, IsErrOf, MatchResult};
-ghost use Rattle.outside.specs.Outside.{Lacks, counts_of, told};
+ghost use Rattle.outside.specs.Outside.{IsAbsent, counts_of, content_of};
 ghost use Rattle.outside.specs.Reads.{ReadsFile};
 ghost use Rattle.run_spec.specs.MostRead.{most_of_trace};
-ghost use Rattle.trace_file.specs.Reads.{CausesTraceFault, PlansRead, StopsAtRefusal, TellsNothing, TraceRefused, shelf_fault_in};
+ghost use Rattle.trace_file.specs.Reads.{CausesTraceFault, PlansRead, StopsAtRefusal, ShowsNothing, TraceRefused, shelf_fault_in};
 
 use crate::trace::{TraceFault, play_trace};
 use outside::Shelf;
@@ -20,18 +20,18 @@ pub fn read_plans<S: Shelf>(
     tick: Ns,
 ) -> Result<(u32, Plans), TraceFault>
     requires { tick ≤ 60000000000 }
-    ensures kept { S.holds shelf.new ≡ S.holds shelf.old }
+    ensures unchanged { S.holds shelf.new ≡ S.holds shelf.old }
     ensures content { MatchResult result
-        (λ read. PlansRead read.1 read.0 tick (told (S.holds shelf.old) name.now))
-        (λ fault. TraceRefused fault tick (told (S.holds shelf.old) name.now)) }
-    ensures missing { Lacks (S.holds shelf.old) name.now → TellsNothing result }
+        (λ read. PlansRead read.1 read.0 tick (content_of (S.holds shelf.old) name.now))
+        (λ fault. TraceRefused fault tick (content_of (S.holds shelf.old) name.now)) }
+    ensures missing { IsAbsent (S.holds shelf.old) name.now → ShowsNothing result }
     ensures missed { IsErrOf result TraceFault.NoFile →
-        told (S.holds shelf.old) name.now ≡ None }
+        content_of (S.holds shelf.old) name.now ≡ None }
     ensures cause { CausesTraceFault (counts_of (S.faults shelf.old) (S.absent shelf.old))
         (counts_of (S.faults shelf.new) (S.absent shelf.new)) result }
-    ensures given { S.given shelf.new ≤ S.given shelf.old + most_of_trace }
-    ensures stops { StopsAtRefusal tick (told (S.holds shelf.old) name.now)
-        (S.given shelf.old) (S.given shelf.new) result }
+    ensures bytes_read { S.bytes_read shelf.new ≤ S.bytes_read shelf.old + most_of_trace }
+    ensures stops { StopsAtRefusal tick (content_of (S.holds shelf.old) name.now)
+        (S.bytes_read shelf.old) (S.bytes_read shelf.new) result }
     ensures order { ReadsFile name.now 0
         (S.reads shelf.old) (S.reads shelf.new) (shelf_fault_in result) }
 {

@@ -1,6 +1,6 @@
 //! Reads and plays traces from a shelf.
 ghost use Rattle.std.specs.Prelude.{◌≡◌, ◌+◌, ◌*◌, ◌<◌, ◌≤◌, ◌^◌, ℕ, List, [], IfOk, IsErrOf, Some, None, Ok, MatchResult, false, length};
-ghost use Rattle.outside.specs.Outside.{told, Lacks, counts_of};
+ghost use Rattle.outside.specs.Outside.{content_of, IsAbsent, counts_of};
 ghost use Rattle.outside.specs.Reads.{ReadsFile};
 ghost use Rattle.psi_base.specs.declared.event.Cause.TheVariants as cause;
 ghost use Rattle.psi_lines.specs.Lines.{left};
@@ -10,12 +10,12 @@ ghost use Rattle.psi_spec.specs.Header.{IsVersion};
 ghost use Rattle.psi_spec.specs.Trace.{limits_of, refused};
 ghost use Rattle.psi_spec.specs.World.{first_world};
 ghost use Rattle.run_spec.specs.MostRead.{most_of_trace};
-ghost use Rattle.trace_file.specs.Reads.{CausesTraceFault, HeadGives, IsHead, IsTraceFault, KeepsLines, Legally, LineInOrder, NextGives, ReadsLine, RestGives, StopsAtRefusal, StopsReading, TailGives, TakesLine, TakesRead, TellsNothing, TracePlayed, TraceRefused, rest_from, shelf_fault_in, trace_fault, verbs_in};
+ghost use Rattle.trace_file.specs.Reads.{CausesTraceFault, HeadGives, IsHead, IsTraceFault, KeepsLines, Legally, LineInOrder, NextGives, ReadsLine, RestGives, StopsAtRefusal, StopsReading, TailGives, TakesLine, TakesRead, ShowsNothing, TracePlayed, TraceRefused, rest_from, shelf_fault_in, trace_fault, verbs_in};
 
 use outside::Shelf;
-use psi_base::{Cause, Event, Fault, NoMemory, Ns, Refusal};
+use psi_base::{Cause, Event, Fault, MOST_TICKS, NoMemory, Ns, Refusal};
 use psi_lines::{LineFault, Lines};
-use psi_trace::{Header, read_event, read_header, take_front};
+use psi_trace::{Header, read_event, read_header, take_prefix};
 use std::alloc::Global;
 use trace_player::Player;
 
@@ -113,17 +113,17 @@ fn next_event<S: Shelf, P: Player>(
 ) -> Result<(), TraceFault>
     requires version { IsVersion version }
     requires number { lines.old.number < 2 ^ 32 }
-    ensures kept { S.holds shelf.new ≡ S.holds shelf.old }
+    ensures unchanged { S.holds shelf.new ≡ S.holds shelf.old }
     ensures content { NextGives (verbs_in version)
         (Legally (verbs_in version) (P.Played player.old))
         (Legally (verbs_in version) (P.Played player.new))
         lines.old.number (left lines.old) (left lines.new)
-        (told (S.holds shelf.old) lines.old.name) result }
-    ensures reads { ReadsLine (told (S.holds shelf.old) lines.old.name) lines.old lines.new
+        (content_of (S.holds shelf.old) lines.old.name) result }
+    ensures reads { ReadsLine (content_of (S.holds shelf.old) lines.old.name) lines.old lines.new
         (counts_of (S.faults shelf.old) (S.absent shelf.old))
         (counts_of (S.faults shelf.new) (S.absent shelf.new))
-        (S.given shelf.old) (S.given shelf.new) result }
-    ensures stays { KeepsLines (told (S.holds shelf.old) lines.old.name)
+        (S.bytes_read shelf.old) (S.bytes_read shelf.new) result }
+    ensures stays { KeepsLines (content_of (S.holds shelf.old) lines.old.name)
         lines.old lines.new result }
     ensures order { LineInOrder lines.old.name lines.old.at lines.new.at
         (S.reads shelf.old) (S.reads shelf.new) result }
@@ -152,22 +152,22 @@ fn play_next<S: Shelf, P: Player>(
 ) -> Result<(), TraceFault>
     requires version { IsVersion version }
     requires number { lines.old.number < 2 ^ 32 }
-    ensures kept { S.holds shelf.new ≡ S.holds shelf.old }
+    ensures unchanged { S.holds shelf.new ≡ S.holds shelf.old }
     ensures content { NextGives (verbs_in version)
         (Legally (verbs_in version) (P.Played player.old))
         (Legally (verbs_in version) (P.Played player.new))
         lines.old.number (left lines.old) (left lines.new)
-        (told (S.holds shelf.old) lines.old.name) result }
-    ensures reads { ReadsLine (told (S.holds shelf.old) lines.old.name) lines.old lines.new
+        (content_of (S.holds shelf.old) lines.old.name) result }
+    ensures reads { ReadsLine (content_of (S.holds shelf.old) lines.old.name) lines.old lines.new
         (counts_of (S.faults shelf.old) (S.absent shelf.old))
         (counts_of (S.faults shelf.new) (S.absent shelf.new))
-        (S.given shelf.old) (S.given shelf.new) result }
-    ensures stays { KeepsLines (told (S.holds shelf.old) lines.old.name)
+        (S.bytes_read shelf.old) (S.bytes_read shelf.new) result }
+    ensures stays { KeepsLines (content_of (S.holds shelf.old) lines.old.name)
         lines.old lines.new result }
     ensures order { LineInOrder lines.old.name lines.old.at lines.new.at
         (S.reads shelf.old) (S.reads shelf.new) result }
 {
-    let Some(played) = take_front(lines.held(), player) else {
+    let Some(played) = take_prefix(lines.buffered(), player) else {
         return next_event(alloc, version, lines, shelf, player);
     };
     let line = lines.number();
@@ -181,17 +181,18 @@ fn play_next<S: Shelf, P: Player>(
 // Checks that nothing follows the `end` line, with at most one read.
 fn close<S: Shelf>(lines: &mut Lines, shelf: &mut S) -> Result<(), TraceFault>
     requires number { lines.old.number < 2 ^ 32 }
-    ensures kept { S.holds shelf.new ≡ S.holds shelf.old }
+    ensures unchanged { S.holds shelf.new ≡ S.holds shelf.old }
     ensures content { (bytes : List ℕ) →
-        told (S.holds shelf.old) lines.old.name ≡ Some bytes →
+        content_of (S.holds shelf.old) lines.old.name ≡ Some bytes →
         TailGives lines.old.number (left lines.old bytes) result }
     ensures missed { IsErrOf result TraceFault.NoFile →
-        told (S.holds shelf.old) lines.old.name ≡ None }
+        content_of (S.holds shelf.old) lines.old.name ≡ None }
     ensures cause { CausesTraceFault (counts_of (S.faults shelf.old) (S.absent shelf.old))
         (counts_of (S.faults shelf.new) (S.absent shelf.new)) result }
-    ensures given { S.given shelf.new + lines.old.at ≡ S.given shelf.old + lines.new.at }
+    ensures bytes_read { S.bytes_read shelf.new + lines.old.at
+        ≡ S.bytes_read shelf.old + lines.new.at }
     ensures place { lines.new.at ≤ furthest lines.old.number }
-    ensures stays { KeepsLines (told (S.holds shelf.old) lines.old.name)
+    ensures stays { KeepsLines (content_of (S.holds shelf.old) lines.old.name)
         lines.old lines.new result }
     ensures order { ReadsFile lines.old.name lines.old.at
         (S.reads shelf.old) (S.reads shelf.new) (shelf_fault_in result) }
@@ -216,17 +217,18 @@ fn play_events<S: Shelf, P: Player>(
     requires version { IsVersion head.version }
     requires number { lines.old.number ≡ 2 }
     requires fresh { P.Played player.old (limits_of tick head.cpus) [] }
-    ensures kept { S.holds shelf.new ≡ S.holds shelf.old }
+    ensures unchanged { S.holds shelf.new ≡ S.holds shelf.old }
     ensures content { RestGives (verbs_in head.version)
         (Legally (verbs_in head.version) (P.Played player.new)) (limits_of tick head.cpus)
-        (left lines.old) (told (S.holds shelf.old) lines.old.name) result }
+        (left lines.old) (content_of (S.holds shelf.old) lines.old.name) result }
     ensures missed { IsErrOf result TraceFault.NoFile →
-        told (S.holds shelf.old) lines.old.name ≡ None }
+        content_of (S.holds shelf.old) lines.old.name ≡ None }
     ensures cause { CausesTraceFault (counts_of (S.faults shelf.old) (S.absent shelf.old))
         (counts_of (S.faults shelf.new) (S.absent shelf.new)) result }
-    ensures given { S.given shelf.new + lines.old.at ≤ S.given shelf.old + most_of_trace }
-    ensures stops { StopsReading (told (S.holds shelf.old) lines.old.name) lines.old lines.new
-        (S.given shelf.old) (S.given shelf.new) (λ bytes. rest_from (verbs_in head.version)
+    ensures bytes_read { S.bytes_read shelf.new + lines.old.at
+        ≤ S.bytes_read shelf.old + most_of_trace }
+    ensures stops { StopsReading (content_of (S.holds shelf.old) lines.old.name) lines.old lines.new
+        (S.bytes_read shelf.old) (S.bytes_read shelf.new) (λ bytes. rest_from (verbs_in head.version)
         (limits_of tick head.cpus) first_world 2 (left lines.old bytes)) result }
     ensures order { ReadsFile lines.old.name lines.old.at
         (S.reads shelf.old) (S.reads shelf.new) (shelf_fault_in result) }
@@ -244,18 +246,18 @@ fn play_events<S: Shelf, P: Player>(
 
 fn read_head<S: Shelf>(lines: &mut Lines, shelf: &mut S, tick: Ns) -> Result<Header, TraceFault>
     requires { lines.old.number ≡ 1 }
-    ensures kept { S.holds shelf.new ≡ S.holds shelf.old }
+    ensures unchanged { S.holds shelf.new ≡ S.holds shelf.old }
     ensures head { IfOk result IsHead }
     ensures content { (bytes : List ℕ) →
-        told (S.holds shelf.old) lines.old.name ≡ Some bytes →
+        content_of (S.holds shelf.old) lines.old.name ≡ Some bytes →
         HeadGives tick (left lines.old bytes) (left lines.new bytes) result }
-    ensures missing { lines.old.held ≡ [] → Lacks (S.holds shelf.old) lines.old.name →
-        TellsNothing result }
-    ensures reads { ReadsLine (told (S.holds shelf.old) lines.old.name) lines.old lines.new
+    ensures missing { lines.old.buffered ≡ [] → IsAbsent (S.holds shelf.old) lines.old.name →
+        ShowsNothing result }
+    ensures reads { ReadsLine (content_of (S.holds shelf.old) lines.old.name) lines.old lines.new
         (counts_of (S.faults shelf.old) (S.absent shelf.old))
         (counts_of (S.faults shelf.new) (S.absent shelf.new))
-        (S.given shelf.old) (S.given shelf.new) result }
-    ensures stays { KeepsLines (told (S.holds shelf.old) lines.old.name)
+        (S.bytes_read shelf.old) (S.bytes_read shelf.new) result }
+    ensures stays { KeepsLines (content_of (S.holds shelf.old) lines.old.name)
         lines.old lines.new result }
     ensures order { LineInOrder lines.old.name lines.old.at lines.new.at
         (S.reads shelf.old) (S.reads shelf.new) result }
@@ -279,19 +281,19 @@ pub fn play_trace<S: Shelf, P: Player + Drop>(
     tick: Ns,
 ) -> Result<(u32, P), TraceFault>
     requires { tick ≤ 60000000000 }
-    ensures kept { S.holds shelf.new ≡ S.holds shelf.old }
+    ensures unchanged { S.holds shelf.new ≡ S.holds shelf.old }
     ensures content { MatchResult result
         (λ played. TracePlayed (P.Played played.1) played.0 tick
-        (told (S.holds shelf.old) name.now))
-        (λ fault. TraceRefused fault tick (told (S.holds shelf.old) name.now)) }
-    ensures missing { Lacks (S.holds shelf.old) name.now → TellsNothing result }
+        (content_of (S.holds shelf.old) name.now))
+        (λ fault. TraceRefused fault tick (content_of (S.holds shelf.old) name.now)) }
+    ensures missing { IsAbsent (S.holds shelf.old) name.now → ShowsNothing result }
     ensures missed { IsErrOf result TraceFault.NoFile →
-        told (S.holds shelf.old) name.now ≡ None }
+        content_of (S.holds shelf.old) name.now ≡ None }
     ensures cause { CausesTraceFault (counts_of (S.faults shelf.old) (S.absent shelf.old))
         (counts_of (S.faults shelf.new) (S.absent shelf.new)) result }
-    ensures given { S.given shelf.new ≤ S.given shelf.old + most_of_trace }
-    ensures stops { StopsAtRefusal tick (told (S.holds shelf.old) name.now)
-        (S.given shelf.old) (S.given shelf.new) result }
+    ensures bytes_read { S.bytes_read shelf.new ≤ S.bytes_read shelf.old + most_of_trace }
+    ensures stops { StopsAtRefusal tick (content_of (S.holds shelf.old) name.now)
+        (S.bytes_read shelf.old) (S.bytes_read shelf.new) result }
     ensures order { ReadsFile name.now 0
         (S.reads shelf.old) (S.reads shelf.new) (shelf_fault_in result) }
 {
@@ -300,7 +302,7 @@ pub fn play_trace<S: Shelf, P: Player + Drop>(
         Ok(head) => head,
         Err(fault) => return Err(fault),
     };
-    let mut player = P::start(alloc, head.cpus, 1_000_000 * tick)?;
+    let mut player = P::start(alloc, head.cpus, MOST_TICKS * tick)?;
     match play_events(alloc, &mut lines, shelf, &mut player, tick, head) {
         Ok(()) => Ok((head.version, player)),
         Err(fault) => Err(fault),

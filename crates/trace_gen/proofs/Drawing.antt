@@ -13,7 +13,7 @@ use Rattle.psi_spec.specs.Refusal.{cause_of}
 use Rattle.psi_spec.specs.World.{World, after, after_event, first_world, task_part}
 use Rattle.psi_spec.proofs.Following.{after_from-append}
 use Rattle.run_spec.specs.declared.command.Shape.{Shape}
-use Rattle.run_spec.specs.Generated.{drawn_events, first_events, next_drawn, next_event}
+use Rattle.run_spec.specs.Generated.{random_events, first_events, next_random, next_event}
 use Rattle.run_spec.specs.LegalCommand.{IsShape}
 use Rattle.task_table.specs.Causes.{IsFault, takes_memory}
 use Rattle.task_table.specs.Stands.{HasPlayed, TableView}
@@ -89,10 +89,10 @@ generator_on shape table later left some so state event is played =
     }
 
 -- the events from here are the next one and those after it
-pub next_from : (shape : Shape) (left : ℕ) → 0 < left → (w later : World) (state behind : ℕ) (event : Event) → event ≡ next_event shape w state → behind ≡ (next_drawn shape w.tasks state).state → later ≡ after_event w event → drawn_events shape left w state ≡ event ∷ drawn_events shape (left - 1) later behind
-unfolding drawn_events
-next_from shape zero some w later state behind event is on world = absurd (omega (arith, some))
-next_from shape (suc left) some w later state behind event is on world =
+pub next_from : (shape : Shape) (left : ℕ) → 0 < left → (w later : World) (state suffix : ℕ) (event : Event) → event ≡ next_event shape w state → suffix ≡ (next_random shape w.tasks state).state → later ≡ after_event w event → random_events shape left w state ≡ event ∷ random_events shape (left - 1) later suffix
+unfolding random_events
+next_from shape zero some w later state suffix event is on world = absurd (omega (arith, some))
+next_from shape (suc left) some w later state suffix event is on world =
     let same : suc left - 1 ≡ left = omega arith in
     rw (same, world, on, is) refl
 
@@ -100,5 +100,5 @@ next_from shape (suc left) some w later state behind event is on world =
 
 -- the end
 pub end_left : (shape : Shape) (first later : List Event) (w : World) (state left at : ℕ) (ended : Bool) → first ≡ [] → later ≡ [] → ended ≡ false → left ≡ 0 → at ≡ w.last → events_left shape first w state left ended ≡ record { at = at; act = act.End } ∷ events_left shape later w state left true
-unfolding drawn_events
+unfolding random_events
 end_left shape first later w state left at ended none still going all is = rw (none, still, going, all, is) refl

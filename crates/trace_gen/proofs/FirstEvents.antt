@@ -20,7 +20,7 @@ use Rattle.psi_spec.specs.Refusal.{cause_of}
 use Rattle.psi_spec.specs.World.{Limits, Tasks, World, after, after_event, after_from, first_world, new_group, new_task, no_tasks, parent_path, put, slot_of, task_of}
 use Rattle.psi_spec.proofs.Following.{after_from-append}
 use Rattle.trace_laws.proofs.GrammarReads.{found_first}
-use Rattle.psi_spec.proofs.GroupLaws.{bytes_itself, found_behind, first_of_two}
+use Rattle.psi_spec.proofs.GroupLaws.{bytes_itself, found_in_suffix, first_of_two}
 use Rattle.psi_spec.proofs.TaskLaws.{get_put}
 use Rattle.run_spec.specs.declared.command.Shape.{Shape}
 use Rattle.run_spec.specs.Generated.{at_start, first_events, home_of, made_group, made_task, numbered_path, task_count}
@@ -80,7 +80,7 @@ neither (Some slot) other h k = cc h
 
 -- a path that is found is found with one more group
 still_found : (groups : List GroupLife) (group : GroupLife) (path : List ℕ) → is_some (slot_of groups path) ≡ true → is_some (slot_of (groups ++ group ∷ []) path) ≡ true
-still_found groups group path h = rw (found_behind 0 groups group path) (chosen_first (slot_of groups path) _ h)
+still_found groups group path h = rw (found_in_suffix 0 groups group path) (chosen_first (slot_of groups path) _ h)
 
 -- a number below `number + 1` is below `number` or equal to it
 below_next : (i number : ℕ) → i < number + 1 → (i < number) ⊎ (i ≡ number)
@@ -88,11 +88,11 @@ below_next i number h = grind arith
 
 -- the new one is found
 new_found : (groups : List GroupLife) (path : List ℕ) (at : ℕ) → slot_of groups path ≡ None → is_some (slot_of (groups ++ new_group groups path at ∷ []) path) ≡ true
-new_found groups path at fresh = rw (found_behind 0 groups (new_group groups path at) path, fresh, bytes_itself path) refl
+new_found groups path at fresh = rw (found_in_suffix 0 groups (new_group groups path at) path, fresh, bytes_itself path) refl
 
 -- others aren't
 others_fresh : (groups : List GroupLife) (path other : List ℕ) (at : ℕ) → slot_of groups other ≡ None → bytes_eq path other ≡ false → slot_of (groups ++ new_group groups path at ∷ []) other ≡ None
-others_fresh groups path other at fresh apart = rw (found_behind 0 groups (new_group groups path at) other, fresh, apart) refl
+others_fresh groups path other at fresh apart = rw (found_in_suffix 0 groups (new_group groups path at) other, fresh, apart) refl
 
 group_good : (shape : Shape) → IsShape shape → (number : ℕ) (w : World) → number < shape.groups → HasGroups shape number w → IsGood (limits_in shape) (HasGroups shape) number w (at_start (made_group number))
 group_good shape shaped number w room so =

@@ -11,7 +11,7 @@ use Rattle.psi_spec.specs.Trace.{AllFit, AreKnown, EndsLast}
 use Rattle.psi_spec.specs.World.{Limits, World, after_event, after_from}
 use Rattle.trace_laws.proofs.GrammarReads.{found_first}
 use Rattle.run_spec.specs.declared.command.Shape.{Shape}
-use Rattle.run_spec.specs.Generated.{drawn, drawn_events, next_drawn, next_event, next_state}
+use Rattle.run_spec.specs.Generated.{random_event, random_events, next_random, next_event, next_state}
 use Rattle.run_spec.specs.LegalCommand.{IsShape}
 use Rattle.task_table.specs.Causes.{takes_memory}
 use Rattle.task_table.proofs.CauseLaws.{first_of_act}
@@ -36,14 +36,14 @@ go_then limits w event events fits known legal rest = record {
 
 -- events, and those after them
 pub go_on : (limits : Limits) (w : World) (xs ys : List Event) → Go limits w xs → Go limits (after_from w xs) ys → Go limits w (xs ++ ys)
-go_on limits w [] ys front rest = rest
-go_on limits w (x ∷ xs) ys front rest =
-    let inner : Go limits (after_event w x) xs = record { fit = front.fit.1; known = front.known.1; legal = front.legal.1 } in
-    go_then limits w x (xs ++ ys) front.fit.0 front.known.0 front.legal.0 (go_on limits (after_event w x) xs ys inner rest)
+go_on limits w [] ys prefix rest = rest
+go_on limits w (x ∷ xs) ys prefix rest =
+    let inner : Go limits (after_event w x) xs = record { fit = prefix.fit.1; known = prefix.known.1; legal = prefix.legal.1 } in
+    go_then limits w x (xs ++ ys) prefix.fit.0 prefix.known.0 prefix.legal.0 (go_on limits (after_event w x) xs ys inner rest)
 
 -- the end stays last after other events
-pub ends_behind : (xs ys : List Event) → EndsLast ys → EndsLast (xs ++ ys)
-ends_behind xs ys ends = (xs ++ ends.0, ends.1, ap (λ zs. xs ++ zs) ends.2 ∙ sym (append_assoc xs ends.0 (record { at = ends.1; act = act.End } ∷ [])))
+pub ends_after : (xs ys : List Event) → EndsLast ys → EndsLast (xs ++ ys)
+ends_after xs ys ends = (xs ++ ends.0, ends.1, ap (λ zs. xs ++ zs) ends.2 ∙ sym (append_assoc xs ends.0 (record { at = ends.1; act = act.End } ∷ [])))
 
 -- ---- one event
 
@@ -58,14 +58,14 @@ pub record IsNext (shape : Shape) (count : ℕ) (w : World) (event : Event) : Ty
 pub next_is : (shape : Shape) → IsShape shape → (count : ℕ) → count < shape.events → (w : World) → IsGenerating shape count w → (state : ℕ) → IsNext shape count w (next_event shape w state)
 next_is shape shaped count more w so state =
     let step = next_step shape w.tasks shaped so.tasks state in
-    let wait : drawn (next_state state) 2000000 < 2000000 = mod-lt _ (omega arith) in
+    let wait : random_event (next_state state) 2000000 < 2000000 = mod-lt _ (omega arith) in
     let few = shaped.events in
     let processors = shaped.cpus.1 in
     let groups = shaped.groups in
     let last = so.last in
     let lines = so.lines in
-    let forward : w.last ≤ w.last + drawn (next_state state) 2000000 = omega arith in
-    let early : w.last + drawn (next_state state) 2000000 ≤ (limits_in shape).latest = omega (arith, last, wait, few, more) in
+    let forward : w.last ≤ w.last + random_event (next_state state) 2000000 = omega arith in
+    let early : w.last + random_event (next_state state) 2000000 ≤ (limits_in shape).latest = omega (arith, last, wait, few, more) in
     let room : w.lines < 4000000 = omega (arith, lines, few, more, processors, groups) in
     record {
       fits = record { at = omega (arith, last, wait, few, more); act = step.fits };
@@ -99,25 +99,25 @@ end_goes shape shaped count all w so =
 -- ---- all of them
 
 -- `left` events from a world, and the end
-pub events_go : (shape : Shape) → IsShape shape → (left count : ℕ) → count + left ≡ shape.events → (w : World) → IsGenerating shape count w → (state : ℕ) → Go (limits_in shape) w (drawn_events shape left w state)
-unfolding drawn_events
+pub events_go : (shape : Shape) → IsShape shape → (left count : ℕ) → count + left ≡ shape.events → (w : World) → IsGenerating shape count w → (state : ℕ) → Go (limits_in shape) w (random_events shape left w state)
+unfolding random_events
 events_go shape shaped zero count all w so state = end_goes shape shaped count (omega (arith, all)) w so
 events_go shape shaped (suc left) count all w so state =
     let next = next_is shape shaped count (omega (arith, all)) w so state in
     go_then (limits_in shape) w (next_event shape w state) _ next.fits next.known next.legal
-    (events_go shape shaped left (count + 1) (omega (arith, all)) (after_event w (next_event shape w state)) next.later (next_drawn shape w.tasks state).state)
+    (events_go shape shaped left (count + 1) (omega (arith, all)) (after_event w (next_event shape w state)) next.later (next_random shape w.tasks state).state)
 
 -- the end is the last of them
-pub events_end : (shape : Shape) (left : ℕ) (w : World) (state : ℕ) → EndsLast (drawn_events shape left w state)
-unfolding drawn_events
+pub events_end : (shape : Shape) (left : ℕ) (w : World) (state : ℕ) → EndsLast (random_events shape left w state)
+unfolding random_events
 events_end shape zero w state = ([], w.last, refl)
 events_end shape (suc left) w state =
-    let rest = events_end shape left (after_event w (next_event shape w state)) (next_drawn shape w.tasks state).state in
+    let rest = events_end shape left (after_event w (next_event shape w state)) (next_random shape w.tasks state).state in
     (next_event shape w state ∷ rest.0, rest.1, ap (λ es. next_event shape w state ∷ es) rest.2)
 
 -- how many they are
-pub events_count : (shape : Shape) (left : ℕ) (w : World) (state : ℕ) → length (drawn_events shape left w state) ≡ left + 1
-unfolding drawn_events
+pub events_count : (shape : Shape) (left : ℕ) (w : World) (state : ℕ) → length (random_events shape left w state) ≡ left + 1
+unfolding random_events
 events_count shape zero w state = refl
 events_count shape (suc left) w state =
-    let rest = events_count shape left (after_event w (next_event shape w state)) (next_drawn shape w.tasks state).state in omega (arith, rest)
+    let rest = events_count shape left (after_event w (next_event shape w state)) (next_random shape w.tasks state).state in omega (arith, rest)

@@ -4,9 +4,9 @@ use Rattle.std.specs.Prelude.{Result, Ok, Err}
 use Rattle.std.specs.Io.KnownBytes.{Appends, Keeps}
 use Rattle.std.proofs.lemmas.List.{append-nil}
 use Rattle.psi_base.specs.declared.event.Event.{Event}
-use Rattle.outside.specs.Outside.{AppendsFront}
+use Rattle.outside.specs.Outside.{AppendsPrefix}
 use Rattle.outside.specs.Calls.{PutsAll}
-use Rattle.outside.proofs.Grows.{Appends-none, Appends-then, AppendsFront-last, AppendsFront-then}
+use Rattle.outside.proofs.Grows.{Appends-none, Appends-then, AppendsPrefix-last, AppendsPrefix-then}
 use Rattle.trace_laws.proofs.GrammarReads.{spelled_in_line}
 use Rattle.psi_spec.specs.Grammar.{Fits, spelling}
 use Rattle.psi_spec.specs.Trace.{AllFit, lines_of}
@@ -16,9 +16,9 @@ use Rattle.run_spec.specs.LegalCommand.{IsShape}
 use Rattle.trace_gen.proofs.Accepting.{generated_go}
 
 -- what was sent first, and then all of the rest or a prefix of it
-pub PutsAll-behind : {T E : Type 0} → (old mid new : Option (List ℕ)) (result : Result T E) (xs ys : List ℕ) → Appends old mid xs → PutsAll mid new result ys → PutsAll old new result (xs ++ ys)
-PutsAll-behind old mid new (Ok value) xs ys first rest = Appends-then old mid new xs ys first rest
-PutsAll-behind old mid new (Err fault) xs ys first rest = AppendsFront-last old mid new xs ys first rest
+pub PutsAll-suffix : {T E : Type 0} → (old mid new : Option (List ℕ)) (result : Result T E) (xs ys : List ℕ) → Appends old mid xs → PutsAll mid new result ys → PutsAll old new result (xs ++ ys)
+PutsAll-suffix old mid new (Ok value) xs ys first rest = Appends-then old mid new xs ys first rest
+PutsAll-suffix old mid new (Err fault) xs ys first rest = AppendsPrefix-last old mid new xs ys first rest
 
 -- a line has at most 512 bytes
 pub line_short : (event : Event) → Fits event → length (spelling event) ≤ 512
@@ -43,10 +43,10 @@ one_sent old mid new event before left all so first more = record {
 }
 
 -- a prefix with one more line
-pub front_sent : (old mid new : Option (List ℕ)) (event : Event) (before left all : List Event) → AreSent old mid before all → before ≡ event ∷ left → AppendsFront mid new (spelling event ++ 10 ∷ []) → AppendsFront old new (lines_of all)
-front_sent old mid new event before left all so first front =
+pub prefix_sent : (old mid new : Option (List ℕ)) (event : Event) (before left all : List Event) → AreSent old mid before all → before ≡ event ∷ left → AppendsPrefix mid new (spelling event ++ 10 ∷ []) → AppendsPrefix old new (lines_of all)
+prefix_sent old mid new event before left all so first prefix =
     let whole : so.sent ++ ((spelling event ++ 10 ∷ []) ++ lines_of left) ≡ lines_of all = ap (λ es. so.sent ++ lines_of es) (sym first) ∙ so.rest in
-    rw (sym whole) (AppendsFront-then old mid new so.sent (spelling event ++ 10 ∷ []) (lines_of left) so.grew front)
+    rw (sym whole) (AppendsPrefix-then old mid new so.sent (spelling event ++ 10 ∷ []) (lines_of left) so.grew prefix)
 
 -- all
 pub all_sent : (old new : Option (List ℕ)) (left all : List Event) → AreSent old new left all → left ≡ [] → Appends old new (lines_of all)

@@ -17,12 +17,12 @@ use Rattle.psi_spec.specs.Fields.{IsAmong}
 use Rattle.psi_spec.specs.Grammar as verb
 use Rattle.psi_spec.specs.Grammar.{ActFits, first_verbs, phrase_of}
 use Rattle.psi_spec.specs.Refusal.{is_exit, is_wrong}
-use Rattle.psi_spec.specs.World.{Tasks, change, change_to, ends, is_active, is_ready, is_ready_on, is_running, is_running_on, leave, left_by, placed, put, readied, running_on, start, task_of, tasks_after}
+use Rattle.psi_spec.specs.World.{Tasks, change, change_to, ends, is_active, is_ready, is_ready_on, is_running, is_running_on, leave, left_by, placed, put, prepared_changes, running_on, start, task_of, tasks_after}
 use Rattle.trace_laws.proofs.GrammarReads.{found_first}
 use Rattle.psi_spec.proofs.RefusalLaws.{first_true}
 use Rattle.psi_spec.proofs.TaskLaws.{get_put}
 use Rattle.run_spec.specs.declared.command.Shape.{Shape}
-use Rattle.run_spec.specs.Generated.{Drawn, chosen, drawn, next_drawn, next_if, next_of, next_state, running_act, stall_turn, started, task_count, way_of, woken}
+use Rattle.run_spec.specs.Generated.{RandomEvent, chosen, random_event, next_random, next_if, next_of, next_state, running_act, stall_turn, started, task_count, way_of, woken}
 use Rattle.run_spec.specs.LegalCommand.{IsShape}
 use Rattle.task_table.specs.Causes.{act_cause, takes_memory}
 use Rattle.task_table.proofs.Runners.{runs_there}
@@ -130,13 +130,13 @@ there_is cpus cpu room = grind (arith, nat_tests)
 wake_step : (shape : Shape) (tasks : Tasks) (pid : ℕ) (task : Task) → IsTask shape tasks pid task → is_active task.mode ≡ false → (state : ℕ) → IsStep shape tasks (woken shape state pid).act
 wake_step shape tasks pid task it sleeps state =
     let some = it.shaped.cpus.0 in
-    let room : drawn (next_state state) shape.cpus < shape.cpus = mod-lt _ (omega (arith, some)) in
-    let there = there_is shape.cpus (drawn (next_state state) shape.cpus) room in
+    let room : random_event (next_state state) shape.cpus < shape.cpus = mod-lt _ (omega (arith, some)) in
+    let there = there_is shape.cpus (random_event (next_state state) shape.cpus) room in
     record {
       legal = λ groups irqs triggers pressures at. rw (it.is, there, sleeps) refl;
       fits = (number_fits shape tasks pid task it, (processor_fits shape it.shaped _ room, tt));
       known = found_first verb.Wake refl;
-      live = λ groups. change_live shape tasks it.are pid (readied (drawn (next_state state) shape.cpus)) (λ _ _. room);
+      live = λ groups. change_live shape tasks it.are pid (prepared_changes (random_event (next_state state) shape.cpus)) (λ _ _. room);
       goes = refl;
       light = refl;
     }
@@ -176,8 +176,8 @@ start_step shape tasks pid task it ready how stays right =
 
 started_step : (shape : Shape) (tasks : Tasks) (pid : ℕ) (task : Task) → IsTask shape tasks pid task → is_ready task.mode ≡ true → (state : ℕ) → IsStep shape tasks (started tasks state pid task).act
 started_step shape tasks pid task it ready state =
-    let way = way_of (drawn (next_state state) 4) in
-    elim (is_some (running_on tasks task.cpu.0)) as (λ b. is_some (running_on tasks task.cpu.0) ≡ b → IsStep shape tasks (let d : Drawn = if b
+    let way = way_of (random_event (next_state state) 4) in
+    elim (is_some (running_on tasks task.cpu.0)) as (λ b. is_some (running_on tasks task.cpu.0) ≡ b → IsStep shape tasks (let d : RandomEvent = if b
     then record { act = act.Switch task.cpu (Some (record { 0 = pid })) way; state = next_state state }
     else record { act = act.Switch task.cpu (Some (record { 0 = pid })) Idle; state = state } in d.act)) [
       | true ↦ λ some. start_step shape tasks pid task it ready way (way_stays _) (way_needs _ (running_on tasks task.cpu.0) some)
@@ -248,10 +248,10 @@ task_step shape tasks pid shaped are low high (Some task) is state =
     mode_step shape tasks pid task (record { shaped = shaped; are = are; low = low; high = high; is = is }) task.mode refl state
 
 -- the next act
-pub next_step : (shape : Shape) (tasks : Tasks) → IsShape shape → AreLive shape tasks → (state : ℕ) → IsStep shape tasks (next_drawn shape tasks state).act
-unfolding next_drawn
+pub next_step : (shape : Shape) (tasks : Tasks) → IsShape shape → AreLive shape tasks → (state : ℕ) → IsStep shape tasks (next_random shape tasks state).act
+unfolding next_random
 next_step shape tasks shaped are state =
     let after = next_state (next_state state) in
     let some = shaped.cpus.0 in
-    let below : drawn after (task_count shape) < task_count shape = mod-lt _ (omega (arith, some)) in
+    let below : random_event after (task_count shape) < task_count shape = mod-lt _ (omega (arith, some)) in
     task_step shape tasks (chosen shape after) shaped are (omega arith) (omega (arith, below)) (task_of tasks (chosen shape after)) refl after

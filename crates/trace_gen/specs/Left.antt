@@ -4,20 +4,20 @@ use Rattle.psi_base.specs.declared.event.Act.{Act}
 use Rattle.psi_base.specs.declared.event.Event.{Event}
 use Rattle.psi_spec.specs.World.{World}
 use Rattle.run_spec.specs.declared.command.Shape.{Shape}
-use Rattle.run_spec.specs.Generated.{Drawn, drawn_events}
+use Rattle.run_spec.specs.Generated.{RandomEvent, random_events}
 use Rattle.run_spec.specs.LegalCommand.{IsShape}
 use Rattle.task_table.specs.Stands.{TableView}
 use Rattle.trace_gen.specs.Generating.{IsGenerating, limits_in}
 
 -- a random act, and the generator's state after it
-abbrev pub drawn_act : Act → ℕ → Drawn
-drawn_act a state = record { act = a; state = state }
+abbrev pub random_act : Act → ℕ → RandomEvent
+random_act a state = record { act = a; state = state }
 
 -- the events that remain: some creations of groups and tasks, then, unless the end was returned,
 -- `left` more from a world and a state, and the end
 abbrev pub events_left : Shape → List Event → World → ℕ → ℕ → Bool → List Event
 events_left shape first w state left ended =
-    first ++ (if ended then [] else drawn_events shape left w state)
+    first ++ (if ended then [] else random_events shape left w state)
 
 -- The invariant of each generator: its shape is in range, and its table has the limits of the shape
 -- and a world of it in which `left` events remain.

@@ -1,7 +1,7 @@
 -- The result of writing a generated text.
 use Rattle.std.specs.Prelude.{◌≡◌, ℕ, List, Option, Result, Ok, Err}
 use Rattle.std.specs.Io.KnownBytes.{Appends, Keeps}
-use Rattle.outside.specs.Outside.{AppendsFront, Rose}
+use Rattle.outside.specs.Outside.{AppendsPrefix, Increased}
 use Rattle.psi_base.specs.declared.event.Fault.{Fault}
 use Rattle.psi_base.specs.declared.event.Fault.TheVariants.{NoMemory, Refused}
 use Rattle.run_spec.specs.declared.command.Shape.{Shape}
@@ -16,7 +16,7 @@ shape_by seed cpus groups events =
 -- unchanged.
 abbrev pub Misses : {E : Type 0} → List ℕ → ℕ → ℕ → Option (List ℕ) → Option (List ℕ) → Fault E
     → Type 0
-Misses text before now had has (Refused failed) = AppendsFront had has text × Rose before now
+Misses text before now had has (Refused failed) = AppendsPrefix had has text × Increased before now
 Misses text before now had has (NoMemory _) = Keeps had has × (now ≡ before)
 
 -- The result of writing a text: all of it was written, with the count of failed writes unchanged;

@@ -1,6 +1,6 @@
 //! Pseudo-random numbers, equal for equal seeds.
 ghost use Rattle.std.specs.Prelude.{◌≡◌, ℕ, ◌<◌};
-ghost use Rattle.run_spec.specs.Generated.{drawn, next_state};
+ghost use Rattle.run_spec.specs.Generated.{random_event, next_state};
 
 use std::marker::Model;
 
@@ -29,7 +29,7 @@ impl Draws {
     pub(crate) fn draw(&mut self, bound: u32) -> u32
         requires { 0 < bound }
         ensures state { self.new ≡ next_state self.old }
-        ensures number { result ≡ drawn (next_state self.old) bound }
+        ensures number { result ≡ random_event (next_state self.old) bound }
         ensures below { result < bound }
     {
         self.state = self

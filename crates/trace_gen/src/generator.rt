@@ -1,13 +1,13 @@
 //! The events of a generated trace, one by one.
 ghost use Rattle.std.specs.Prelude.{◌≡◌, ◌<◌, ◌≤◌, ◌^◌, IfOk, MatchOption, [], ◌∷◌};
-ghost use Rattle.run_spec.specs.Generated.{drawn_events, generated, next_drawn, next_event, next_of, running_act};
-ghost use Rattle.run_spec.specs.Generated.{drawn, next_state, stall_turn, started, way_of, woken};
+ghost use Rattle.run_spec.specs.Generated.{random_events, generated, next_random, next_event, next_of, running_act};
+ghost use Rattle.run_spec.specs.Generated.{random_event, next_state, stall_turn, started, way_of, woken};
 ghost use Rattle.run_spec.specs.LegalCommand.{IsShape};
-ghost use Rattle.trace_gen.specs.Left.{IsGenerator, drawn_act};
+ghost use Rattle.trace_gen.specs.Left.{IsGenerator, random_act};
 
 use crate::draws::Draws;
 use crate::founding::{TASKS_EACH, found};
-use psi_base::{Act, Cpu, Event, How, NoMemory, Pid};
+use psi_base::{Act, Cpu, Event, How, LATEST, NoMemory, Pid};
 use psi_spec::{Mode, Task};
 use run_spec::Shape;
 use std::alloc::Global;
@@ -17,9 +17,6 @@ use task_table::Table;
 
 /// An upper bound (ns) of the time between two events; the time is below it.
 const LONGEST_WAIT: u32 = 2_000_000;
-
-/// The last time (ns) that the default tick of 2 s allows: a million ticks.
-const LATEST: u64 = 2_000_000_000_000_000;
 
 /// The events of a generated trace. Its model is the list of those that remain.
 #[derive(Drop)]
@@ -106,8 +103,8 @@ fn play_next(shape: Shape, table: &mut Table, draws: &mut Draws, left: &mut u32)
     requires some { 0 < left.old }
     requires so { IsGenerator shape table.old left.old }
     ensures so { IsGenerator shape table.new left.new }
-    ensures event { drawn_events shape left.old table.old.world draws.old
-        ≡ result ∷ drawn_events shape left.new table.new.world draws.new }
+    ensures event { random_events shape left.old table.old.world draws.old
+        ≡ result ∷ random_events shape left.new table.new.world draws.new }
 {
     let event = next_event(shape, table, draws);
     match table.play(&event) {
@@ -120,12 +117,12 @@ fn play_next(shape: Shape, table: &mut Table, draws: &mut Draws, left: &mut u32)
 }
 
 /// The next event in a world.
-#[tactic(auto, unfolding(run_spec::specs::Generated::next_drawn))]
+#[tactic(auto, unfolding(run_spec::specs::Generated::next_random))]
 fn next_event(shape: Shape, table: &Table, draws: &mut Draws) -> Event
     requires shaped { IsShape shape }
     requires early { table.now.world.last ≤ 2 ^ 60 }
     ensures event { result ≡ next_event shape table.now.world draws.old }
-    ensures state { draws.new ≡ (next_drawn shape table.now.world.tasks draws.old).state }
+    ensures state { draws.new ≡ (next_random shape table.now.world.tasks draws.old).state }
 {
     let at = table.last() + u64::from(draws.draw(LONGEST_WAIT));
     let pid = Pid(1 + draws.draw(TASKS_EACH * shape.cpus));
@@ -139,7 +136,7 @@ fn next_event(shape: Shape, table: &Table, draws: &mut Draws) -> Event
 /// What a task does next.
 fn act_of(shape: Shape, table: &Table, draws: &mut Draws, pid: Pid, task: Task) -> Act
     requires { IsShape shape }
-    ensures { drawn_act result draws.new
+    ensures { random_act result draws.new
         ≡ next_of shape table.now.world.tasks draws.old pid.0 task task.mode }
 {
     match task.mode {
@@ -152,7 +149,7 @@ fn act_of(shape: Shape, table: &Table, draws: &mut Draws, pid: Pid, task: Task) 
 /// A blocked task is woken on any processor.
 fn woken(shape: Shape, draws: &mut Draws, pid: Pid) -> Act
     requires { IsShape shape }
-    ensures { drawn_act result draws.new ≡ woken shape draws.old pid.0 }
+    ensures { random_act result draws.new ≡ woken shape draws.old pid.0 }
 {
     Act::Wake {
         pid,
@@ -163,7 +160,7 @@ fn woken(shape: Shape, draws: &mut Draws, pid: Pid) -> Act
 /// A ready task runs next on its processor. If that is idle no further number is drawn.
 #[tactic(auto, using(crate::proofs::Drawing::some_part))]
 fn started(table: &Table, draws: &mut Draws, pid: Pid, task: Task) -> Act
-    ensures { drawn_act result draws.new
+    ensures { random_act result draws.new
         ≡ started table.now.world.tasks draws.old pid.0 task }
 {
     let how = match table.running(task.cpu) {
@@ -191,7 +188,7 @@ fn way_of(number: u32) -> How
 /// A running task sleeps or waits for IO, or its memory stall begins or ends.
 fn running_act(draws: &mut Draws, pid: Pid, task: Task) -> Act
     ensures { (draws.new ≡ next_state draws.old)
-        × (result ≡ running_act pid.0 task (drawn (next_state draws.old) 4)) }
+        × (result ≡ running_act pid.0 task (random_event (next_state draws.old) 4)) }
 {
     let number = draws.draw(4);
     leaving(number, pid, task)

@@ -1,6 +1,6 @@
 //! The text of a generated trace.
 ghost use Rattle.std.specs.Prelude.{◌≡◌, ◌≤◌, ◌++◌, ◌∷◌, [], vec_capacity};
-ghost use Rattle.outside.specs.Outside.{HasCause, StaysOver};
+ghost use Rattle.outside.specs.Outside.{HasCause, SameInner};
 ghost use Rattle.outside.specs.Calls.{PutsAll};
 ghost use Rattle.psi_spec.specs.Grammar.{Fits, header, spelling};
 ghost use Rattle.psi_spec.specs.Trace.{AllFit, lines_of};
@@ -55,7 +55,7 @@ pub fn put_header<K: Sink>(cpus: u32, line: &mut Vec<u8>, out: &mut K) -> Result
     ensures room { 513 ≤ vec_capacity line.new }
     ensures bytes { PutsAll (K.has out.old) (K.has out.new) result (header 1 cpus ++ 10 ∷ []) }
     ensures cause { HasCause (K.faults out.old) (K.faults out.new) result }
-    ensures below { StaysOver (K.below out.old) (K.below out.new) }
+    ensures below { SameInner (K.below out.old) (K.below out.new) }
 {
     make_header(cpus, line);
     put_all(out, line)
@@ -69,7 +69,7 @@ pub fn put_event<K: Sink>(event: &Event, line: &mut Vec<u8>, out: &mut K) -> Res
     ensures bytes { PutsAll (K.has out.old) (K.has out.new) result
         (spelling event.now ++ 10 ∷ []) }
     ensures cause { HasCause (K.faults out.old) (K.faults out.new) result }
-    ensures below { StaysOver (K.below out.old) (K.below out.new) }
+    ensures below { SameInner (K.below out.old) (K.below out.new) }
 {
     make_line(event, line);
     put_all(out, line)
@@ -82,7 +82,7 @@ fn put_owned<K: Sink>(event: Event, line: &mut Vec<u8>, out: &mut K) -> Result<(
     ensures room { 513 ≤ vec_capacity line.new }
     ensures bytes { PutsAll (K.has out.old) (K.has out.new) result (spelling event ++ 10 ∷ []) }
     ensures cause { HasCause (K.faults out.old) (K.faults out.new) result }
-    ensures below { StaysOver (K.below out.old) (K.below out.new) }
+    ensures below { SameInner (K.below out.old) (K.below out.new) }
 {
     put_event(&event, line, out)
 }
@@ -97,7 +97,7 @@ fn put_events<K: Sink>(
     requires room { 513 ≤ vec_capacity line.old }
     ensures bytes { PutsAll (K.has out.old) (K.has out.new) result (lines_of generator.old) }
     ensures cause { HasCause (K.faults out.old) (K.faults out.new) result }
-    ensures below { StaysOver (K.below out.old) (K.below out.new) }
+    ensures below { SameInner (K.below out.old) (K.below out.new) }
 {
     'events: while let Some(event) = generator.next() {
         put_owned(event, line, out)?;
@@ -118,7 +118,7 @@ fn put_trace<K: Sink>(
     ensures bytes { PutsAll (K.has out.old) (K.has out.new) result
         (header 1 cpus ++ 10 ∷ lines_of generator.old) }
     ensures cause { HasCause (K.faults out.old) (K.faults out.new) result }
-    ensures below { StaysOver (K.below out.old) (K.below out.new) }
+    ensures below { SameInner (K.below out.old) (K.below out.new) }
 {
     put_header(cpus, line, out)?;
     put_events(generator, line, out)
@@ -140,7 +140,7 @@ pub fn generate<K: Sink>(
     requires { IsShape (shape_by seed cpus groups events) }
     ensures writes { WritesWhole (gen_text (shape_by seed cpus groups events))
         (K.faults out.old) (K.faults out.new) (K.has out.old) (K.has out.new) result }
-    ensures below { StaysOver (K.below out.old) (K.below out.new) }
+    ensures below { SameInner (K.below out.old) (K.below out.new) }
 {
     let shape = Shape {
         seed,

@@ -72,9 +72,9 @@ trace_parts : (accepts : Accepts) (part : List ℕ) (parts : List (List ℕ)) �
 unfolding trace_of_parts
 trace_parts accepts part parts has = rw has.2 refl
 
-pub trace_of-line : (accepts : Accepts) (part behind : List ℕ) → HasNone 10 part (length part) → trace_of accepts (part ++ 10 ∷ behind) ≡ headed accepts (first_line accepts.versions part) (parts_at 10 behind)
+pub trace_of-line : (accepts : Accepts) (part suffix : List ℕ) → HasNone 10 part (length part) → trace_of accepts (part ++ 10 ∷ suffix) ≡ headed accepts (first_line accepts.versions part) (parts_at 10 suffix)
 unfolding trace_of
-trace_of-line accepts part behind none = rw (parts_at-line 10 part behind none) (trace_parts accepts part (parts_at 10 behind) (first_part 10 behind))
+trace_of-line accepts part suffix none = rw (parts_at-line 10 part suffix none) (trace_parts accepts part (parts_at 10 suffix) (first_part 10 suffix))
 
 pub trace_of-rest : (accepts : Accepts) (rest : List ℕ) → HasNone 10 rest (length rest) → trace_of accepts rest ≡ Err (refused 1 (first_rest rest))
 unfolding trace_of trace_of_parts
@@ -90,8 +90,8 @@ abbrev head_of : Trace → Header
 head_of trace = record { version = trace.version; cpus = trace.cpus }
 
 -- the events after a header, read with the verbs of its version
-abbrev behind_head : Accepts → Header → List ℕ → Events
-behind_head accepts head behind = rest_from (accepts.verbs head.version) (limits_of accepts.tick head.cpus) first_world 2 behind
+abbrev after_head : Accepts → Header → List ℕ → Events
+after_head accepts head suffix = rest_from (accepts.verbs head.version) (limits_of accepts.tick head.cpus) first_world 2 suffix
 
 with_events_ok : (head : Header) (read : Events) (trace : Trace) → with_events head read ≡ Ok trace → (events : List Event) × (read ≡ Ok events) × (made head events ≡ trace)
 with_events_ok head (Ok events) trace is = (events, refl, cc is)
@@ -101,29 +101,29 @@ with_events_err : (head : Header) (read : Events) (refusal : Refusal) → with_e
 with_events_err head (Ok events) refusal is = absurd (cc is)
 with_events_err head (Err found) refusal is = let same : found ≡ refusal = cc is in ap (λ r. let x : Events = Err r in x) same
 
-headed_ok : (accepts : Accepts) (first : Result Header Cause) (behind : List ℕ) (trace : Trace) → headed accepts first (parts_at 10 behind) ≡ Ok trace → (head : Header) × (first ≡ Ok head) × ((events : List Event) × (behind_head accepts head behind ≡ Ok events) × (made head events ≡ trace))
-headed_ok accepts (Err why) behind trace is = absurd (cc is)
-headed_ok accepts (Ok head) behind trace is = (head, refl, with_events_ok head (behind_head accepts head behind) trace is)
+headed_ok : (accepts : Accepts) (first : Result Header Cause) (suffix : List ℕ) (trace : Trace) → headed accepts first (parts_at 10 suffix) ≡ Ok trace → (head : Header) × (first ≡ Ok head) × ((events : List Event) × (after_head accepts head suffix ≡ Ok events) × (made head events ≡ trace))
+headed_ok accepts (Err why) suffix trace is = absurd (cc is)
+headed_ok accepts (Ok head) suffix trace is = (head, refl, with_events_ok head (after_head accepts head suffix) trace is)
 
 same_whole : (r s : Refusal) → (let x : Whole = Err r in x) ≡ Err s → r ≡ s
 same_whole r s is = cc is
 
-headed_err : (accepts : Accepts) (first : Result Header Cause) (behind : List ℕ) (line : ℕ) (why : Cause) → headed accepts first (parts_at 10 behind) ≡ Err (refused line why) → ((first ≡ Err why) × (line ≡ 1)) ⊎ ((head : Header) × (first ≡ Ok head) × (behind_head accepts head behind ≡ Err (refused line why)))
-headed_err accepts (Err found) behind line why is =
+headed_err : (accepts : Accepts) (first : Result Header Cause) (suffix : List ℕ) (line : ℕ) (why : Cause) → headed accepts first (parts_at 10 suffix) ≡ Err (refused line why) → ((first ≡ Err why) × (line ≡ 1)) ⊎ ((head : Header) × (first ≡ Ok head) × (after_head accepts head suffix ≡ Err (refused line why)))
+headed_err accepts (Err found) suffix line why is =
     let same = same_refusal 1 line found why (same_whole (refused 1 found) (refused line why) is) in
     inl (ap (λ c. let r : Result Header Cause = Err c in r) same.1, sym same.0)
-headed_err accepts (Ok head) behind line why is = inr (head, refl, with_events_err head (behind_head accepts head behind) (refused line why) is)
+headed_err accepts (Ok head) suffix line why is = inr (head, refl, with_events_err head (after_head accepts head suffix) (refused line why) is)
 
-joined_lines : (part behind first rest : List ℕ) → part ≡ first → behind ≡ rest → part ++ 10 ∷ behind ≡ first ++ 10 ∷ rest
-joined_lines part behind first rest same more = rw (same, more) refl
+joined_lines : (part suffix first rest : List ℕ) → part ≡ first → suffix ≡ rest → part ++ 10 ∷ suffix ≡ first ++ 10 ∷ rest
+joined_lines part suffix first rest same more = rw (same, more) refl
 
-line_accepted : (accepts : Accepts) (part behind : List ℕ) (trace : Trace) → HasNone 10 part (length part) → trace_of accepts (part ++ 10 ∷ behind) ≡ Ok trace → IsTrace accepts (part ++ 10 ∷ behind) trace
-line_accepted accepts part behind trace none is =
-    let all = headed_ok accepts (first_line accepts.versions part) behind trace (sym (trace_of-line accepts part behind none) ∙ is) in
+line_accepted : (accepts : Accepts) (part suffix : List ℕ) (trace : Trace) → HasNone 10 part (length part) → trace_of accepts (part ++ 10 ∷ suffix) ≡ Ok trace → IsTrace accepts (part ++ 10 ∷ suffix) trace
+line_accepted accepts part suffix trace none is =
+    let all = headed_ok accepts (first_line accepts.versions part) suffix trace (sym (trace_of-line accepts part suffix none) ∙ is) in
     let first = first_read accepts.versions part all.0 all.1 in
-    let rest = reads_all (accepts.verbs all.0.version) (limits_of accepts.tick all.0.cpus) first_world 2 behind all.2.0 all.2.1 in
-    subst (IsTrace accepts (part ++ 10 ∷ behind)) all.2.2 (record {
-      text = joined_lines part behind (header_line all.0) (lines_of all.2.0) first.spelled rest.text;
+    let rest = reads_all (accepts.verbs all.0.version) (limits_of accepts.tick all.0.cpus) first_world 2 suffix all.2.0 all.2.1 in
+    subst (IsTrace accepts (part ++ 10 ∷ suffix)) all.2.2 (record {
+      text = joined_lines part suffix (header_line all.0) (lines_of all.2.0) first.spelled rest.text;
       version = first.known;
       cpus = first.counted;
       known = rest.known;
@@ -137,7 +137,7 @@ line_accepted accepts part behind trace none is =
 is_accepted : (accepts : Accepts) (bytes : List ℕ) (trace : Trace) → trace_of accepts bytes ≡ Ok trace → IsTrace accepts bytes trace
 is_accepted accepts bytes trace is = ⊎_elim
     (λ none. absurd (cc (sym (trace_of-rest accepts bytes none) ∙ is)))
-    (λ (c : Cut 10 bytes). subst (λ bs. IsTrace accepts bs trace) (sym c.whole) (line_accepted accepts c.line c.behind trace c.none (sym (ap (trace_of accepts) c.whole) ∙ is)))
+    (λ (c : Cut 10 bytes). subst (λ bs. IsTrace accepts bs trace) (sym c.whole) (line_accepted accepts c.line c.suffix trace c.none (sym (ap (trace_of accepts) c.whole) ∙ is)))
     (cut 10 bytes)
 
 rest_of_all : (verbs : List Verb) (limits : Limits) (w : World) (line : ℕ) (events : List Event) → AllFit events → AreKnown verbs events → AreLegal limits w events → (after_from w events).ended ≡ true → rest_from verbs limits w line (lines_of events) ≡ Ok events
@@ -159,17 +159,17 @@ are_accepted accepts bytes trace is =
 pub accepted : Accepted
 accepted accepts bytes trace = (is_accepted accepts bytes trace, are_accepted accepts bytes trace)
 
-line_refused : (accepts : Accepts) (part behind : List ℕ) (line : ℕ) (why : Cause) → HasNone 10 part (length part) → trace_of accepts (part ++ 10 ∷ behind) ≡ Err (refused line why) → IsRefused accepts (part ++ 10 ∷ behind) line why
-line_refused accepts part behind line why none is = ⊎_elim
-    (λ here. inl (here.1, inl (part, (none, (behind, refl)), here.0)))
+line_refused : (accepts : Accepts) (part suffix : List ℕ) (line : ℕ) (why : Cause) → HasNone 10 part (length part) → trace_of accepts (part ++ 10 ∷ suffix) ≡ Err (refused line why) → IsRefused accepts (part ++ 10 ∷ suffix) line why
+line_refused accepts part suffix line why none is = ⊎_elim
+    (λ here. inl (here.1, inl (part, (none, (suffix, refl)), here.0)))
     (λ all.
     let first = first_read accepts.versions part all.0 all.1 in
-    let later = refuses_all (accepts.verbs all.0.version) (limits_of accepts.tick all.0.cpus) first_world 2 behind line why all.2 in
-    let bytes : part ++ 10 ∷ behind ≡ text_of (made all.0 later.front) ++ later.rest = joined_lines part behind (header_line all.0) (lines_of later.front ++ later.rest) first.spelled later.bytes_are ∙ sym (append_assoc (header_line all.0) (10 ∷ lines_of later.front) later.rest) in
+    let later = refuses_all (accepts.verbs all.0.version) (limits_of accepts.tick all.0.cpus) first_world 2 suffix line why all.2 in
+    let bytes : part ++ 10 ∷ suffix ≡ text_of (made all.0 later.prefix) ++ later.rest = joined_lines part suffix (header_line all.0) (lines_of later.prefix ++ later.rest) first.spelled later.bytes_are ∙ sym (append_assoc (header_line all.0) (10 ∷ lines_of later.prefix) later.rest) in
     inr (record {
       version = all.0.version;
       cpus = all.0.cpus;
-      front = later.front;
+      prefix = later.prefix;
       rest = later.rest;
       bytes_are = bytes;
       version_is = first.known;
@@ -180,14 +180,14 @@ line_refused accepts part behind line why none is = ⊎_elim
       line_is = omega (arith, later.at_is);
       has = later.has;
     }))
-    (headed_err accepts (first_line accepts.versions part) behind line why (sym (trace_of-line accepts part behind none) ∙ is))
+    (headed_err accepts (first_line accepts.versions part) suffix line why (sym (trace_of-line accepts part suffix none) ∙ is))
 
 is_refused : (accepts : Accepts) (bytes : List ℕ) (line : ℕ) (why : Cause) → trace_of accepts bytes ≡ Err (refused line why) → IsRefused accepts bytes line why
 is_refused accepts bytes line why is = ⊎_elim
     (λ none.
     let same = same_refusal 1 line (first_rest bytes) why (same_whole (refused 1 (first_rest bytes)) (refused line why) (sym (trace_of-rest accepts bytes none) ∙ is)) in
     inl (sym same.0, inr (none, same.1)))
-    (λ (c : Cut 10 bytes). subst (λ bs. IsRefused accepts bs line why) (sym c.whole) (line_refused accepts c.line c.behind line why c.none (sym (ap (trace_of accepts) c.whole) ∙ is)))
+    (λ (c : Cut 10 bytes). subst (λ bs. IsRefused accepts bs line why) (sym c.whole) (line_refused accepts c.line c.suffix line why c.none (sym (ap (trace_of accepts) c.whole) ∙ is)))
     (cut 10 bytes)
 
 first_refused : (accepts : Accepts) (bytes : List ℕ) (line : ℕ) (why : Cause) → line ≡ 1 → IsFirstLineCause accepts.versions bytes why → trace_of accepts bytes ≡ Err (refused line why)
@@ -201,11 +201,11 @@ later_refused accepts bytes line why is =
     let head : Header = record { version = is.version; cpus = is.cpus } in
     let verbs : List Verb = accepts.verbs is.version in
     let limits : Limits = limits_of accepts.tick is.cpus in
-    let count : 2 + length is.front ≡ line = omega (arith, is.line_is) in
-    ap (trace_of accepts) (is.bytes_are ∙ append_assoc (header_line head) (10 ∷ lines_of is.front) is.rest)
-    ∙ trace_of-line accepts (header_line head) (lines_of is.front ++ is.rest) (whole_header head is.counted)
-    ∙ ap (λ first. headed accepts first (parts_at 10 (lines_of is.front ++ is.rest))) (first_back accepts.versions head is.version_is is.counted)
-    ∙ ap (with_events head) (rest_from-lines verbs limits first_world 2 is.front is.rest is.fit is.known is.legal ∙ ap (followed is.front) (rest_from-cause verbs limits (after is.front) (2 + length is.front) is.rest why is.has))
+    let count : 2 + length is.prefix ≡ line = omega (arith, is.line_is) in
+    ap (trace_of accepts) (is.bytes_are ∙ append_assoc (header_line head) (10 ∷ lines_of is.prefix) is.rest)
+    ∙ trace_of-line accepts (header_line head) (lines_of is.prefix ++ is.rest) (whole_header head is.counted)
+    ∙ ap (λ first. headed accepts first (parts_at 10 (lines_of is.prefix ++ is.rest))) (first_back accepts.versions head is.version_is is.counted)
+    ∙ ap (with_events head) (rest_from-lines verbs limits first_world 2 is.prefix is.rest is.fit is.known is.legal ∙ ap (followed is.prefix) (rest_from-cause verbs limits (after is.prefix) (2 + length is.prefix) is.rest why is.has))
     ∙ ap (λ n. let r : Whole = Err (refused n why) in r) count
 
 pub refused_first : FirstRefused

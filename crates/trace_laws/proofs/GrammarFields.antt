@@ -17,7 +17,7 @@ use Rattle.psi_base.specs.declared.event.Res.{Res}
 use Rattle.psi_base.specs.declared.event.Res.TheVariants.{Io, Memory, Cpu as CpuRes}
 use Rattle.psi_base.specs.declared.event.Level.{Level}
 use Rattle.psi_base.specs.declared.event.Level.TheVariants.{SomeStalled, FullStalled}
-use Rattle.psi_spec.specs.Fields.{Kind, pid, next, cpu, path, how, preference, amount, number, resource, level, account, Value, InRange, IsAmong, IsPid, word, value_of, named, kept, number_in, task_or_none, next_word, how_word, preference_word, resource_word, level_word, account_word, hows, preferences, resources, levels, accounts}
+use Rattle.psi_spec.specs.Fields.{Kind, pid, next, cpu, path, how, preference, amount, number, resource, level, account, Value, InRange, IsAmong, IsPid, word, value_of, named, accepted_if, number_in, task_or_none, next_word, how_word, preference_word, resource_word, level_word, account_word, hows, preferences, resources, levels, accounts}
 
 if_some : {A : Type 0} (test : Bool) (x y : A) (rest : Option A) → (if test then Some x else rest) ≡ Some y → ((test ≡ true) × (x ≡ y)) ⊎ (rest ≡ Some y)
 if_some true x y rest is = inl (refl, cc)
@@ -62,7 +62,7 @@ if_kept : (test : Bool) (m n : ℕ) → (if test then Some m else None) ≡ Some
 if_kept true m n is = (cc, refl)
 if_kept false m n is = absurd cc
 
-kept_some : (holds : ℕ → Bool) (read : Option ℕ) (n : ℕ) → kept holds read ≡ Some n → (read ≡ Some n) × (holds n ≡ true)
+kept_some : (holds : ℕ → Bool) (read : Option ℕ) (n : ℕ) → accepted_if holds read ≡ Some n → (read ≡ Some n) × (holds n ≡ true)
 kept_some holds None n is = absurd cc
 kept_some holds (Some m) n is =
     let both = if_kept (holds m) m n is in
@@ -76,7 +76,7 @@ number_in_spells holds text n is =
 
 -- a number in a range is read from its spelling
 number_in_again : (holds : ℕ → Bool) (n : ℕ) → n < 2 ^ 64 → holds n ≡ true → number_in holds (decimal n) ≡ Some n
-number_in_again holds n fits is = ap (kept holds) (number_of-decimal n fits) ∙ ap (λ b. if b then Some n else None) is
+number_in_again holds n fits is = ap (accepted_if holds) (number_of-decimal n fits) ∙ ap (λ b. if b then Some n else None) is
 
 none_some : {A : Type 0} (x : A) → (let o : Option A = None in o) ≡ Some x → ⊥
 none_some x is = cc

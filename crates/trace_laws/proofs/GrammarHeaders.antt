@@ -15,15 +15,15 @@ use Rattle.trace_laws.proofs.GrammarWords.{decimal_printed, decimal_short}
 cons_same : (a b : ℕ) (xs ys : List ℕ) → a ∷ xs ≡ b ∷ ys → xs ≡ ys
 cons_same a b xs ys is = cc
 
-front_same : (front xs ys : List ℕ) → front ++ xs ≡ front ++ ys → xs ≡ ys
-front_same [] xs ys is = is
-front_same (byte ∷ front) xs ys is = front_same front xs ys (cons_same byte byte (front ++ xs) (front ++ ys) is)
+prefix_same : (prefix xs ys : List ℕ) → prefix ++ xs ≡ prefix ++ ys → xs ≡ ys
+prefix_same [] xs ys is = is
+prefix_same (byte ∷ prefix) xs ys is = prefix_same prefix xs ys (cons_same byte byte (prefix ++ xs) (prefix ++ ys) is)
 
 -- headers of different numbers of processors differ
 pub header-injective : (version m n : ℕ) → m < 2 ^ 64 → n < 2 ^ 64 → header version m ≡ header version n → m ≡ n
 unfolding header
 header-injective version m n small fits is =
-    decimal_injective m n small fits (front_same (codes "psitrace " ++ decimal version ++ codes " cpus=") (decimal m) (decimal n) is)
+    decimal_injective m n small fits (prefix_same (codes "psitrace " ++ decimal version ++ codes " cpus=") (decimal m) (decimal n) is)
 
 -- ---- headers among those of some versions
 
@@ -31,9 +31,9 @@ abbrev made : Version → ℕ → Header
 made version cpus = record { version = version; cpus = cpus }
 
 -- what is among one list or another
-among_front : {A : Type 0} (x : A) (xs ys : List A) → IsAmong x xs → IsAmong x (xs ++ ys)
-among_front x [] ys among = absurd among
-among_front x (y ∷ xs) ys among = ⊎_elim (λ same. inl same) (λ there. inr (among_front x xs ys there)) among
+among_prefix : {A : Type 0} (x : A) (xs ys : List A) → IsAmong x xs → IsAmong x (xs ++ ys)
+among_prefix x [] ys among = absurd among
+among_prefix x (y ∷ xs) ys among = ⊎_elim (λ same. inl same) (λ there. inr (among_prefix x xs ys there)) among
 
 among_back : {A : Type 0} (x : A) (xs ys : List A) → IsAmong x ys → IsAmong x (xs ++ ys)
 among_back x [] ys among = among
@@ -41,7 +41,7 @@ among_back x (y ∷ xs) ys among = inr (among_back x xs ys among)
 
 among_either : {A : Type 0} (x : A) (xs ys : List A) → IsAmong x (xs ++ ys) → IsAmong x xs ⊎ IsAmong x ys
 among_either x [] ys among = inr among
-among_either x (y ∷ xs) ys among = ⊎_elim (λ same. inl (inl same)) (λ there. ⊎_elim (λ front. inl (inr front)) (λ back. inr back) (among_either x xs ys there)) among
+among_either x (y ∷ xs) ys among = ⊎_elim (λ same. inl (inl same)) (λ there. ⊎_elim (λ prefix. inl (inr prefix)) (λ back. inr back) (among_either x xs ys there)) among
 
 -- the headers of a version have it, and a number of processors in the range
 ranged : (version : Version) (low n : ℕ) (head : Header) → IsAmong head (map (made version) (range_with_len low n)) → (head.version ≡ version) × (low ≤ head.cpus) × (head.cpus < low + n)
@@ -55,11 +55,11 @@ in_range : (version : Version) (low n cpus : ℕ) → low ≤ cpus → cpus < lo
 in_range version low zero cpus from below = absurd (omega (arith, from, below))
 in_range version low (suc n) cpus from below = ⊎_elim
     (λ same. inl (ap (made version) same.1))
-    (λ other. inr (in_range version (low + 1) n cpus (let apart = (eqb_tells_apart cpus low other.0) in omega (arith, from, apart)) (omega (arith, below))))
+    (λ other. inr (in_range version (low + 1) n cpus (let apart = (eqb_shows_apart cpus low other.0) in omega (arith, from, apart)) (omega (arith, below))))
     (eqb_tells cpus low)
   where
-    eqb_tells_apart : (a b : ℕ) → (a == b) ≡ false → a ≢ b
-    eqb_tells_apart a b differ same = grind (arith, nat_tests)
+    eqb_shows_apart : (a b : ℕ) → (a == b) ≡ false → a ≢ b
+    eqb_shows_apart a b differ same = grind (arith, nat_tests)
 
 headed_by : (versions : List Version) (head : Header) → IsAmong head (flat_map headers_of versions) → IsAmong head.version versions × (1 ≤ head.cpus) × (head.cpus ≤ 64)
 headed_by [] head among = absurd among
@@ -71,7 +71,7 @@ headed_by (version ∷ versions) head among = ⊎_elim
 heads : (versions : List Version) (head : Header) → IsAmong head.version versions → 1 ≤ head.cpus → head.cpus ≤ 64 → IsAmong head (flat_map headers_of versions)
 heads [] head known low high = absurd known
 heads (version ∷ versions) head known low high = ⊎_elim
-    (λ same. among_front head (headers_of version) (flat_map headers_of versions) (subst (λ v. IsAmong head (headers_of v)) same (in_range head.version 1 64 head.cpus low (omega (arith, high)))))
+    (λ same. among_prefix head (headers_of version) (flat_map headers_of versions) (subst (λ v. IsAmong head (headers_of v)) same (in_range head.version 1 64 head.cpus low (omega (arith, high)))))
     (λ there. among_back head (headers_of version) (flat_map headers_of versions) (heads versions head there low high))
     known
 
@@ -86,7 +86,7 @@ numbers_differ : (m n : ℕ) → header 1 m ≡ header 2 n → ⊥
 unfolding header
 numbers_differ m n is =
     digits_differ 1 2 (codes " cpus=" ++ decimal m) (codes " cpus=" ++ decimal n) refl refl
-    (sym (append_assoc (decimal 1) (codes " cpus=") (decimal m)) ∙ front_same (codes "psitrace ") _ _ is ∙ append_assoc (decimal 2) (codes " cpus=") (decimal n))
+    (sym (append_assoc (decimal 1) (codes " cpus=") (decimal m)) ∙ prefix_same (codes "psitrace ") _ _ is ∙ append_assoc (decimal 2) (codes " cpus=") (decimal n))
 
 version_same : (one other : Version) (m n : ℕ) → header (version_number one) m ≡ header (version_number other) n → one ≡ other
 version_same One One m n is = refl

@@ -68,10 +68,10 @@ joined-no_newline (text ∷ next ∷ words) are =
     (none_cons 10 32 (joined (next ∷ words)) (λ same. omega (arith, same)) (joined-no_newline (next ∷ words) are.1))
 
 -- the bytes of words that each have a space ahead
-abbrev pub behind : List (List ℕ) → ℕ
-behind [] = 0
-behind (text ∷ words) = 1 + length text + behind words
+abbrev pub suffix : List (List ℕ) → ℕ
+suffix [] = 0
+suffix (text ∷ words) = 1 + length text + suffix words
 
-pub length-joined : (text : List ℕ) (words : List (List ℕ)) → length (joined (text ∷ words)) ≡ length text + behind words
+pub length-joined : (text : List ℕ) (words : List (List ℕ)) → length (joined (text ∷ words)) ≡ length text + suffix words
 length-joined text [] = omega arith
 length-joined text (next ∷ words) = omega (arith, length-append text (32 ∷ joined (next ∷ words)), length-joined next words)

@@ -14,7 +14,7 @@ use Rattle.psi_base.specs.ResultSteps.{◌>>=◌}
 use Rattle.psi_spec.specs.Grammar.{joined, act_words, spelling, ActFits, AreInRange, Fits, Maker, Values, Verb, phrase_of, field_words, Group, form_of, verb_word, kinds_of, One, Two, Version, first_verbs, verbs_of, IsKnown, or_bad, field, made_from, act_from, verb_of, act_in, act_at, event_in, event_at, event_of}
 use Rattle.psi_spec.specs.LineLaws.{ReadsSpelled, SpelledInLine}
 use Rattle.trace_laws.proofs.GrammarFields.{named_again, named_among, named_spells, value_spells, value_again}
-use Rattle.trace_laws.proofs.GrammarParts.{joined-parts, parts-joined, AreWords, IsPrinted, joined-no_newline, behind, length-joined}
+use Rattle.trace_laws.proofs.GrammarParts.{joined-parts, parts-joined, AreWords, IsPrinted, joined-no_newline, suffix, length-joined}
 use Rattle.trace_laws.proofs.GrammarWords.{decimal_printed, decimal_short, word_printed, word_short, longest}
 
 -- the act built from values, all at once
@@ -133,16 +133,16 @@ record IsSpelled (verbs : List Verb) (words : List (List ℕ)) (what : Act) : Ty
   fits : ActFits what
   known : IsAmong (phrase_of what).verb verbs
 
-verb_told : (verb : Verb) (values : Values (kinds_of verb)) → (phrase_of (act_of verb values)).verb ≡ verb
-verb_told Group values = refl
-verb_told _ values = refl
+verb_known : (verb : Verb) (values : Values (kinds_of verb)) → (phrase_of (act_of verb values)).verb ≡ verb
+verb_known Group values = refl
+verb_known _ values = refl
 
 -- the verb of an act that was read
 act_from_verb : (verb : Verb) (words : List (List ℕ)) (what : Act) → act_from verb words ≡ Ok what → (phrase_of what).verb ≡ verb
 unfolding act_from
 act_from_verb verb words what is =
     let read = made_ok 1 (kinds_of verb) (form_of verb).act words what is in
-    ap (λ a. (phrase_of a).verb) (sym read.makes) ∙ verb_told verb read.values
+    ap (λ a. (phrase_of a).verb) (sym read.makes) ∙ verb_known verb read.values
 
 act_in_ok : (verbs : List Verb) (text : List ℕ) (read : Option Verb) (words : List (List ℕ)) (what : Act) → verb_of verbs text ≡ read → act_in read words ≡ Ok what → IsSpelled verbs (text ∷ words) what
 act_in_ok verbs text None words what found is = absurd cc
@@ -247,17 +247,17 @@ abbrev pub most : List Kind → ℕ
 most [] = 0
 most (k ∷ ks) = 1 + longest k + most ks
 
-behind_short : (ks : List Kind) (values : Values ks) → AreInRange ks values → behind (field_words ks values) ≤ most ks
-behind_short [] values are = omega arith
-behind_short (k ∷ ks) values are = omega (arith, word_short k values.0 are.0, behind_short ks values.1 are.1)
+after_short_one : (ks : List Kind) (values : Values ks) → AreInRange ks values → suffix (field_words ks values) ≤ most ks
+after_short_one [] values are = omega arith
+after_short_one (k ∷ ks) values are = omega (arith, word_short k values.0 are.0, after_short_one ks values.1 are.1)
 
 form_short : (verb : Verb) → length (verb_word verb) + most (kinds_of verb) ≤ 400
 form_short Group = lit≤ tt
 form_short _ = lit≤ tt
 
-act_short : (what : Act) → ActFits what → behind (act_words what) ≤ 401
+act_short : (what : Act) → ActFits what → suffix (act_words what) ≤ 401
 act_short what fits =
-    omega (arith, form_short (phrase_of what).verb, behind_short (kinds_of (phrase_of what).verb) (phrase_of what).values fits)
+    omega (arith, form_short (phrase_of what).verb, after_short_one (kinds_of (phrase_of what).verb) (phrase_of what).values fits)
 
 -- a spelling has at most 512 bytes, as a line has
 pub length-spelling-le : (event : Event) → Fits event → length (spelling event) ≤ 512

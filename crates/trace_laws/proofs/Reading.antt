@@ -30,8 +30,8 @@ unfolding events_from
 step_parts verbs limits w line part parts has = rw has.2 refl
 
 -- a line with its newline is read, and then the bytes after it
-pub rest_from-line : (verbs : List Verb) (limits : Limits) (w : World) (line : ℕ) (part behind : List ℕ) → HasNone 10 part (length part) → rest_from verbs limits w line (part ++ 10 ∷ behind) ≡ or_refused line (line_event verbs limits w part) (λ event. followed (event ∷ []) (rest_from verbs limits (after_event w event) (line + 1) behind))
-rest_from-line verbs limits w line part behind none = rw (parts_at-line 10 part behind none) (step_parts verbs limits w line part (parts_at 10 behind) (first_part 10 behind))
+pub rest_from-line : (verbs : List Verb) (limits : Limits) (w : World) (line : ℕ) (part suffix : List ℕ) → HasNone 10 part (length part) → rest_from verbs limits w line (part ++ 10 ∷ suffix) ≡ or_refused line (line_event verbs limits w part) (λ event. followed (event ∷ []) (rest_from verbs limits (after_event w event) (line + 1) suffix))
+rest_from-line verbs limits w line part suffix none = rw (parts_at-line 10 part suffix none) (step_parts verbs limits w line part (parts_at 10 suffix) (first_part 10 suffix))
 
 -- a rest without a newline
 pub rest_from-rest : (verbs : List Verb) (limits : Limits) (w : World) (line : ℕ) (rest : List ℕ) → HasNone 10 rest (length rest) → rest_from verbs limits w line rest ≡ at_end line (rest_cause w rest)
@@ -135,23 +135,23 @@ reads_rest verbs limits w line rest events none is =
     subst (Reads verbs limits w rest) parts.1 (record { text = so.1; fit = tt; known = tt; legal = tt; ended = so.0 })
 
 -- an event's line before those of others
-joins : (part behind : List ℕ) (event : Event) (others : List Event) → part ≡ spelling event → behind ≡ lines_of others → part ++ 10 ∷ behind ≡ lines_of (event ∷ others)
-joins part behind event others first rest = rw (first, rest) (sym (append_assoc (spelling event) (10 ∷ []) (lines_of others)))
+joins : (part suffix : List ℕ) (event : Event) (others : List Event) → part ≡ spelling event → suffix ≡ lines_of others → part ++ 10 ∷ suffix ≡ lines_of (event ∷ others)
+joins part suffix event others first rest = rw (first, rest) (sym (append_assoc (spelling event) (10 ∷ []) (lines_of others)))
 
-goes_on : (part behind : List ℕ) (event : Event) (others : List Event) (rest : List ℕ) → part ≡ spelling event → behind ≡ lines_of others ++ rest → part ++ 10 ∷ behind ≡ lines_of (event ∷ others) ++ rest
-goes_on part behind event others rest first more =
+goes_on : (part suffix : List ℕ) (event : Event) (others : List Event) (rest : List ℕ) → part ≡ spelling event → suffix ≡ lines_of others ++ rest → part ++ 10 ∷ suffix ≡ lines_of (event ∷ others) ++ rest
+goes_on part suffix event others rest first more =
     rw (first, more) (sym (append_assoc (spelling event ++ 10 ∷ []) (lines_of others) rest ∙ append_assoc (spelling event) (10 ∷ []) (lines_of others ++ rest)))
 
-reads_line : (verbs : List Verb) (limits : Limits) (w : World) (line : ℕ) (part behind : List ℕ) (events : List Event) → HasNone 10 part (length part)
-    → ((event : Event) (others : List Event) → rest_from verbs limits (after_event w event) (line + 1) behind ≡ Ok others → Reads verbs limits (after_event w event) behind others)
-    → rest_from verbs limits w line (part ++ 10 ∷ behind) ≡ Ok events → Reads verbs limits w (part ++ 10 ∷ behind) events
-reads_line verbs limits w line part behind events none more is =
-    let first = or_refused_ok line (line_event verbs limits w part) _ events (sym (rest_from-line verbs limits w line part behind none) ∙ is) in
-    let rest = followed_ok first.0 (rest_from verbs limits (after_event w first.0) (line + 1) behind) events first.2 in
+reads_line : (verbs : List Verb) (limits : Limits) (w : World) (line : ℕ) (part suffix : List ℕ) (events : List Event) → HasNone 10 part (length part)
+    → ((event : Event) (others : List Event) → rest_from verbs limits (after_event w event) (line + 1) suffix ≡ Ok others → Reads verbs limits (after_event w event) suffix others)
+    → rest_from verbs limits w line (part ++ 10 ∷ suffix) ≡ Ok events → Reads verbs limits w (part ++ 10 ∷ suffix) events
+reads_line verbs limits w line part suffix events none more is =
+    let first = or_refused_ok line (line_event verbs limits w part) _ events (sym (rest_from-line verbs limits w line part suffix none) ∙ is) in
+    let rest = followed_ok first.0 (rest_from verbs limits (after_event w first.0) (line + 1) suffix) events first.2 in
     let here = taken verbs limits w part first.0 first.1 in
     let later = more first.0 rest.0 rest.1 in
-    subst (Reads verbs limits w (part ++ 10 ∷ behind)) rest.2 (record {
-      text = joins part behind first.0 rest.0 here.spelled later.text;
+    subst (Reads verbs limits w (part ++ 10 ∷ suffix)) rest.2 (record {
+      text = joins part suffix first.0 rest.0 here.spelled later.text;
       fit = (here.fits, later.fit);
       known = (here.known, later.known);
       legal = (here.legal, later.legal);
@@ -165,8 +165,8 @@ reads zero verbs limits w line bytes events few is = ⊎_elim
     (cut 10 bytes)
 reads (suc n) verbs limits w line bytes events few is = ⊎_elim
     (λ none. reads_rest verbs limits w line bytes events none is)
-    (λ (c : Cut 10 bytes). subst (λ bs. Reads verbs limits w bs events) (sym c.whole) (reads_line verbs limits w line c.line c.behind events c.none
-    (λ event others more. reads n verbs limits (after_event w event) (line + 1) c.behind others (omega (arith, cut_shorter 10 bytes c, few)) more)
+    (λ (c : Cut 10 bytes). subst (λ bs. Reads verbs limits w bs events) (sym c.whole) (reads_line verbs limits w line c.line c.suffix events c.none
+    (λ event others more. reads n verbs limits (after_event w event) (line + 1) c.suffix others (omega (arith, cut_shorter 10 bytes c, few)) more)
     (sym (ap (rest_from verbs limits w line) c.whole) ∙ is)))
     (cut 10 bytes)
 
@@ -182,32 +182,32 @@ pub followed-nil : (events : Events) → followed [] events ≡ events
 followed-nil (Ok events) = refl
 followed-nil (Err refusal) = refl
 
-pub rest_from-lines : (verbs : List Verb) (limits : Limits) (w : World) (line : ℕ) (front : List Event) (rest : List ℕ) → AllFit front → AreKnown verbs front → AreLegal limits w front → rest_from verbs limits w line (lines_of front ++ rest) ≡ followed front (rest_from verbs limits (after_from w front) (line + length front) rest)
+pub rest_from-lines : (verbs : List Verb) (limits : Limits) (w : World) (line : ℕ) (prefix : List Event) (rest : List ℕ) → AllFit prefix → AreKnown verbs prefix → AreLegal limits w prefix → rest_from verbs limits w line (lines_of prefix ++ rest) ≡ followed prefix (rest_from verbs limits (after_from w prefix) (line + length prefix) rest)
 rest_from-lines verbs limits w line [] rest fit known legal =
     let same : line + 0 ≡ line = omega arith in
     rw same (sym (followed-nil (rest_from verbs limits w line rest)))
-rest_from-lines verbs limits w line (event ∷ front) rest fit known legal =
-    let next = rest_from-lines verbs limits (after_event w event) (line + 1) front rest fit.1 known.1 legal.1 in
-    let count : line + 1 + length front ≡ line + length (event ∷ front) = omega arith in
-    ap (rest_from verbs limits w line) (lines-append event front rest)
-    ∙ rest_from-line verbs limits w line (spelling event) (lines_of front ++ rest) (spelling-no_newline event fit.0)
-    ∙ ap (λ r. or_refused line r (λ e. followed (e ∷ []) (rest_from verbs limits (after_event w e) (line + 1) (lines_of front ++ rest)))) (takes verbs limits w event fit.0 known.0 legal.0)
+rest_from-lines verbs limits w line (event ∷ prefix) rest fit known legal =
+    let next = rest_from-lines verbs limits (after_event w event) (line + 1) prefix rest fit.1 known.1 legal.1 in
+    let count : line + 1 + length prefix ≡ line + length (event ∷ prefix) = omega arith in
+    ap (rest_from verbs limits w line) (lines-append event prefix rest)
+    ∙ rest_from-line verbs limits w line (spelling event) (lines_of prefix ++ rest) (spelling-no_newline event fit.0)
+    ∙ ap (λ r. or_refused line r (λ e. followed (e ∷ []) (rest_from verbs limits (after_event w e) (line + 1) (lines_of prefix ++ rest)))) (takes verbs limits w event fit.0 known.0 legal.0)
     ∙ ap (followed (event ∷ [])) next
-    ∙ followed-followed (event ∷ []) front _
-    ∙ ap (λ n. followed (event ∷ front) (rest_from verbs limits (after_from (after_event w event) front) n rest)) count
+    ∙ followed-followed (event ∷ []) prefix _
+    ∙ ap (λ n. followed (event ∷ prefix) (rest_from verbs limits (after_from (after_event w event) prefix) n rest)) count
 
 -- ---- refusals
 
 -- input that is rejected after the lines of some legal events
 pub record Refuses (verbs : List Verb) (limits : Limits) (w : World) (line : ℕ) (bytes : List ℕ) (at : ℕ) (why : Cause) : Type 0 where
-  pub front : List Event
+  pub prefix : List Event
   pub rest : List ℕ
-  pub bytes_are : bytes ≡ lines_of front ++ rest
-  pub fit : AllFit front
-  pub known : AreKnown verbs front
-  pub legal : AreLegal limits w front
-  pub at_is : at ≡ line + length front
-  pub has : IsLineCause verbs limits (after_from w front) rest why
+  pub bytes_are : bytes ≡ lines_of prefix ++ rest
+  pub fit : AllFit prefix
+  pub known : AreKnown verbs prefix
+  pub legal : AreLegal limits w prefix
+  pub at_is : at ≡ line + length prefix
+  pub has : IsLineCause verbs limits (after_from w prefix) rest why
 
 pub same_refusal : (line at : ℕ) (why cause : Cause) → refused line why ≡ refused at cause → (line ≡ at) × (why ≡ cause)
 same_refusal line at why cause is = (ap (λ (r : Refusal). r.line) is, ap (λ (r : Refusal). r.cause) is)
@@ -234,19 +234,19 @@ followed_err event (Err found) refusal is = is
 refuses_rest : (verbs : List Verb) (limits : Limits) (w : World) (line : ℕ) (rest : List ℕ) (at : ℕ) (why : Cause) → HasNone 10 rest (length rest) → rest_from verbs limits w line rest ≡ Err (refused at why) → Refuses verbs limits w line rest at why
 refuses_rest verbs limits w line rest at why none is =
     let parts = at_end_err line (rest_cause w rest) at why (sym (rest_from-rest verbs limits w line rest none) ∙ is) in
-    record { front = []; rest = rest; bytes_are = refl; fit = tt; known = tt; legal = tt; at_is = omega (arith, parts.1); has = inr (none, parts.0) }
+    record { prefix = []; rest = rest; bytes_are = refl; fit = tt; known = tt; legal = tt; at_is = omega (arith, parts.1); has = inr (none, parts.0) }
 
-refuses_line : (verbs : List Verb) (limits : Limits) (w : World) (line : ℕ) (part behind : List ℕ) (at : ℕ) (why : Cause) → HasNone 10 part (length part)
-    → ((event : Event) → rest_from verbs limits (after_event w event) (line + 1) behind ≡ Err (refused at why) → Refuses verbs limits (after_event w event) (line + 1) behind at why)
-    → rest_from verbs limits w line (part ++ 10 ∷ behind) ≡ Err (refused at why) → Refuses verbs limits w line (part ++ 10 ∷ behind) at why
-refuses_line verbs limits w line part behind at why none more is = ⊎_elim
-    (λ here. record { front = []; rest = part ++ 10 ∷ behind; bytes_are = refl; fit = tt; known = tt; legal = tt; at_is = omega (arith, here.1); has = inl (part, (none, (behind, refl)), here.0) })
+refuses_line : (verbs : List Verb) (limits : Limits) (w : World) (line : ℕ) (part suffix : List ℕ) (at : ℕ) (why : Cause) → HasNone 10 part (length part)
+    → ((event : Event) → rest_from verbs limits (after_event w event) (line + 1) suffix ≡ Err (refused at why) → Refuses verbs limits (after_event w event) (line + 1) suffix at why)
+    → rest_from verbs limits w line (part ++ 10 ∷ suffix) ≡ Err (refused at why) → Refuses verbs limits w line (part ++ 10 ∷ suffix) at why
+refuses_line verbs limits w line part suffix at why none more is = ⊎_elim
+    (λ here. record { prefix = []; rest = part ++ 10 ∷ suffix; bytes_are = refl; fit = tt; known = tt; legal = tt; at_is = omega (arith, here.1); has = inl (part, (none, (suffix, refl)), here.0) })
     (λ first.
     let event = taken verbs limits w part first.0 first.1 in
     let later = more first.0 (followed_err first.0 _ (refused at why) first.2) in
-    let goes : part ++ 10 ∷ behind ≡ lines_of (first.0 ∷ later.front) ++ later.rest = goes_on part behind first.0 later.front later.rest event.spelled later.bytes_are in
+    let goes : part ++ 10 ∷ suffix ≡ lines_of (first.0 ∷ later.prefix) ++ later.rest = goes_on part suffix first.0 later.prefix later.rest event.spelled later.bytes_are in
     record {
-      front = first.0 ∷ later.front;
+      prefix = first.0 ∷ later.prefix;
       rest = later.rest;
       bytes_are = goes;
       fit = (event.fits, later.fit);
@@ -255,7 +255,7 @@ refuses_line verbs limits w line part behind at why none more is = ⊎_elim
       at_is = omega (arith, later.at_is);
       has = later.has;
     })
-    (or_refused_err line (line_event verbs limits w part) _ at why (sym (rest_from-line verbs limits w line part behind none) ∙ is))
+    (or_refused_err line (line_event verbs limits w part) _ at why (sym (rest_from-line verbs limits w line part suffix none) ∙ is))
 
 refuses : (n : ℕ) (verbs : List Verb) (limits : Limits) (w : World) (line : ℕ) (bytes : List ℕ) (at : ℕ) (why : Cause) → length bytes ≤ n → rest_from verbs limits w line bytes ≡ Err (refused at why) → Refuses verbs limits w line bytes at why
 refuses zero verbs limits w line bytes at why few is = ⊎_elim
@@ -264,8 +264,8 @@ refuses zero verbs limits w line bytes at why few is = ⊎_elim
     (cut 10 bytes)
 refuses (suc n) verbs limits w line bytes at why few is = ⊎_elim
     (λ none. refuses_rest verbs limits w line bytes at why none is)
-    (λ (c : Cut 10 bytes). subst (λ bs. Refuses verbs limits w line bs at why) (sym c.whole) (refuses_line verbs limits w line c.line c.behind at why c.none
-    (λ event more. refuses n verbs limits (after_event w event) (line + 1) c.behind at why (omega (arith, cut_shorter 10 bytes c, few)) more)
+    (λ (c : Cut 10 bytes). subst (λ bs. Refuses verbs limits w line bs at why) (sym c.whole) (refuses_line verbs limits w line c.line c.suffix at why c.none
+    (λ event more. refuses n verbs limits (after_event w event) (line + 1) c.suffix at why (omega (arith, cut_shorter 10 bytes c, few)) more)
     (sym (ap (rest_from verbs limits w line) c.whole) ∙ is)))
     (cut 10 bytes)
 

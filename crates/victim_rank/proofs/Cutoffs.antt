@@ -13,7 +13,7 @@ use Rattle.kill_spec.specs.LegalReadings.{Ascend}
 use Rattle.kill_spec.specs.Victims.{is_larger, memory_in_use}
 use Rattle.kill_spec.proofs.Foremost.{Each, Pairs, by_test}
 use Rattle.kill_spec.proofs.ChoiceLaws.{IsBefore, greater_order, in_order}
-use Rattle.detectors.specs.Below.{AreAmong, group_at, groups_at}
+use Rattle.detectors.specs.Inner.{AreAmong, group_at, groups_at}
 use Rattle.detectors.specs.Views.{ReadingView}
 use Rattle.victim_rank.proofs.Scoped.{leads_plainly}
 use Rattle.victim_rank.specs.Scopes.{ScopeView, is_in_rank}

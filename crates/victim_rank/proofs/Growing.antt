@@ -13,11 +13,11 @@ use Rattle.kill_spec.specs.LegalReadings.{Ascend}
 use Rattle.kill_spec.specs.Victims.{is_larger, largest_few, memory_in_use, unbeaten}
 use Rattle.kill_spec.proofs.Foremost.{Orders, by_test, better, each_map, each_passes, foremost, foremost_of, pairs_filter}
 use Rattle.kill_spec.proofs.ChoiceLaws.{IsBefore, greater_order, in_order, then_first, then_one_way}
-use Rattle.kill_spec.proofs.ChoiceLaws.{then_same, then_tells, then_told, walk_unbeaten}
+use Rattle.kill_spec.proofs.ChoiceLaws.{then_same, then_shows, then_known, walk_unbeaten}
 use Rattle.victim_rank.specs.declared.growth.Grown.{Grown}
 use Rattle.victim_rank.specs.Growth.{growth_over, has_grown_more_over, is_growing_over}
 use Rattle.victim_rank.specs.Grown.{IsGrown, IsGrownAt, leads_grown}
-use Rattle.detectors.specs.Below.{group_at}
+use Rattle.detectors.specs.Inner.{group_at}
 use Rattle.victim_rank.proofs.Scoped.{filter_filter, foremost_none, kept_by, leads_plainly}
 
 -- a group leads one before it: it has grown more, or as much and it uses more memory
@@ -56,16 +56,16 @@ by_products : (a b c s t u : ℕ) (f g h : Bool) → 0 < s → 0 < t → 0 < u �
     (nat_lt (c * t) (b * u) || (b * u == c * t && g)) ≡ true →
     (nat_lt (c * s) (a * u) || (a * u == c * s && h)) ≡ true
 by_products a b c s t u f g h some_s some_t some_u onward first second =
-    then_told (a * u) (c * s) h (h ≡ true) (λ is. is) (⊎_elim
+    then_known (a * u) (c * s) h (h ≡ true) (λ is. is) (⊎_elim
     (λ above. ⊎_elim
     (λ too. inl (above_then a b c s t u some_u above (omega (arith, too))))
     (λ same. inl (above_then a b c s t u some_u above (omega (arith, same.0))))
-    (then_tells (b * u) (c * t) g (g ≡ true) (λ is. is) second))
+    (then_shows (b * u) (c * t) g (g ≡ true) (λ is. is) second))
     (λ same. ⊎_elim
     (λ above. inl (then_above a b c s t u some_s (omega (arith, same.0)) above))
     (λ too. inr (all_same a b c s t u some_t same.0 too.0, onward same.1 too.1))
-    (then_tells (b * u) (c * t) g (g ≡ true) (λ is. is) second))
-    (then_tells (a * t) (b * s) f (f ≡ true) (λ is. is) first))
+    (then_shows (b * u) (c * t) g (g ≡ true) (λ is. is) second))
+    (then_shows (a * t) (b * s) f (f ≡ true) (λ is. is) first))
 
 -- a group's past has memory in use
 abbrev pub HasPast : (GroupReading → List ℕ) → GroupReading → Type 0
@@ -193,12 +193,12 @@ pub next_taken : (sizes : GroupReading → List ℕ) (p : GroupReading → Bool)
     LeadsAny best next leads → leads ≡ true → p group ≡ true →
     foremost (leads_over sizes) (Some group) (filter p rest)
     ≡ foremost (leads_over sizes) (best_group groups best) (filter p (group ∷ rest))
-next_taken sizes p groups None next group leads rest was is told holds passes =
+next_taken sizes p groups None next group leads rest was is known holds passes =
     ap (foremost (leads_over sizes) None) (sym (passes_first p group rest passes))
-next_taken sizes p groups (Some best) next group leads rest was is told holds passes =
+next_taken sizes p groups (Some best) next group leads rest was is known holds passes =
     let before = group_at groups best.place in
     let over : leads_over sizes group before ≡ true =
-    sym (leads_as sizes next best group before is was.grown_is) ∙ sym told ∙ holds in
+    sym (leads_as sizes next best group before is was.grown_is) ∙ sym known ∙ holds in
     ap (λ first. Some (foremost_of (leads_over sizes) first (filter p rest)))
     (next_better (leads_over sizes) before group over)
     ∙ ap (foremost (leads_over sizes) (Some before)) (sym (passes_first p group rest passes))
@@ -211,12 +211,12 @@ pub next_trails : (sizes : GroupReading → List ℕ) (p : GroupReading → Bool
     LeadsAny best next leads → leads ≡ false →
     foremost (leads_over sizes) (best_group groups best) (filter p rest)
     ≡ foremost (leads_over sizes) (best_group groups best) (filter p (group ∷ rest))
-next_trails sizes p groups None next group leads rest was is told fails =
-    absurd (true≢false (sym told ∙ fails))
-next_trails sizes p groups (Some best) next group leads rest was is told fails =
+next_trails sizes p groups None next group leads rest was is known fails =
+    absurd (true≢false (sym known ∙ fails))
+next_trails sizes p groups (Some best) next group leads rest was is known fails =
     let before = group_at groups best.place in
     let under : leads_over sizes group before ≡ false =
-    sym (leads_as sizes next best group before is was.grown_is) ∙ sym told ∙ fails in
+    sym (leads_as sizes next best group before is was.grown_is) ∙ sym known ∙ fails in
     by_test _ (p group)
     (λ passes. ap (λ first. Some (foremost_of (leads_over sizes) first (filter p rest)))
     (best_better (leads_over sizes) before group under)

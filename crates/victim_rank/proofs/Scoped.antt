@@ -13,7 +13,7 @@ use Rattle.kill_spec.specs.Victims.{action_patterns, beats_by, memory_in_use, ra
 use Rattle.kill_spec.proofs.Foremost.{Each, by_test, foremost, pairs_filter}
 use Rattle.kill_spec.proofs.ChoiceLaws.{IsBefore, beats_order, each_unit, in_order, leads_by}
 use Rattle.kill_spec.proofs.ChoiceLaws.{leads_larger, walk_unbeaten}
-use Rattle.detectors.specs.Below.{is_child}
+use Rattle.detectors.specs.Inner.{is_child}
 use Rattle.victim_rank.specs.Scopes.{ScopeView, among, is_in_rank, is_in_scope, is_in_view}
 
 pub filter_filter : (p q : GroupReading → Bool) (groups : List GroupReading) →

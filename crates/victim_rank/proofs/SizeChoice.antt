@@ -18,7 +18,7 @@ use Rattle.kill_spec.proofs.Foremost.{Each, Has, IsBelow, IsBest, Pairs, any_has
 use Rattle.kill_spec.proofs.Foremost.{best_unbeaten, by_test, each_filter, each_map, each_passes}
 use Rattle.kill_spec.proofs.Foremost.{foremost_of, walk_best}
 use Rattle.kill_spec.proofs.ChoiceLaws.{IsBefore, beats_order, each_unit, greater_order, leads_by}
-use Rattle.kill_spec.proofs.ChoiceLaws.{not_none, same_some, then_tells}
+use Rattle.kill_spec.proofs.ChoiceLaws.{not_none, same_some, then_shows}
 use Rattle.victim_rank.specs.Pasts.{Kept}
 use Rattle.victim_rank.specs.Growth.{has_grown_more_over, is_growing_over}
 use Rattle.victim_rank.specs.Scopes.{IsSizes, is_eligible, measure_of}
@@ -41,10 +41,10 @@ has_filter : (p : GroupReading → Bool) (groups : List GroupReading) (group : G
 has_filter p [] group there passes = absurd there
 has_filter p (first ∷ groups) group there passes = by_test _ (p first)
     (λ holds. rw holds (⊎_elim (λ is. inl is) (λ
-    behind. inr (has_filter p groups group behind passes)) there))
+    suffix. inr (has_filter p groups group suffix passes)) there))
     (λ fails. rw fails (⊎_elim
     (λ is. absurd (true≢false (sym passes ∙ ap p (sym is) ∙ fails)))
-    (λ behind. has_filter p groups group behind passes)
+    (λ suffix. has_filter p groups group suffix passes)
     there))
 
 each_both : (P Q R : GroupReading → Type 0) (groups : List GroupReading) →
@@ -94,7 +94,7 @@ rank_below : (lives : List GroupLife) (best group : GroupReading) →
 rank_below lives best group below = ⊎_elim
     (λ same. rw same (omega arith))
     (λ over. ⊎_elim (λ less. omega (arith, less)) (λ tied. omega (arith, tied.0))
-    (then_tells (rank_of best) (rank_of group) (is_larger lives best group)
+    (then_shows (rank_of best) (rank_of group) (is_larger lives best group)
     (is_larger lives best group ≡ true) (λ is. is) over))
     below
 
@@ -127,7 +127,7 @@ below_size lives best group below same = ⊎_elim
     (λ less. absurd (let tied : rank_of group ≡ rank_of best = grind (arith, nat_tests) in
     omega (arith, less, tied)))
     (λ tied. inr tied.1)
-    (then_tells (rank_of best) (rank_of group) (is_larger lives best group)
+    (then_shows (rank_of best) (rank_of group) (is_larger lives best group)
     (is_larger lives best group ≡ true) (λ is. is) over))
     below
 
@@ -136,7 +136,7 @@ size_below : (lives : List GroupLife) (best group : GroupReading) →
 size_below lives best group below = ⊎_elim
     (λ same. rw same (omega arith))
     (λ over. ⊎_elim (λ less. omega (arith, less)) (λ tied. omega (arith, tied.0))
-    (then_tells (memory_in_use best) (memory_in_use group) _ _ (λ is. is) over))
+    (then_shows (memory_in_use best) (memory_in_use group) _ _ (λ is. is) over))
     below
 
 all_below : (lives : List GroupLife) (groups : List GroupReading) (best : GroupReading) →

@@ -5,7 +5,7 @@ use Rattle.psi_spec.specs.World.{most_groups}
 use Rattle.kill_spec.specs.declared.reading.GroupReading.{GroupReading}
 use Rattle.kill_spec.specs.LegalReadings.{IsReading}
 use Rattle.kill_spec.specs.Victims.{is_larger, memory_in_use}
-use Rattle.detectors.specs.Below.{AreAmong, group_at, groups_at}
+use Rattle.detectors.specs.Inner.{AreAmong, group_at, groups_at}
 use Rattle.detectors.specs.Views.{ReadingView}
 use Rattle.victim_rank.specs.Scopes.{ScopeView, is_in_rank}
 

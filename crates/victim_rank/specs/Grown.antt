@@ -3,7 +3,7 @@ use Rattle.std.specs.Prelude.{◌≡◌, ℕ, ◌*◌, ◌<◌, ◌≤◌, ◌^�
 use Rattle.std.specs.Prelude.{Bool}
 use Rattle.kill_spec.specs.declared.reading.GroupReading.{GroupReading}
 use Rattle.kill_spec.specs.Victims.{memory_in_use}
-use Rattle.detectors.specs.Below.{group_at}
+use Rattle.detectors.specs.Inner.{group_at}
 use Rattle.victim_rank.specs.declared.growth.Grown.{Grown}
 
 -- the growth of a group over its past sizes

@@ -3,7 +3,7 @@ use Rattle.std.specs.Prelude.{◌≡◌, ◌<◌, List, length, nat_lt, ◌==◌
 use Rattle.ruleset_json.specs.declared.types.Action.{Action}
 use Rattle.kill_spec.specs.declared.reading.GroupReading.{GroupReading}
 use Rattle.kill_spec.specs.Victims.{rank_of}
-use Rattle.detectors.specs.Below.{group_at}
+use Rattle.detectors.specs.Inner.{group_at}
 use Rattle.victim_rank.specs.Pasts.{Kept}
 use Rattle.victim_rank.specs.Scopes.{measure_of}
 use Rattle.victim_rank.specs.declared.foremost.Measured.{Measured}

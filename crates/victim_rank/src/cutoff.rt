@@ -1,6 +1,6 @@
 //! The boundary of the largest groups of a scope and a rank, in the order of sizes.
 ghost use Rattle.std.specs.Prelude.{◌≡◌, ◌<◌, ◌≤◌, ◌^◌, ◌*◌, ◌+◌, ◌-◌, Contains, IfSome, filter, length, nat_le, nat_lt, true};
-ghost use Rattle.detectors.specs.Below.{AreAmong, group_at, groups_at};
+ghost use Rattle.detectors.specs.Inner.{AreAmong, group_at, groups_at};
 ghost use Rattle.kill_spec.specs.LegalReadings.{IsGroupReading};
 ghost use Rattle.kill_spec.specs.Victims.{is_larger, memory_in_use};
 ghost use Rattle.victim_rank.specs.Cutoffs.{IsCutoff, IsRanking, count_reaching, size_key};

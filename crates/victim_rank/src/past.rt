@@ -40,7 +40,7 @@ fn no_scans(alloc: Global, slots: u32) -> Result<Vec<Option<u64>>, NoMemory>
 }
 
 // Prepends `newest` to the sizes, and drops the fifth.
-fn behind(newest: u64, sizes: Sizes) -> Sizes
+fn suffix(newest: u64, sizes: Sizes) -> Sizes
     requires newest { newest ≤ 2 ^ 60 }
     requires within { AreSizes sizes }
     ensures sizes { sizes_of result ≡ take 4 (newest ∷ sizes_of sizes) }
@@ -64,7 +64,7 @@ fn take_sizes(sizes: &mut [Sizes], reading: &Reading)
 {
     'groups: for group in reading.groups() {
         let slot = group.slot.0 as usize;
-        sizes[slot] = behind(group.current, sizes[slot]);
+        sizes[slot] = suffix(group.current, sizes[slot]);
     }
 }
 

@@ -1,7 +1,7 @@
 //! The groups among which a choice is made.
 ghost use Rattle.std.specs.Prelude.{◌≡◌, ◌<◌, ◌≤◌, None, Some, filter, length};
 ghost use Rattle.kill_spec.specs.Victims.{action_patterns, after_of};
-ghost use Rattle.detectors.specs.Below.{AreAmong, groups_at};
+ghost use Rattle.detectors.specs.Inner.{AreAmong, groups_at};
 ghost use Rattle.detectors.specs.Tables.{match_table};
 ghost use Rattle.psi_spec.specs.World.{most_groups};
 ghost use Rattle.kill_spec.specs.LegalReadings.{IsReading};

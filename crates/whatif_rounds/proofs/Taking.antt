@@ -11,11 +11,11 @@ use Rattle.psi_spec.specs.Refusal.{AreLegal, cause_of}
 use Rattle.psi_spec.specs.Trace.{IsAccepted, Trace, limits_of}
 use Rattle.psi_spec.specs.World.{Limits, World, after_event, after_from, first_world, most_events}
 use Rattle.plan_laws.proofs.PlanStates.{legal_after}
-use Rattle.proc_plan.specs.Plans.{IsRefusal, IsRefusedAt, PlansView, StandFor}
+use Rattle.proc_plan.specs.Plans.{IsRefusal, IsRefusedAt, PlansView, Represent}
 use Rattle.proc_plan.proofs.Taking.{lines_of}
 use Rattle.ruleset_json.specs.declared.types.Rule.{Rule}
 use Rattle.kill_spec.specs.declared.kill.Kill.{Kill}
-use Rattle.run_spec.specs.Outputs.{of_ms, pace_of}
+use Rattle.run_spec.specs.Outputs.{of_ms, timing_of}
 use Rattle.run_spec.specs.Whatif.{after_rounds, all_kills, bounded_trace, last_trace, most_rounds, without_kill}
 use Rattle.run_spec.specs.declared.command.Options.{Options}
 use Rattle.run_spec.proofs.LastTrace.{last_outgrown, last_without_kill, one_round}
@@ -28,13 +28,13 @@ use Rattle.whatif_rounds.specs.Rounds.{AreLastPlans, ArePlansOf, IsOutgrown, IsT
 -- ---- the plans of an accepted trace
 
 -- each of some legal events is legal after the previous ones
-legal_there : (limits : Limits) (w : World) (front : List Event) (event : Event) (behind : List Event) → AreLegal limits w (front ++ event ∷ behind) → cause_of limits (after_from w front) event ≡ None
-legal_there limits w [] event behind legal = legal.0
-legal_there limits w (first ∷ front) event behind legal = legal_there limits (after_event w first) front event behind legal.1
+legal_there : (limits : Limits) (w : World) (prefix : List Event) (event : Event) (suffix : List Event) → AreLegal limits w (prefix ++ event ∷ suffix) → cause_of limits (after_from w prefix) event ≡ None
+legal_there limits w [] event suffix legal = legal.0
+legal_there limits w (first ∷ prefix) event suffix legal = legal_there limits (after_event w first) prefix event suffix legal.1
 
 no_cause : (limits : Limits) (events : List Event) (line : ℕ) (why : Cause) → IsAccepted limits events → IsRefusedAt limits events line why → ⊥
 no_cause limits events line why accepted refused =
-    let none = legal_there limits first_world refused.front refused.event refused.behind (subst (AreLegal limits first_world) refused.events_are accepted.legal) in
+    let none = legal_there limits first_world refused.prefix refused.event refused.suffix (subst (AreLegal limits first_world) refused.events_are accepted.legal) in
     let some = refused.cause in
     cc (none, some)
 
@@ -44,10 +44,10 @@ never_refused limits events refusal accepted refused =
     ⊎_elim (λ at. no_cause limits events refusal.line refusal.cause accepted at) (λ lacks. lacks.open_ (ended_at_end events accepted.ends)) refused
 
 -- plans that represent an accepted trace are plans of it
-pub are_plans : (plans : PlansView) (options : Options) (trace : Trace) → MayReplay options → IsTraceAt options trace → StandFor plans trace.cpus trace.events → ArePlansOf plans options trace
-are_plans plans options trace may is stand = record {
+pub are_plans : (plans : PlansView) (options : Options) (trace : Trace) → MayReplay options → IsTraceAt options trace → Represent plans trace.cpus trace.events → ArePlansOf plans options trace
+are_plans plans options trace may is word_state = record {
   counted = is.counted;
-  stand = stand;
+  word_state = word_state;
   accepted = is.accepted;
   some = omega (arith, may.some);
   short = omega (arith, may.short);
@@ -92,7 +92,7 @@ large_bounds trace events large is = large_if (nat_lt most_events (length events
 
 -- These events of a trace remain after `count` rounds.
 pub record HasLeft (options : Options) (rules : List Rule) (trace : Trace) (count : ℕ) (events : List Event) : Type 0 where
-  pub so_far : after_rounds trace (pace_of options) rules count ≡ Ok (record trace { events = events })
+  pub so_far : after_rounds trace (timing_of options) rules count ≡ Ok (record trace { events = events })
   pub accepted : IsAccepted (limits_of (of_ms options.tick_ms) trace.cpus) events
 
 -- none has left all
@@ -102,36 +102,36 @@ none_taken options rules trace is = record { so_far = refl; accepted = is.accept
 
 -- the result of a round that finds a kill
 round_by : (options : Options) (rules : List Rule) (trace : Trace) (count : ℕ) (events : List Event) (kill : Kill) → HasLeft options rules trace count events
-    → slice_get (all_kills (record trace { events = events }) (pace_of options) rules) count ≡ Some kill
-    → after_rounds trace (pace_of options) rules (suc count) ≡ bounded_trace (record trace { events = without events kill.at kill.victim.0 })
+    → slice_get (all_kills (record trace { events = events }) (timing_of options) rules) count ≡ Some kill
+    → after_rounds trace (timing_of options) rules (suc count) ≡ bounded_trace (record trace { events = without events kill.at kill.victim.0 })
 round_by options rules trace count events kill so found =
-    one_round trace (record trace { events = events }) (pace_of options) rules count so.so_far
+    one_round trace (record trace { events = events }) (timing_of options) rules count so.so_far
     ∙ ap (λ k. bounded_trace (without_kill (record trace { events = events }) k)) found
 
 -- after one more round, the events without those of the kill's victim remain
 pub one_taken : (options : Options) (rules : List Rule) (trace : Trace) (count : ℕ) (events left : List Event) (kill : Kill) → HasLeft options rules trace count events
-    → slice_get (all_kills (record trace { events = events }) (pace_of options) rules) count ≡ Some kill
+    → slice_get (all_kills (record trace { events = events }) (timing_of options) rules) count ≡ Some kill
     → bounded (without events kill.at kill.victim.0) ≡ Ok left → IsAccepted (limits_of (of_ms options.tick_ms) trace.cpus) left
     → HasLeft options rules trace (count + 1) left
 one_taken options rules trace count events left kill so found is accepted =
     let next : suc count ≡ count + 1 = omega arith in record {
-      so_far = subst (λ n. after_rounds trace (pace_of options) rules n ≡ Ok (record trace { events = left })) next
+      so_far = subst (λ n. after_rounds trace (timing_of options) rules n ≡ Ok (record trace { events = left })) next
           (round_by options rules trace count events kill so found ∙ kept_bounds trace (without events kill.at kill.victim.0) left is);
       accepted = accepted;
     }
 
 -- or it has left too much
 pub too_large : (options : Options) (rules : List Rule) (trace : Trace) (count : ℕ) (events : List Event) (kill : Kill) (large : TooLarge) → count < most_rounds → HasLeft options rules trace count events
-    → slice_get (all_kills (record trace { events = events }) (pace_of options) rules) count ≡ Some kill
+    → slice_get (all_kills (record trace { events = events }) (timing_of options) rules) count ≡ Some kill
     → bounded (without events kill.at kill.victim.0) ≡ Err large
-    → last_trace trace (pace_of options) rules ≡ Err large.events
+    → last_trace trace (timing_of options) rules ≡ Err large.events
 too_large options rules trace count events kill large low so found is =
-    last_outgrown trace (pace_of options) rules (suc count) large.events (omega (arith, low))
+    last_outgrown trace (timing_of options) rules (suc count) large.events (omega (arith, low))
     (round_by options rules trace count events kill so found ∙ large_bounds trace (without events kill.at kill.victim.0) large is)
 
 -- out of memory states nothing
 pub outgrown_at : (options : Options) (rules : List Rule) (trace : Trace) (count : ℕ) (events : List Event) (kill : Kill) (found : Fault TooLarge) → count < most_rounds → HasLeft options rules trace count events
-    → slice_get (all_kills (record trace { events = events }) (pace_of options) rules) count ≡ Some kill
+    → slice_get (all_kills (record trace { events = events }) (timing_of options) rules) count ≡ Some kill
     → FaultOf found (bounded (without events kill.at kill.victim.0)) → IsOutgrown options rules trace found
 outgrown_at options rules trace count events kill (fault.Refused large) low so has is = too_large options rules trace count events kill large low so has is
 outgrown_at options rules trace count events kill (fault.NoMemory _) low so has is = tt
@@ -140,21 +140,21 @@ outgrown_at options rules trace count events kill (fault.NoMemory _) low so has 
 
 -- if a round finds no kill, its plans are the last
 pub last_here : (options : Options) (rules : List Rule) (trace : Trace) (count : ℕ) (events : List Event) (plans : PlansView) → count ≤ most_rounds → HasLeft options rules trace count events
-    → slice_get (all_kills (record trace { events = events }) (pace_of options) rules) count ≡ None → ArePlansOf plans options (record trace { events = events })
+    → slice_get (all_kills (record trace { events = events }) (timing_of options) rules) count ≡ None → ArePlansOf plans options (record trace { events = events })
     → AreLastPlans options rules trace plans
 last_here options rules trace count events plans low so none are = (
   record trace { events = events },
-  last_without_kill trace (record trace { events = events }) (pace_of options) rules count low (few_events (limits_of (of_ms options.tick_ms) trace.cpus) events so.accepted) so.so_far none,
+  last_without_kill trace (record trace { events = events }) (timing_of options) rules count low (few_events (limits_of (of_ms options.tick_ms) trace.cpus) events so.accepted) so.so_far none,
   refl,
   are,
 )
 
 -- the same after the last possible round
 pub last_at_end : (options : Options) (rules : List Rule) (trace : Trace) (count : ℕ) (events : List Event) (plans : PlansView) → MayReplay options → IsTraceAt options trace → count ≡ most_rounds → HasLeft options rules trace count events
-    → StandFor plans trace.cpus events → AreLastPlans options rules trace plans
-last_at_end options rules trace count events plans may is all so stand = (
+    → Represent plans trace.cpus events → AreLastPlans options rules trace plans
+last_at_end options rules trace count events plans may is all so word_state = (
   record trace { events = events },
-  subst (λ n. after_rounds trace (pace_of options) rules n ≡ Ok (record trace { events = events })) all so.so_far,
+  subst (λ n. after_rounds trace (timing_of options) rules n ≡ Ok (record trace { events = events })) all so.so_far,
   refl,
-  are_plans plans options (record trace { events = events }) may (record { counted = is.counted; accepted = so.accepted }) stand,
+  are_plans plans options (record trace { events = events }) may (record { counted = is.counted; accepted = so.accepted }) word_state,
 )

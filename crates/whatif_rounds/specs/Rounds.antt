@@ -6,7 +6,7 @@ use Rattle.psi_base.specs.declared.event.Fault.TheVariants as fault
 use Rattle.psi_spec.specs.Header.{version_of}
 use Rattle.psi_spec.specs.Trace.{IsAccepted, IsCpuCount, Trace, limits_of}
 use Rattle.ruleset_json.specs.declared.types.Rule.{Rule}
-use Rattle.run_spec.specs.Outputs.{of_ms, pace_of}
+use Rattle.run_spec.specs.Outputs.{of_ms, timing_of}
 use Rattle.run_spec.specs.Whatif.{all_kills, last_trace}
 use Rattle.run_spec.specs.LegalCommand.{IsWithin}
 use Rattle.run_spec.specs.declared.command.Options.{Options}
@@ -35,23 +35,23 @@ trace_from number cpus events = record { version = version_of number; cpus = cpu
 
 -- plans are those of a trace that may be replayed with the options
 abbrev pub ArePlansOf : PlansView → Options → Trace → Type 0
-ArePlansOf plans options trace = IsPlanned plans trace (pace_of options)
+ArePlansOf plans options trace = IsPlanned plans trace (timing_of options)
 
 -- The result of a round for a trace: the kill with this number, or that there is none, with the
 -- trace's plans.
 abbrev pub Finds : Options → List Rule → ℕ → Trace → Round → Type 0
-Finds options rules number trace (found.Kill kill) = slice_get (all_kills trace (pace_of options) rules) number ≡ Some kill
+Finds options rules number trace (found.Kill kill) = slice_get (all_kills trace (timing_of options) rules) number ≡ Some kill
 Finds options rules number trace (found.Last plans) =
-    (slice_get (all_kills trace (pace_of options) rules) number ≡ None) × ArePlansOf plans options trace
+    (slice_get (all_kills trace (timing_of options) rules) number ≡ None) × ArePlansOf plans options trace
 
 -- The plans are those of the trace that remains after all kills.
 abbrev pub AreLastPlans : Options → List Rule → Trace → PlansView → Type 0
 AreLastPlans options rules trace plans =
-    (last : Trace) × (last_trace trace (pace_of options) rules ≡ Ok last) × (last.version ≡ trace.version)
+    (last : Trace) × (last_trace trace (timing_of options) rules ≡ Ok last) × (last.version ≡ trace.version)
     × ArePlansOf plans options last
 
 -- a `TooLarge` fault has the number of events of a round's result, which is above the limit; an
 -- out-of-memory fault states nothing
 abbrev pub IsOutgrown : Options → List Rule → Trace → Fault TooLarge → Type 0
-IsOutgrown options rules trace (fault.Refused large) = last_trace trace (pace_of options) rules ≡ Err large.events
+IsOutgrown options rules trace (fault.Refused large) = last_trace trace (timing_of options) rules ≡ Err large.events
 IsOutgrown options rules trace (fault.NoMemory _) = ⊤

@@ -5,7 +5,7 @@ ghost use Rattle.psi_spec.specs.Header.{IsVersion};
 ghost use Rattle.psi_spec.specs.Trace.{IsAccepted, IsCpuCount, limits_of};
 ghost use Rattle.ruleset_json.specs.RuleRanges.{FitsRules};
 ghost use Rattle.run_spec.specs.Outputs.{of_ms};
-ghost use Rattle.proc_plan.specs.Plans.{StandFor};
+ghost use Rattle.proc_plan.specs.Plans.{Represent};
 ghost use Rattle.whatif_spec.specs.Without.{without};
 ghost use Rattle.whatif_trace.specs.Bounded.{bounded};
 ghost use Rattle.whatif_rounds.specs.Rounds.{AreLastPlans, Finds, IsOutgrown, IsTraceAt, MayReplay, trace_from};
@@ -13,7 +13,7 @@ ghost use Rattle.whatif_rounds.specs.Rounds.{AreLastPlans, Finds, IsOutgrown, Is
 use crate::search::find_kill;
 use kill_spec::Kill;
 use proc_plan::Plans;
-use psi_base::{Event, Fault, NoMemory, Ns};
+use psi_base::{Event, Fault, MILLISECOND, MOST_TICKS, NoMemory, Ns};
 use ruleset_json::Rules;
 use run_spec::Options;
 use std::alloc::Global;
@@ -22,9 +22,6 @@ use whatif_trace::{TooLarge, without};
 
 /// The maximal number of kills that are removed.
 const MOST_ROUNDS: usize = 64;
-
-/// The length (ns) of a million ticks of 1 ms.
-const MILLION_TICKS: Ns = 1_000_000_000_000;
 
 /// The result of a round.
 #[derive(Drop)]
@@ -40,7 +37,7 @@ fn latest_of(options: &Options) -> Ns
     requires { MayReplay options.now }
     ensures { result ≡ (limits_of (of_ms options.now.tick_ms) 1).latest }
 {
-    Ns::from(options.tick_ms) * MILLION_TICKS
+    MOST_TICKS * (Ns::from(options.tick_ms) * MILLISECOND)
 }
 
 fn plans_of(
@@ -52,7 +49,7 @@ fn plans_of(
     requires options { MayReplay options.now }
     requires counted { IsCpuCount cpus }
     requires accepted { IsAccepted (limits_of (of_ms options.now.tick_ms) cpus) events.now }
-    ensures { IfOk result (λ plans. StandFor plans cpus events.now) }
+    ensures { IfOk result (λ plans. Represent plans cpus events.now) }
 {
     match Plans::build(alloc, cpus, latest_of(options), events) {
         Ok(plans) => Ok(plans),

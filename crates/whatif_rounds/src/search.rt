@@ -5,10 +5,10 @@ ghost use Rattle.psi_spec.specs.Header.{IsVersion, version_of};
 ghost use Rattle.psi_spec.specs.Trace.{Trace};
 ghost use Rattle.ruleset_json.specs.RuleRanges.{FitsRules};
 ghost use Rattle.ruleset_json.specs.declared.types.Rule.{Rule};
-ghost use Rattle.run_spec.specs.Outputs.{pace_of};
-ghost use Rattle.run_spec.specs.Replay.{Pace};
+ghost use Rattle.run_spec.specs.Outputs.{timing_of};
+ghost use Rattle.run_spec.specs.Replay.{Timing};
 ghost use Rattle.run_spec.specs.Whatif.{all_kills};
-ghost use Rattle.replay_rules.specs.Judged.{given_rules};
+ghost use Rattle.replay_rules.specs.Judged.{rules_of_options};
 ghost use Rattle.replay_rules.specs.Planned.{IsPlanned};
 ghost use Rattle.replay_ticks.specs.Replays.{IsReplay};
 ghost use Rattle.whatif_rounds.specs.Rounds.{MayReplay};
@@ -26,11 +26,11 @@ use std::thread::Threads;
 // Kill number `number`, from 0, in order of tick, ruleset and action, of a replay before its first
 // tick.
 fn kill_of<R: Threads + Sync>(rt: &R, replay: &mut Replay<'_>, number: usize) -> Option<Kill>
-    requires { (trace : Trace) × (pace : Pace) × (rules : List Rule)
-        × IsReplay replay.old trace pace rules 0 }
-    ensures { (trace : Trace) (pace : Pace) (rules : List Rule) →
-        IsReplay replay.old trace pace rules 0 →
-        result ≡ slice_get (all_kills trace pace rules) number }
+    requires { (trace : Trace) × (timing : Timing) × (rules : List Rule)
+        × IsReplay replay.old trace timing rules 0 }
+    ensures { (trace : Trace) (timing : Timing) (rules : List Rule) →
+        IsReplay replay.old trace timing rules 0 →
+        result ≡ slice_get (all_kills trace timing rules) number }
 {
     let mut left = number;
     'ticks: while replay.pass(rt, &OpenGate) {
@@ -55,13 +55,13 @@ pub(crate) fn find_kill<R: Threads + Sync>(
     number: usize,
 ) -> Result<Option<Kill>, NoMemory>
     requires version { IsVersion version }
-    requires planned { (trace : Trace) × IsPlanned plans.now trace (pace_of options.now)
+    requires planned { (trace : Trace) × IsPlanned plans.now trace (timing_of options.now)
         × (version_of version ≡ trace.version) }
-    requires fit { FitsRules (given_rules rules) }
+    requires fit { FitsRules (rules_of_options rules) }
     requires options { MayReplay options.now }
     ensures { IfOk result (λ found. (trace : Trace) →
-        IsPlanned plans.now trace (pace_of options.now) → version_of version ≡ trace.version →
-        found ≡ slice_get (all_kills trace (pace_of options.now) (given_rules rules)) number) }
+        IsPlanned plans.now trace (timing_of options.now) → version_of version ≡ trace.version →
+        found ≡ slice_get (all_kills trace (timing_of options.now) (rules_of_options rules)) number) }
 {
     let mut replay = prepare(alloc, version, plans, rules, options)?;
     Ok(kill_of(rt, &mut replay, number))

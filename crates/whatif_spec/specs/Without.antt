@@ -113,8 +113,8 @@ rest_without dead w (event ∷ events) =
 -- ---- the whole
 
 -- the events after a time (ns)
-abbrev pub behind : List Event → ℕ → List Event
-behind events at = drop (length (up_to events at)) events
+abbrev pub suffix : List Event → ℕ → List Event
+suffix events at = drop (length (up_to events at)) events
 
 -- The events of a trace without the tasks that are in a group or below it at a time (ns): the
 -- events up to that time, the exits of these tasks one nanosecond later, and the remaining events
@@ -124,7 +124,7 @@ without events at victim =
     if nat_lt at (after events).last
     then up_to events at
     ++ exits_from (at + 1) (after (up_to events at)) (members (after (up_to events at)) victim)
-    ++ rest_without (members (after (up_to events at)) victim) (after (up_to events at)) (behind events at)
+    ++ rest_without (members (after (up_to events at)) victim) (after (up_to events at)) (suffix events at)
     else events
 
 -- a trace without the tasks that are in a group or below it at a time (ns)

@@ -24,7 +24,7 @@ use Rattle.whatif_spec.specs.Without.{act_without, acts_if, dead_after, exit_act
 use Rattle.whatif_trace.specs.Left.{AreRunners, act_left, dead_left, exit_left, exited, exits_left, rest_left, runner_at, turned}
 use Rattle.whatif_trace.proofs.Doing.{IsReady}
 use Rattle.whatif_trace.proofs.Exiting.{exit_goes}
-use Rattle.whatif_trace.proofs.Running.{exit_runs, runner_told, turns}
+use Rattle.whatif_trace.proofs.Running.{exit_runs, runner_known, turns}
 use Rattle.whatif_trace.proofs.Steps.{NoneAgainst}
 
 -- ---- the rest
@@ -36,7 +36,7 @@ below cpus cpu off = grind (arith, nat_tests)
 there : (limits : Limits) (w : World) (at : ℕ) (runners : List (Option Pid)) (cpu : Cpu) (next : Option Pid) (how : How) → AreRunners limits.cpus runners w.tasks → NoneAgainst limits w at (act.Switch cpu next how) → runner_at runners cpu.0 ≡ pid_part (running_on w.tasks cpu.0)
 there limits w at runners cpu next how are none =
     let may = may_switch limits.cpus cpu.0 next (next_task w.tasks next) how (running_on w.tasks cpu.0) none in
-    sym (runner_told limits.cpus runners w.tasks cpu.0 are (below limits.cpus cpu.0 may.room))
+    sym (runner_known limits.cpus runners w.tasks cpu.0 are (below limits.cpus cpu.0 may.room))
 
 act_is : (limits : Limits) (dead : List ℕ) (w : World) (at : ℕ) (runners : List (Option Pid)) (what : Act) → AreRunners limits.cpus runners w.tasks → NoneAgainst limits w at what → act_left dead runners what ≡ act_without dead w what
 act_is limits dead w at runners (act.Switch cpu next how) are none = ap (λ o. switch_without dead cpu o next how) (there limits w at runners cpu next how are none)
@@ -89,10 +89,10 @@ rest_is limits dead w runners (event ∷ events) are legal =
 -- ---- the exits
 
 -- the tasks after events depend only on the tasks and groups before them
-same_behind : (v u : World) (events : List Event) → v.tasks ≡ u.tasks → v.groups ≡ u.groups → ((after_from v events).tasks ≡ (after_from u events).tasks) × ((after_from v events).groups ≡ (after_from u events).groups)
-same_behind v u [] tasks groups = (tasks, groups)
-same_behind v u (event ∷ events) tasks groups =
-    same_behind (after_event v event) (after_event u event) events
+same_suffix : (v u : World) (events : List Event) → v.tasks ≡ u.tasks → v.groups ≡ u.groups → ((after_from v events).tasks ≡ (after_from u events).tasks) × ((after_from v events).groups ≡ (after_from u events).groups)
+same_suffix v u [] tasks groups = (tasks, groups)
+same_suffix v u (event ∷ events) tasks groups =
+    same_suffix (after_event v event) (after_event u event) events
     (ap (λ gs. tasks_after gs v.tasks event.act) groups ∙ ap (λ ts. tasks_after u.groups ts event.act) tasks)
     (ap (λ gs. groups_after event.at gs event.act) groups)
 
@@ -104,9 +104,9 @@ exits_same : (at : ℕ) (v u : World) (pids : List ℕ) → v.tasks ≡ u.tasks 
 exits_same at v u [] tasks groups = refl
 exits_same at v u (pid ∷ pids) tasks groups =
     let acts : exit_of v pid (task_of v.tasks pid) ≡ exit_of u pid (task_of u.tasks pid) = exit_same v u pid (task_of v.tasks pid) tasks ∙ ap (λ ts. exit_of u pid (task_of ts pid)) tasks in
-    let front = events_at at (exit_of v pid (task_of v.tasks pid)) in
-    let behind = same_behind v u front tasks groups in
-    ap (λ es. front ++ es) (exits_same at (after_from v front) (after_from u front) pids behind.0 behind.1)
+    let prefix = events_at at (exit_of v pid (task_of v.tasks pid)) in
+    let suffix = same_suffix v u prefix tasks groups in
+    ap (λ es. prefix ++ es) (exits_same at (after_from v prefix) (after_from u prefix) pids suffix.0 suffix.1)
     ∙ ap (λ acts. events_at at acts ++ exits_from at (after_from u (events_at at acts)) pids) acts
 
 -- four acts at most
@@ -145,7 +145,7 @@ fresh_ready limits at v n going_on few = record { world = fresh_legal limits v g
 
 exit_is : (cpus : ℕ) (v : World) (runners : List (Option Pid)) (pid : ℕ) (o : Option Task) → AreRunners cpus runners v.tasks → IfSome o (λ task. task.cpu.0 < cpus) → exit_left runners pid o ≡ exit_of v pid o
 exit_is cpus v runners pid None are inside = refl
-exit_is cpus v runners pid (Some task) are inside = ap (exit_acts pid task) (sym (runner_told cpus runners v.tasks task.cpu.0 are inside))
+exit_is cpus v runners pid (Some task) are inside = ap (exit_acts pid task) (sym (runner_known cpus runners v.tasks task.cpu.0 are inside))
 
 -- each is found among the first tasks as it is found now
 abbrev pub AreFound : Tasks → Tasks → List ℕ → Type 0
@@ -170,13 +170,13 @@ exits_are limits at v tasks runners (pid ∷ pids) going_on are sorted found =
     let acts = exit_of v pid here in
     let inside = inside_of limits.cpus (length v.groups) here (going_on.world.within pid) in
     let one = exit_goes limits at 0 (fresh v) pid (fresh_ready limits at v (length acts) going_on (exit_few v pid here)) in
-    let front = events_at at acts in
-    let behind = after_from (fresh v) front in
-    let next = exits_are limits at behind tasks (exited runners here) pids
+    let prefix = events_at at acts in
+    let suffix = after_from (fresh v) prefix in
+    let next = exits_are limits at suffix tasks (exited runners here) pids
     (record { world = one.does.ready.world; going = one.does.ready.going; early = going_on.early })
-    (exit_runs limits.cpus runners v.tasks behind.tasks pid here are refl inside one.tasks) sorted.1
-    (found_still tasks v.tasks behind.tasks pid pids one.tasks sorted.0 found.1) in
+    (exit_runs limits.cpus runners v.tasks suffix.tasks pid here are refl inside one.tasks) sorted.1
+    (found_still tasks v.tasks suffix.tasks pid pids one.tasks sorted.0 found.1) in
     let same : exits_from at (fresh v) (pid ∷ pids) ≡ exits_from at v (pid ∷ pids) = exits_same at (fresh v) v (pid ∷ pids) refl refl in
     ap (λ o. events_at at (exit_left runners pid o) ++ exits_left at tasks (exited runners o) pids) (sym found.0)
     ∙ ap (λ xs. events_at at xs ++ exits_left at tasks (exited runners here) pids) (exit_is limits.cpus v runners pid here are inside)
-    ∙ ap (λ es. front ++ es) next ∙ same
+    ∙ ap (λ es. prefix ++ es) next ∙ same

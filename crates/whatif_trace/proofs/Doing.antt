@@ -87,20 +87,20 @@ does_one limits at room v what ready of none =
     }
 
 -- worlds after acts, and after further acts
-pub behind_both : (v : World) (at : ℕ) (xs ys : List Act) → after_from v (events_at at (xs ++ ys)) ≡ after_from (after_from v (events_at at xs)) (events_at at ys)
-behind_both v at [] ys = refl
-behind_both v at (x ∷ xs) ys = behind_both (after_event v (event_at at x)) at xs ys
+pub after_both : (v : World) (at : ℕ) (xs ys : List Act) → after_from v (events_at at (xs ++ ys)) ≡ after_from (after_from v (events_at at xs)) (events_at at ys)
+after_both v at [] ys = refl
+after_both v at (x ∷ xs) ys = after_both (after_event v (event_at at x)) at xs ys
 
 legal_both : (limits : Limits) (at : ℕ) (v : World) (xs ys : List Act) → AreLegal limits v (events_at at xs) → AreLegal limits (after_from v (events_at at xs)) (events_at at ys) → AreLegal limits v (events_at at (xs ++ ys))
-legal_both limits at v [] ys front rest = rest
-legal_both limits at v (x ∷ xs) ys front rest = (front.0, legal_both limits at (after_event v (event_at at x)) xs ys front.1 rest)
+legal_both limits at v [] ys prefix rest = rest
+legal_both limits at v (x ∷ xs) ys prefix rest = (prefix.0, legal_both limits at (after_event v (event_at at x)) xs ys prefix.1 rest)
 
 -- acts, and those after them
 pub does_then : (limits : Limits) (at mid room : ℕ) (v : World) (xs ys : List Act) → Does limits at mid v xs → Does limits at room (after_from v (events_at at xs)) ys → Does limits at room v (xs ++ ys)
-does_then limits at mid room v xs ys front rest =
-    let same = sym (behind_both v at xs ys) in
+does_then limits at mid room v xs ys prefix rest =
+    let same = sym (after_both v at xs ys) in
     record {
-      legal = legal_both limits at v xs ys front.legal rest.legal;
+      legal = legal_both limits at v xs ys prefix.legal rest.legal;
       ready = subst (IsReady limits at room) same rest.ready;
-      aside = subst (IsAside v) same (aside_then v (after_from v (events_at at xs)) (after_from (after_from v (events_at at xs)) (events_at at ys)) front.aside rest.aside);
+      aside = subst (IsAside v) same (aside_then v (after_from v (events_at at xs)) (after_from (after_from v (events_at at xs)) (events_at at ys)) prefix.aside rest.aside);
     }

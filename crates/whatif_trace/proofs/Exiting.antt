@@ -12,7 +12,7 @@ use Rattle.psi_spec.specs.declared.machine.Mode.{Mode}
 use Rattle.psi_spec.specs.declared.machine.Mode.TheVariants.{Blocked, Waiting, Ready, Running}
 use Rattle.psi_spec.specs.declared.machine.Task.{Task}
 use Rattle.psi_spec.specs.Refusal.{AreLegal}
-use Rattle.psi_spec.specs.World.{Limits, Tasks, World, after_event, after_from, change_to, is_active, is_ready_on, is_running, is_running_on, put, readied, running_on, task_of, events_at}
+use Rattle.psi_spec.specs.World.{Limits, Tasks, World, after_event, after_from, change_to, is_active, is_ready_on, is_running, is_running_on, put, prepared_changes, running_on, task_of, events_at}
 use Rattle.psi_spec.proofs.Following.{after_from-append}
 use Rattle.psi_spec.proofs.RefusalLaws.{first_true, second_true}
 use Rattle.psi_spec.proofs.TaskLaws.{get_put, itself}
@@ -90,11 +90,11 @@ from_ready limits at room v pid task o ready there is can runs =
     let rest = length (last_acts pid task (pid_part o)) in
     let come = comes_in limits at (room + rest) v pid task o (ready_for limits at (room + length (turn_acts pid task o)) (room + rest + 1) v (omega arith) ready) there is can runs in
     let switch = act.Switch task.cpu (Some pid) (making_room (pid_part o)) in
-    let behind = after_event v (event_at at switch) in
-    let found : task_of behind.tasks pid.0 ≡ Some (running task) = come.tasks pid.0 ∙ ap (λ b. cond b (Some (running task)) (put_aside o pid.0 (task_of v.tasks pid.0))) (itself pid.0) in
+    let suffix = after_event v (event_at at switch) in
+    let found : task_of suffix.tasks pid.0 ≡ Some (running task) = come.tasks pid.0 ∙ ap (λ b. cond b (Some (running task)) (put_aside o pid.0 (task_of v.tasks pid.0))) (itself pid.0) in
     let turn = ap (λ t. is_some_and t (is_ready_on task.cpu.0)) is ∙ can in
-    let next = ready_next v.tasks behind.tasks task.cpu.0 pid.0 (running task) o runs turn come.tasks in
-    let last = leaves limits at room behind pid (running task) (pid_part o) come.does.ready there found (rw (itself task.cpu.0) refl) next in
+    let next = ready_next v.tasks suffix.tasks task.cpu.0 pid.0 (running task) o runs turn come.tasks in
+    let last = leaves limits at room suffix pid (running task) (pid_part o) come.does.ready there found (rw (itself task.cpu.0) refl) next in
     record {
       does = does_then limits at (room + rest) room v (switch ∷ []) (last_acts pid task (pid_part o)) come.does last.does;
       tasks = λ k. last.tasks k ∙ ap (λ t. started (pid_part o) k (cond (k == pid.0) None t)) (come.tasks k) ∙ all_back v.tasks task.cpu.0 pid.0 (running task) o runs k;
@@ -139,15 +139,15 @@ from_sleep : (limits : Limits) (at room : ℕ) (v : World) (pid : Pid) (task : T
     → task_of v.tasks pid.0 ≡ Some task → is_active task.mode ≡ false → is_running task.mode ≡ false → running_on v.tasks task.cpu.0 ≡ o → Exited limits at room v pid.0 (act.Wake pid task.cpu ∷ turn_acts pid task o)
 from_sleep limits at room v pid task o ready there is sleeps still runs =
     let rest = length (turn_acts pid task o) in
-    let woken = readied task.cpu.0 task in
+    let woken = prepared_changes task.cpu.0 task in
     let wake = does_one limits at (room + rest) v (act.Wake pid task.cpu) (ready_for limits at (room + length (act.Wake pid task.cpu ∷ turn_acts pid task o)) (room + rest + 1) v (omega arith) ready) (of_tasks at (act.Wake pid task.cpu) (λ g. refl) (λ i. refl) refl refl refl)
     (may_wake limits.cpus (task_of v.tasks pid.0) task task.cpu.0 is there sleeps) in
-    let behind = after_event v (event_at at (act.Wake pid task.cpu)) in
-    let tasks : behind.tasks ≡ put v.tasks pid.0 woken = ap (change_to v.tasks pid.0 (readied task.cpu.0)) is in
-    let found : task_of behind.tasks pid.0 ≡ Some woken = ap (λ ts. task_of ts pid.0) tasks ∙ get_put v.tasks pid.0 woken pid.0 ∙ ap (λ b. cond b (Some woken) (task_of v.tasks pid.0)) (itself pid.0) in
+    let suffix = after_event v (event_at at (act.Wake pid task.cpu)) in
+    let tasks : suffix.tasks ≡ put v.tasks pid.0 woken = ap (change_to v.tasks pid.0 (prepared_changes task.cpu.0)) is in
+    let found : task_of suffix.tasks pid.0 ≡ Some woken = ap (λ ts. task_of ts pid.0) tasks ∙ get_put v.tasks pid.0 woken pid.0 ∙ ap (λ b. cond b (Some woken) (task_of v.tasks pid.0)) (itself pid.0) in
     let once : RunsOnce (put v.tasks pid.0 woken) = subst RunsOnce tasks wake.ready.world.once in
-    let same : running_on behind.tasks task.cpu.0 ≡ o = ap (λ ts. running_on ts task.cpu.0) tasks ∙ runs_then v.tasks pid.0 task.cpu.0 task woken o is (and_false (task.cpu.0 == task.cpu.0) (is_running task.mode) still) (and_false (task.cpu.0 == task.cpu.0) false refl) once runs in
-    let turn = from_ready limits at room behind pid woken o wake.ready there found (rw (itself task.cpu.0) refl) same in
+    let same : running_on suffix.tasks task.cpu.0 ≡ o = ap (λ ts. running_on ts task.cpu.0) tasks ∙ runs_then v.tasks pid.0 task.cpu.0 task woken o is (and_false (task.cpu.0 == task.cpu.0) (is_running task.mode) still) (and_false (task.cpu.0 == task.cpu.0) false refl) once runs in
+    let turn = from_ready limits at room suffix pid woken o wake.ready there found (rw (itself task.cpu.0) refl) same in
     record {
       does = does_then limits at (room + rest) room v (act.Wake pid task.cpu ∷ []) (turn_acts pid task o) wake turn.does;
       tasks = λ k. turn.tasks k ∙ ap (λ ts. cond (k == pid.0) None (task_of ts k)) tasks ∙ twice_gone v.tasks pid.0 k woken;
@@ -211,19 +211,19 @@ exits_go limits at room v [] ready = record {
 }
 exits_go limits at room v (pid ∷ pids) ready =
     let acts = exit_of v pid (task_of v.tasks pid) in
-    let front = events_at at acts in
-    let behind = after_from v front in
-    let rest = exits_from at behind pids in
-    let many = length-append front rest in
+    let prefix = events_at at acts in
+    let suffix = after_from v prefix in
+    let rest = exits_from at suffix pids in
+    let many = length-append prefix rest in
     let count = length-map acts (λ what. event_at at what) in
-    let one = exit_goes limits at (room + length rest) v pid (ready_for limits at (room + length (front ++ rest)) (room + length rest + length acts) v (omega (arith, many, count)) ready) in
-    let others = exits_go limits at room behind pids one.does.ready in
-    let same = sym (after_from-append v front rest) in
+    let one = exit_goes limits at (room + length rest) v pid (ready_for limits at (room + length (prefix ++ rest)) (room + length rest + length acts) v (omega (arith, many, count)) ready) in
+    let others = exits_go limits at room suffix pids one.does.ready in
+    let same = sym (after_from-append v prefix rest) in
     record {
-      legal = legal_join limits v front rest one.does.legal others.legal;
+      legal = legal_join limits v prefix rest one.does.legal others.legal;
       ready = subst (IsReady limits at room) same others.ready;
       later = subst (IsWithout (pid ∷ pids) v) same (record {
-        tasks = one_more pid pids v behind (after_from behind rest) one.tasks others.later;
+        tasks = one_more pid pids v suffix (after_from suffix rest) one.tasks others.later;
         groups = others.later.groups ∙ one.does.aside.groups;
         irqs = others.later.irqs ∙ one.does.aside.irqs;
         triggers = others.later.triggers ∙ one.does.aside.triggers;

@@ -50,11 +50,11 @@ both_ways true b one other = sym (one refl)
 both_ways false true one other = other refl
 both_ways false false one other = refl
 
-at_front : (x : ℕ) (xs : List ℕ) → is_pid_among (x ∷ xs) x ≡ true
-at_front x xs = rw (itself_is x) refl
+at_prefix : (x : ℕ) (xs : List ℕ) → is_pid_among (x ∷ xs) x ≡ true
+at_prefix x xs = rw (itself_is x) refl
 
-behind_front : (x y : ℕ) (ys : List ℕ) → (x == y) ≡ false → is_pid_among (y ∷ ys) x ≡ true → is_pid_among ys x ≡ true
-behind_front x y ys apart is = sym (ap (λ b. b || is_pid_among ys x) apart) ∙ is
+after_prefix : (x y : ℕ) (ys : List ℕ) → (x == y) ≡ false → is_pid_among (y ∷ ys) x ≡ true → is_pid_among ys x ≡ true
+after_prefix x y ys apart is = sym (ap (λ b. b || is_pid_among ys x) apart) ∙ is
 
 no_both : (b : Bool) → b ≡ true → b ≡ false → ⊥
 no_both b on off = cc (on, off)
@@ -70,8 +70,8 @@ same_head x y xs ys above higher same =
     elim (x == y) as (λ b. (x == y) ≡ b → x ≡ y) [
       | true ↦ λ is. equal_is x y is
       | false ↦ λ apart.
-          let one = behind_front x y ys apart (sym (same x) ∙ at_front x xs) in
-          let other = behind_front y x xs (turned_round x y apart) (same y ∙ at_front y ys) in
+          let one = after_prefix x y ys apart (sym (same x) ∙ at_prefix x xs) in
+          let other = after_prefix y x xs (turned_round x y apart) (same y ∙ at_prefix y ys) in
           absurd (⊎_elim (λ low. no_both (is_pid_among ys x) one (none_above y ys x higher low)) (λ low. no_both (is_pid_among xs y) other (none_above x xs y above low)) (order x y))
     ] refl
 
@@ -86,8 +86,8 @@ in_tail x xs ys above higher same k =
 pub same_numbers : (xs ys : List ℕ) → IsStrictlySortedBy nat_cmp xs → IsStrictlySortedBy nat_cmp ys → ((k : ℕ) → is_pid_among xs k ≡ is_pid_among ys k) → xs ≡ ys
 unfolding IsStrictlySortedBy
 same_numbers [] [] one other same = refl
-same_numbers [] (y ∷ ys) one other same = absurd (no_both (is_pid_among [] y) (same y ∙ at_front y ys) refl)
-same_numbers (x ∷ xs) [] one other same = absurd (no_both (is_pid_among [] x) (sym (same x) ∙ at_front x xs) refl)
+same_numbers [] (y ∷ ys) one other same = absurd (no_both (is_pid_among [] y) (same y ∙ at_prefix y ys) refl)
+same_numbers (x ∷ xs) [] one other same = absurd (no_both (is_pid_among [] x) (sym (same x) ∙ at_prefix x xs) refl)
 same_numbers (x ∷ xs) (y ∷ ys) one other same =
     let head = same_head x y xs ys one.0 other.0 same in
     let above : AllByRecursion (λ k. nat_cmp x k ≡ Less) ys = subst (λ n. AllByRecursion (λ k. nat_cmp n k ≡ Less) ys) (sym head) other.0 in

@@ -151,11 +151,11 @@ frees : (limits : Limits) (at room : ℕ) (v : World) (pid : Pid) (task : Task) 
 frees limits at room v pid task next ready there is runs stalled turn =
     let found = runner_is v.tasks ready.world.once task.cpu.0 pid.0 task is runs in
     let free = does_one limits at (room + 1) v (act.Unstall pid) (ready_for limits at (room + 2) (room + 1 + 1) v (omega arith) ready) (of_tasks at (act.Unstall pid) (λ g. refl) (λ i. refl) refl refl refl) (may_free (task_of v.tasks pid.0) task is (second_true (task.cpu.0 == task.cpu.0) (is_running task.mode) runs) stalled) in
-    let behind = after_event v (event_at at (act.Unstall pid)) in
-    let tasks : behind.tasks ≡ put v.tasks pid.0 (freed task) = ap (change_to v.tasks pid.0 freed) is in
-    let is_then : task_of behind.tasks pid.0 ≡ Some (freed task) = ap (λ ts. task_of ts pid.0) tasks ∙ get_put v.tasks pid.0 (freed task) pid.0 ∙ ap (λ b. cond b (Some (freed task)) (task_of v.tasks pid.0)) (itself pid.0) in
-    let turn_then : IsNext behind.tasks task.cpu.0 next = subst (λ ts. IsNext ts task.cpu.0 next) (sym tasks) (next_still v.tasks task.cpu.0 pid.0 task (freed task) next found turn) in
-    let last = exits limits at room behind pid (freed task) next free.ready there is_then runs refl turn_then in
+    let suffix = after_event v (event_at at (act.Unstall pid)) in
+    let tasks : suffix.tasks ≡ put v.tasks pid.0 (freed task) = ap (change_to v.tasks pid.0 freed) is in
+    let is_then : task_of suffix.tasks pid.0 ≡ Some (freed task) = ap (λ ts. task_of ts pid.0) tasks ∙ get_put v.tasks pid.0 (freed task) pid.0 ∙ ap (λ b. cond b (Some (freed task)) (task_of v.tasks pid.0)) (itself pid.0) in
+    let turn_then : IsNext suffix.tasks task.cpu.0 next = subst (λ ts. IsNext ts task.cpu.0 next) (sym tasks) (next_still v.tasks task.cpu.0 pid.0 task (freed task) next found turn) in
+    let last = exits limits at room suffix pid (freed task) next free.ready there is_then runs refl turn_then in
     record {
       does = does_then limits at (room + 1) room v (act.Unstall pid ∷ []) (act.Switch task.cpu next Exit ∷ []) free last.does;
       tasks = λ k. last.tasks k ∙ ap (λ ts. started next k (cond (k == pid.0) None (task_of ts k))) tasks ∙ ap (λ o. started next k (cond (k == pid.0) None o)) (get_put v.tasks pid.0 (freed task) k) ∙ then_exits v.tasks pid.0 k (freed task) next;

@@ -5,7 +5,7 @@ use Rattle.std.specs.FinMap as tasks_by
 use Rattle.psi_base.specs.declared.event.Act.{Act}
 use Rattle.psi_base.specs.declared.event.Act.TheVariants as act
 use Rattle.psi_base.specs.declared.event.Event.{Event}
-use Rattle.psi_spec.specs.World.{Limits, Tasks, World, after_event, after_from, readied, task_of, events_at}
+use Rattle.psi_spec.specs.World.{Limits, Tasks, World, after_event, after_from, prepared_changes, task_of, events_at}
 use Rattle.std.proofs.lemmas.Bool.Decides.{nat_tests}
 use Rattle.std.proofs.lemmas.List.{length-append}
 use Rattle.psi_base.specs.declared.event.Cause.{Cause}
@@ -20,7 +20,7 @@ use Rattle.task_table.proofs.CauseLaws.{let_through}
 use Rattle.task_table.specs.Causes.{migrate_cause, path_cause, stall_cause, unstall_cause, wake_cause}
 use Rattle.group_tree.specs.Tree.{add_cause}
 use Rattle.whatif_spec.specs.Without.{act_without, dead_after, is_pid_among, rest_without}
-use Rattle.whatif_trace.specs.Rest.{IsWithout, dead_behind}
+use Rattle.whatif_trace.specs.Rest.{IsWithout, dead_later_on}
 use Rattle.whatif_trace.proofs.Fewer.{either, found_kept, no_more}
 use Rattle.whatif_trace.proofs.Changing.{change_alive, change_dead, placed_alive}
 use Rattle.whatif_trace.proofs.Living.{AreLive, act_live}
@@ -46,8 +46,8 @@ act_goes limits dead w v at (act.Fork pid path cpu) is once live room none =
 act_goes limits dead w v at (act.Wake pid cpu) is once live room none =
     of_pid limits dead w v at pid (act.Wake pid cpu) is room (of_tasks at (act.Wake pid cpu) (λ g. refl) (λ i. refl) refl refl refl)
     (λ alive. ap (λ o. wake_cause limits.cpus o cpu.0) (found_kept dead w.tasks v.tasks is.tasks pid.0 alive) ∙ none)
-    (λ alive. change_alive dead w.tasks v.tasks pid.0 (readied cpu.0) is.tasks alive)
-    (λ gone. change_dead dead w.tasks v.tasks pid.0 (readied cpu.0) is.tasks gone)
+    (λ alive. change_alive dead w.tasks v.tasks pid.0 (prepared_changes cpu.0) is.tasks alive)
+    (λ gone. change_dead dead w.tasks v.tasks pid.0 (prepared_changes cpu.0) is.tasks gone)
 act_goes limits dead w v at (act.Switch cpu next how) is once live room none = switch_goes limits dead w v at cpu next how is once room none
 act_goes limits dead w v at (act.Stall pid) is once live room none =
     of_pid limits dead w v at pid (act.Stall pid) is room (of_tasks at (act.Stall pid) (λ g. refl) (λ i. refl) refl refl refl)
@@ -62,8 +62,8 @@ act_goes limits dead w v at (act.Unstall pid) is once live room none =
 act_goes limits dead w v at (act.Migrate pid cpu) is once live room none =
     of_pid limits dead w v at pid (act.Migrate pid cpu) is room (of_tasks at (act.Migrate pid cpu) (λ g. refl) (λ i. refl) refl refl refl)
     (λ alive. ap (λ o. migrate_cause limits.cpus o cpu.0) (found_kept dead w.tasks v.tasks is.tasks pid.0 alive) ∙ none)
-    (λ alive. change_alive dead w.tasks v.tasks pid.0 (readied cpu.0) is.tasks alive)
-    (λ gone. change_dead dead w.tasks v.tasks pid.0 (readied cpu.0) is.tasks gone)
+    (λ alive. change_alive dead w.tasks v.tasks pid.0 (prepared_changes cpu.0) is.tasks alive)
+    (λ gone. change_dead dead w.tasks v.tasks pid.0 (prepared_changes cpu.0) is.tasks gone)
 act_goes limits dead w v at (act.Move pid path) is once live room none =
     of_pid limits dead w v at pid (act.Move pid path) is room (of_tasks at (act.Move pid path) (λ g. refl) (λ i. refl) refl refl refl)
     (λ alive. moved_still w.groups v.groups (task_of w.tasks pid.0) (task_of v.tasks pid.0) path is.groups (found_kept dead w.tasks v.tasks is.tasks pid.0 alive) none)
@@ -107,8 +107,8 @@ last_from w at [] low = low
 last_from w at (what ∷ acts) low = last_from (after_event w (event_at at what)) at acts (omega arith)
 
 pub legal_join : (limits : Limits) (w : World) (xs ys : List Event) → AreLegal limits w xs → AreLegal limits (after_from w xs) ys → AreLegal limits w (xs ++ ys)
-legal_join limits w [] ys front rest = rest
-legal_join limits w (x ∷ xs) ys front rest = (front.0, legal_join limits (after_event w x) xs ys front.1 rest)
+legal_join limits w [] ys prefix rest = rest
+legal_join limits w (x ∷ xs) ys prefix rest = (prefix.0, legal_join limits (after_event w x) xs ys prefix.1 rest)
 
 pub next_begins : (limits : Limits) (w : World) (events : List Event) (last : ℕ) → last ≤ w.last → AreLegal limits w events → Begins last events
 next_begins limits w [] last low legal = tt
@@ -117,17 +117,17 @@ next_begins limits w (event ∷ events) last low legal = let time = (in_time lim
 -- the rest without the dead tasks is legal, and the relation of the worlds is preserved
 pub record RestGoes (limits : Limits) (dead : List ℕ) (w v : World) (events : List Event) : Type 0 where
   pub legal : AreLegal limits v (rest_without dead w events)
-  pub later : IsWithout (dead_behind dead w events) (after_from w events) (after_from v (rest_without dead w events))
+  pub later : IsWithout (dead_later_on dead w events) (after_from w events) (after_from v (rest_without dead w events))
 
 pub rest_goes : (limits : Limits) (dead : List ℕ) (w v : World) (events : List Event) → IsWithout dead w v → IsLegalWorld limits w → AreLive dead w.tasks → AreLegal limits w events → Begins v.last events → v.lines + length (rest_without dead w events) < 4000000
     → RestGoes limits dead w v events
 rest_goes limits dead w v [] is world live legal begins few = record { legal = tt; later = is }
 rest_goes limits dead w v (event ∷ events) is world live legal begins few =
     let acts = act_without dead w event.act in
-    let front = events_at event.at acts in
+    let prefix = events_at event.at acts in
     let later = dead_after dead w event.act in
     let next = after_event w event in
-    let many = length-append front (rest_without later next events) in
+    let many = length-append prefix (rest_without later next events) in
     let room : HasRoom limits v event.at = record {
       going = is.ended ∙ open_of_legal limits w event legal.0;
       forward = begins;
@@ -135,11 +135,11 @@ rest_goes limits dead w v (event ∷ events) is world live legal begins few =
       few = omega (arith, few);
     } in
     let goes = act_goes limits dead w v event.at event.act is world.once live room (let_through limits w event legal.0) in
-    let lines = lines_from v front in
+    let lines = lines_from v prefix in
     let last = last_from v event.at acts begins in
-    let rest = rest_goes limits later next (after_from v front) events goes.later (legal_kept limits w event legal.0 world) (act_live dead w event.act live) legal.1
-    (next_begins limits next events (after_from v front).last last legal.1) (omega (arith, few, many, lines)) in
+    let rest = rest_goes limits later next (after_from v prefix) events goes.later (legal_kept limits w event legal.0 world) (act_live dead w event.act live) legal.1
+    (next_begins limits next events (after_from v prefix).last last legal.1) (omega (arith, few, many, lines)) in
     record {
-      legal = legal_join limits v front (rest_without later next events) goes.legal rest.legal;
-      later = subst (λ x. IsWithout (dead_behind later next events) (after_from next events) x) (sym (after_from-append v front (rest_without later next events))) rest.later;
+      legal = legal_join limits v prefix (rest_without later next events) goes.legal rest.legal;
+      later = subst (λ x. IsWithout (dead_later_on later next events) (after_from next events) x) (sym (after_from-append v prefix (rest_without later next events))) rest.later;
     }

@@ -17,7 +17,7 @@ use Rattle.psi_spec.specs.declared.machine.Mode.{Mode}
 use Rattle.psi_spec.specs.declared.machine.Mode.TheVariants.{Blocked, Waiting, Ready, Running}
 use Rattle.psi_spec.specs.declared.machine.Task.{Task}
 use Rattle.psi_spec.specs.Refusal.{AreLegal, is_wrong}
-use Rattle.psi_spec.specs.World.{Limits, Tasks, World, after_event, after_from, change_to, is_active, is_ready, is_ready_on, is_running, is_running_on, leave, left_by, new_task, no_tasks, placed, readied, running_on, start, task_of, tasks_after}
+use Rattle.psi_spec.specs.World.{Limits, Tasks, World, after_event, after_from, change_to, is_active, is_ready, is_ready_on, is_running, is_running_on, leave, left_by, new_task, no_tasks, placed, prepared_changes, running_on, start, task_of, tasks_after}
 use Rattle.psi_spec.proofs.RefusalLaws.{first_true, second_true}
 use Rattle.psi_spec.proofs.TaskLaws.{get_put, task_placed}
 use Rattle.psi_counts.specs.Touch.{changed}
@@ -64,8 +64,8 @@ by_found tasks cpu place each (Some e) is =
     some_found e place (sym (each e.0) ∙ ap (λ o. is_some_and o (is_running_on cpu)) there.0 ∙ there.1)
 
 -- the list has who runs
-pub runner_told : (cpus : ℕ) (runners : List (Option Pid)) (tasks : Tasks) (cpu : ℕ) → AreRunners cpus runners tasks → cpu < cpus → pid_part (running_on tasks cpu) ≡ runner_at runners cpu
-runner_told cpus runners tasks cpu are room = by_found tasks cpu (runner_at runners cpu) (λ q. are.each q cpu room) (running_on tasks cpu) refl
+pub runner_known : (cpus : ℕ) (runners : List (Option Pid)) (tasks : Tasks) (cpu : ℕ) → AreRunners cpus runners tasks → cpu < cpus → pid_part (running_on tasks cpu) ≡ runner_at runners cpu
+runner_known cpus runners tasks cpu are room = by_found tasks cpu (runner_at runners cpu) (λ q. are.each q cpu room) (running_on tasks cpu) refl
 
 -- ---- none runs at first
 
@@ -105,9 +105,9 @@ and_false false c off = refl
 resting : (task : Task) (cpu : ℕ) → is_running task.mode ≡ false → is_running_on cpu task ≡ false
 resting task cpu off = and_false (task.cpu.0 == cpu) (is_running task.mode) off
 
-now_ready : (to : ℕ) (o : Option Task) (cpu : ℕ) → IfSome o (λ task. is_running task.mode ≡ false) → Alike cpu o (changed (readied to) o)
+now_ready : (to : ℕ) (o : Option Task) (cpu : ℕ) → IfSome o (λ task. is_running task.mode ≡ false) → Alike cpu o (changed (prepared_changes to) o)
 now_ready to None cpu off = refl
-now_ready to (Some task) cpu off = resting (readied to task) cpu refl ∙ sym (resting task cpu off)
+now_ready to (Some task) cpu off = resting (prepared_changes to task) cpu refl ∙ sym (resting task cpu off)
 
 asleep : (mode : Mode) → is_active mode ≡ false → is_running mode ≡ false
 asleep Running off = absurd (let no : ⊥ = cc off in no)
@@ -233,14 +233,14 @@ pub switched : (limits : Limits) (w : World) (runners : List (Option Pid)) (cpu 
 switched limits w runners cpu next how are there ready right =
     let room = below limits.cpus cpu.0 there in
     let left = leave how w.tasks (running_on w.tasks cpu.0) in
-    let told = runner_told limits.cpus runners w.tasks cpu.0 are room in
+    let known = runner_known limits.cpus runners w.tasks cpu.0 are room in
     record {
       long = length_set runners cpu.0 next ∙ are.long;
       each = λ q c inside.
           ap (λ o. is_some_and o (is_running_on c)) (found_started left next q)
           ∙ ⊎_elim
           (λ same.
-          let off : is_some_and (task_of left q) (is_running_on cpu.0) ≡ false = ap (λ o. is_some_and o (is_running_on cpu.0)) (found_left w.tasks how (running_on w.tasks cpu.0) q) ∙ off_here w.tasks cpu.0 how (running_on w.tasks cpu.0) refl right (λ k. are.each k cpu.0 room ∙ ap (is_pid k) (sym told)) q in
+          let off : is_some_and (task_of left q) (is_running_on cpu.0) ≡ false = ap (λ o. is_some_and o (is_running_on cpu.0)) (found_left w.tasks how (running_on w.tasks cpu.0) q) ∙ off_here w.tasks cpu.0 how (running_on w.tasks cpu.0) refl right (λ k. are.each k cpu.0 room ∙ ap (is_pid k) (sym known)) q in
           ap (λ n. is_some_and (started next q (task_of left q)) (is_running_on n)) same.1
           ∙ runs_here cpu.0 next q (task_of left q) off (still_ready w.tasks cpu.0 how next ready q)
           ∙ ap (is_pid q) (sym (ap (λ n. slice_index_or (slice_set runners cpu.0 next) n None) same.1 ∙ get_or-set_same runners cpu.0 next None (subst (λ n. cpu.0 < n) (sym are.long) room))))
@@ -260,9 +260,9 @@ turns limits w at runners (act.Fork pid path cpu) are none =
     let may = may_fork limits.cpus w.groups (tasks_by.len w.tasks) (task_of w.tasks pid.0) path cpu.0 none in
     same_runners limits.cpus runners w.tasks _ are (keeps_new w.tasks pid.0 (new_task w.groups path cpu.0) may.new refl)
 turns limits w at runners (act.Wake pid cpu) are none =
-    same_runners limits.cpus runners w.tasks _ are (keeps_change w.tasks pid.0 (readied cpu.0) (λ c. now_ready cpu.0 (task_of w.tasks pid.0) c (if_asleep (task_of w.tasks pid.0) (wake_off limits.cpus (task_of w.tasks pid.0) cpu.0 none))))
+    same_runners limits.cpus runners w.tasks _ are (keeps_change w.tasks pid.0 (prepared_changes cpu.0) (λ c. now_ready cpu.0 (task_of w.tasks pid.0) c (if_asleep (task_of w.tasks pid.0) (wake_off limits.cpus (task_of w.tasks pid.0) cpu.0 none))))
 turns limits w at runners (act.Migrate pid cpu) are none =
-    same_runners limits.cpus runners w.tasks _ are (keeps_change w.tasks pid.0 (readied cpu.0) (λ c. now_ready cpu.0 (task_of w.tasks pid.0) c (if_queued (task_of w.tasks pid.0) (migrate_off limits.cpus (task_of w.tasks pid.0) cpu.0 none))))
+    same_runners limits.cpus runners w.tasks _ are (keeps_change w.tasks pid.0 (prepared_changes cpu.0) (λ c. now_ready cpu.0 (task_of w.tasks pid.0) c (if_queued (task_of w.tasks pid.0) (migrate_off limits.cpus (task_of w.tasks pid.0) cpu.0 none))))
 turns limits w at runners (act.Stall pid) are none =
     same_runners limits.cpus runners w.tasks _ are (keeps_change w.tasks pid.0 _ (same_place _ (λ task c. refl) (task_of w.tasks pid.0)))
 turns limits w at runners (act.Unstall pid) are none =

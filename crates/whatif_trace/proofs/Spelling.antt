@@ -97,17 +97,17 @@ numbers_first pid some = absurd (let none : task_of first_world.tasks pid ≡ No
 
 -- ---- prefixes and joins
 
-pub fit_front : (front rest : List Event) → AllFit (front ++ rest) → AllFit front
-fit_front [] rest fit = tt
-fit_front (event ∷ front) rest fit = (fit.0, fit_front front rest fit.1)
+pub fit_prefix : (prefix rest : List Event) → AllFit (prefix ++ rest) → AllFit prefix
+fit_prefix [] rest fit = tt
+fit_prefix (event ∷ prefix) rest fit = (fit.0, fit_prefix prefix rest fit.1)
 
-pub fit_rest : (front rest : List Event) → AllFit (front ++ rest) → AllFit rest
+pub fit_rest : (prefix rest : List Event) → AllFit (prefix ++ rest) → AllFit rest
 fit_rest [] rest fit = fit
-fit_rest (event ∷ front) rest fit = fit_rest front rest fit.1
+fit_rest (event ∷ prefix) rest fit = fit_rest prefix rest fit.1
 
 pub fit_join : (xs ys : List Event) → AllFit xs → AllFit ys → AllFit (xs ++ ys)
-fit_join [] ys front rest = rest
-fit_join (x ∷ xs) ys front rest = (front.0, fit_join xs ys front.1 rest)
+fit_join [] ys prefix rest = rest
+fit_join (x ∷ xs) ys prefix rest = (prefix.0, fit_join xs ys prefix.1 rest)
 
 -- ---- the rest
 
@@ -161,8 +161,8 @@ rest_fits dead w (event ∷ events) fit =
 -- ---- the exits
 
 acts_join : (xs ys : List Act) → ActsFit xs → ActsFit ys → ActsFit (xs ++ ys)
-acts_join [] ys front rest = rest
-acts_join (x ∷ xs) ys front rest = (front.0, acts_join xs ys front.1 rest)
+acts_join [] ys prefix rest = rest
+acts_join (x ∷ xs) ys prefix rest = (prefix.0, acts_join xs ys prefix.1 rest)
 
 pid_fits : (tasks : Tasks) (cpu : ℕ) → AreNumbers tasks → (o : Option (ℕ × Task)) → running_on tasks cpu ≡ o → NextFits (pid_part o)
 pid_fits tasks cpu numbers None runs = tt
@@ -202,11 +202,11 @@ pub exits_fit : (limits : Limits) (at room : ℕ) (v : World) (pids : List ℕ) 
 exits_fit limits at room v [] few early ready numbers = tt
 exits_fit limits at room v (pid ∷ pids) few early ready numbers =
     let acts = exit_of v pid (task_of v.tasks pid) in
-    let front = events_at at acts in
-    let rest = exits_from at (after_from v front) pids in
-    let many = length-append front rest in
+    let prefix = events_at at acts in
+    let rest = exits_from at (after_from v prefix) pids in
+    let many = length-append prefix rest in
     let count = length-map acts (λ what. let e : Event = record { at = at; act = what } in e) in
-    let one = exit_goes limits at (room + length rest) v pid (ready_for limits at (room + length (front ++ rest)) (room + length rest + length acts) v (omega (arith, many, count)) ready) in
-    let first = found_fits limits at (room + length (front ++ rest)) v pid (task_of v.tasks pid) refl few ready numbers in
-    fit_join front rest (fit_at at acts early first)
-    (exits_fit limits at room (after_from v front) pids few early one.does.ready (λ k some. numbers k (none_new (k == pid) (task_of v.tasks k) (ap is_some (sym (one.tasks k)) ∙ some))))
+    let one = exit_goes limits at (room + length rest) v pid (ready_for limits at (room + length (prefix ++ rest)) (room + length rest + length acts) v (omega (arith, many, count)) ready) in
+    let first = found_fits limits at (room + length (prefix ++ rest)) v pid (task_of v.tasks pid) refl few ready numbers in
+    fit_join prefix rest (fit_at at acts early first)
+    (exits_fit limits at room (after_from v prefix) pids few early one.does.ready (λ k some. numbers k (none_new (k == pid) (task_of v.tasks k) (ap is_some (sym (one.tasks k)) ∙ some))))

@@ -12,8 +12,8 @@ use Rattle.psi_spec.specs.Stall.{is_under, parents_of}
 use Rattle.psi_spec.specs.World.{Limits, Tasks, World, after_event, after_from, first_world, task_of, up_to, events_at}
 use Rattle.psi_spec.proofs.TaskLaws.{found}
 use Rattle.plan_laws.proofs.PlanUpTo.{none_later, past_it}
-use Rattle.whatif_spec.specs.Without.{act_without, behind, dead_after, is_pid_among, members, rest_without}
-use Rattle.whatif_trace.specs.Rest.{dead_behind}
+use Rattle.whatif_spec.specs.Without.{act_without, suffix, dead_after, is_pid_among, members, rest_without}
+use Rattle.whatif_trace.specs.Rest.{dead_later_on}
 use Rattle.whatif_trace.proofs.Living.{AreLive}
 use Rattle.whatif_trace.proofs.Resting.{Begins}
 
@@ -28,23 +28,23 @@ later_begins limits w (event ∷ events) at legal =
       | false ↦ λ off. let late = past_it at event.at off in (event ∷ events, ap (λ es. es ++ event ∷ events) (sym (none_later limits (after_event w event) events at legal.1 late)), omega (arith, late))
     ] refl
 
-drop_front : (front rest : List Event) → drop (length front) (front ++ rest) ≡ rest
-drop_front [] rest = refl
-drop_front (event ∷ front) rest = drop_front front rest
+drop_prefix : (prefix rest : List Event) → drop (length prefix) (prefix ++ rest) ≡ rest
+drop_prefix [] rest = refl
+drop_prefix (event ∷ prefix) rest = drop_prefix prefix rest
 
 pub record IsParted (limits : Limits) (events : List Event) (at : ℕ) : Type 0 where
-  pub whole : events ≡ up_to events at ++ behind events at
-  pub begins : Begins (at + 1) (behind events at)
+  pub whole : events ≡ up_to events at ++ suffix events at
+  pub begins : Begins (at + 1) (suffix events at)
 
 pub parted : (limits : Limits) (events : List Event) (at : ℕ) → AreLegal limits first_world events → IsParted limits events at
 parted limits events at legal =
     let parts = later_begins limits first_world events at legal in
-    let same : behind events at ≡ parts.0 = ap (drop (length (up_to events at))) parts.1 ∙ drop_front (up_to events at) parts.0 in
+    let same : suffix events at ≡ parts.0 = ap (drop (length (up_to events at))) parts.1 ∙ drop_prefix (up_to events at) parts.0 in
     record { whole = parts.1 ∙ ap (λ es. up_to events at ++ es) (sym same); begins = subst (Begins (at + 1)) (sym same) parts.2 }
 
-pub legal_rest : (limits : Limits) (w : World) (front rest : List Event) → AreLegal limits w (front ++ rest) → AreLegal limits (after_from w front) rest
+pub legal_rest : (limits : Limits) (w : World) (prefix rest : List Event) → AreLegal limits w (prefix ++ rest) → AreLegal limits (after_from w prefix) rest
 legal_rest limits w [] rest legal = legal
-legal_rest limits w (event ∷ front) rest legal = legal_rest limits (after_event w event) front rest legal.1
+legal_rest limits w (event ∷ prefix) rest legal = legal_rest limits (after_event w event) prefix rest legal.1
 
 -- ---- the members
 
@@ -67,13 +67,13 @@ members_live w slot pid is = among_entries w.tasks (λ e. is_under (parents_of w
 
 -- ---- the rest whole
 
-pub rest_both : (dead : List ℕ) (w : World) (xs ys : List Event) → rest_without dead w (xs ++ ys) ≡ rest_without dead w xs ++ rest_without (dead_behind dead w xs) (after_from w xs) ys
+pub rest_both : (dead : List ℕ) (w : World) (xs ys : List Event) → rest_without dead w (xs ++ ys) ≡ rest_without dead w xs ++ rest_without (dead_later_on dead w xs) (after_from w xs) ys
 rest_both dead w [] ys = refl
 rest_both dead w (x ∷ xs) ys =
-    let front = events_at x.at (act_without dead w x.act) in
-    ap (λ es. front ++ es) (rest_both (dead_after dead w x.act) (after_event w x) xs ys)
-    ∙ sym (append_assoc front (rest_without (dead_after dead w x.act) (after_event w x) xs) (rest_without (dead_behind dead w (x ∷ xs)) (after_from w (x ∷ xs)) ys))
+    let prefix = events_at x.at (act_without dead w x.act) in
+    ap (λ es. prefix ++ es) (rest_both (dead_after dead w x.act) (after_event w x) xs ys)
+    ∙ sym (append_assoc prefix (rest_without (dead_after dead w x.act) (after_event w x) xs) (rest_without (dead_later_on dead w (x ∷ xs)) (after_from w (x ∷ xs)) ys))
 
-pub dead_both : (dead : List ℕ) (w : World) (xs ys : List Event) → dead_behind dead w (xs ++ ys) ≡ dead_behind (dead_behind dead w xs) (after_from w xs) ys
+pub dead_both : (dead : List ℕ) (w : World) (xs ys : List Event) → dead_later_on dead w (xs ++ ys) ≡ dead_later_on (dead_later_on dead w xs) (after_from w xs) ys
 dead_both dead w [] ys = refl
 dead_both dead w (x ∷ xs) ys = dead_both (dead_after dead w x.act) (after_event w x) xs ys

@@ -3,8 +3,8 @@ use Rattle.std.specs.Prelude.{◌≡◌, ℕ, ◌+◌, ◌<◌, ◌≤◌, List,
 use Rattle.psi_base.specs.declared.event.Event.{Event}
 use Rattle.psi_spec.specs.World.{Limits, after, after_from, most_cpus, most_events, task_of, up_to}
 use Rattle.psi_spec.specs.Trace.{IsAccepted}
-use Rattle.whatif_spec.specs.Without.{behind, exits_from, is_pid_among, members, rest_without, without}
-use Rattle.whatif_trace.specs.Rest.{IsWithout, dead_behind}
+use Rattle.whatif_spec.specs.Without.{suffix, exits_from, is_pid_among, members, rest_without, without}
+use Rattle.whatif_trace.specs.Rest.{IsWithout, dead_later_on}
 
 -- If a trace is accepted, the trace without the tasks of a group is accepted too, unless it is too
 -- long.
@@ -28,7 +28,7 @@ abbrev pub WorldsWithout : Type 0
 WorldsWithout =
     (limits : Limits) (events : List Event) (at victim : ℕ) → IsAccepted limits events → at < (after events).last
     → length (without events at victim) ≤ most_events →
-    (some more : List Event) → behind events at ≡ some ++ more →
-    IsWithout (dead_behind (members (after (up_to events at)) victim) (after (up_to events at)) some) (after (up_to events at ++ some))
+    (some more : List Event) → suffix events at ≡ some ++ more →
+    IsWithout (dead_later_on (members (after (up_to events at)) victim) (after (up_to events at)) some) (after (up_to events at ++ some))
     (after_from (after (up_to events at ++ exits_from (at + 1) (after (up_to events at)) (members (after (up_to events at)) victim)))
     (rest_without (members (after (up_to events at)) victim) (after (up_to events at)) some))

@@ -16,15 +16,15 @@ abbrev pub Adds : {T E : Type 0} → List Event → List Event → Result T E �
 Adds old new result events = OnOk result (new ≡ old ++ events)
 
 -- the number of events before the first that is later than a time (ns)
-abbrev pub front_length : ℕ → List Event → ℕ
-front_length at [] = 0
-front_length at (event ∷ events) = if nat_le event.at at then front_length at events + 1 else 0
+abbrev pub prefix_length : ℕ → List Event → ℕ
+prefix_length at [] = 0
+prefix_length at (event ∷ events) = if nat_le event.at at then prefix_length at events + 1 else 0
 
 -- an act is a sample of a group's memory, or sets a trigger on a group
-abbrev pub tells_of_group : Act → Bool
-tells_of_group (act.Mem path current swap scan) = true
-tells_of_group (act.Trigger path res level threshold_us window_us) = true
-tells_of_group what = false
+abbrev pub shows_of_group : Act → Bool
+shows_of_group (act.Mem path current swap scan) = true
+shows_of_group (act.Trigger path res level threshold_us window_us) = true
+shows_of_group what = false
 
 -- ---- who runs
 

@@ -20,6 +20,6 @@ pub record IsWithout (dead : List ℕ) (w v : World) : Type 0 where
   pub ended : v.ended ≡ w.ended
 
 -- the tasks that are dead after events, beginning at a world of the trace
-abbrev pub dead_behind : List ℕ → World → List Event → List ℕ
-dead_behind dead w [] = dead
-dead_behind dead w (event ∷ events) = dead_behind (dead_after dead w event.act) (after_event w event) events
+abbrev pub dead_later_on : List ℕ → World → List Event → List ℕ
+dead_later_on dead w [] = dead
+dead_later_on dead w (event ∷ events) = dead_later_on (dead_after dead w event.act) (after_event w event) events

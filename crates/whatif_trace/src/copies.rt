@@ -2,14 +2,14 @@
 ghost use Rattle.std.specs.Prelude.{◌≡◌, ◌∷◌, [], IfOk, true};
 ghost use Rattle.whatif_spec.specs.Without.{acts_if};
 ghost use Rattle.psi_spec.specs.World.{events_at};
-ghost use Rattle.whatif_trace.specs.Left.{Adds, tells_of_group};
+ghost use Rattle.whatif_trace.specs.Left.{Adds, shows_of_group};
 
 use psi_base::{Act, Event, NoMemory, Ns};
 use std::alloc::Global;
 
 // A copy of an act that samples a group's memory or sets a trigger.
-fn copy_told(alloc: Global, act: &Act) -> Result<Act, NoMemory>
-    requires { tells_of_group act.now ≡ true }
+fn copy_known(alloc: Global, act: &Act) -> Result<Act, NoMemory>
+    requires { shows_of_group act.now ≡ true }
     ensures { IfOk result (λ copy. copy ≡ act.now) }
 {
     Ok(match *act {
@@ -67,7 +67,7 @@ fn copy_act(alloc: Global, act: &Act) -> Result<Act, NoMemory>
             pid,
             path: path.copy(alloc)?,
         },
-        Act::Mem { .. } | Act::Trigger { .. } => copy_told(alloc, act)?,
+        Act::Mem { .. } | Act::Trigger { .. } => copy_known(alloc, act)?,
         Act::Host {
             mem_total,
             swap_total,

@@ -70,7 +70,7 @@ fn keep_one(
     task: Option<Task>,
     runners: &mut Vec<Option<Pid>>,
 ) -> Result<(), NoMemory>
-    ensures kept { Adds kept.old.items kept.new.items result
+    ensures unchanged { Adds kept.old.items kept.new.items result
         (events_at at (exit_left runners.old.items pid.0 task)) }
     ensures runners { runners.new.items ≡ exited runners.old.items task }
 {

@@ -5,7 +5,7 @@ ghost use Rattle.psi_spec.specs.Refusal.{AreLegal, cause_of};
 ghost use Rattle.psi_spec.specs.Trace.{IsAccepted};
 ghost use Rattle.psi_spec.specs.World.{after, after_event, after_from};
 ghost use Rattle.whatif_spec.specs.Without.{members, without};
-ghost use Rattle.whatif_trace.specs.Left.{Adds, AreForked, exits_left, front_length, rest_left, turned_by};
+ghost use Rattle.whatif_trace.specs.Left.{Adds, AreForked, exits_left, prefix_length, rest_left, turned_by};
 ghost use Rattle.whatif_trace.specs.Bounded.{bounded};
 
 use crate::copies::keep_copies;
@@ -13,13 +13,10 @@ use crate::exits::keep_exits;
 use crate::members::members;
 use crate::rest::keep_rest;
 use crate::runners::{no_runners, turn};
-use psi_base::{Event, Fault, NoMemory, Ns, Pid, Slot};
+use psi_base::{Event, Fault, MOST_EVENTS, NoMemory, Ns, Pid, Slot};
 use std::alloc::Global;
 use std::collections::BTreeSet;
 use task_table::Table;
-
-/// The maximal number of event lines of a trace.
-const MOST_EVENTS: usize = 4_000_000;
 
 /// The remaining trace has more event lines than a trace may have.
 #[derive(Clone, Copy, Debug, PartialEq, Eq)]
@@ -29,8 +26,8 @@ pub struct TooLarge {
 }
 
 /// The number of events before the first that is later than a time (ns).
-fn front_length(events: &[Event], at: Ns) -> usize
-    ensures length { result ≡ front_length at events.now }
+fn prefix_length(events: &[Event], at: Ns) -> usize
+    ensures length { result ≡ prefix_length at events.now }
     ensures inside { result ≤ length events.now }
 {
     let mut count = 0;
@@ -41,7 +38,7 @@ fn front_length(events: &[Event], at: Ns) -> usize
 }
 
 /// The first `count` events.
-fn front_of(events: &[Event], count: usize) -> &[Event]
+fn prefix_of(events: &[Event], count: usize) -> &[Event]
     requires { count ≤ length events.now }
     ensures { result.now ≡ take count events.now }
 {
@@ -64,7 +61,7 @@ fn numbers_of(alloc: Global, pids: &BTreeSet<u32>) -> Result<Vec<u32>, NoMemory>
 }
 
 /// Whether a time (ns) is before the end.
-#[tactic(auto, using(crate::proofs::Cutting::before_told))]
+#[tactic(auto, using(crate::proofs::Cutting::before_known))]
 fn is_before_end(events: &[Event], at: Ns) -> bool
     ensures { result ≡ nat_lt at (after events.now).last }
 {
@@ -131,20 +128,20 @@ fn left_of(
     alloc: Global,
     table: &Table,
     runners: Vec<Option<Pid>>,
-    front: &[Event],
+    prefix: &[Event],
     rest: &[Event],
     at: Ns,
     victim: Slot,
 ) -> Result<Vec<Event>, NoMemory>
-    requires { AreForked table.now.world.tasks front.now }
+    requires { AreForked table.now.world.tasks prefix.now }
     ensures { IfOk result (λ left. left.items
-        ≡ (front.now ++ exits_left at table.now.world.tasks runners.items
+        ≡ (prefix.now ++ exits_left at table.now.world.tasks runners.items
         (members table.now.world victim.0))
         ++ rest_left (members table.now.world victim.0) runners.items rest.now) }
 {
-    let dead = members(alloc, table, front, victim)?;
+    let dead = members(alloc, table, prefix, victim)?;
     let mut kept: Vec<Event> = Vec::new(alloc);
-    keep_copies(alloc, &mut kept, front)?;
+    keep_copies(alloc, &mut kept, prefix)?;
     keep_all_exits(alloc, &mut kept, at, table, &runners, &dead)?;
     keep_rest(alloc, &mut kept, dead, runners, rest)?;
     Ok(kept)
@@ -165,13 +162,13 @@ fn cut_down(
     requires before { at < (after events.now).last }
     ensures { IfOk result (λ left. left.items ≡ without events.now at victim.0) }
 {
-    let count = front_length(events, at);
-    let front = front_of(events, count);
+    let count = prefix_length(events, at);
+    let prefix = prefix_of(events, count);
     let rest = rest_of(events, count);
     let mut table = Table::new(alloc, cpus, latest)?;
     let mut runners = no_runners(alloc, cpus)?;
-    play_all(&mut table, &mut runners, front)?;
-    left_of(alloc, &table, runners, front, rest, at + 1, victim)
+    play_all(&mut table, &mut runners, prefix)?;
+    left_of(alloc, &table, runners, prefix, rest, at + 1, victim)
 }
 
 /// The events without the tasks that are in a group or below it at a time (ns).
@@ -219,7 +216,7 @@ pub fn without(
         (λ left. IsAccepted (record { cpus = cpus; latest = latest }) left.items) }
 {
     let left = all_left(alloc, cpus, latest, events, at, victim)?;
-    if left.len() > MOST_EVENTS {
+    if left.len() > MOST_EVENTS as usize {
         let events = left.len() as u64;
         return Err(Fault::Refused(TooLarge { events }));
     }

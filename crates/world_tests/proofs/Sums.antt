@@ -13,9 +13,9 @@ use Rattle.psi_counts.specs.declared.changes.Counts.{Counts}
 use Rattle.psi_spec.specs.LegalGroups.{AreOlder}
 use Rattle.psi_spec.specs.World.{most_groups}
 use Rattle.psi_spec.specs.Stall.{is_under, number_of_slot}
-use Rattle.psi_counts.specs.Counts.{mask_holds, tells}
+use Rattle.psi_counts.specs.Counts.{mask_holds, shows}
 use Rattle.psi_counts.specs.Touch.{AreAtMost, no_counts, on_chain}
-use Rattle.slot_clocks.specs.Clocks.{AreTold, CanFollow, ClocksView, cell_at, first_clocks, parent_numbers, zero_cell}
+use Rattle.slot_clocks.specs.Clocks.{AreReported, CanFollow, ClocksView, cell_at, first_clocks, parent_numbers, zero_cell}
 use Rattle.world_tests.specs.Processor.{AreSums, IsProcessor, IsTask}
 
 none_at_most : AreAtMost 1 no_counts
@@ -58,18 +58,18 @@ first_cell zero slot = refl
 first_cell (suc slots) zero = refl
 first_cell (suc slots) (suc slot) = first_cell slots slot
 
-nothing_told : (state : State) → mask_holds zero_cell.clock.mask state ≡ (zero_cell.on && tells state zero_cell.counts false false)
-nothing_told IoSome = refl
-nothing_told IoFull = refl
-nothing_told MemSome = refl
-nothing_told MemFull = refl
-nothing_told CpuSome = refl
-nothing_told CpuFull = refl
-nothing_told Nonidle = refl
+nothing_known : (state : State) → mask_holds zero_cell.clock.mask state ≡ (zero_cell.on && shows state zero_cell.counts false false)
+nothing_known IoSome = refl
+nothing_known IoFull = refl
+nothing_known MemSome = refl
+nothing_known MemFull = refl
+nothing_known CpuSome = refl
+nothing_known CpuFull = refl
+nothing_known Nonidle = refl
 
 -- so no state holds
-first_told : (parents : List (Option ℕ)) (slots : ℕ) → AreTold parents (first_clocks slots)
-first_told parents slots slot state = rw (first_cell slots slot) (nothing_told state)
+first_reported : (parents : List (Option ℕ)) (slots : ℕ) → AreReported parents (first_clocks slots)
+first_reported parents slots slot state = rw (first_cell slots slot) (nothing_known state)
 
 none_counted : (parents : List (Option ℕ)) (slot count : ℕ) (f : Counts → ℕ) → f no_counts ≡ 0 → sum_by (λ task. f (on_chain parents slot task)) (replicate count None) ≡ 0
 none_counted parents slot zero f none = refl
@@ -98,7 +98,7 @@ first_processor parents groups count tasks clocks older none few few_groups firs
   few_groups = few_groups;
   sums = first_sums parents groups count;
   room = omega (arith, length-replicate groups zero_cell);
-  told = first_told parents groups;
+  known = first_reported parents groups;
   current = tt;
   in_time = refl;
 })

@@ -6,7 +6,7 @@ use Rattle.psi_counts.specs.declared.changes.Counts.{Counts}
 use Rattle.psi_spec.specs.LegalGroups.{AreOlder}
 use Rattle.psi_spec.specs.World.{most_groups}
 use Rattle.psi_counts.specs.Touch.{AreAtMost, on_chain}
-use Rattle.slot_clocks.specs.Clocks.{AreTold, ClocksView, cell_at}
+use Rattle.slot_clocks.specs.Clocks.{AreReported, ClocksView, cell_at}
 
 -- a slot in range
 abbrev pub IsSlot : ℕ → Option (Slot × Bool) → Type 0
@@ -32,6 +32,6 @@ pub record IsProcessor (parents : List (Option ℕ)) (groups : ℕ) (tasks : Lis
   pub few_groups : groups ≤ most_groups
   pub sums : (slot : ℕ) → AreSums parents slot tasks (cell_at clocks slot).counts
   pub room : groups ≤ length clocks.cells
-  pub told : AreTold parents clocks
+  pub known : AreReported parents clocks
   pub current : IsSlot groups clocks.current
   pub in_time : clocks.last ≡ last

@@ -92,8 +92,8 @@ fn first_moments(rt: &impl Abort, watch: &mut SideWatch, plans: &Plans) {
     watch.advance(plans.sides(), 3);
     let alive = [true, true, true, false];
     is(rt, populated(watch), alive, "populated at 3");
-    let told = [memory(100, 200, 9), NONE];
-    is(rt, memories(watch), told, "memories at 3");
+    let known = [memory(100, 200, 9), NONE];
+    is(rt, memories(watch), known, "memories at 3");
 
     watch.advance(plans.sides(), 4);
     is(rt, watch.host(), NO_HOST, "the host at 4");
@@ -108,15 +108,15 @@ fn last_moments(rt: &impl Abort, watch: &mut SideWatch, plans: &Plans) {
     is(rt, populated(watch), alive, "populated at 8");
     let preferred = [plain, avoid, prefer, plain];
     is(rt, preferences(watch), preferred, "preferences at 8");
-    let told = [memory(100, 200, 9), NONE];
-    is(rt, memories(watch), told, "memories at 8");
+    let known = [memory(100, 200, 9), NONE];
+    is(rt, memories(watch), known, "memories at 8");
 
     watch.advance(plans.sides(), 12);
     is(rt, populated(watch), [false; 4], "populated at 12");
     let preferred = [plain, plain, prefer, plain];
     is(rt, preferences(watch), preferred, "preferences at 12");
-    let told = [memory(100, 200, 9), memory(1, 2, 3)];
-    is(rt, memories(watch), told, "memories at 12");
+    let known = [memory(100, 200, 9), memory(1, 2, 3)];
+    is(rt, memories(watch), known, "memories at 12");
 }
 
 // Follows the trace, at all of its times.

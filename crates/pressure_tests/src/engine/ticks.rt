@@ -2,8 +2,8 @@
 //! program, from the rules of shares, averages and triggers.
 
 use crate::check::is;
+use crate::engine::known::{has_averages, has_totals, have_signalled};
 use crate::engine::machine::Machine;
-use crate::engine::told::{has_averages, has_totals, have_signalled};
 use pressure_spec::Times;
 use psi_base::{Level, Ns, Path, Res, Slot, TriggerSpec};
 use psi_spec::GroupLife;
@@ -280,7 +280,7 @@ fn interrupts_of_half_a_period(rt: HostRuntime) {
 // A trace reports interrupts after their end. So a share may be a second longer than its interval,
 // which is half a second here.
 #[test]
-fn interrupts_told_late(rt: HostRuntime) {
+fn interrupts_known_late(rt: HostRuntime) {
     let none = "0 0 0, 0 0 0, 0 0 0, 0 0 0, 0 0 0, 0 0 0, 0 0 0";
     let late = "0 0 0, 0 0 0, 0 0 0, 0 0 0, 0 0 0, 0 0 0, 27825 5025 1050";
     let half = SECOND / 2;

@@ -70,9 +70,9 @@ fn reads(rt: &impl Abort, alloc: Global, line: &str, wanted: Option<PressureFile
 
 #[test]
 fn files_at_their_borders(rt: HostRuntime) {
-    for (line, told) in &LINES {
+    for (line, known) in &LINES {
         let file = PressureFile {
-            some_line: *told,
+            some_line: *known,
             full_line: ZEROS,
         };
         reads(&rt, rt.alloc(), line, Some(file));
@@ -120,8 +120,8 @@ const WRONG_IRQ_FILES: [&str; 10] = [
 
 #[test]
 fn files_of_interrupts(rt: HostRuntime) {
-    for (text, told) in &IRQ_FILES {
-        is(&rt, read_irq(text.as_bytes()), Some(*told), text);
+    for (text, known) in &IRQ_FILES {
+        is(&rt, read_irq(text.as_bytes()), Some(*known), text);
     }
     for text in &WRONG_IRQ_FILES {
         is(&rt, read_irq(text.as_bytes()), None, text);

@@ -167,12 +167,12 @@ full avg10=9.05 avg60=1.63 avg300=0.34 total=1000000
         hundredths: [905, 163, 34],
         total_us: 1_000_000,
     };
-    is(&rt, read_irq(bytes), Some(line), "what it tells");
+    is(&rt, read_irq(bytes), Some(line), "what it shows");
 }
 
 // The third piece of the line fails.
 #[test]
-fn a_failure_leaves_a_front(rt: HostRuntime) {
+fn a_failure_leaves_a_prefix(rt: HostRuntime) {
     let fails = vec![in rt.alloc(); 2].expect(&rt, "memory");
     let mut out = MemSink::new(rt.alloc(), 256, 256, fails).expect(&rt, "memory");
     is(

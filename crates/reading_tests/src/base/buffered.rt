@@ -47,7 +47,7 @@ fn goes_through(
     let mut pending = Pending::new(alloc).expect(rt, "memory");
     let answer = put_buffered(&mut sink, &mut pending, bytes, 12);
     let taken = (answer, sink.bytes.len(), sink.calls);
-    is(rt, taken, wanted, "a sink behind a buffer");
+    is(rt, taken, wanted, "a sink suffix a buffer");
     is(rt, sink.faults == 0, answer.is_ok(), "whether it failed");
 }
 

@@ -24,7 +24,7 @@ fn lines_of(rt: &impl Abort, alloc: Global, name: &str) -> Lines
 }
 
 // An answer as a line: the number and the bytes, or the end, or the fault.
-fn told(
+fn known(
     rt: &impl Abort,
     alloc: Global,
     number: u32,
@@ -44,9 +44,9 @@ fn next_own(rt: &impl Abort, alloc: Global, lines: &mut Lines, shelf: &mut MemSh
     ensures { lines.new.number ≤ lines.old.number + 1 }
 {
     match lines.next(shelf) {
-        Ok(Some(line)) => told(rt, alloc, line.number, Ok(Some(line.bytes.bytes()))),
-        Ok(None) => told(rt, alloc, 0, Ok(None)),
-        Err(fault) => told(rt, alloc, 0, Err(fault)),
+        Ok(Some(line)) => known(rt, alloc, line.number, Ok(Some(line.bytes.bytes()))),
+        Ok(None) => known(rt, alloc, 0, Ok(None)),
+        Err(fault) => known(rt, alloc, 0, Err(fault)),
     }
 }
 
@@ -56,7 +56,7 @@ fn next_lent(rt: &impl Abort, alloc: Global, lines: &mut Lines, shelf: &mut MemS
     ensures { lines.new.number ≤ lines.old.number + 1 }
 {
     let number = lines.number();
-    told(rt, alloc, number, lines.next_bytes(shelf))
+    known(rt, alloc, number, lines.next_bytes(shelf))
 }
 
 // The answers of `calls` calls, one line each.
@@ -117,9 +117,9 @@ fn lines_are_the_same_in_all_pieces(rt: HostRuntime) {
 }
 
 // A line of `length` bytes, with a text before it and one after it.
-fn long_line(rt: &impl Abort, alloc: Global, before: &str, length: usize, behind: &str) -> String {
+fn long_line(rt: &impl Abort, alloc: Global, before: &str, length: usize, suffix: &str) -> String {
     let line = "a".repeat(alloc, length).expect(rt, "memory");
-    format!(in alloc; "{before}{line}{behind}").expect(rt, "memory")
+    format!(in alloc; "{before}{line}{suffix}").expect(rt, "memory")
 }
 
 #[test]
@@ -135,8 +135,8 @@ fn lines_have_512_bytes(rt: HostRuntime) {
 #[test]
 fn lines_have_no_513_bytes(rt: HostRuntime) {
     let alloc = rt.alloc();
-    for behind in &["\nb\n", ""] {
-        let line = long_line(&rt, alloc, "", 513, behind);
+    for suffix in &["\nb\n", ""] {
+        let line = long_line(&rt, alloc, "", 513, suffix);
         agrees(&rt, alloc, line.as_str(), 2, "TooLong(1)\nTooLong(1)\n");
     }
 }
@@ -171,7 +171,7 @@ fn absent_names_have_no_lines(rt: HostRuntime) {
 
 // Asks twice whether the lines are at their end after one line. The second read fails. The first
 // question reads once, and the next one only if no byte is buffered.
-fn end_behind_line(rt: &impl Abort, alloc: Global, bytes: &str, is_end: bool, calls: u64) {
+fn end_after_line(rt: &impl Abort, alloc: Global, bytes: &str, is_end: bool, calls: u64) {
     let mut shelf = shelf_of(rt, alloc, bytes, 3, 1);
     let mut lines = lines_of(rt, alloc, "f");
     let line = next_own(rt, alloc, &mut lines, &mut shelf);
@@ -187,8 +187,8 @@ fn end_behind_line(rt: &impl Abort, alloc: Global, bytes: &str, is_end: bool, ca
 #[test]
 fn end_takes_one_read(rt: HostRuntime) {
     let alloc = rt.alloc();
-    end_behind_line(&rt, alloc, "ab\n", true, 4);
-    end_behind_line(&rt, alloc, "ab\ncd", false, 3);
+    end_after_line(&rt, alloc, "ab\n", true, 4);
+    end_after_line(&rt, alloc, "ab\ncd", false, 3);
     let mut shelf = shelf_of(&rt, alloc, "ab\n", 3, u64::MAX);
     let mut lines = lines_of(&rt, alloc, "g");
     let missed = lines.is_at_end(&mut shelf);

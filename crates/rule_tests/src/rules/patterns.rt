@@ -101,9 +101,9 @@ fn is_read(rt: &impl Abort, alloc: Global, text: &str, fault: Option<PatternFaul
 }
 
 // The same for the prefix followed by each of these ends.
-fn are_read(rt: &impl Abort, alloc: Global, front: &str, ends: &str, fault: Option<PatternFault>) {
+fn are_read(rt: &impl Abort, alloc: Global, prefix: &str, ends: &str, fault: Option<PatternFault>) {
     for end in ends.split('|') {
-        let text = [front, end].concat(alloc).expect(rt, "memory");
+        let text = [prefix, end].concat(alloc).expect(rt, "memory");
         is_read(rt, alloc, &text, fault);
     }
 }

@@ -17,8 +17,8 @@ fn written(rt: &impl Abort, alloc: Global, bytes: &[u8]) -> Vec<u8> {
 // Checks that the bytes are written as this text, appended to what is already there.
 fn writes_once(rt: &impl Abort, alloc: Global, bytes: &[u8], text: &[u8]) {
     let written = written(rt, alloc, bytes);
-    let behind = written.strip_prefix(b">").expect(rt, "no mark");
-    assert_eq!(rt; str::from_utf8(behind), str::from_utf8(text));
+    let suffix = written.strip_prefix(b">").expect(rt, "no mark");
+    assert_eq!(rt; str::from_utf8(suffix), str::from_utf8(text));
 }
 
 // The same, and that the text is written as itself.
@@ -60,9 +60,9 @@ fn writes_plugin(
     alloc: Global,
     (file, text): (&str, &str),
     name: &str,
-    (given, shown): (&str, &str),
+    (bytes_read, shown): (&str, &str),
 ) {
-    let file = with_both(rt, alloc, file, name, given);
+    let file = with_both(rt, alloc, file, name, bytes_read);
     let text = with_both(rt, alloc, text, shown, name);
     writes(rt, alloc, &file, &text);
 }
@@ -140,15 +140,15 @@ const OF_NAMES: &str = "{\"rulesets\":[{\"name\":\"@\",\"detectors\":[[\"@\"]],\
 const WRITTEN_NAMES: &str =
     "{\"rulesets\":[{\"actions\":[],\"detectors\":[[\"@\"]],\"name\":\"@\"}]}";
 
-fn writes_name(rt: &impl Abort, alloc: Global, given: &str, shown: &str) {
-    let file = with_both(rt, alloc, OF_NAMES, given, "g");
+fn writes_name(rt: &impl Abort, alloc: Global, bytes_read: &str, shown: &str) {
+    let file = with_both(rt, alloc, OF_NAMES, bytes_read, "g");
     let text = with_both(rt, alloc, WRITTEN_NAMES, "g", shown);
     writes_bytes(rt, alloc, file.as_bytes(), text.as_bytes());
 }
 
 #[test]
 fn names(rt: HostRuntime) {
-    for (given, shown) in &NAMES {
-        writes_name(&rt, rt.alloc(), given, shown);
+    for (bytes_read, shown) in &NAMES {
+        writes_name(&rt, rt.alloc(), bytes_read, shown);
     }
 }

@@ -5,10 +5,10 @@
 //! time. The functions for events delegate task acts to these.
 ghost use Rattle.std.specs.Prelude.{◌≡◌, ℕ, ◌<◌, ◌≤◌, if◌then◌else◌, IfNone, List, None, Some, length, slice_index_or};
 ghost use Rattle.std.specs.FinMap as tasks_by;
-ghost use Rattle.psi_counts.specs.Touch.{AllTouched, HasSlotsBelow, IsBeside, IsOfOne, IsTouch, told_of};
+ghost use Rattle.psi_counts.specs.Touch.{AllTouched, HasSlotsBelow, IsBeside, IsOfOne, IsTouch, change_by_cpu};
 ghost use Rattle.psi_spec.specs.Changes.{before, touched};
 ghost use Rattle.psi_spec.specs.Refusal.{cause_of};
-ghost use Rattle.psi_spec.specs.Stall.{irq_told};
+ghost use Rattle.psi_spec.specs.Stall.{irq_time_by};
 ghost use Rattle.psi_spec.specs.World.{Tasks, most_events, most_tasks, tasks_after};
 ghost use Rattle.psi_spec.specs.declared.machine.GroupLife.{GroupLife};
 ghost use Rattle.task_table.specs.Acts.{cpus_touched};
@@ -21,7 +21,7 @@ use crate::causes::{
     migrate_refused, stall_refused, switch_refused, unstall_refused, wake_refused,
 };
 use crate::context_switch::switch;
-use crate::effects::{readied, replace, with_stall};
+use crate::effects::{prepared_changes, replace, with_stall};
 use crate::finding::Finding;
 use crate::members::Members;
 use crate::running::Running;
@@ -97,7 +97,10 @@ fn change_tasks(
         TaskAct::Switch { cpu, next, how } => {
             return switch(tasks, running, members, cpu.0, next, named, how);
         }
-        TaskAct::Wake { pid, cpu } | TaskAct::Migrate { pid, cpu } => (pid, readied(named, cpu)),
+        TaskAct::Wake { pid, cpu } | TaskAct::Migrate { pid, cpu } => (
+            pid,
+            prepared_changes(named, cpu),
+        ),
         TaskAct::Stall { pid } => (pid, with_stall(named, true)),
         TaskAct::Unstall { pid } => (pid, with_stall(named, false)),
     };
@@ -122,11 +125,11 @@ fn cpus_touched(act: TaskAct, old: Option<Task>) -> (Option<Cpu>, Option<Cpu>)
 /// and the tasks that are running after it.
 #[inline(always)]
 fn touch_of(at: Ns, act: TaskAct, changed: TaskUpdate, running: &[Running]) -> Touch
-    ensures told { (cpu : ℕ) →
-        told_of result cpu
+    ensures known { (cpu : ℕ) →
+        change_by_cpu result cpu
         ≡ (if touched (as_act act) changed.old cpu
         then Some (change_for at changed (slice_index_or running.now cpu None)
-        (irq_told cpu (as_act act)) cpu) else None) }
+        (irq_time_by cpu (as_act act)) cpu) else None) }
     ensures beside { IsBeside result.first result.second }
     ensures account { result.account ≡ None }
 {

@@ -68,7 +68,7 @@ fn watched<R: Wait>(
     (pass, states)
 }
 
-/// A driver publishes `ticks` ticks while an observer in another thread reads them. Then `tell`
+/// A driver publishes `ticks` ticks while an observer in another thread reads them. Then `notify`
 /// gives the observer all states of the driver, and it reads the last one.
 pub fn beside<R: Abort + Threads + Wait + Sync>(rt: &R, alloc: Global, ticks: u32) -> Readings {
     let (board, mut driver) = Board::make(alloc).expect(rt, "memory");
@@ -88,8 +88,12 @@ pub fn beside<R: Abort + Threads + Wait + Sync>(rt: &R, alloc: Global, ticks: u3
             ensures { result.0.board ≡ board }
         { watched(rt, alloc, &board, pass, ticks) },
     );
-    board.tell(rt, &mut driver, &mut pass).expect(rt, "memory");
+    board
+        .notify(rt, &mut driver, &mut pass)
+        .expect(rt, "memory");
     let last = board.read(rt, &mut pass);
-    board.tell(rt, &mut driver, &mut pass).expect(rt, "memory");
+    board
+        .notify(rt, &mut driver, &mut pass)
+        .expect(rt, "memory");
     Readings { states, last }
 }

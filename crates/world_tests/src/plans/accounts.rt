@@ -64,7 +64,7 @@ struct Row {
     words: [u64; 9],
 }
 
-fn tells_row(rt: &impl Abort, alloc: Global, plans: &Plans, row: &Row)
+fn shows_row(rt: &impl Abort, alloc: Global, plans: &Plans, row: &Row)
     requires { length plans.now.plans ≡ 1 }
 {
     let plan = plans.plan(Cpu(0));
@@ -80,13 +80,13 @@ fn tells_row(rt: &impl Abort, alloc: Global, plans: &Plans, row: &Row)
 
 /// Checks the number of groups, the number of changes of the first processor, and these rows of its
 /// clocks.
-fn tells(rt: &impl Abort, alloc: Global, plans: &Plans, counts: (usize, u64), rows: &[Row])
+fn shows(rt: &impl Abort, alloc: Global, plans: &Plans, counts: (usize, u64), rows: &[Row])
     requires { length plans.now.plans ≡ 1 }
 {
     let found = (plans.lives().len(), plans.plan(Cpu(0)).len());
     is(rt, found, counts, "groups and changes");
     for row in rows {
-        tells_row(rt, alloc, plans, row);
+        shows_row(rt, alloc, plans, row);
     }
 }
 
@@ -128,7 +128,7 @@ const OFF_AND_ON: [Row; 4] = [
 #[test]
 fn clocks_of_a_group_off(rt: HostRuntime) {
     let plans = plans_of(&rt, rt.alloc(), 1, 2_000_000_000, &LINES);
-    tells(&rt, rt.alloc(), &plans, (2, 5), &OFF_AND_ON);
+    shows(&rt, rt.alloc(), &plans, (2, 5), &OFF_AND_ON);
 }
 
 /// A task of /a/b runs, waits for IO and is ready, while first /a is off and then /a/b. At one
@@ -174,5 +174,5 @@ const OF_NESTED: [Row; 3] = [
 #[test]
 fn accounts_of_groups_in_groups(rt: HostRuntime) {
     let plans = plans_of(&rt, rt.alloc(), 1, 5000, &NESTED);
-    tells(&rt, rt.alloc(), &plans, (3, 9), &OF_NESTED);
+    shows(&rt, rt.alloc(), &plans, (3, 9), &OF_NESTED);
 }

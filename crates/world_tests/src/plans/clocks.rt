@@ -12,12 +12,12 @@ use std::process::Abort;
 fn clocks_of_the_root(rt: HostRuntime) {
     let plans = plans_of(&rt, rt.alloc(), 1, 2_000_000_000, &WAITS);
     assert!(rt; plans.lives().len() == 1);
-    tell_of_the_root(&rt, rt.alloc(), plans.plan(Cpu(0)));
+    show_of_the_root(&rt, rt.alloc(), plans.plan(Cpu(0)));
 }
 
 // The words of the root's clock: the times of IO some and full, memory some and full, CPU some and
 // full and nonidle, the mask with a bit for each in this order, and the start.
-fn tell_of_the_root(rt: &impl Abort, alloc: Global, plan: &Plan)
+fn show_of_the_root(rt: &impl Abort, alloc: Global, plan: &Plan)
     requires { length plan.now.parents ≡ 1 }
 {
     assert!(rt; plan.len() == 4);

@@ -70,9 +70,9 @@ fn part(kind: u8, slot: u8) -> Option<(Slot, Counts)> {
 }
 
 /// The processor with its change at this time (ns), if there is one.
-fn change(at: Ns, told: &str) -> Option<(Cpu, Change)> {
-    let (told, irq) = told.split_once(" +").unwrap_or((told, "0"));
-    let [cpu, _, from, minus, _, to, plus, _, slot, current] = told.as_bytes() else {
+fn change(at: Ns, known: &str) -> Option<(Cpu, Change)> {
+    let (known, irq) = known.split_once(" +").unwrap_or((known, "0"));
+    let [cpu, _, from, minus, _, to, plus, _, slot, current] = known.as_bytes() else {
         return None;
     };
     let is_running = *current != b'.';
@@ -91,8 +91,8 @@ fn change(at: Ns, told: &str) -> Option<(Cpu, Change)> {
 }
 
 /// The group whose accounting is switched, if one is.
-fn account(told: &str) -> Option<(Slot, bool)> {
-    match told.as_bytes() {
+fn account(known: &str) -> Option<(Slot, bool)> {
+    match known.as_bytes() {
         [slot, b' ', b'o', b'n'] => Some((Slot(number(*slot)), true)),
         [slot, b' ', b'o', b'f', b'f'] => Some((Slot(number(*slot)), false)),
         _ => None,
@@ -100,21 +100,21 @@ fn account(told: &str) -> Option<(Slot, bool)> {
 }
 
 /// The expected changes after a line, at this time (ns).
-fn touch(at: Ns, told: &str) -> Touch {
-    let (first, second) = told.split_once(" | ").unwrap_or((told, ""));
+fn touch(at: Ns, known: &str) -> Touch {
+    let (first, second) = known.split_once(" | ").unwrap_or((known, ""));
     Touch {
         first: change(at, first),
         second: change(at, second),
-        account: account(told),
+        account: account(known),
     }
 }
 
 /// Checks that the line of the row makes the changes after it.
 fn plays_row(rt: &impl Abort, alloc: Global, table: &mut Table, row: &str) {
-    let (line, told) = row.split_once(" | ").unwrap_or((row, ""));
+    let (line, known) = row.split_once(" | ").unwrap_or((row, ""));
     let event = read_event(alloc, 2, line.as_bytes()).expect(rt, line);
     let touched = table.step(&event).expect(rt, line);
-    is(rt, touched, touch(event.at, told), row);
+    is(rt, touched, touch(event.at, known), row);
 }
 
 #[test]

@@ -1,5 +1,5 @@
 use Rattle.std.proofs.Common.{◌≡◌, ◌≤◌, ◌+◌, drop}
-use Rattle.detectors.specs.Below.{child_count}
+use Rattle.detectors.specs.Inner.{child_count}
 use Rattle.detectors.proofs.places.child_count.Given as goal
 
 abbrev pub invariant-lives : goal.invariant-lives

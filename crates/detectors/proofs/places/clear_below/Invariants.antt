@@ -1,5 +1,5 @@
 use Rattle.std.proofs.Common.{◌≡◌, ℕ, ◌<◌, ◌≤◌, [], length, get_or}
-use Rattle.detectors.specs.Below.{PlacesView, places_with}
+use Rattle.detectors.specs.Inner.{PlacesView, places_with}
 use Rattle.detectors.proofs.places.clear_below.Given as goal
 
 abbrev pub invariant-slots : goal.invariant-slots

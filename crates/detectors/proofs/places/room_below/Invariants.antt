@@ -1,5 +1,5 @@
 use Rattle.std.proofs.Common.{◌≡◌, ℕ, ◌<◌, [], length, get_or}
-use Rattle.detectors.specs.Below.{AreHeld, PlacesView, child_count, is_child}
+use Rattle.detectors.specs.Inner.{AreHeld, PlacesView, child_count, is_child}
 use Rattle.detectors.proofs.places.room_below.Given as goal
 
 abbrev pub invariant-slots : goal.invariant-slots

@@ -1,7 +1,7 @@
 use Rattle.std.proofs.Common.{◌≡◌, ◌∙◌, ap, refl, rules, sym, None, Some}
 use Rattle.ftrace_import.specs.Gathers.{reached_in}
 use Rattle.ftrace_import.proofs.Gathered.{cause_is, kept_longer, sighted, sighted_plays, sighted_taken}
-use Rattle.ftrace_import.proofs.Lines.{cause_at, given_refused}
+use Rattle.ftrace_import.proofs.Lines.{cause_at, events_refused}
 use Rattle.ftrace_import.proofs.taking.take_sighting.Goals as goal
 
 pub kept_from-new-requires : goal.kept_from-new-requires
@@ -11,7 +11,7 @@ pub returns-in-Some : goal.returns-in-Some
 returns-in-Some c =
     let s = sighted c.args.g.now c.args.sighting.at c.args.sighting.seen c.time_or-first.result c.moment_of-moment.result c.len-before.result c.needed_cpu-cpu.result c.kept_from-new.result.now c.keep_seen.new.kept.items
     c.time_or-first.ensures c.moment_of-moment.ensures c.needed_cpu-cpu.ensures (search rules) c.kept_from-new.ensures c.in_ok-keep_seen.ensures in
-    given_refused c.args.g.now.cpus (reached_in c.args.g.now) c.args.sighting.at c.args.sighting.seen c.in-Some.cause
+    events_refused c.args.g.now.cpus (reached_in c.args.g.now) c.args.sighting.at c.args.sighting.seen c.in-Some.cause
     (cause_is c.args.g.now c.args.sighting.at c.args.sighting.seen _ _ _ _ _ (Some c.in-Some.cause) s c.in-Some.ensures)
 
 pub play_all-requires : goal.play_all-requires

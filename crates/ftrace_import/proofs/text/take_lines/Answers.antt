@@ -1,6 +1,6 @@
 use Rattle.std.proofs.Common.{◌≡◌, ◌∙◌, ℕ, Ok, ap, arith, refl, true}
 use Rattle.psi_lines.specs.Lines.{left}
-use Rattle.outside.specs.Outside.{told}
+use Rattle.outside.specs.Outside.{content_of}
 use Rattle.ftrace_import.proofs.Stops as stop
 use Rattle.ftrace_import.proofs.Texts as laws
 use Rattle.outside.proofs.ReadOrder.{file_then, no_reads, reads_then}
@@ -11,12 +11,12 @@ lines-init g c = record {
   kept = refl;
   faults = refl;
   absent = refl;
-  given = refl;
+  bytes_read = refl;
   order = no_reads _ _ _;
   name = refl;
   few = omega (arith, c.requires.number);
-  missing = λ lacks. c.requires.held;
-  lines = λ bytes tells. refl;
+  missing = λ lacks. c.requires.buffered;
+  lines = λ bytes shows. refl;
   so_far = laws.none_so_far c.args.g.now.cpus c.args.lines.now.number c.args.g.now (left c.args.lines.now) _ c.requires.so refl c.requires.fresh c.requires.none c.requires.number;
 }
 
@@ -24,7 +24,7 @@ pub returns-in-Err-clause-stops : goal.returns-in-Err-clause-stops
 returns-in-Err-clause-stops g c =
     let i = c.lines.invariant in
     let keeps = stop.known_keeps _ _ _ _ c.lines.lines c.next_step.new.lines _ i.kept i.name c.in-Err.ensures.stays in
-    stop.stops_here ℕ c.args.g.now.cpus c.lines.g (told (g.S.Shelf.holds c.args.shelf.now) c.args.lines.now.name) c.args.lines.now c.lines.lines c.next_step.new.lines (g.S.Shelf.given c.args.shelf.now) (g.S.Shelf.given c.lines.shelf) (g.S.Shelf.given c.next_step.new.shelf) _ c.requires.number c.requires.held c.requires.place i.given c.in-Err.ensures.reads.counted c.in-Err.ensures.reads.place i.lines i.so_far keeps
+    stop.stops_here ℕ c.args.g.now.cpus c.lines.g (content_of (g.S.Shelf.holds c.args.shelf.now) c.args.lines.now.name) c.args.lines.now c.lines.lines c.next_step.new.lines (g.S.Shelf.bytes_read c.args.shelf.now) (g.S.Shelf.bytes_read c.lines.shelf) (g.S.Shelf.bytes_read c.next_step.new.shelf) _ c.requires.number c.requires.buffered c.requires.place i.bytes_read c.in-Err.ensures.reads.counted c.in-Err.ensures.reads.place i.lines i.so_far keeps
 
 pub returns-in-Err-clause-order : goal.returns-in-Err-clause-order
 returns-in-Err-clause-order g c =
@@ -46,14 +46,14 @@ lines-preserved g c =
     let taken = rw goes_on at step.content in
     let order = rw goes_on at step.order in
     record {
-      kept = step.kept ∙ i.kept;
+      kept = step.unchanged ∙ i.kept;
       faults = step.reads.cause.faults_same (λ is. cc (is, goes_on)) ∙ i.faults;
       absent = step.reads.cause.absent_same (λ is. cc (is, goes_on)) ∙ i.absent;
-      given = omega (arith, step.reads.counted, i.given);
+      bytes_read = omega (arith, step.reads.counted, i.bytes_read);
       order = reads_then _ _ _ _ _ _ _ i.order (rw i.name at order);
       name = step.reads.name ∙ i.name;
       few = number.1;
       missing = λ lacks. absurd (let gone = rw (i.kept, i.name, goes_on) at step.missing in gone (i.missing lacks) lacks);
-      lines = λ bytes tells. let keeps = rw (i.kept, i.name) at step.stays in keeps.lines bytes tells ∙ i.lines bytes tells;
+      lines = λ bytes shows. let keeps = rw (i.kept, i.name) at step.stays in keeps.lines bytes shows ∙ i.lines bytes shows;
       so_far = rw number.0 (laws.one_more _ _ _ _ _ _ _ _ i.so_far (rw (i.kept, i.name) at taken));
     }

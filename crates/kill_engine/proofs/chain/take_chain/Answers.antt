@@ -63,7 +63,7 @@ actions-preserved c =
     let on : (after_of act).always_continue ≡ true = not_false _ (subst (λ after. not after.always_continue ≡ false) c.after_of-after.ensures c.if-not-after.false) in
     record {
       found = λ history is_past.
-          let rest : List Kill = laws.behind lives c.args.number actions now history (c.actions.act + 1) in
+          let rest : List Kill = laws.suffix lives c.args.number actions now history (c.actions.act + 1) in
           let next = laws.goes_on lives c.args.number actions now history c.actions.act act c.in-Some.kill (omega arith) c.index-actions-act.is (c.in-Some.ensures history is_past) on in
           rw (c.put.ensures.items, append_assoc c.actions.found.items (c.in-Some.kill ∷ []) rest)
           (ap (λ kills. c.actions.found.items ++ kills) (sym next) ∙ c.actions.invariant.found history is_past);

@@ -5,7 +5,7 @@ use Rattle.std.proofs.lemmas.List.{get_or_default}
 use Rattle.ruleset_json.specs.declared.types.DetectorSpec.{DetectorSpec}
 use Rattle.kill_spec.specs.Detectors.{is_true}
 use Rattle.detectors.specs.Views.{DetectorView}
-use Rattle.detectors.specs.Stands.{StandsFor}
+use Rattle.detectors.specs.Stands.{Represents}
 use Rattle.kill_engine.specs.Rulesets.{IsAt, IsStateReady}
 use Rattle.kill_engine.proofs.ZipLaws as laws
 use Rattle.kill_engine.proofs.group.step_all.Goals as goal
@@ -28,17 +28,17 @@ detectors-preserved c =
           (λ k below d. rw (get_or-set_other c.detectors.detectors i k c.step-hold.new.self d (omega arith)) (c.detectors.invariant.at k below d))
           (λ d. rw (stepped d) now);
       left = λ k d above. get_or-set_other c.detectors.detectors i k c.step-hold.new.self d (omega arith) ∙ c.detectors.invariant.left k d (omega arith);
-      answer = λ specs history stand. laws.all_more (λ (detector : DetectorView) (spec : DetectorSpec). StandsFor detector lives spec history) (λ spec. is_true lives spec c.args.reading.now.seen history) old specs i item c.detectors.hold c.step-hold.result _ stand (omega arith)
-          (λ spec stands. c.step-hold.ensures.answer spec history (subst (λ d. StandsFor d lives spec history) (before item) stands))
-          (c.detectors.invariant.answer specs history stand);
+      answer = λ specs history word_state. laws.all_more (λ (detector : DetectorView) (spec : DetectorSpec). Represents detector lives spec history) (λ spec. is_true lives spec c.args.reading.now.seen history) old specs i item c.detectors.hold c.step-hold.result _ word_state (omega arith)
+          (λ spec stands. c.step-hold.ensures.answer spec history (subst (λ d. Represents d lives spec history) (before item) stands))
+          (c.detectors.invariant.answer specs history word_state);
     }
 
 pub returns-clause-answer : goal.returns-clause-answer
-returns-clause-answer c = λ specs history stand.
-    laws.all_end (λ (detector : DetectorView) (spec : DetectorSpec). StandsFor detector c.args.reading.now.lives spec history) (λ spec. is_true c.args.reading.now.lives spec c.args.reading.now.seen history) c.args.detectors.now specs c.detectors.detector-index c.detectors.hold _ stand (omega arith) (c.detectors.invariant.answer specs history stand)
+returns-clause-answer c = λ specs history word_state.
+    laws.all_end (λ (detector : DetectorView) (spec : DetectorSpec). Represents detector c.args.reading.now.lives spec history) (λ spec. is_true c.args.reading.now.lives spec c.args.reading.now.seen history) c.args.detectors.now specs c.detectors.detector-index c.detectors.hold _ word_state (omega arith) (c.detectors.invariant.answer specs history word_state)
 
 pub returns-clause-take : goal.returns-clause-take
-returns-clause-take c = λ specs history stand.
-    laws.zipped_map (λ (detector : DetectorView) (spec : DetectorSpec). StandsFor detector c.args.reading.now.lives spec history)
-    (λ (detector : DetectorView) (spec : DetectorSpec). StandsFor detector c.args.reading.now.lives spec (c.args.reading.now.seen ∷ history))
-    c.args.detectors.now c.detectors.detectors specs (omega arith) (λ k d spec below stands. c.detectors.invariant.take k (omega arith) d spec history stands) stand
+returns-clause-take c = λ specs history word_state.
+    laws.zipped_map (λ (detector : DetectorView) (spec : DetectorSpec). Represents detector c.args.reading.now.lives spec history)
+    (λ (detector : DetectorView) (spec : DetectorSpec). Represents detector c.args.reading.now.lives spec (c.args.reading.now.seen ∷ history))
+    c.args.detectors.now c.detectors.detectors specs (omega arith) (λ k d spec below stands. c.detectors.invariant.take k (omega arith) d spec history stands) word_state

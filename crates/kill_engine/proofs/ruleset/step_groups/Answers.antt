@@ -5,7 +5,7 @@ use Rattle.psi_spec.specs.declared.machine.GroupLife.{GroupLife}
 use Rattle.ruleset_json.specs.declared.types.DetectorGroup.{DetectorGroup}
 use Rattle.kill_spec.specs.Detectors.{group_holds}
 use Rattle.detectors.specs.Views.{DetectorView}
-use Rattle.kill_engine.specs.Rulesets.{DetectorsStand, IsStateReady}
+use Rattle.kill_engine.specs.Rulesets.{DetectorsRepresent, IsStateReady}
 use Rattle.kill_engine.proofs.ZipLaws as laws
 use Rattle.kill_engine.proofs.ruleset.step_groups.Goals as goal
 
@@ -31,17 +31,17 @@ groups-preserved c =
           (λ k below d. rw (get_or-set_other c.groups.groups i k c.step-fires.new.self d (omega arith)) (c.groups.invariant.at k below d))
           (λ d. rw (stepped d) c.step-fires.ensures.at);
       left = λ k d above. get_or-set_other c.groups.groups i k c.step-fires.new.self d (omega arith) ∙ c.groups.invariant.left k d (omega arith);
-      answer = λ specs history stand. laws.any_more (λ (group : List DetectorView) (spec : DetectorGroup). DetectorsStand lives history group spec.detectors) (λ spec. group_holds lives spec c.args.reading.now.seen history) old specs i item c.groups.fires c.step-fires.result _ stand (omega arith)
-          (λ spec stands. c.step-fires.ensures.answer spec.detectors history (subst (λ group. DetectorsStand lives history group spec.detectors) (before item) stands))
-          (c.groups.invariant.answer specs history stand);
+      answer = λ specs history word_state. laws.any_more (λ (group : List DetectorView) (spec : DetectorGroup). DetectorsRepresent lives history group spec.detectors) (λ spec. group_holds lives spec c.args.reading.now.seen history) old specs i item c.groups.fires c.step-fires.result _ word_state (omega arith)
+          (λ spec stands. c.step-fires.ensures.answer spec.detectors history (subst (λ group. DetectorsRepresent lives history group spec.detectors) (before item) stands))
+          (c.groups.invariant.answer specs history word_state);
     }
 
 pub returns-clause-answer : goal.returns-clause-answer
-returns-clause-answer c = λ specs history stand.
-    laws.any_end (λ (group : List DetectorView) (spec : DetectorGroup). DetectorsStand c.args.reading.now.lives history group spec.detectors) (λ spec. group_holds c.args.reading.now.lives spec c.args.reading.now.seen history) c.args.groups.now specs c.groups.group-index c.groups.fires _ stand (omega arith) (c.groups.invariant.answer specs history stand)
+returns-clause-answer c = λ specs history word_state.
+    laws.any_end (λ (group : List DetectorView) (spec : DetectorGroup). DetectorsRepresent c.args.reading.now.lives history group spec.detectors) (λ spec. group_holds c.args.reading.now.lives spec c.args.reading.now.seen history) c.args.groups.now specs c.groups.group-index c.groups.fires _ word_state (omega arith) (c.groups.invariant.answer specs history word_state)
 
 pub returns-clause-take : goal.returns-clause-take
-returns-clause-take c = λ specs history stand.
-    laws.zipped_map (λ (group : List DetectorView) (spec : DetectorGroup). DetectorsStand c.args.reading.now.lives history group spec.detectors)
-    (λ (group : List DetectorView) (spec : DetectorGroup). DetectorsStand c.args.reading.now.lives (c.args.reading.now.seen ∷ history) group spec.detectors)
-    c.args.groups.now c.groups.groups specs (omega arith) (λ k d spec below stands. c.groups.invariant.take k (omega arith) d spec.detectors history stands) stand
+returns-clause-take c = λ specs history word_state.
+    laws.zipped_map (λ (group : List DetectorView) (spec : DetectorGroup). DetectorsRepresent c.args.reading.now.lives history group spec.detectors)
+    (λ (group : List DetectorView) (spec : DetectorGroup). DetectorsRepresent c.args.reading.now.lives (c.args.reading.now.seen ∷ history) group spec.detectors)
+    c.args.groups.now c.groups.groups specs (omega arith) (λ k d spec below stands. c.groups.invariant.take k (omega arith) d spec.detectors history stands) word_state

@@ -1,8 +1,8 @@
 use Rattle.kill_spec.proofs.DurationLaws as laws
 use Rattle.kill_spec.proofs.laws.law_durations.Goals as goal
 
-pub returns-clause-tells : goal.returns-clause-tells
-returns-clause-tells c = laws.tells
+pub returns-clause-shows : goal.returns-clause-shows
+returns-clause-shows c = laws.shows
 
 pub returns-clause-anew : goal.returns-clause-anew
 returns-clause-anew c = laws.anew

@@ -26,7 +26,7 @@ returns-in-Some-clause-observed g c = λ set i board is left whole.
     let replay = c.args.replay in
     let old = c.args.observers.items in
     let mid = c.ready_all.new.observers in
-    let here : slot_in set (i + 1) ≡ Some slot = slot_found set i replay (Some c.in-Some.slot) is.reached (c.in-Some.ensures.slot set.trace set.pace [] i is.reached.replayed left) in
+    let here : slot_in set (i + 1) ≡ Some slot = slot_found set i replay (Some c.in-Some.slot) is.reached (c.in-Some.ensures.slot set.trace set.timing [] i is.reached.replayed left) in
     let ready : AreReady replay.plans slot (made_by replay.crew) old mid = subst (λ (observers : List ObserverView). AreReady replay.plans slot (made_by replay.crew) observers mid) c.deref_mut.ensures.value c.ready_all.ensures.ready in
     let back : take c.args.observers.len (mid ++ drop (length mid) old) ≡ mid = written_back old mid c.args.observers.len (omega (arith, c.deref_mut.ensures.len, c.ready_all.ensures.ready.many)) in
     let all : HaveAllWatched slot mid c.interval.result.1.items = subst (λ (observers : List ObserverView). HaveAllWatched slot observers c.interval.result.1.items) back c.interval.ensures.watched in
@@ -35,7 +35,7 @@ returns-in-Some-clause-observed g c = λ set i board is left whole.
 
 pub returns-in-None-clause-observed : goal.returns-in-None-clause-observed
 returns-in-None-clause-observed g c = λ set i board is left whole.
-    let here : slot_in set (i + 1) ≡ None = slot_found set i c.args.replay None is.reached (c.in-None.ensures.slot set.trace set.pace [] i is.reached.replayed left) in
+    let here : slot_in set (i + 1) ≡ None = slot_found set i c.args.replay None is.reached (c.in-None.ensures.slot set.trace set.timing [] i is.reached.replayed left) in
     let has : HasPassed c.args.replay c.pass_unwatched.new.self = record {
       plans_are = c.pass_unwatched.ensures.plans;
       rows_are = c.pass_unwatched.ensures.rows;

@@ -1,7 +1,7 @@
 use Rattle.std.proofs.Common.{ap, arith, get_or, subst, sym, ◌∙◌}
 use Rattle.std.specs.Io.KnownBytes.{Appends}
-use Rattle.outside.specs.Outside.{AppendsFront}
-use Rattle.outside.proofs.Grows.{Appends-then, AppendsFront-then, PutsAll-failed, flat_map-at}
+use Rattle.outside.specs.Outside.{AppendsPrefix}
+use Rattle.outside.proofs.Grows.{Appends-then, AppendsPrefix-then, PutsAll-failed, flat_map-at}
 use Rattle.run_laws.proofs.Pieces.{taken_more}
 use Rattle.observer_log.specs.declared.entry.Entry.{Entry}
 use Rattle.observe_core.specs.Printed.{entry_line}
@@ -13,8 +13,8 @@ returns-in_err-put_entry-clause-bytes g c =
     let d : Entry = c.entry-item.result in
     PutsAll-failed _ _ _ _ c.from_residual.ensures.0
     (rw (flat_map-at entry_line c.args.entries.now c.entries.entry-index d (omega arith))
-    (AppendsFront-then _ _ _ _ _ _ c.entries.invariant.sent
-    (subst (AppendsFront (g.K.Sink.has c.entries.out) (g.K.Sink.has c.put_entry.new.out)) (ap entry_line c.entry-item.is) c.in_err-put_entry.ensures.bytes)))
+    (AppendsPrefix-then _ _ _ _ _ _ c.entries.invariant.sent
+    (subst (AppendsPrefix (g.K.Sink.has c.entries.out) (g.K.Sink.has c.put_entry.new.out)) (ap entry_line c.entry-item.is) c.in_err-put_entry.ensures.bytes)))
 
 pub entries-preserved : goal.entries-preserved
 entries-preserved g c =

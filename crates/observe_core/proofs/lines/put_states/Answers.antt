@@ -1,6 +1,6 @@
 use Rattle.std.proofs.Common.{arith, subst, sym, ◌∙◌}
 use Rattle.std.specs.Io.KnownBytes.{Appends}
-use Rattle.outside.proofs.Grows.{Appends-then, AppendsFront-then, PutsAll-failed}
+use Rattle.outside.proofs.Grows.{Appends-then, AppendsPrefix-then, PutsAll-failed}
 use Rattle.observer_log.specs.declared.board.BoardState.{BoardState}
 use Rattle.observe_core.proofs.PrintedStates.{states_at, states_more}
 use Rattle.observe_core.proofs.lines.put_states.Goals as goal
@@ -13,7 +13,7 @@ pub returns-in_err-put_state-clause-bytes : goal.returns-in_err-put_state-clause
 returns-in_err-put_state-clause-bytes g c =
     PutsAll-failed _ _ _ _ c.from_residual.ensures.0
     (rw (states_at 0 c.args.states.now c.states.observer c.states.observer first_state (omega arith) (omega (arith, c.states-test.true)))
-    (AppendsFront-then _ _ _ _ _ _ c.states.invariant.sent c.in_err-put_state.ensures.bytes))
+    (AppendsPrefix-then _ _ _ _ _ _ c.states.invariant.sent c.in_err-put_state.ensures.bytes))
 
 pub states-preserved : goal.states-preserved
 states-preserved g c =

@@ -3,7 +3,7 @@ use Rattle.run_spec.specs.Replay.{tick_count}
 use Rattle.observer_log.specs.declared.entry.Entry.{Entry}
 use Rattle.observer_log.specs.Entries.{AreOwn, list_of}
 use Rattle.observe_spec.specs.Observed.{IsObservedText}
-use Rattle.observe_spec.specs.Run.{options_on, pace_on}
+use Rattle.observe_spec.specs.Run.{options_on, timing_on}
 use Rattle.observe_core.specs.Driving.{IsToBegin}
 use Rattle.observe_core.specs.Printed.{printed}
 use Rattle.observe_core.proofs.StartLaws.{begun, boards_are, counted_are, parts_are, reached_first, setting_of}
@@ -41,7 +41,7 @@ end_all-requires-clause-board g c =
     begun (options_on (Some path)) c.in_ok-replay.replay c.make_observers.new.replay c.args.plans.now c.in_ok-board.board planned.0 c.args.version path c.in_ok-observers.observers.items c.args.request.now.observers
     refl c.in_ok-replay.ensures.plans planned.1 c.in_ok-replay.ensures.replay c.in_ok-observers.ensures.same c.in_ok-observers.ensures.many c.in_ok-observers.ensures.new in
     let all = c.in_ok-observers-2.ensures.observed set refl begin in
-    boards_are set (tick_count set.trace set.pace) c.in_ok-observers-2.observers.items all
+    boards_are set (tick_count set.trace set.timing) c.in_ok-observers-2.observers.items all
 
 pub end_all-requires-clause-parts : goal.end_all-requires-clause-parts
 end_all-requires-clause-parts g c =
@@ -52,7 +52,7 @@ end_all-requires-clause-parts g c =
     begun (options_on (Some path)) c.in_ok-replay.replay c.make_observers.new.replay c.args.plans.now c.in_ok-board.board planned.0 c.args.version path c.in_ok-observers.observers.items c.args.request.now.observers
     refl c.in_ok-replay.ensures.plans planned.1 c.in_ok-replay.ensures.replay c.in_ok-observers.ensures.same c.in_ok-observers.ensures.many c.in_ok-observers.ensures.new in
     let all = c.in_ok-observers-2.ensures.observed set refl begin in
-    parts_are set (tick_count set.trace set.pace) c.in_ok-observers-2.observers.items all
+    parts_are set (tick_count set.trace set.timing) c.in_ok-observers-2.observers.items all
 
 pub end_all-requires-clause-counted : goal.end_all-requires-clause-counted
 end_all-requires-clause-counted g c =
@@ -63,7 +63,7 @@ end_all-requires-clause-counted g c =
     begun (options_on (Some path)) c.in_ok-replay.replay c.make_observers.new.replay c.args.plans.now c.in_ok-board.board planned.0 c.args.version path c.in_ok-observers.observers.items c.args.request.now.observers
     refl c.in_ok-replay.ensures.plans planned.1 c.in_ok-replay.ensures.replay c.in_ok-observers.ensures.same c.in_ok-observers.ensures.many c.in_ok-observers.ensures.new in
     let all = c.in_ok-observers-2.ensures.observed set refl begin in
-    counted_are set (tick_count set.trace set.pace) c.in_ok-observers-2.observers.items all
+    counted_are set (tick_count set.trace set.timing) c.in_ok-observers-2.observers.items all
 
 pub ordered-requires-clause-own : goal.ordered-requires-clause-own
 ordered-requires-clause-own g c =
@@ -75,7 +75,7 @@ ordered-requires-clause-own g c =
     refl c.in_ok-replay.ensures.plans planned.1 c.in_ok-replay.ensures.replay c.in_ok-observers.ensures.same c.in_ok-observers.ensures.many c.in_ok-observers.ensures.new in
     let all = c.in_ok-observers-2.ensures.observed set refl begin in
     let lists = c.deref.ensures.value ∙ c.in_ok-ended.ensures.own in
-    subst AreOwn (sym lists) (are_own set (tick_count set.trace set.pace) c.in_ok-observers-2.observers.items all)
+    subst AreOwn (sym lists) (are_own set (tick_count set.trace set.timing) c.in_ok-observers-2.observers.items all)
 
 -- the printed text is a text of each trace that the plans represent
 pub returns-clause-observed : goal.returns-clause-observed
@@ -91,6 +91,6 @@ returns-clause-observed g c = λ trace planned.
     let many = c.in_ok-observers-2.ensures.many ∙ c.in_ok-observers.ensures.many in
     let entries = c.in_ok-entries.entries.items in
     let states = c.in_ok-ended.ended.states.items in
-    subst (λ (n : ℕ). IsObservedText trace (pace_on path) path n (printed entries states c.args.plans.now.finish)) many
+    subst (λ (n : ℕ). IsObservedText trace (timing_on path) path n (printed entries states c.args.plans.now.finish)) many
     (whole_text set c.in_ok-observers-2.observers.items entries c.all_ticks.new.driver.states states planned.planned all shown
     (λ observer. c.in_ok-entries.ensures.own observer ∙ ap (λ (own : List (List Entry)). list_of own observer) lists) c.in_ok-ended.ensures.last c.in_ok-ended.ensures.many)

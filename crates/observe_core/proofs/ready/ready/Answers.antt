@@ -4,13 +4,13 @@ use Rattle.plan_laws.specs.Plan.{IsClock}
 use Rattle.proc_plan.specs.Plans.{plan_at}
 use Rattle.replay_ticks.specs.Replays.{ReplayView}
 use Rattle.observe_core.specs.Driving.{HasMet, made_by}
-use Rattle.observe_core.proofs.ReadyLaws.{lasts_more, lasts_none, readied_more, readied_none}
+use Rattle.observe_core.proofs.ReadyLaws.{lasts_more, lasts_none, prepared_more, prepared_none}
 use Rattle.observe_core.proofs.ready.ready.Goals as goal
 
 pub cpus-init : goal.cpus-init
 cpus-init c = record {
   same = search rules;
-  readied = readied_none (made_by c.args.replay.now.crew) c.args.watcher.now;
+  prepared_changes = prepared_none (made_by c.args.replay.now.crew) c.args.watcher.now;
   many = search rules;
   lasts = lasts_none c.args.replay.now.plans c.args.slot.0 (made_by c.args.replay.now.crew) c.args.lasts.now.items;
 }
@@ -27,7 +27,7 @@ cpus-preserved c =
     let room : k < length c.args.watcher.now.readers = omega (arith, below, i.many, c.requires.lasts_are, c.requires.readers_are) in
     record {
       same = c.last.ensures.same ∙ mid;
-      readied = readied_more (made_by c.args.replay.now.crew) k c.args.watcher.now c.cpus.watcher c.meet.new.watcher i.readied met room;
+      prepared_changes = prepared_more (made_by c.args.replay.now.crew) k c.args.watcher.now c.cpus.watcher c.meet.new.watcher i.prepared_changes met room;
       many = length-set c.cpus.lasts.items k c.last.result ∙ i.many;
       lasts = lasts_more c.args.replay.now.plans c.args.slot.0 (made_by c.args.replay.now.crew) k c.cpus.lasts.items c.last.result i.lasts below count clock;
     }

@@ -12,6 +12,6 @@ returns-in-Ok-clause-bytes g c =
 pub returns-in-Err-clause-bytes : goal.returns-in-Err-clause-bytes
 returns-in-Err-clause-bytes g c =
     let made = c.new-buffered.ensures.made in
-    let front = rw (made.0, made.1) at c.in-Err.ensures.bytes in
-    let all = put_failed _ _ _ _ front (grind arith) in
+    let prefix = rw (made.0, made.1) at c.in-Err.ensures.bytes in
+    let all = put_failed _ _ _ _ prefix (grind arith) in
     search (rules, all)

@@ -7,5 +7,5 @@ invariant-passes g l = record {
   board : l.driver.board ≡ l.fn.driver.board;
   many : length l.observers.items ≡ length l.fn.observers.items;
   observed : (set : Setting) → set.board ≡ l.fn.board → IsObserved set l.fn.replay l.fn.observers.items 0 → IsObserved set l.replay l.observers.items l.made;
-  shown : (set : Setting) → set.board ≡ l.fn.board → IsObserved set l.fn.replay l.fn.observers.items 0 → AreShown set.trace set.pace l.made l.driver.states;
+  shown : (set : Setting) → set.board ≡ l.fn.board → IsObserved set l.fn.replay l.fn.observers.items 0 → AreShown set.trace set.timing l.made l.driver.states;
 }

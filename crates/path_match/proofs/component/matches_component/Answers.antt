@@ -21,7 +21,7 @@ walk-preserved c =
     record {
       at_inside = omega (arith, after.inside);
       next_inside = omega (arith, after.inside, after.as_many);
-      walked = run_grows c.args.pattern.now c.args.bytes.now c.walk.at c.walk.next c.in-Some.last.behind c.in-Some.last.end after (omega arith) other;
+      walked = run_grows c.args.pattern.now c.args.bytes.now c.walk.at c.walk.next c.in-Some.last.suffix c.in-Some.last.end after (omega arith) other;
     }
 
 pub returns-in_default : goal.returns-in_default

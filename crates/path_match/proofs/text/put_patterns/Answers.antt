@@ -9,5 +9,5 @@ parts-init c =
     let put : c.extend_from_slice.new.self.items ≡ c.args.to.now.items ++ c.slashless.result.now = search rules in
     record {
       text = text_began (parts_at 44 c.args.text.now) c.next_part.new.self c.in-Some.first.now c.args.to.now.items c.extend_from_slice.new.self.items c.slashless.result.now (search rules) c.slashless.ensures put;
-      front = rw put (take-append_seam c.args.to.now.items c.slashless.result.now);
+      prefix = rw put (take-append_seam c.args.to.now.items c.slashless.result.now);
     }

@@ -5,8 +5,8 @@ use Rattle.pressure_spec.proofs.arithmetic.law_ticks.Goals as goal
 pub returns-clause-sum : goal.returns-clause-sum
 returns-clause-sum c = laws.total_is_sum
 
-pub returns-clause-kept : goal.returns-clause-kept
-returns-clause-kept c = laws.totals_never_fall
+pub returns-clause-unchanged : goal.returns-clause-unchanged
+returns-clause-unchanged c = laws.totals_never_fall
 
 pub returns-clause-most : goal.returns-clause-most
 returns-clause-most c = laws.groups_at_most_hundred

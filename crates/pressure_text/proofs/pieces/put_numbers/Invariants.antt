@@ -2,7 +2,7 @@ use Rattle.std.proofs.Common.{take}
 use Rattle.std.specs.Prelude.{Ok}
 use Rattle.std.specs.List.{flat_map}
 use Rattle.std.specs.Io.KnownBytes.{Appends}
-use Rattle.outside.specs.Outside.{HasCause, StaysOver}
+use Rattle.outside.specs.Outside.{HasCause, SameInner}
 use Rattle.pressure_text.specs.Pieces.{spaced_number}
 use Rattle.pressure_text.proofs.pieces.put_numbers.Given as goal
 
@@ -10,5 +10,5 @@ abbrev pub invariant-loop-number : goal.invariant-loop-number
 invariant-loop-number g l = record {
   sent : Appends (g.K.Sink.has l.fn.out) (g.K.Sink.has l.out) (flat_map spaced_number (take l.number-index l.numbers));
   cause : HasCause {T = Unit {0}} {E = Unit {0}} (g.K.Sink.faults l.fn.out) (g.K.Sink.faults l.out) (Ok tt);
-  below : StaysOver (g.K.Sink.below l.fn.out) (g.K.Sink.below l.out);
+  below : SameInner (g.K.Sink.below l.fn.out) (g.K.Sink.below l.out);
 }

@@ -1,5 +1,5 @@
 use Rattle.std.proofs.Common.{arith}
-use Rattle.outside.proofs.Grows.{AppendsFront-then, PutsAll-failed, flat_map-at}
+use Rattle.outside.proofs.Grows.{AppendsPrefix-then, PutsAll-failed, flat_map-at}
 use Rattle.pressure_text.specs.Pieces.{piece_bytes}
 use Rattle.pressure_text.specs.declared.pieces.Piece.TheVariants.{Number}
 use Rattle.pressure_text.proofs.pieces.put_pieces.Goals as goal
@@ -8,5 +8,5 @@ use Rattle.pressure_text.proofs.pieces.put_pieces.Goals as goal
 pub returns-in_err-put_piece-clause-bytes : goal.returns-in_err-put_piece-clause-bytes
 returns-in_err-put_piece-clause-bytes g c =
     let parts = flat_map-at piece_bytes c.args.pieces.now c.loop-piece.piece-index (Number 0) (omega arith) in
-    let front = AppendsFront-then _ _ _ _ _ _ c.loop-piece.invariant.sent c.in_err-put_piece.ensures.bytes in
-    PutsAll-failed _ _ _ _ c.from_residual.ensures.0 (rw parts front)
+    let prefix = AppendsPrefix-then _ _ _ _ _ _ c.loop-piece.invariant.sent c.in_err-put_piece.ensures.bytes in
+    PutsAll-failed _ _ _ _ c.from_residual.ensures.0 (rw parts prefix)

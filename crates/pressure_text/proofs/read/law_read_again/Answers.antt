@@ -1,4 +1,4 @@
-use Rattle.pressure_text.proofs.ToldLaws.{irq_reads_again, reads_again}
+use Rattle.pressure_text.proofs.KnownLaws.{irq_reads_again, reads_again}
 use Rattle.pressure_text.proofs.read.law_read_again.Goals as goal
 
 pub returns-clause-file : goal.returns-clause-file

@@ -1,4 +1,4 @@
-use Rattle.pressure_text.proofs.ToldLaws.{file_exact, file_none}
+use Rattle.pressure_text.proofs.KnownLaws.{file_exact, file_none}
 use Rattle.pressure_text.proofs.read.read_file.Goals as goal
 
 pub returns-clause-exact : goal.returns-clause-exact

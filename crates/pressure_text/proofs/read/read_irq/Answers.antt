@@ -1,4 +1,4 @@
-use Rattle.pressure_text.proofs.ToldLaws.{irq_exact, irq_none}
+use Rattle.pressure_text.proofs.KnownLaws.{irq_exact, irq_none}
 use Rattle.pressure_text.proofs.read.read_irq.Goals as goal
 
 pub returns-clause-exact : goal.returns-clause-exact

@@ -12,4 +12,4 @@ pub returns-clause-slots : goal.returns-clause-slots
 returns-clause-slots c = members.sides_are_on_groups
 
 pub returns-clause-members : goal.returns-clause-members
-returns-clause-members c = members.members_are_told
+returns-clause-members c = members.members_are_known

@@ -4,5 +4,5 @@ use Rattle.psi_counts.proofs.legal.law_legal_worlds.Goals as goal
 pub returns-clause-first : goal.returns-clause-first
 returns-clause-first c = laws.legal_first
 
-pub returns-clause-kept : goal.returns-clause-kept
-returns-clause-kept c = laws.legal_kept
+pub returns-clause-unchanged : goal.returns-clause-unchanged
+returns-clause-unchanged c = laws.legal_kept

@@ -4,5 +4,5 @@ use Rattle.psi_counts.proofs.touches.law_runs_once.Goals as goal
 pub returns-clause-first : goal.returns-clause-first
 returns-clause-first c = laws.runs_once_first
 
-pub returns-clause-kept : goal.returns-clause-kept
-returns-clause-kept c = laws.runs_once_kept
+pub returns-clause-unchanged : goal.returns-clause-unchanged
+returns-clause-unchanged c = laws.runs_once_kept

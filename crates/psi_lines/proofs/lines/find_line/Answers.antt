@@ -17,13 +17,13 @@ pub reads-preserved : goal.reads-preserved
 reads-preserved g c =
     let i = c.reads.invariant in record {
       kept = search rules;
-      on = reads_on _ _ _ _ _ _ c.in_ok-count.count i.on c.in_ok-count.ensures.front c.in_ok-count.ensures.count refl;
+      on = reads_on _ _ _ _ _ _ c.in_ok-count.count i.on c.in_ok-count.ensures.prefix c.in_ok-count.ensures.count refl;
       short = search rules;
       left = search rules;
       faults = search rules;
       absent = search rules;
-      given = search rules;
+      bytes_read = search rules;
       order = read_on _ _ _ _ _ _ _ i.order c.in_ok-count.ensures.order (grind arith);
-      held = search rules;
+      buffered = search rules;
       missing = search rules;
     }

@@ -4,7 +4,9 @@ use Rattle.run_spec.specs.Text.{stall_text}
 use Rattle.run_spec.specs.declared.command.Command.TheVariants.{Stall}
 use Rattle.psi_spec.specs.Header.{version_of}
 use Rattle.trace_file.specs.Reads.{trace_with}
-use Rattle.run_outcomes.proofs.RunLaws.{none_given, runs_refused, runs_written, takes_any}
+use Rattle.run_outcomes.proofs.RunLaws.{no_events, runs_refused, runs_written, takes_any}
+use Rattle.outside.proofs.ReadOrder.{file_stops}
+use Rattle.run_outcomes.proofs.RunOrder.{trace_order, written_order}
 use Rattle.run_outcomes.proofs.RunStops.{trace_stops, written_stops}
 use Rattle.replay_core.proofs.command.run_stall.Goals as goal
 
@@ -16,13 +18,13 @@ returns-in-Ok-clause-runs g c =
     let causes = c.in-Ok.ensures.cause in
     let trace = trace_with (version_of c.in-Ok.version) read.cpus read.events in
     runs_written command c.args.name.now files _ _ _ _ trace [] (stall_text trace) c.write_stalls.result refl
-    (takes_any command c.args.name.now files (version_of c.in-Ok.version) read.cpus read.events (λ bytes. refl) refl refl read.counted read.told read.accepted read.read)
-    (none_given files) c.in-Ok.ensures.missing refl (causes.faults_same (λ is. cc is)) (causes.absent_same (λ is. cc is)) (c.write_stalls.ensures.writes _ read.events read.played)
+    (takes_any command c.args.name.now files (version_of c.in-Ok.version) read.cpus read.events (λ bytes. refl) refl refl read.counted read.known_verbs read.accepted read.read)
+    (no_events files) c.in-Ok.ensures.missing refl (causes.faults_same (λ is. cc is)) (causes.absent_same (λ is. cc is)) (c.write_stalls.ensures.writes _ read.events read.played)
 
 pub returns-in-Err-clause-runs : goal.returns-in-Err-clause-runs
 returns-in-Err-clause-runs g c =
     let files = g.S.Shelf.holds c.args.shelf.now in
-    runs_refused (Stall c.args.name.now) c.args.name.now files _ _ _ [] c.in-Err.fault c.fault_status.result (λ bytes. refl) refl (none_given files)
+    runs_refused (Stall c.args.name.now) c.args.name.now files _ _ _ [] c.in-Err.fault c.fault_status.result (λ bytes. refl) refl (no_events files)
     c.in-Err.ensures.content c.in-Err.ensures.missing c.in-Err.ensures.missed c.in-Err.ensures.cause refl c.fault_status.ensures.status
 
 pub returns-in-Ok-clause-stops : goal.returns-in-Ok-clause-stops
@@ -32,5 +34,15 @@ returns-in-Ok-clause-stops g c =
 
 pub returns-in-Err-clause-stops : goal.returns-in-Err-clause-stops
 returns-in-Err-clause-stops g c =
-    trace_stops (Stall c.args.name.now) c.args.name.now (tick_length (Stall c.args.name.now)) (g.S.Shelf.holds c.args.shelf.now) (g.S.Shelf.given c.args.shelf.now) (g.S.Shelf.given c.args.shelf.now) _ c.in-Err.fault c.fault_status.result (λ bytes. refl) refl refl (omega arith)
+    trace_stops (Stall c.args.name.now) c.args.name.now (tick_length (Stall c.args.name.now)) (g.S.Shelf.holds c.args.shelf.now) (g.S.Shelf.bytes_read c.args.shelf.now) (g.S.Shelf.bytes_read c.args.shelf.now) _ c.in-Err.fault c.fault_status.result (λ bytes. refl) refl refl (omega arith)
     c.in-Err.ensures.stops c.fault_status.ensures.status
+
+pub returns-in-Ok-clause-order : goal.returns-in-Ok-clause-order
+returns-in-Ok-clause-order g c =
+    let read = c.in-Ok.ensures.content in
+    written_order (Stall c.args.name.now) (g.S.Shelf.holds c.args.shelf.now) _ _ _ _ _ _ _ c.write_stalls.result (file_stops c.args.name.now [] _ _ c.in-Ok.ensures.order) (c.write_stalls.ensures.writes _ read.events read.played)
+
+pub returns-in-Err-clause-order : goal.returns-in-Err-clause-order
+returns-in-Err-clause-order g c =
+    let files = g.S.Shelf.holds c.args.shelf.now in
+    trace_order (Stall c.args.name.now) c.args.name.now files [] _ _ _ c.in-Err.fault c.fault_status.result refl refl (no_events files) refl c.in-Err.ensures.order c.fault_status.ensures.status

@@ -1,5 +1,6 @@
 use Rattle.std.proofs.Common.{ap, arith, rules, refl}
 use Rattle.run_spec.specs.Run.{run_counts}
+use Rattle.run_outcomes.proofs.RunOrder.{stopped_order}
 use Rattle.replay_core.proofs.RunEnds.{runs_below, runs_sent, runs_unsent}
 use Rattle.replay_core.proofs.entry.run_buffered.Goals as goal
 
@@ -24,3 +25,6 @@ returns-clause-runs g c =
     let runs = rw (made.0, made.1) at c.run_command.ensures.runs in
     let h = runs_below _ _ _ _ _ _ _ c.run_command.result c.in_default.not-Done runs (grind arith) in
     search (rules, h)
+
+pub returns-in-Err-clause-order : goal.returns-in-Err-clause-order
+returns-in-Err-clause-order g c = stopped_order c.args.command.now (g.S.Shelf.holds c.args.shelf.now) _

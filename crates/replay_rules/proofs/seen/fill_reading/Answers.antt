@@ -33,7 +33,7 @@ push-requires-clause-order c =
     let next = subst (λ gs. Ascend (map (path_of lives) gs))
     (groups_more engine watch lives c.args.at order i none inside live)
     (groups_ascend engine watch lives c.args.at order (i + 1) c.requires.ascend) in
-    let front : ReadingView = reading_of lives
+    let prefix : ReadingView = reading_of lives
     (reading_by engine watch lives c.args.at (numbers_of (take i order))) in
-    let group = subst (λ g. ComesLast front g) (sym c.read_group.ensures.group) next in
+    let group = subst (λ g. ComesLast prefix g) (sym c.read_group.ensures.group) next in
     subst (λ r. ComesLast r c.read_group.result) (sym c.slots.invariant) group

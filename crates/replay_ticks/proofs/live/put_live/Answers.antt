@@ -1,6 +1,6 @@
 use Rattle.std.proofs.Common.{◌+◌, ℕ, List, arith, refl, subst, sym, ◌∙◌}
 use Rattle.std.specs.Io.KnownBytes.{Appends}
-use Rattle.outside.proofs.Grows.{Appends-then, AppendsFront-then, PutsAll-failed}
+use Rattle.outside.proofs.Grows.{Appends-then, AppendsPrefix-then, PutsAll-failed}
 use Rattle.replay_workers.specs.Crew.{watch_at}
 use Rattle.replay_ticks.specs.Replays.{samples_text}
 use Rattle.run_laws.proofs.Pieces.{piece_more, pieces_at}
@@ -12,7 +12,7 @@ returns-in_err-put_samples-clause-bytes g c =
     let here = rw c.live.ensures at c.in_err-put_samples.ensures.bytes in
     PutsAll-failed _ _ _ _ c.from_residual.ensures.0
     (rw (pieces_at lines c.args.cpus c.cpus.cpu (omega arith))
-    (AppendsFront-then _ _ _ _ _ _ c.cpus.invariant.sent here))
+    (AppendsPrefix-then _ _ _ _ _ _ c.cpus.invariant.sent here))
 
 pub cpus-preserved : goal.cpus-preserved
 cpus-preserved g c =

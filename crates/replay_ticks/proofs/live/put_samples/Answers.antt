@@ -1,7 +1,7 @@
 use Rattle.std.proofs.Common.{◌≡◌, ℕ, List, ap, arith, subst, sym, get_or, ◌∙◌}
 use Rattle.std.specs.Io.KnownBytes.{Appends}
-use Rattle.outside.specs.Outside.{AppendsFront}
-use Rattle.outside.proofs.Grows.{Appends-then, AppendsFront-then, PutsAll-failed, flat_map-at}
+use Rattle.outside.specs.Outside.{AppendsPrefix}
+use Rattle.outside.proofs.Grows.{Appends-then, AppendsPrefix-then, PutsAll-failed, flat_map-at}
 use Rattle.psi_counts.specs.Clock.{opened}
 use Rattle.run_spec.specs.Lines.{live_line}
 use Rattle.clock_row.specs.declared.reader.Sample.{Sample}
@@ -15,8 +15,8 @@ returns-in_err-write_live-clause-bytes g c =
     let same : live_line c.args.at c.args.cpu.0 d.count c.opened-seven.result ≡ line (get_or c.args.samples.now c.samples.sample-index d) = ap (live_line c.args.at c.args.cpu.0 d.count) c.opened-seven.ensures ∙ ap line c.sample-item.is in
     PutsAll-failed _ _ _ _ c.from_residual.ensures.0
     (rw (flat_map-at line c.args.samples.now c.samples.sample-index d (omega arith))
-    (AppendsFront-then _ _ _ _ _ _ c.samples.invariant.sent
-    (subst (AppendsFront (g.K.Sink.has c.samples.out) (g.K.Sink.has c.write_live.new.out)) same c.in_err-write_live.ensures.bytes)))
+    (AppendsPrefix-then _ _ _ _ _ _ c.samples.invariant.sent
+    (subst (AppendsPrefix (g.K.Sink.has c.samples.out) (g.K.Sink.has c.write_live.new.out)) same c.in_err-write_live.ensures.bytes)))
 
 pub samples-preserved : goal.samples-preserved
 samples-preserved g c =

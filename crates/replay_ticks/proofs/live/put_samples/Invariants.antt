@@ -1,7 +1,7 @@
 use Rattle.std.proofs.Common.{take}
 use Rattle.std.specs.Prelude.{Ok}
 use Rattle.std.specs.Io.KnownBytes.{Appends}
-use Rattle.outside.specs.Outside.{HasCause, StaysOver}
+use Rattle.outside.specs.Outside.{HasCause, SameInner}
 use Rattle.replay_ticks.specs.Replays.{samples_text}
 use Rattle.replay_ticks.proofs.live.put_samples.Given as goal
 
@@ -9,5 +9,5 @@ abbrev pub invariant-samples : goal.invariant-samples
 invariant-samples g l = record {
   sent : Appends (g.K.Sink.has l.fn.out) (g.K.Sink.has l.out) (samples_text l.at l.cpu.0 (take l.sample-index l.samples));
   cause : HasCause {T = Unit {0}} {E = Unit {0}} (g.K.Sink.faults l.fn.out) (g.K.Sink.faults l.out) (Ok tt);
-  below : StaysOver (g.K.Sink.below l.fn.out) (g.K.Sink.below l.out);
+  below : SameInner (g.K.Sink.below l.fn.out) (g.K.Sink.below l.out);
 }

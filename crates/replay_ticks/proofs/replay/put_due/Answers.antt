@@ -11,7 +11,7 @@ pub put_reports-requires-clause-made : goal.put_reports-requires-clause-made
 put_reports-requires-clause-made g c = rw c.lives.ensures.lives (order_made c.args.plans.now.lives c.args.order.now c.requires.2.by_path)
 
 pub returns-then-is_report-clause-bytes : goal.returns-then-is_report-clause-bytes
-returns-then-is_report-clause-bytes g c = λ trace pace is.
-    let reported = reports_put c.args.plans.now c.args.engine.now c.args.order.now c.args.pacing trace pace c.args.tick c.args.at is c.lives.result.now c.lives.ensures.lives in
-    let due = text_due c.args.pacing trace pace c.args.tick is.paced (sym c.is_report.ensures ∙ c.if-is_report.true) in
+returns-then-is_report-clause-bytes g c = λ trace timing is.
+    let reported = reports_put c.args.plans.now c.args.engine.now c.args.order.now c.args.run_timing trace timing c.args.tick c.args.at is c.lives.result.now c.lives.ensures.lives in
+    let due = text_due c.args.run_timing trace timing c.args.tick is.paced (sym c.is_report.ensures ∙ c.if-is_report.true) in
     subst (PutsAll (g.K.Sink.has c.args.out.now) (g.K.Sink.has c.put_reports.new.out) c.put_reports.result) (reported ∙ sym due) c.put_reports.ensures.bytes

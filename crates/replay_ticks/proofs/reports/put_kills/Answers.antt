@@ -1,8 +1,8 @@
 use Rattle.std.proofs.Common.{ℕ, List, arith, subst, sym, get_or, ◌∙◌}
 use Rattle.std.specs.Io.KnownBytes.{Appends}
-use Rattle.outside.specs.Outside.{AppendsFront}
+use Rattle.outside.specs.Outside.{AppendsPrefix}
 use Rattle.psi_spec.specs.Groups.{path_at}
-use Rattle.outside.proofs.Grows.{Appends-then, AppendsFront-then, PutsAll-failed, flat_map-at}
+use Rattle.outside.proofs.Grows.{Appends-then, AppendsPrefix-then, PutsAll-failed, flat_map-at}
 use Rattle.kill_spec.specs.declared.kill.Kill.{Kill}
 use Rattle.run_spec.specs.Lines.{kill_line}
 use Rattle.run_laws.proofs.Pieces.{taken_more}
@@ -17,8 +17,8 @@ returns-in_err-write_kill-clause-bytes g c =
     let same = kill_is c.args.lives.now (get_or c.args.kills.now c.kills.kill-index d) c.index-lives-kill.result room in
     PutsAll-failed _ _ _ _ c.from_residual.ensures.0
     (rw (flat_map-at line c.args.kills.now c.kills.kill-index d (omega arith))
-    (AppendsFront-then _ _ _ _ _ _ c.kills.invariant.sent
-    (subst (AppendsFront (g.K.Sink.has c.kills.out) (g.K.Sink.has c.write_kill.new.out)) (sym same) c.in_err-write_kill.ensures.bytes)))
+    (AppendsPrefix-then _ _ _ _ _ _ c.kills.invariant.sent
+    (subst (AppendsPrefix (g.K.Sink.has c.kills.out) (g.K.Sink.has c.write_kill.new.out)) (sym same) c.in_err-write_kill.ensures.bytes)))
 
 pub kills-preserved : goal.kills-preserved
 kills-preserved g c =

@@ -1,7 +1,7 @@
 use Rattle.std.proofs.Common.{take}
 use Rattle.std.specs.Prelude.{Ok}
 use Rattle.std.specs.Io.KnownBytes.{Appends}
-use Rattle.outside.specs.Outside.{HasCause, StaysOver}
+use Rattle.outside.specs.Outside.{HasCause, SameInner}
 use Rattle.run_spec.specs.Replay.{kill_lines}
 use Rattle.replay_ticks.proofs.reports.put_kills.Given as goal
 
@@ -9,5 +9,5 @@ abbrev pub invariant-kills : goal.invariant-kills
 invariant-kills g l = record {
   sent : Appends (g.K.Sink.has l.fn.out) (g.K.Sink.has l.out) (kill_lines l.lives (take l.kill-index l.kills));
   cause : HasCause {T = Unit {0}} {E = Unit {0}} (g.K.Sink.faults l.fn.out) (g.K.Sink.faults l.out) (Ok tt);
-  below : StaysOver (g.K.Sink.below l.fn.out) (g.K.Sink.below l.out);
+  below : SameInner (g.K.Sink.below l.fn.out) (g.K.Sink.below l.out);
 }

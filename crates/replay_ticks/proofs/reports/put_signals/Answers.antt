@@ -1,11 +1,11 @@
 use Rattle.std.proofs.Common.{ℕ, List, arith, subst, sym, get_or, ◌∙◌}
 use Rattle.std.specs.Prelude.{slice_get}
 use Rattle.std.specs.Io.KnownBytes.{Appends}
-use Rattle.outside.specs.Outside.{AppendsFront}
+use Rattle.outside.specs.Outside.{AppendsPrefix}
 use Rattle.psi_base.specs.declared.event.TriggerSpec.{TriggerSpec}
 use Rattle.psi_base.specs.declared.event.Res.TheVariants.{Io}
 use Rattle.psi_base.specs.declared.event.Level.TheVariants.{SomeStalled}
-use Rattle.outside.proofs.Grows.{Appends-then, AppendsFront-then, PutsAll-failed, flat_map-at}
+use Rattle.outside.proofs.Grows.{Appends-then, AppendsPrefix-then, PutsAll-failed, flat_map-at}
 use Rattle.run_spec.specs.Replay.{signal_line}
 use Rattle.run_laws.proofs.Pieces.{taken_more}
 use Rattle.replay_ticks.proofs.ReportLaws.{signal_is}
@@ -20,8 +20,8 @@ returns-in_err-write_fired-clause-bytes g c =
     let same = signal_is c.args.at c.args.lives.now c.args.triggers.now (get_or c.args.fired.now c.fired.number-index 0) d c.index-lives-trigger.result inside room in
     PutsAll-failed _ _ _ _ c.from_residual.ensures.0
     (rw (flat_map-at line c.args.fired.now c.fired.number-index 0 (omega arith))
-    (AppendsFront-then _ _ _ _ _ _ c.fired.invariant.sent
-    (subst (AppendsFront (g.K.Sink.has c.fired.out) (g.K.Sink.has c.write_fired.new.out)) (sym same) c.in_err-write_fired.ensures.bytes)))
+    (AppendsPrefix-then _ _ _ _ _ _ c.fired.invariant.sent
+    (subst (AppendsPrefix (g.K.Sink.has c.fired.out) (g.K.Sink.has c.write_fired.new.out)) (sym same) c.in_err-write_fired.ensures.bytes)))
 
 pub fired-preserved : goal.fired-preserved
 fired-preserved g c =

@@ -18,7 +18,7 @@ pub lane-requires-clause-place : goal.lane-requires-clause-place
 lane-requires-clause-place c =
     let i = c.cpus.invariant in
     let below : c.cpus.cpu < length c.args.plans.now.plans = omega (arith, c.cpus-test.true, c.cpus-cpus.ensures.cpus) in
-    place_there c.args.plans.now c.args.batches.now c.args.tick c.requires.kept.0 c.cpus.at.worker c.cpus.at.place c.cpus.cpu c.requires.kept.1 below i.worker i.next
+    place_there c.args.plans.now c.args.batches.now c.args.tick c.requires.unchanged.0 c.cpus.at.worker c.cpus.at.place c.cpus.cpu c.requires.unchanged.1 below i.worker i.next
 
 pub bounds-kept-place : goal.bounds-kept-place
 bounds-kept-place c =
@@ -27,7 +27,7 @@ bounds-kept-place c =
     let batches = c.args.batches.now in
     let slots : c.len-slots.result ≡ length plans.lives = c.len-slots.ensures.len ∙ ap length c.groups.ensures.lives in
     let below : c.cpus.cpu < length plans.plans = omega (arith, c.cpus-test.true, c.cpus-cpus.ensures.cpus) in
-    let lane = c.requires.kept.1 c.cpus.cpu below in
+    let lane = c.requires.unchanged.1 c.cpus.cpu below in
     let own = c.lane.ensures ∙ sym (lane_of_place batches c.cpus.at.worker c.cpus.at.place i.worker) ∙ ap (lane_of batches) i.next in
     let same = ap (λ (l : LaneView). length l.kept) own in
     let kept = ap length c.kept.ensures in

@@ -22,7 +22,7 @@ ticks-preserved g c =
     record {
       plan = c.keep_tick.ensures.plan ∙ same;
       home = c.keep_tick.ensures.home ∙ c.make_until.ensures.home ∙ i.home;
-      behind = omega (arith, made, later);
+      not_past = omega (arith, made, later);
       there = λ _. made ∙ ap (λ n. changes_up_to plan (moment_in ticks n)) back;
       past = λ _. subst (λ n. last_change plan (changes_up_to plan (moment_in ticks n)) ≤ moment_in ticks n) back past;
       size = c.keep_tick.ensures.keeps.size ∙ i.size;

@@ -12,7 +12,7 @@ abbrev pub invariant-samples : goal.invariant-samples
 invariant-samples g l = record {
   row : l.reader.row ≡ l.fn.reader.row;
   plan : l.reader.knows.plan ≡ l.fn.reader.knows.plan;
-  room : l.fn.asked ≤ vec_capacity l.samples;
+  room : l.fn.requested ≤ vec_capacity l.samples;
   many : vec_len l.samples ≡ l.index;
   newest : IsClock l.newest.clock l.fn.reader.knows.plan l.fn.slot.0 l.newest.count;
   seen : l.newest.count ≡ l.reader.knows.seen;

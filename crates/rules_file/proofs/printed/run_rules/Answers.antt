@@ -7,8 +7,8 @@ use Rattle.rules_file.proofs.printed.run_rules.Goals as goal
 
 pub returns-in-Ok-clause-runs : goal.returns-in-Ok-clause-runs
 returns-in-Ok-clause-runs g c =
-    let given = c.in-Ok.ensures.answer in
-    rules_written c.args.name.now _ (g.S.Shelf.holds c.args.shelf.now) _ _ _ _ c.in-Ok.rules.rules c.print_rules.result given.0 given.1.faults given.1.absent c.print_rules.ensures.writes
+    let bytes_read = c.in-Ok.ensures.answer in
+    rules_written c.args.name.now _ (g.S.Shelf.holds c.args.shelf.now) _ _ _ _ c.in-Ok.rules.rules c.print_rules.result bytes_read.0 bytes_read.1.faults bytes_read.1.absent c.print_rules.ensures.writes
 
 pub returns-in-Err-clause-runs : goal.returns-in-Err-clause-runs
 returns-in-Err-clause-runs g c = c.in-Err.ensures.answer (Rules c.args.name.now _) _ _ refl refl

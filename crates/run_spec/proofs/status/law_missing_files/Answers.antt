@@ -1,4 +1,4 @@
-use Rattle.run_spec.proofs.Missing.{missing_drop_in, missing_rules, missing_source}
+use Rattle.run_spec.proofs.Missing.{drop_in_first, missing_drop_in, missing_rules, missing_source, rules_first}
 use Rattle.run_spec.proofs.status.law_missing_files.Goals as goal
 
 pub returns-clause-rules : goal.returns-clause-rules
@@ -9,3 +9,9 @@ returns-clause-drop_in c = missing_drop_in
 
 pub returns-clause-source : goal.returns-clause-source
 returns-clause-source c = missing_source
+
+pub returns-clause-rules_first : goal.returns-clause-rules_first
+returns-clause-rules_first c = rules_first
+
+pub returns-clause-drop_in_first : goal.returns-clause-drop_in_first
+returns-clause-drop_in_first c = drop_in_first

@@ -7,7 +7,7 @@ use Rattle.slot_clocks.proofs.chains.climb.Goals as goal
 
 pub returns-then-here-eq0-clause-turned : goal.returns-then-here-eq0-clause-turned
 returns-then-here-eq0-clause-turned c = λ slot.
-    laws.all_walked (parent_numbers c.args.parents.now) c.args.current.now c.args.change.now c.args.starts c.up.chains slot _ _ c.requires.can.older c.requires.can.start (sym c.top-here.ensures ∙ c.if-here-eq0.true) (c.requires.can.told slot) (c.requires.can.up_to slot) (c.up.invariant.groups slot)
+    laws.all_walked (parent_numbers c.args.parents.now) c.args.current.now c.args.change.now c.args.starts c.up.chains slot _ _ c.requires.can.older c.requires.can.start (sym c.top-here.ensures ∙ c.if-here-eq0.true) (c.requires.can.known slot) (c.requires.can.up_to slot) (c.up.invariant.groups slot)
 
 pub turn_at-requires-clause-fits : goal.turn_at-requires-clause-fits
 turn_at-requires-clause-fits c =
@@ -35,8 +35,8 @@ turn_at-requires-clause-up_to c =
     let cell = laws.cell_here c.up.cells slot c.index-cells-place.result (omega (arith, is, at, c.up.invariant.slots, c.up.invariant.room, c.requires.can.room)) in
     rw (cell, c.requires.parts.at, ahead.0) (c.requires.can.up_to slot)
 
-pub turn_at-requires-clause-told : goal.turn_at-requires-clause-told
-turn_at-requires-clause-told c = λ stays off.
+pub turn_at-requires-clause-known : goal.turn_at-requires-clause-known
+turn_at-requires-clause-known c = λ stays off.
     let here = c.top-here.result in
     let slot : ℕ = here - 1 in
     let parents = parent_numbers c.args.parents.now in
@@ -47,7 +47,7 @@ turn_at-requires-clause-told c = λ stays off.
     let share = laws.share_at_top parents c.args.current.now change c.args.starts c.up.chains here slot c.requires.can.older c.requires.can.start at is ahead.1 in
     let cell = laws.cell_here c.up.cells slot c.index-cells-place.result (omega (arith, is, at, c.up.invariant.slots, c.up.invariant.room, c.requires.can.room)) in
     rw (cell, c.requires.parts.stalled)
-    (laws.told_here parents c.args.current.now change c.up.chains here slot _ _ share ahead.0 (c.requires.can.told slot) (c.requires.parts.stays stays) off)
+    (laws.known_at_place parents c.args.current.now change c.up.chains here slot _ _ share ahead.0 (c.requires.can.known slot) (c.requires.parts.stays stays) off)
 
 pub up-smaller : goal.up-smaller
 up-smaller c =
@@ -76,10 +76,10 @@ up-preserved c =
     let counts = rw (cell, c.requires.parts.minus, c.requires.parts.plus) at c.turn_at.ensures.counts in
     let on = rw cell at c.turn_at.ensures.on in
     let clock = rw (cell, c.requires.parts.at) at c.turn_at.ensures.clock in
-    let kept = rw cell at c.turn_at.ensures.kept in
+    let kept = rw cell at c.turn_at.ensures.unchanged in
     let up_to = rw c.requires.parts.at at c.turn_at.ensures.up_to in
-    let told = rw c.requires.parts.stalled at c.turn_at.ensures.told in
-    let turned = laws.turned_here parents change c.up.chains here slot (cell_in c.args.cells.now slot) (cell_in c.up.cells slot) c.turn_at.new.cell share ahead.0 counts on clock kept up_to told in
+    let known = rw c.requires.parts.stalled at c.turn_at.ensures.known in
+    let turned = laws.turned_here parents change c.up.chains here slot (cell_in c.args.cells.now slot) (cell_in c.up.cells slot) c.turn_at.new.cell share ahead.0 counts on clock kept up_to known in
     rw (c.pass.ensures, c.height.ensures) (record {
       slots = omega (arith, low, is, at, c.up.invariant.slots);
       together = λ are. laws.together_passed here (height (slice_index_or c.args.parents.now slot None)) c.up.chains (c.up.invariant.together are);

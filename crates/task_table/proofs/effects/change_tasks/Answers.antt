@@ -3,7 +3,7 @@ use Rattle.std.specs.FinMap as tasks_by
 use Rattle.psi_spec.specs.declared.machine.Task.{Task}
 use Rattle.psi_base.specs.declared.event.Slot.{Slot}
 use Rattle.psi_spec.specs.Refusal.{lacks_group}
-use Rattle.psi_spec.specs.Told.{slot_named}
+use Rattle.psi_spec.specs.Collected.{slot_named}
 use Rattle.psi_spec.specs.World.{slot_of, task_of}
 use Rattle.psi_counts.proofs.TouchWithin.{slot_room}
 use Rattle.task_table.proofs.CauseLaws as causes

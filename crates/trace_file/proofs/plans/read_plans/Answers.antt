@@ -16,8 +16,8 @@ returns-clause-content g c =
       trace = trace_with (version_of c.in-Ok.played.0) read.cpus read.events;
       counted = read.counted;
       version = refl;
-      stand = c.in_ok-finish.ensures _ read.events read.played;
-      known_verbs = read.told;
+      word_state = c.in_ok-finish.ensures _ read.events read.played;
+      known_verbs = read.known_verbs;
       accepted = read.accepted;
       read = read.read;
     }

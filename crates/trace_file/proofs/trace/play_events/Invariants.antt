@@ -1,5 +1,5 @@
 use Rattle.std.proofs.Common.{◌≡◌, ◌+◌, ◌-◌, ◌≤◌, ℕ, List}
-use Rattle.outside.specs.Outside.{told}
+use Rattle.outside.specs.Outside.{content_of}
 use Rattle.outside.specs.Reads.{ReadsFrom}
 use Rattle.outside.specs.Reads.Progress.{Next}
 use Rattle.std.specs.Prelude.{Some}
@@ -14,12 +14,12 @@ invariant-lines g l = record {
   kept : g.S.Shelf.holds l.shelf ≡ g.S.Shelf.holds l.fn.shelf;
   faults : g.S.Shelf.faults l.shelf ≡ g.S.Shelf.faults l.fn.shelf;
   absent : g.S.Shelf.absent l.shelf ≡ g.S.Shelf.absent l.fn.shelf;
-  given : g.S.Shelf.given l.shelf + l.fn.lines.at ≡ g.S.Shelf.given l.fn.shelf + l.lines.at;
+  bytes_read : g.S.Shelf.bytes_read l.shelf + l.fn.lines.at ≡ g.S.Shelf.bytes_read l.fn.shelf + l.lines.at;
   order : ReadsFrom l.fn.lines.name (Next l.fn.lines.at) (g.S.Shelf.reads l.fn.shelf) (g.S.Shelf.reads l.shelf) (Next l.lines.at);
   name : l.lines.name ≡ l.fn.lines.name;
   few : l.lines.number ≤ 4000002;
-  lines : (bytes : List ℕ) → told (g.S.Shelf.holds l.fn.shelf) l.fn.lines.name ≡ Some bytes → l.lines.number + line_count (left l.lines bytes) ≡ l.fn.lines.number + line_count (left l.fn.lines bytes);
-  so_far : SoFar (verbs_in l.head.version) (Legally (verbs_in l.head.version) (g.P.Player.Played l.player)) (limits_of l.tick l.head.cpus) l.lines.number (left l.fn.lines) (left l.lines) (told (g.S.Shelf.holds l.fn.shelf) l.fn.lines.name);
+  lines : (bytes : List ℕ) → content_of (g.S.Shelf.holds l.fn.shelf) l.fn.lines.name ≡ Some bytes → l.lines.number + line_count (left l.lines bytes) ≡ l.fn.lines.number + line_count (left l.fn.lines bytes);
+  so_far : SoFar (verbs_in l.head.version) (Legally (verbs_in l.head.version) (g.P.Player.Played l.player)) (limits_of l.tick l.head.cpus) l.lines.number (left l.fn.lines) (left l.lines) (content_of (g.S.Shelf.holds l.fn.shelf) l.fn.lines.name);
 }
 
 abbrev pub decreases-lines : goal.decreases-lines

@@ -1,6 +1,6 @@
 use Rattle.std.proofs.Common.{◌≤◌, length}
 use Rattle.std.specs.Prelude.{Ok, vec_capacity}
-use Rattle.outside.specs.Outside.{HasCause, StaysOver}
+use Rattle.outside.specs.Outside.{HasCause, SameInner}
 use Rattle.psi_spec.specs.Trace.{AllFit}
 use Rattle.trace_gen.proofs.Sending.{AreSent}
 use Rattle.trace_gen.proofs.text.put_events.Given as goal
@@ -11,7 +11,7 @@ invariant-events g l = record {
   room : 513 ≤ vec_capacity l.line;
   sent : AreSent (g.K.Sink.has l.fn.out) (g.K.Sink.has l.out) l.generator l.fn.generator;
   cause : HasCause {T = Unit {0}} {E = Unit {0}} (g.K.Sink.faults l.fn.out) (g.K.Sink.faults l.out) (Ok tt);
-  below : StaysOver (g.K.Sink.below l.fn.out) (g.K.Sink.below l.out);
+  below : SameInner (g.K.Sink.below l.fn.out) (g.K.Sink.below l.out);
 }
 
 abbrev pub decreases-events : goal.decreases-events

@@ -1,6 +1,6 @@
 use Rattle.std.proofs.Common.{◌≡◌, ◌∙◌, ap, arith, get_or, refl, sym, true, false}
 use Rattle.std.proofs.lemmas.Bool.{true≢false}
-use Rattle.detectors.specs.Below.{group_at}
+use Rattle.detectors.specs.Inner.{group_at}
 use Rattle.victim_rank.specs.Cutoffs.{size_key}
 use Rattle.victim_rank.specs.Scopes.{is_in_rank}
 use Rattle.victim_rank.proofs.Cutoffs.{none_above}

@@ -3,7 +3,7 @@ use Rattle.std.specs.Prelude.{None, Some}
 use Rattle.std.proofs.lemmas.List.{drop_all}
 use Rattle.kill_spec.proofs.Foremost.{foremost}
 use Rattle.kill_spec.proofs.ChoiceLaws.{leads_by}
-use Rattle.detectors.specs.Below.{group_at, groups_at}
+use Rattle.detectors.specs.Inner.{group_at, groups_at}
 use Rattle.victim_rank.specs.Scopes.{is_eligible, is_in_view, measure_of}
 use Rattle.victim_rank.proofs.Scoped.{kept_by, walked}
 use Rattle.victim_rank.proofs.foremost.foremost.Goals as goal

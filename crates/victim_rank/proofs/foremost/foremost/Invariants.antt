@@ -6,7 +6,7 @@ use Rattle.kill_spec.proofs.ChoiceLaws.{leads_by}
 use Rattle.victim_rank.specs.declared.foremost.Measured.{Measured}
 use Rattle.victim_rank.specs.Scopes.{is_eligible, is_in_view, measure_of}
 use Rattle.victim_rank.specs.Walks.{IsMeasured}
-use Rattle.detectors.specs.Below.{group_at, groups_at}
+use Rattle.detectors.specs.Inner.{group_at, groups_at}
 use Rattle.victim_rank.proofs.foremost.foremost.Given as goal
 
 abbrev pub invariant-groups : goal.invariant-groups

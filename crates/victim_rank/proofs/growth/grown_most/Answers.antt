@@ -3,7 +3,7 @@ use Rattle.std.specs.Prelude.{Bool, None, Some, filter, nat_lt}
 use Rattle.std.proofs.lemmas.List.{drop_all, drop_more}
 use Rattle.kill_spec.specs.Victims.{is_larger}
 use Rattle.kill_spec.proofs.Foremost.{foremost}
-use Rattle.detectors.specs.Below.{group_at, groups_at}
+use Rattle.detectors.specs.Inner.{group_at, groups_at}
 use Rattle.victim_rank.specs.Growth.{is_growing_over, sizes_from}
 use Rattle.victim_rank.specs.Grown.{IsGrown, IsGrownAt}
 use Rattle.victim_rank.specs.Scopes.{is_in_rank}
@@ -94,7 +94,7 @@ groups-preserved c =
     let before : foremost (leads_over sizes) (best_group groups best) (filter choosable (group ∷ rest))
     ≡ foremost (leads_over sizes) None (filter choosable (groups_at groups items)) =
     rw now at c.groups.invariant.rest in
-    let told : is_growing_over sizes c.args.ratio group ≡ c.is_growing.result =
+    let reported : is_growing_over sizes c.args.ratio group ≡ c.is_growing.result =
     sym (growing_as sizes c.args.ratio next group is) ∙ sym c.is_growing.ensures in
     let was = c.groups.invariant.grown in
     elim c.if-is_growing.branch [
@@ -102,7 +102,7 @@ groups-preserved c =
           let passes : choosable group ≡ true = choosable_all (ranked group) among growing
           (ap ranked (sym here) ∙ sym w.is_in_rank.ensures ∙ w.if-is_in_rank.true)
           (sym w.is_among_largest.ensures.among ∙ w.if-is_among_largest.true)
-          (told ∙ w.if-is_growing.true) in
+          (reported ∙ w.if-is_growing.true) in
           rw (w.best-is, w.cutoff-is) record {
             grown = at;
             known = w.is_among_largest.ensures.known;
@@ -136,7 +136,7 @@ groups-preserved c =
             }
         | else-is_growing-via-else-is_growing v ↦
             let left : choosable group ≡ false = left_third (ranked group) among growing
-            (told ∙ v.if-is_growing.false) in
+            (reported ∙ v.if-is_growing.false) in
             rw (w.best-is, w.cutoff-is, v.cutoff-is) record {
               grown = was;
               known = c.groups.invariant.known;

@@ -7,7 +7,7 @@ use Rattle.victim_rank.specs.Grown.{IsGrownAt}
 use Rattle.victim_rank.specs.Scopes.{is_in_rank}
 use Rattle.victim_rank.proofs.Growing.{is_choosable, leads_over}
 use Rattle.victim_rank.specs.Cutoffs.{IsCutoff}
-use Rattle.detectors.specs.Below.{group_at, groups_at}
+use Rattle.detectors.specs.Inner.{group_at, groups_at}
 use Rattle.victim_rank.proofs.growth.grown_most.Given as goal
 
 abbrev pub invariant-groups : goal.invariant-groups

@@ -11,11 +11,11 @@ pub groups-preserved : goal.groups-preserved
 groups-preserved c =
     let groups = c.groups-group-items.result.now in
     record {
-      within = All-set AreSizes c.groups.sizes _ c.behind.result c.behind.ensures.within
+      within = All-set AreSizes c.groups.sizes _ c.suffix.result c.suffix.ensures.within
           c.groups.invariant.within;
-      rest = size_step c.groups.sizes groups c.groups.group-index _ c.behind.result _
+      rest = size_step c.groups.sizes groups c.groups.group-index _ c.suffix.result _
           (drop_more groups c.groups.group-index _ c.groups-test.true) (grind (arith, common_steps))
-          c.behind.ensures.sizes ∙ c.groups.invariant.rest;
+          c.suffix.ensures.sizes ∙ c.groups.invariant.rest;
     }
 
 pub returns-clause-sizes : goal.returns-clause-sizes

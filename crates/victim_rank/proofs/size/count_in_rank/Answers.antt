@@ -1,6 +1,6 @@
 use Rattle.std.proofs.Common.{ap, length, arith}
 use Rattle.std.proofs.lemmas.List.{drop_all}
-use Rattle.detectors.specs.Below.{groups_at}
+use Rattle.detectors.specs.Inner.{groups_at}
 use Rattle.victim_rank.proofs.Scoped.{same_in_rank}
 use Rattle.victim_rank.proofs.size.count_in_rank.Goals as goal
 

@@ -1,7 +1,7 @@
 use Rattle.std.proofs.Common.{◌≡◌, ◌≤◌, ◌+◌, drop, length}
 use Rattle.std.specs.Prelude.{filter}
 use Rattle.victim_rank.specs.Scopes.{is_in_rank}
-use Rattle.detectors.specs.Below.{groups_at}
+use Rattle.detectors.specs.Inner.{groups_at}
 use Rattle.victim_rank.proofs.size.count_in_rank.Given as goal
 
 abbrev pub invariant-groups : goal.invariant-groups

@@ -2,7 +2,7 @@ use Rattle.std.proofs.Common.{◌≡◌, ◌≤◌, ◌+◌, ◌*◌, ◌^◌, d
 use Rattle.std.specs.Prelude.{filter}
 use Rattle.kill_spec.specs.Victims.{total_size}
 use Rattle.victim_rank.specs.Scopes.{is_in_view}
-use Rattle.detectors.specs.Below.{groups_at}
+use Rattle.detectors.specs.Inner.{groups_at}
 use Rattle.victim_rank.proofs.size.total_size.Given as goal
 
 abbrev pub invariant-groups : goal.invariant-groups

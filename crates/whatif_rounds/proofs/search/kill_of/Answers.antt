@@ -4,23 +4,23 @@ use Rattle.whatif_rounds.proofs.Counting.{found_here, more_searched, next_kills,
 use Rattle.whatif_rounds.proofs.search.kill_of.Goals as goal
 
 pub returns-then-left-kills : goal.returns-then-left-kills
-returns-then-left-kills g c = λ trace pace rules is.
-    let so = c.ticks.invariant trace pace rules is in
-    let given = subst (λ b. Passes trace pace rules c.ticks.replay.made c.ticks.replay c.pass.new.self b) c.ticks-test.true (c.pass.ensures trace pace rules c.ticks.replay.made so.is) in
-    let are = next_kills c.ticks.replay c.pass.new.self trace pace rules c.kills-kills.result.now given (λ i now. c.kills-kills.ensures trace pace rules i now) in
+returns-then-left-kills g c = λ trace timing rules is.
+    let so = c.ticks.invariant trace timing rules is in
+    let maybe_rules = subst (λ b. Passes trace timing rules c.ticks.replay.made c.ticks.replay c.pass.new.self b) c.ticks-test.true (c.pass.ensures trace timing rules c.ticks.replay.made so.is) in
+    let are = next_kills c.ticks.replay c.pass.new.self trace timing rules c.kills-kills.result.now maybe_rules (λ i now. c.kills-kills.ensures trace timing rules i now) in
     let inside : c.ticks.left < length c.kills-kills.result.now = search rules in
-    found_here c.ticks.replay c.pass.new.self trace pace rules c.kills-kills.result.now c.ticks.left c.args.number _ so given are inside
+    found_here c.ticks.replay c.pass.new.self trace timing rules c.kills-kills.result.now c.ticks.left c.args.number _ so maybe_rules are inside
 
 pub ticks-preserved : goal.ticks-preserved
-ticks-preserved g c = λ trace pace rules is.
-    let so = c.ticks.invariant trace pace rules is in
-    let given = subst (λ b. Passes trace pace rules c.ticks.replay.made c.ticks.replay c.pass.new.self b) c.ticks-test.true (c.pass.ensures trace pace rules c.ticks.replay.made so.is) in
-    let are = next_kills c.ticks.replay c.pass.new.self trace pace rules c.kills-kills.result.now given (λ i now. c.kills-kills.ensures trace pace rules i now) in
+ticks-preserved g c = λ trace timing rules is.
+    let so = c.ticks.invariant trace timing rules is in
+    let maybe_rules = subst (λ b. Passes trace timing rules c.ticks.replay.made c.ticks.replay c.pass.new.self b) c.ticks-test.true (c.pass.ensures trace timing rules c.ticks.replay.made so.is) in
+    let are = next_kills c.ticks.replay c.pass.new.self trace timing rules c.kills-kills.result.now maybe_rules (λ i now. c.kills-kills.ensures trace timing rules i now) in
     let past : length c.kills-kills.result.now ≤ c.ticks.left = search rules in
-    more_searched c.ticks.replay c.pass.new.self trace pace rules c.kills-kills.result.now c.ticks.left _ c.args.number so given are past refl
+    more_searched c.ticks.replay c.pass.new.self trace timing rules c.kills-kills.result.now c.ticks.left _ c.args.number so maybe_rules are past refl
 
 pub returns : goal.returns
-returns g c = λ trace pace rules is.
-    let so = c.ticks.invariant trace pace rules is in
-    let given = subst (λ b. Passes trace pace rules c.ticks.replay.made c.ticks.replay c.pass.new.self b) c.ticks-test.false (c.pass.ensures trace pace rules c.ticks.replay.made so.is) in
-    none_found c.ticks.replay c.pass.new.self trace pace rules c.ticks.left c.args.number so given
+returns g c = λ trace timing rules is.
+    let so = c.ticks.invariant trace timing rules is in
+    let maybe_rules = subst (λ b. Passes trace timing rules c.ticks.replay.made c.ticks.replay c.pass.new.self b) c.ticks-test.false (c.pass.ensures trace timing rules c.ticks.replay.made so.is) in
+    none_found c.ticks.replay c.pass.new.self trace timing rules c.ticks.left c.args.number so maybe_rules

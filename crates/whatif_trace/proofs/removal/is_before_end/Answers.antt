@@ -1,6 +1,6 @@
 use Rattle.std.proofs.Common.{rules, Some}
-use Rattle.whatif_trace.proofs.Cutting.{before_told}
+use Rattle.whatif_trace.proofs.Cutting.{before_known}
 use Rattle.whatif_trace.proofs.removal.is_before_end.Goals as goal
 
 pub returns-in-Some : goal.returns-in-Some
-returns-in-Some c = before_told c.args.events.now c.args.at (Some c.in-Some.event.now) (search rules)
+returns-in-Some c = before_known c.args.events.now c.args.at (Some c.in-Some.event.now) (search rules)

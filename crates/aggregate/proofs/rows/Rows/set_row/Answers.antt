@@ -33,13 +33,13 @@ returns c =
     let below : slot < table.slots = omega (arith, c.requires.slot, ap length c.self.view_is, length-rows_of table.cpus table.slots flat) in
     let row : get_or c.args.self.now slot [] ≡ row_in table.cpus flat slot = ap (λ (rows : List (List (List ℕ))). get_or rows slot []) (sym c.self.view_is) ∙ get_or-rows_of table.cpus table.slots flat slot [] below in
     let wide : length c.args.row.now ≡ table.cpus = c.requires.row ∙ ap length row ∙ length-row_in table.cpus table.slots flat slot c.self.invariant below in
-    let front : c.split_at_mut-rest.result.0.now ≡ take start flat = c.split_at_mut-rest.ensures.front ∙ ap (take start) c.deref_mut.ensures.value in
+    let prefix : c.split_at_mut-rest.result.0.now ≡ take start flat = c.split_at_mut-rest.ensures.front ∙ ap (take start) c.deref_mut.ensures.value in
     let rest : c.split_at_mut-rest.result.1.now ≡ drop start flat = c.split_at_mut-rest.ensures.back ∙ ap (drop start) c.deref_mut.ensures.value in
     let back : c.split_at_mut-into.result.1.now ≡ drop (start + table.cpus) flat = c.split_at_mut-into.ensures.back ∙ ap (drop table.cpus) rest ∙ drop-drop table.cpus start flat in
     let copied : c.copy_from_slice.new.self ≡ c.args.row.now = c.copy_from_slice.ensures.after in
     let written = c.split_at_mut-rest.result.0.now ++ (c.copy_from_slice.new.self ++ c.split_at_mut-into.result.1.now) in
     let whole : written ≡ take start flat ++ (c.args.row.now ++ drop (start + table.cpus) flat) =
-    ap (λ xs. xs ++ (c.copy_from_slice.new.self ++ c.split_at_mut-into.result.1.now)) front
+    ap (λ xs. xs ++ (c.copy_from_slice.new.self ++ c.split_at_mut-into.result.1.now)) prefix
     ∙ ap (λ xs. take start flat ++ (xs ++ c.split_at_mut-into.result.1.now)) copied
     ∙ ap (λ xs. take start flat ++ (c.args.row.now ++ xs)) back in
     let outer = length-append c.split_at_mut-rest.result.0.now (c.copy_from_slice.new.self ++ c.split_at_mut-into.result.1.now) in

@@ -2,7 +2,7 @@ use Rattle.std.proofs.Common.{◌≡◌, ◌∙◌, ◌++◌, ap, drop, length, 
 use Rattle.std.proofs.lemmas.List.{take_at}
 use Rattle.detectors.specs.Views.{DetectorView, IsAfter}
 use Rattle.detectors.specs.Tables.{found}
-use Rattle.detectors.proofs.Runs.{rose_by, run_by}
+use Rattle.detectors.proofs.Runs.{increased_by, run_by}
 use Rattle.detectors.proofs.Greatest.{found_within, greatest_within}
 use Rattle.detectors.proofs.detector.Detector.take.Goals as goal
 
@@ -33,8 +33,8 @@ invariant_of-self c =
     rw (scans_whole c) record {
       run = rw c.run_after-self-inside.ensures
           (run_by old.run old.last c.has_condition-holds.result c.at-now.result c.self.invariant.run (later c));
-      rose = rw c.take_rise-self-inside.ensures.rose
-          (rose_by old.rose old.last _ c.at-now.result c.self.invariant.rose (later c));
+      increased = rw c.take_rise-self-inside.ensures.increased
+          (increased_by old.increased old.last _ c.at-now.result c.self.invariant.increased (later c));
       greatest = rw (c.greatest_of-self-inside.ensures, c.groups-groups.ensures.groups)
           (greatest_within old.spec (length reading.lives) (found c.deref-2.result.now reading.seen.groups)
           (found_within (length reading.lives) c.deref-2.result.now reading.seen.groups c.groups-groups.ensures.within.each));

@@ -1,7 +1,7 @@
 use Rattle.std.proofs.Common.{◌<◌, length, subst, sym}
-use Rattle.detectors.specs.Below.{AreHeld, child_count, is_child}
+use Rattle.detectors.specs.Inner.{AreHeld, child_count, is_child}
 use Rattle.detectors.specs.Views.{IsReadingView, ReadingView, reading_of, seen_at}
-use Rattle.detectors.proofs.Placing.{few_groups, few_held}
+use Rattle.detectors.proofs.Placing.{few_groups, few_buffered}
 use Rattle.detectors.proofs.reading.Reading.below.Goals as goal
 
 pub returns-clause-few : goal.returns-clause-few
@@ -14,7 +14,7 @@ returns-clause-few c =
     let held = subst (AreHeld (is_child lives slot) old.groups.items (child_count lives slot)) (sym c.index.ensures)
     (c.self.invariant.2.children slot c.index.result.now inside) in
     rw c.items.ensures
-    (few_held (reading_of lives (seen_at old.at old.host old.groups.items)) (is_child lives slot)
+    (few_buffered (reading_of lives (seen_at old.at old.host old.groups.items)) (is_child lives slot)
     (child_count lives slot) c.index.result.now c.self.invariant.1 held)
 
 pub returns-clause-all : goal.returns-clause-all

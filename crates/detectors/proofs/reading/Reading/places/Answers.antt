@@ -1,8 +1,8 @@
 use Rattle.std.proofs.Common.{◌≡◌, ◌∙◌, length, subst}
 use Rattle.std.specs.Prelude.{true}
-use Rattle.detectors.specs.Below.{groups_at}
+use Rattle.detectors.specs.Inner.{groups_at}
 use Rattle.detectors.specs.Views.{IsReadingView, ReadingView, reading_of, seen_at}
-use Rattle.detectors.proofs.Placing.{few_groups, few_held, whole}
+use Rattle.detectors.proofs.Placing.{few_groups, few_buffered, whole}
 use Rattle.detectors.proofs.reading.Reading.places.Goals as goal
 
 pub returns-clause-groups : goal.returns-clause-groups
@@ -16,7 +16,7 @@ pub returns-clause-few : goal.returns-clause-few
 returns-clause-few c =
     let old = c.self.inside in
     rw c.items.ensures
-    (few_held (reading_of old.lives.items (seen_at old.at old.host old.groups.items)) (λ group. true)
+    (few_buffered (reading_of old.lives.items (seen_at old.at old.host old.groups.items)) (λ group. true)
     (length old.lives.items) old.all c.self.invariant.1 c.self.invariant.2.each)
 
 pub returns-clause-all : goal.returns-clause-all

@@ -5,7 +5,7 @@ use Rattle.std.proofs.lemmas.Grind.{common_steps}
 use Rattle.psi_spec.specs.Stall.{number_of_slot}
 use Rattle.kill_spec.specs.LegalReadings.{IsGroupReading}
 use Rattle.kill_spec.specs.Victims.{names_slot}
-use Rattle.detectors.specs.Below.{is_child}
+use Rattle.detectors.specs.Inner.{is_child}
 use Rattle.detectors.specs.Views.{ReadingView, reading_of, seen_at}
 use Rattle.detectors.proofs.Placing.{are_more, fewer, parent_is, places_kept, room_for_all, room_for_child}
 use Rattle.detectors.proofs.reading.Reading.push.Goals as goal

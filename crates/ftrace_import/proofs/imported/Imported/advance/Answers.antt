@@ -11,10 +11,10 @@ returns-then-at-count c =
 
 pub returns-then-at-count-2 : goal.returns-then-at-count-2
 returns-then-at-count-2 c =
-    rw (← c.self.view_is, c.tell_other-self-inside.ensures.result, c.tell_other-self-inside.ensures.event)
+    rw (← c.self.view_is, c.show_other-self-inside.ensures.result, c.show_other-self-inside.ensures.event)
     (end_lent c.self.inside.gathering.kept.items (end_at (reached_in c.self.inside.gathering)) c.self.inside.at (c.self.inside.at + 1) refl (grind arith))
 
 pub returns : goal.returns
 returns c =
-    rw (← c.self.view_is, c.tell-self-inside.ensures.told)
+    rw (← c.self.view_is, c.notify-self-inside.ensures.known)
     (kept_lent c.self.inside.gathering.kept.items (end_at (reached_in c.self.inside.gathering)) c.self.inside.at (c.self.inside.at + 1) c.index-kept.result.now refl (grind arith) c.index-kept.ensures)

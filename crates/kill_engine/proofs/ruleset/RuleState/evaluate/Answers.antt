@@ -5,7 +5,7 @@ use Rattle.kill_spec.specs.declared.kill.Kill.{Kill}
 use Rattle.kill_spec.specs.Readings.{Reading}
 use Rattle.kill_spec.specs.Detectors.{ruleset_fires}
 use Rattle.kill_spec.specs.Kills.{chain, ends_chain, kills_at, kills_of, last_ending}
-use Rattle.kill_engine.specs.Rulesets.{GroupsStand, RulesetView, match_tables, rest_after, rest_of}
+use Rattle.kill_engine.specs.Rulesets.{GroupsRepresent, RulesetView, match_tables, rest_after, rest_of}
 use Rattle.kill_engine.proofs.RestLaws as laws
 use Rattle.kill_engine.proofs.ruleset.RuleState.evaluate.Goals as goal
 use Rattle.kill_engine.proofs.ruleset.RuleState.evaluate.Goals.{then-not-fires-via-then-not-fires, then-not-fires-via-else-not-fires+then-is_resting, in-Some, in_default}
@@ -43,7 +43,7 @@ returns-clause-take c = λ rule history stands is_past.
     let inside : c.self.inside.actions ≡ rule.actions = subst (λ (state : RulesetView). state.actions ≡ rule.actions) (sym c.self.view_is) (c.fires-fires.ensures.actions ∙ stands.actions) in
     let tables : c.self.inside.tables.items ≡ match_tables lives rule.actions = subst (λ (state : RulesetView). state.tables ≡ match_tables lives rule.actions) (sym c.self.view_is) (c.fires-fires.ensures.tables ∙ stands.tables) in
     let acts : c.items.result.now ≡ rule.actions = c.items.ensures.items ∙ inside in
-    let groups : GroupsStand lives (now ∷ history) c.self.inside.groups.items rule.groups = subst (λ (state : RulesetView). GroupsStand lives (now ∷ history) state.groups rule.groups) (sym c.self.view_is) (c.fires-fires.ensures.take rule.groups history stands.groups) in
+    let groups : GroupsRepresent lives (now ∷ history) c.self.inside.groups.items rule.groups = subst (λ (state : RulesetView). GroupsRepresent lives (now ∷ history) state.groups rule.groups) (sym c.self.view_is) (c.fires-fires.ensures.take rule.groups history stands.groups) in
     let rest : c.take_chain-rest.result ≡ option_map (rest_of rule.actions) (find (ends_chain rule.actions) (kills_at lives c.args.number rule now history earlier)) =
     rw whole (subst (λ actions. c.take_chain-rest.result ≡ option_map (rest_of actions) (find (ends_chain actions) (chain lives c.args.number 0 actions now history))) acts (c.take_chain-rest.ensures.rest history is_past)) in
     elim c.match-rest.branch [

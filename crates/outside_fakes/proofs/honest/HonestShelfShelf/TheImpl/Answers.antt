@@ -9,11 +9,11 @@ pub read_at-tells : goal.read_at-tells
 read_at-tells = λ c.
     let gives : (IsErrOf c.result Failed → ⊥) → GivesOf c.args.self.now.files.items c.args.name.now c.args.at c.args.self.now.most c.args.into.now c.new.into.now c.result = λ ok. c.ensures.gives in
     record {
-      kept = cc;
+      unchanged = cc;
       bound = laws.gives_bound _ _ _ _ _ _ _ gives;
       bytes = laws.gives_bytes _ _ _ _ _ _ _ gives;
       cause = laws.shelf_causes c.result 0 0 c.args.self.now.absent c.new.self.now.absent (record { later = omega arith; counted = λ is. absurd (c.ensures.failed is); same = λ none. refl }) c.ensures.absent;
-      given = c.ensures.given;
+      bytes_read = c.ensures.bytes_read;
       log = c.ensures.log;
       missed = laws.gives_missed _ _ _ _ _ _ _ gives;
       lacking = laws.gives_lacking _ _ _ _ _ _ _ gives;

@@ -4,7 +4,7 @@ use Rattle.std.proofs.Math.ListN.{get_or-map}
 use Rattle.std.specs.Prelude.{slice_index_or}
 use Rattle.psi_spec.specs.Within.{listed}
 use Rattle.psi_counts.specs.Legal.{with_change}
-use Rattle.psi_counts.specs.Touch.{change_told, shown}
+use Rattle.psi_counts.specs.Touch.{change_known, shown}
 use Rattle.psi_counts.specs.declared.changes.Change.{Change}
 use Rattle.psi_spec.specs.Names.{names}
 use Rattle.psi_spec.specs.World.{Limits, running_on}
@@ -47,25 +47,25 @@ pub returns-clause-takes : goal.returns-clause-takes
 returns-clause-takes c = λ limits events taken.
     let old = planner_view c.self.inside.table (lists_of c.self.inside.changes.items) c.self.inside.triggers.items c.self.inside.sides.items in
     let new = planner_view c.perform.new.self (lists_of c.add_changes.new.changes) c.add_trigger.new.triggers.items c.add_side-2.new.sides.items in
-    let told = c.told_by-told.result in
+    let known = c.known_by-known.result in
     let slot = c.slot.ensures ∙ ap slot_or_root c.in_ok-finding.ensures.group_is ∙ slot_found c.self.inside.table.world.groups (names c.args.event.now.act).live_path in
     let there : c.deref_mut-2.result.now ≡ c.make_room.new.changes = c.deref_mut-2.ensures.value ∙ written c.self.inside.changes.len c.make_room.new.changes c.self.inside.changes.items (c.in_ok-make_room.ensures.each ∙ c.deref_mut.ensures.len) in
     let kept : lists_of c.make_room.new.changes ≡ lists_of c.self.inside.changes.items = c.in_ok-make_room.ensures.changes ∙ ap lists_of c.deref_mut.ensures.value in
     let each : length c.make_room.new.changes ≡ c.self.inside.table.limits.cpus = c.in_ok-make_room.ensures.each ∙ ap length c.deref_mut.ensures.value ∙ sym (length-map c.self.inside.changes.items (λ (changes : ChangesView). changes.list)) ∙ c.self.invariant.each in
-    let told_at : ℕ → Option Change = λ cpu. change_told c.args.event.now.at (shown (running_on c.perform.new.self.world.tasks cpu)) c.in_ok-touch.touch cpu in
-    let changes : (cpu : ℕ) → cpu < c.self.inside.table.limits.cpus → changes_at new cpu ≡ changes_at old cpu ++ with_change (told_at cpu) [] = λ cpu below.
+    let known_at : ℕ → Option Change = λ cpu. change_known c.args.event.now.at (shown (running_on c.perform.new.self.world.tasks cpu)) c.in_ok-touch.touch cpu in
+    let changes : (cpu : ℕ) → cpu < c.self.inside.table.limits.cpus → changes_at new cpu ≡ changes_at old cpu ++ with_change (known_at cpu) [] = λ cpu below.
     get_or-map (λ (changes : ChangesView). changes.list) c.add_changes.new.changes cpu no_room
     ∙ c.add_changes.ensures.added cpu (rw there (omega (arith, below, each)))
-    ∙ ap (λ list. list ++ with_change (told_at cpu) []) (ap (λ changes. changes_in changes cpu) there ∙ sym (get_or-map (λ (changes : ChangesView). changes.list) c.make_room.new.changes cpu no_room) ∙ ap (λ lists. slice_index_or lists cpu []) kept) in
-    let step : HasStepped old new c.args.event.now c.in_ok-touch.touch told.trigger told.first told.second = record {
+    ∙ ap (λ list. list ++ with_change (known_at cpu) []) (ap (λ changes. changes_in changes cpu) there ∙ sym (get_or-map (λ (changes : ChangesView). changes.list) c.make_room.new.changes cpu no_room) ∙ ap (λ lists. slice_index_or lists cpu []) kept) in
+    let step : HasStepped old new c.args.event.now c.in_ok-touch.touch known.trigger known.first known.second = record {
       fits = c.requires;
       played = c.in_ok-touch.ensures.plays;
-      told = c.in_ok-touch.ensures.touch;
+      known = c.in_ok-touch.ensures.touch;
       changes = changes;
-      trigger_is = c.told_by-told.ensures.trigger c.self.inside.table.world.groups slot;
-      triggers = c.add_trigger.ensures ∙ ap (λ triggers. triggers ++ listed told.trigger) c.in_ok-make_room.ensures.triggers;
-      sides_are = c.told_by-told.ensures.sides c.self.inside.table.world c.in_ok-finding.ensures.before_is slot;
-      sides = c.add_side-2.ensures.sides ∙ ap (λ sides. sides ++ listed told.second) (c.add_side.ensures.sides ∙ ap (λ sides. sides ++ listed told.first) c.in_ok-make_room.ensures.sides);
+      trigger_is = c.known_by-known.ensures.trigger c.self.inside.table.world.groups slot;
+      triggers = c.add_trigger.ensures ∙ ap (λ triggers. triggers ++ listed known.trigger) c.in_ok-make_room.ensures.triggers;
+      sides_are = c.known_by-known.ensures.sides c.self.inside.table.world c.in_ok-finding.ensures.before_is slot;
+      sides = c.add_side-2.ensures.sides ∙ ap (λ sides. sides ++ listed known.second) (c.add_side.ensures.sides ∙ ap (λ sides. sides ++ listed known.first) c.in_ok-make_room.ensures.sides);
     } in
     rw (written c.self.inside.changes.len c.add_changes.new.changes (take c.self.inside.changes.len (c.make_room.new.changes ++ drop (length c.make_room.new.changes) c.self.inside.changes.items)) (c.add_changes.ensures.each ∙ c.deref_mut-2.ensures.len))
-    (taken_more old new c.args.event.now c.in_ok-touch.touch told.trigger told.first told.second limits events step (subst (λ planner. HasTaken planner limits events) (sym c.self.view_is) taken))
+    (taken_more old new c.args.event.now c.in_ok-touch.touch known.trigger known.first known.second limits events step (subst (λ planner. HasTaken planner limits events) (sym c.self.view_is) taken))

@@ -3,7 +3,7 @@ use Rattle.std.proofs.lemmas.List.{append-nil, length-map}
 use Rattle.std.proofs.Math.ListN.{get_or-map}
 use Rattle.std.specs.Prelude.{slice_index_or}
 use Rattle.psi_counts.specs.Legal.{with_change}
-use Rattle.psi_counts.specs.Touch.{change_told, account_first, shown, told_of}
+use Rattle.psi_counts.specs.Touch.{change_known, account_first, shown, change_by_cpu}
 use Rattle.psi_counts.specs.declared.changes.Change.{Change}
 use Rattle.psi_spec.specs.World.{running_on}
 use Rattle.trace_player.specs.TaskActs.{as_event}
@@ -31,17 +31,17 @@ returns-clause-takes c = λ limits events taken.
     let touch = c.perform_task-touch.result in
     let there : c.deref_mut-2.result.now ≡ c.reserve_task.new.changes = c.deref_mut-2.ensures.value ∙ written c.self.inside.changes.len c.reserve_task.new.changes c.self.inside.changes.items (c.in_ok-reserve_task.ensures.each ∙ c.deref_mut.ensures.len) in
     let kept : lists_of c.reserve_task.new.changes ≡ lists_of c.self.inside.changes.items = c.in_ok-reserve_task.ensures.changes ∙ ap lists_of c.deref_mut.ensures.value in
-    let told_at : ℕ → Option Change = λ cpu. change_told c.args.at (shown (running_on c.perform_task-touch.new.self.world.tasks cpu)) touch cpu in
-    let plain : (cpu : ℕ) → told_of touch cpu ≡ told_at cpu = λ cpu. ap (λ account. account_first c.args.at (shown (running_on c.perform_task-touch.new.self.world.tasks cpu)) account (told_of touch cpu)) (sym c.perform_task-touch.ensures.account) in
-    let changes : (cpu : ℕ) → cpu < c.self.inside.table.limits.cpus → changes_at new cpu ≡ changes_at old cpu ++ with_change (told_at cpu) [] = λ cpu below.
+    let known_at : ℕ → Option Change = λ cpu. change_known c.args.at (shown (running_on c.perform_task-touch.new.self.world.tasks cpu)) touch cpu in
+    let plain : (cpu : ℕ) → change_by_cpu touch cpu ≡ known_at cpu = λ cpu. ap (λ account. account_first c.args.at (shown (running_on c.perform_task-touch.new.self.world.tasks cpu)) account (change_by_cpu touch cpu)) (sym c.perform_task-touch.ensures.account) in
+    let changes : (cpu : ℕ) → cpu < c.self.inside.table.limits.cpus → changes_at new cpu ≡ changes_at old cpu ++ with_change (known_at cpu) [] = λ cpu below.
     get_or-map (λ (changes : ChangesView). changes.list) c.add_touched.new.changes cpu no_room
     ∙ c.add_touched.ensures.added cpu
-    ∙ ap (λ told. changes_in c.deref_mut-2.result.now cpu ++ with_change told []) (plain cpu)
-    ∙ ap (λ list. list ++ with_change (told_at cpu) []) (ap (λ changes. changes_in changes cpu) there ∙ sym (get_or-map (λ (changes : ChangesView). changes.list) c.reserve_task.new.changes cpu no_room) ∙ ap (λ lists. slice_index_or lists cpu []) kept) in
+    ∙ ap (λ known. changes_in c.deref_mut-2.result.now cpu ++ with_change known []) (plain cpu)
+    ∙ ap (λ list. list ++ with_change (known_at cpu) []) (ap (λ changes. changes_in changes cpu) there ∙ sym (get_or-map (λ (changes : ChangesView). changes.list) c.reserve_task.new.changes cpu no_room) ∙ ap (λ lists. slice_index_or lists cpu []) kept) in
     let step : HasStepped old new event touch None None None = record {
       fits = c.requires.fits;
       played = c.perform_task-touch.ensures.plays;
-      told = c.perform_task-touch.ensures.touch;
+      known = c.perform_task-touch.ensures.touch;
       changes = changes;
       trigger_is = no_trigger c.args.at c.self.inside.table.world.groups c.args.act;
       triggers = sym (append-nil c.self.inside.triggers.items);

@@ -5,4 +5,4 @@ use Rattle.psi_lines.proofs.lines.Lines.is_at_end.Goals as goal
 
 pub returns-then-not-is_empty-clause-left : goal.returns-then-not-is_empty-clause-left
 returns-then-not-is_empty-clause-left g c =
-    λ bytes tells. (refl, (λ end. cc, λ none. absurd (some_left c.args.self.now.held _ (grind (arith, common_steps)) none)))
+    λ bytes shows. (refl, (λ end. cc, λ none. absurd (some_left c.args.self.now.buffered _ (grind (arith, common_steps)) none)))

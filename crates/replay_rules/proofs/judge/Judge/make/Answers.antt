@@ -4,13 +4,13 @@ use Rattle.replay_rules.proofs.judge.Judge.make.Goals.{in-Some+in_ok-make-in-Som
 use Rattle.replay_rules.proofs.judge.Judge.make.Goals as goal
 
 pub returns-clause-judged : goal.returns-clause-judged
-returns-clause-judged c = λ trace pace begin.
+returns-clause-judged c = λ trace timing begin.
     elim c.match-rules.branch [
       | in-Some+in_ok-make-in-Some w ↦
           rw (w.evaluator-is, w.in-Some.is)
-          (judged_first _ trace pace _ begin.interval_is refl
-          (w.in_ok-make-in-Some.ensures trace pace begin.planned))
+          (judged_first _ trace timing _ begin.interval_is refl
+          (w.in_ok-make-in-Some.ensures trace timing begin.planned))
       | in-None w ↦
           rw (w.evaluator-is, w.in-None.is)
-          (judged_first _ trace pace _ begin.interval_is refl refl)
+          (judged_first _ trace timing _ begin.interval_is refl refl)
     ]

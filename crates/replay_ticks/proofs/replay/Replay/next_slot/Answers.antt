@@ -5,9 +5,9 @@ use Rattle.replay_ticks.proofs.TickLaws as laws
 use Rattle.replay_ticks.proofs.replay.Replay.next_slot.Goals as goal
 
 pub returns-then-self-clause-slot : goal.returns-then-self-clause-slot
-returns-then-self-clause-slot c = λ trace pace rules i given left.
-    let is = subst (λ replay. IsReplay replay trace pace rules i) (sym c.self.view_is) given in
-    absurd (laws.still_open _ trace pace rules i is left c.if-self.true)
+returns-then-self-clause-slot c = λ trace timing rules i maybe_rules left.
+    let is = subst (λ replay. IsReplay replay trace timing rules i) (sym c.self.view_is) maybe_rules in
+    absurd (laws.still_open _ trace timing rules i is left c.if-self.true)
 
 pub tick_moment-next-requires : goal.tick_moment-next-requires
 tick_moment-next-requires c =
@@ -15,12 +15,12 @@ tick_moment-next-requires c =
     laws.moment_fits _ c.requires.0 c.requires.1 c.requires.2 c.requires.3 is c.if-self.false
 
 pub returns-in-Some-clause-slot : goal.returns-in-Some-clause-slot
-returns-in-Some-clause-slot c = λ trace pace rules i given left.
-    let is = subst (λ replay. IsReplay replay trace pace rules i) (sym c.self.view_is) given in
-    slot_is _ c.lives.result.now _ _ _ trace pace i c.tick_moment-next.result c.watched_slot.result is.planned is.watching c.in-Some.is c.lives.ensures.lives
-    (c.tick_moment-next.ensures ∙ laws.moment_is _ trace pace rules i is) c.watched_slot.ensures.slot
+returns-in-Some-clause-slot c = λ trace timing rules i maybe_rules left.
+    let is = subst (λ replay. IsReplay replay trace timing rules i) (sym c.self.view_is) maybe_rules in
+    slot_is _ c.lives.result.now _ _ _ trace timing i c.tick_moment-next.result c.watched_slot.result is.planned is.watching c.in-Some.is c.lives.ensures.lives
+    (c.tick_moment-next.ensures ∙ laws.moment_is _ trace timing rules i is) c.watched_slot.ensures.slot
 
 pub returns-in-None-clause-slot : goal.returns-in-None-clause-slot
-returns-in-None-clause-slot c = λ trace pace rules i given left.
-    let is = subst (λ replay. IsReplay replay trace pace rules i) (sym c.self.view_is) given in
-    no_slot _ _ trace pace i is.watching c.in-None.is
+returns-in-None-clause-slot c = λ trace timing rules i maybe_rules left.
+    let is = subst (λ replay. IsReplay replay trace timing rules i) (sym c.self.view_is) maybe_rules in
+    no_slot _ _ trace timing i is.watching c.in-None.is

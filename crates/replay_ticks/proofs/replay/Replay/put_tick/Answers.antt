@@ -1,11 +1,11 @@
 use Rattle.std.proofs.Common.{◌+◌, arith, refl, sym, subst}
-use Rattle.outside.specs.Outside.{AppendsFront}
+use Rattle.outside.specs.Outside.{AppendsPrefix}
 use Rattle.outside.specs.Calls.{PutsAll}
 use Rattle.outside.proofs.Grows.{PutsAll-failed}
 use Rattle.run_spec.specs.Replay.{tick_text, with_rules}
 use Rattle.replay_ticks.specs.Replays.{IsReplay}
 use Rattle.replay_ticks.proofs.KillLaws.{kills_below}
-use Rattle.replay_ticks.proofs.PutLaws.{all_put, fired_made, kills_front, kills_put, signals_front, signals_put, triggers_made}
+use Rattle.replay_ticks.proofs.PutLaws.{all_put, fired_made, kills_prefix, kills_put, signals_prefix, signals_put, triggers_made}
 use Rattle.replay_ticks.proofs.TickLaws as laws
 use Rattle.replay_ticks.proofs.replay.Replay.put_tick.Goals as goal
 
@@ -33,41 +33,41 @@ put_due-requires g c =
     (c.requires.0, c.requires.1, laws.to_put _ c.deref.result.now c.requires.0 c.requires.1 c.requires.2 c.requires.3 c.args.at is c.deref.ensures.value c.requires.5)
 
 pub returns-in_err-put_signals-clause-bytes : goal.returns-in_err-put_signals-clause-bytes
-returns-in_err-put_signals-clause-bytes g c = λ trace pace rules i given moment.
+returns-in_err-put_signals-clause-bytes g c = λ trace timing rules i maybe_rules moment.
     let replay = c.self.inside in
     let old = g.K.Sink.has c.args.out.now in
     let new = g.K.Sink.has c.put_signals.new.out in
-    let is = subst (λ replay. IsReplay replay trace pace rules (i + 1)) (sym c.self.view_is) given in
-    let to_put = laws.to_put _ replay.order.items trace pace rules i c.args.at is refl moment in
-    let same = signals_put replay.plans.now replay.engine replay.order.items replay.pacing trace pace replay.made c.args.at to_put c.lives-lives.result.now c.triggers.result.now c.fired.result.now c.lives-lives.ensures.lives c.triggers.ensures c.fired.ensures in
-    let front = signals_front old new trace pace rules replay.made _ same c.in_err-put_signals.ensures.bytes in
-    PutsAll-failed old new c.from_residual.result (tick_text trace pace (with_rules rules) (i + 1)) c.from_residual.ensures.0
-    (subst (AppendsFront old new) (laws.text_is _ trace pace rules i is) front)
+    let is = subst (λ replay. IsReplay replay trace timing rules (i + 1)) (sym c.self.view_is) maybe_rules in
+    let to_put = laws.to_put _ replay.order.items trace timing rules i c.args.at is refl moment in
+    let same = signals_put replay.plans.now replay.engine replay.order.items replay.run_timing trace timing replay.made c.args.at to_put c.lives-lives.result.now c.triggers.result.now c.fired.result.now c.lives-lives.ensures.lives c.triggers.ensures c.fired.ensures in
+    let prefix = signals_prefix old new trace timing rules replay.made _ same c.in_err-put_signals.ensures.bytes in
+    PutsAll-failed old new c.from_residual.result (tick_text trace timing (with_rules rules) (i + 1)) c.from_residual.ensures.0
+    (subst (AppendsPrefix old new) (laws.text_is _ trace timing rules i is) prefix)
 
 pub returns-in_err-put_kills-clause-bytes : goal.returns-in_err-put_kills-clause-bytes
-returns-in_err-put_kills-clause-bytes g c = λ trace pace rules i given moment.
+returns-in_err-put_kills-clause-bytes g c = λ trace timing rules i maybe_rules moment.
     let replay = c.self.inside in
     let old = g.K.Sink.has c.args.out.now in
     let mid = g.K.Sink.has c.put_signals.new.out in
     let new = g.K.Sink.has c.put_kills.new.out in
-    let is = subst (λ replay. IsReplay replay trace pace rules (i + 1)) (sym c.self.view_is) given in
-    let to_put = laws.to_put _ replay.order.items trace pace rules i c.args.at is refl moment in
-    let killed = laws.kills_made _ trace pace rules i c.kills.result.now is c.kills.ensures in
-    let same = signals_put replay.plans.now replay.engine replay.order.items replay.pacing trace pace replay.made c.args.at to_put c.lives-lives.result.now c.triggers.result.now c.fired.result.now c.lives-lives.ensures.lives c.triggers.ensures c.fired.ensures in
-    let also = kills_put replay.plans.now trace pace rules replay.made is.planned c.lives-lives.result.now c.kills.result.now c.lives-lives.ensures.lives killed in
-    let front = kills_front old mid new trace pace rules replay.made _ _ same also c.in_ok-put_signals.ensures.bytes c.in_err-put_kills.ensures.bytes in
-    PutsAll-failed old new c.from_residual-in_err-put_kills.result (tick_text trace pace (with_rules rules) (i + 1)) c.from_residual-in_err-put_kills.ensures.0
-    (subst (AppendsFront old new) (laws.text_is _ trace pace rules i is) front)
+    let is = subst (λ replay. IsReplay replay trace timing rules (i + 1)) (sym c.self.view_is) maybe_rules in
+    let to_put = laws.to_put _ replay.order.items trace timing rules i c.args.at is refl moment in
+    let killed = laws.kills_made _ trace timing rules i c.kills.result.now is c.kills.ensures in
+    let same = signals_put replay.plans.now replay.engine replay.order.items replay.run_timing trace timing replay.made c.args.at to_put c.lives-lives.result.now c.triggers.result.now c.fired.result.now c.lives-lives.ensures.lives c.triggers.ensures c.fired.ensures in
+    let also = kills_put replay.plans.now trace timing rules replay.made is.planned c.lives-lives.result.now c.kills.result.now c.lives-lives.ensures.lives killed in
+    let prefix = kills_prefix old mid new trace timing rules replay.made _ _ same also c.in_ok-put_signals.ensures.bytes c.in_err-put_kills.ensures.bytes in
+    PutsAll-failed old new c.from_residual-in_err-put_kills.result (tick_text trace timing (with_rules rules) (i + 1)) c.from_residual-in_err-put_kills.ensures.0
+    (subst (AppendsPrefix old new) (laws.text_is _ trace timing rules i is) prefix)
 
 pub returns-clause-bytes : goal.returns-clause-bytes
-returns-clause-bytes g c = λ trace pace rules i given moment.
+returns-clause-bytes g c = λ trace timing rules i maybe_rules moment.
     let replay = c.self.inside in
     let old = g.K.Sink.has c.args.out.now in
     let new = g.K.Sink.has c.put_due.new.out in
-    let is = subst (λ replay. IsReplay replay trace pace rules (i + 1)) (sym c.self.view_is) given in
-    let to_put = laws.to_put _ c.deref.result.now trace pace rules i c.args.at is c.deref.ensures.value moment in
-    let killed = laws.kills_made _ trace pace rules i c.kills.result.now is c.kills.ensures in
-    let same = signals_put replay.plans.now replay.engine c.deref.result.now replay.pacing trace pace replay.made c.args.at to_put c.lives-lives.result.now c.triggers.result.now c.fired.result.now c.lives-lives.ensures.lives c.triggers.ensures c.fired.ensures in
-    let also = kills_put replay.plans.now trace pace rules replay.made is.planned c.lives-lives.result.now c.kills.result.now c.lives-lives.ensures.lives killed in
-    let all = all_put old (g.K.Sink.has c.put_signals.new.out) (g.K.Sink.has c.put_kills.new.out) new trace pace rules replay.made _ _ c.put_due.result same also c.in_ok-put_signals.ensures.bytes c.in_ok-put_kills.ensures.bytes (c.put_due.ensures.bytes trace pace to_put) in
-    subst (PutsAll old new c.put_due.result) (laws.text_is _ trace pace rules i is) all
+    let is = subst (λ replay. IsReplay replay trace timing rules (i + 1)) (sym c.self.view_is) maybe_rules in
+    let to_put = laws.to_put _ c.deref.result.now trace timing rules i c.args.at is c.deref.ensures.value moment in
+    let killed = laws.kills_made _ trace timing rules i c.kills.result.now is c.kills.ensures in
+    let same = signals_put replay.plans.now replay.engine c.deref.result.now replay.run_timing trace timing replay.made c.args.at to_put c.lives-lives.result.now c.triggers.result.now c.fired.result.now c.lives-lives.ensures.lives c.triggers.ensures c.fired.ensures in
+    let also = kills_put replay.plans.now trace timing rules replay.made is.planned c.lives-lives.result.now c.kills.result.now c.lives-lives.ensures.lives killed in
+    let all = all_put old (g.K.Sink.has c.put_signals.new.out) (g.K.Sink.has c.put_kills.new.out) new trace timing rules replay.made _ _ c.put_due.result same also c.in_ok-put_signals.ensures.bytes c.in_ok-put_kills.ensures.bytes (c.put_due.ensures.bytes trace timing to_put) in
+    subst (PutsAll old new c.put_due.result) (laws.text_is _ trace timing rules i is) all

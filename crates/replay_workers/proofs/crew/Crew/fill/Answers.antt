@@ -5,8 +5,8 @@ use Rattle.replay_workers.specs.Lanes.{AreKept}
 use Rattle.replay_workers.proofs.Dealt.{are_kept, crew_less, first_ready, handed_out}
 use Rattle.replay_workers.proofs.crew.Crew.fill.Goals as goal
 
-pub fill-requires-clause-kept : goal.fill-requires-clause-kept
-fill-requires-clause-kept c =
+pub fill-requires-clause-unchanged : goal.fill-requires-clause-unchanged
+fill-requires-clause-unchanged c =
     let crew = c.self.inside in
     let first = first_ready crew.ticks crew.out c.args.at (subst (λ (view : CrewView). slice_get view.ready 0 ≡ Some c.args.at) (sym c.self.view_is) c.requires.first) in
     let kept = are_kept crew.plans.now crew.batches.items crew.ticks crew.out crew.room c.self.invariant.lanes first.0 in
@@ -29,10 +29,10 @@ invariant_of-self c =
       watched = c.self.invariant.watched;
     }
 
-pub returns-clause-kept : goal.returns-clause-kept
-returns-clause-kept c =
+pub returns-clause-unchanged : goal.returns-clause-unchanged
+returns-clause-unchanged c =
     let crew = c.self.inside in
-    crew_less crew.plans.now crew.batches.items crew.ticks crew.out crew.room crew.asked crew.watchers.items c.args.self.now c.self.view_is
+    crew_less crew.plans.now crew.batches.items crew.ticks crew.out crew.room crew.requested crew.watchers.items c.args.self.now c.self.view_is
 
 pub returns-clause-table : goal.returns-clause-table
 returns-clause-table c =

@@ -23,5 +23,5 @@ replace-requires-clause-new c =
           (λ is. replacing.blocked_off _ (causes.wake_off (length c.args.running.now) (task_of tasks w.in-Wake.pid.0) w.in-Wake.cpu.0 (rw is at c.requires.legal.5)))
           (λ is. replacing.not_running _ (causes.migrate_off (length c.args.running.now) (task_of tasks w.in-Wake.pid.0) w.in-Wake.cpu.0 (rw is at c.requires.legal.5)))
           w.in-Wake.is) in
-          rw (w.new-is, w.readied.ensures) (replacing.may_ready (length members) w.in-Wake.cpu.0 c.args.named off (replacing.live_room members tasks w.in-Wake.pid.0 c.args.named c.requires.members named))
+          rw (w.new-is, w.prepared_changes.ensures) (replacing.may_ready (length members) w.in-Wake.cpu.0 c.args.named off (replacing.live_room members tasks w.in-Wake.pid.0 c.args.named c.requires.members named))
     ]

@@ -25,4 +25,4 @@ invariant_of-result c =
     )
 
 pub returns : goal.returns
-returns c = rw (rows_are c, groups_are c, watches_are c, c.in_ok-with_capacity.ensures.items) (first.first_stands c.args.cpus c.args.lives.now c.args.triggers.now)
+returns c = rw (rows_are c, groups_are c, watches_are c, c.in_ok-with_capacity.ensures.items) (first.first_is_in c.args.cpus c.args.lives.now c.args.triggers.now)

@@ -1,6 +1,6 @@
 use Rattle.std.proofs.Common.{◌≡◌, ◌∙◌, ap, sym}
 use Rattle.std.specs.Prelude.{Some}
-use Rattle.detectors.specs.Below.{groups_at}
+use Rattle.detectors.specs.Inner.{groups_at}
 use Rattle.victim_rank.specs.Scopes.{ScopeView}
 use Rattle.victim_rank.proofs.Scoped.{below_view}
 use Rattle.victim_rank.proofs.scope.Scope.places.Goals as goal

@@ -1,0 +1,4 @@
+pub mod ReplayLaws
+pub mod GeneratedLaws
+pub mod LineTexts
+pub mod ImportLaws

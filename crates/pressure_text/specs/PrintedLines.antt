@@ -1,0 +1,71 @@
+-- Which bytes are a pressure file, and which numbers it contains.
+use Rattle.std.specs.Prelude.{◌≡◌, ℕ, ◌/◌, ◌^◌, ◌<◌, List, [], ◌∷◌, ◌++◌, All}
+use Rattle.std.specs.Prelude.{slice_index, slice_index_or, ◌&&◌, Bool, if◌then◌else◌}
+use Rattle.psi_base.specs.declared.event.Res.{Res}
+use Rattle.psi_base.specs.declared.event.Level.{Level}
+use Rattle.psi_base.specs.declared.event.Level.TheVariants.{SomeStalled, FullStalled}
+use Rattle.psi_spec.specs.Stall.{state_number}
+use Rattle.pressure_spec.specs.Within.{IsRow}
+use Rattle.pressure_spec.specs.File.{file_text, irq_text, is_cpu}
+use Rattle.pressure_spec.specs.Printed.{CanShow, in_hundredths, known_line}
+use Rattle.pressure_spec.specs.Samples.{state_of}
+use Rattle.pressure_text.specs.declared.read.PressureLine.{PressureLine}
+use Rattle.pressure_text.specs.declared.read.PressureFile.{PressureFile}
+
+-- the line of a level with these numbers
+abbrev pub spelled_line : Level → PressureLine → List ℕ
+spelled_line level line = known_line level line.hundredths line.total_us
+
+-- the numbers of a line are in range
+abbrev pub IsTellable : PressureLine → Type 0
+IsTellable line = CanShow line.hundredths line.total_us
+
+-- The bytes are the pressure file with these numbers: the `some` line, the `full` line, and nothing
+-- else.
+pub record Shows (bytes : List ℕ) (file : PressureFile) : Type 0 where
+  pub some_line : IsTellable file.some_line
+  pub full_line : IsTellable file.full_line
+  pub spelled : bytes ≡ spelled_line SomeStalled file.some_line ++ spelled_line FullStalled file.full_line
+
+-- The bytes are the pressure file of interrupts with these numbers: the `full` line, and nothing
+-- else.
+pub record ShowsIrq (bytes : List ℕ) (line : PressureLine) : Type 0 where
+  pub full_line : IsTellable line
+  pub spelled : bytes ≡ spelled_line FullStalled line
+
+-- three averages in hundredths of a percent
+abbrev pub three_hundredths : List ℕ → List ℕ
+three_hundredths averages =
+    in_hundredths (slice_index averages 0) ∷ in_hundredths (slice_index averages 1)
+    ∷ in_hundredths (slice_index averages 2) ∷ []
+
+-- the numbers of a line, from three averages and a total (ns): hundredths of a percent and whole
+-- microseconds
+abbrev pub numbers_known : List ℕ → ℕ → PressureLine
+numbers_known averages total = record { hundredths = three_hundredths averages; total_us = total / 1000 }
+
+-- the numbers of the line of a resource at a level
+abbrev pub known_by_line : Res → Level → List ℕ → List (List ℕ) → PressureLine
+known_by_line res level totals averages =
+    numbers_known (slice_index_or averages (state_number (state_of res level)) [])
+    (slice_index totals (state_number (state_of res level)))
+
+-- the numbers of a pressure file, from totals (ns) and averages; zeros for the root's `full` line
+-- of CPU
+abbrev pub known_file : Res → Bool → List ℕ → List (List ℕ) → PressureFile
+known_file res is_root totals averages = record {
+  some_line = known_by_line res SomeStalled totals averages;
+  full_line = if is_root && is_cpu res then numbers_known [] 0 else known_by_line res FullStalled totals averages;
+}
+
+-- Round trip: parsing what is written for 64-bit totals (ns) and averages of at most 100 percent
+-- gives them back, in whole microseconds and hundredths of a percent.
+abbrev pub ReadsAgain : Type 0
+ReadsAgain = (res : Res) (is_root : Bool) (totals : List ℕ) (averages : List (List ℕ)) →
+    All (λ total. total < 2 ^ 64) totals → All (λ row. IsRow row) averages →
+    Shows (file_text res is_root totals averages) (known_file res is_root totals averages)
+
+-- The same for interrupts.
+abbrev pub IrqReadsAgain : Type 0
+IrqReadsAgain = (averages : List ℕ) (total : ℕ) → total < 2 ^ 64 → IsRow averages →
+    ShowsIrq (irq_text averages total) (numbers_known averages total)

@@ -1,5 +1,0 @@
-use Rattle.psi_trace.proofs.Fronts.{zero_front}
-use Rattle.psi_trace.proofs.front.next_before.Goals as goal
-
-pub returns-then-number-eq0 : goal.returns-then-number-eq0
-returns-then-number-eq0 c = (tt, zero_front c.args.bytes.now c.in_ok-number.rest.now c.in_ok-number.number c.args.end c.if-number-eq0.true c.in_ok-number.ensures)

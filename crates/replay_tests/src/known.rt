@@ -1,0 +1,185 @@
+//! The calls of a gate: one for each change with its number, and two for each sample.
+
+use crate::runs::{Host, Ran, run_gated};
+use outside::Gate;
+use psi_base::{Cpu, read_number};
+use replay_core::Status;
+use std::sync::atomic::Ordering::SeqCst;
+use std::sync::atomic::{AtomicBool, AtomicU64};
+
+/// Three ticks of two processors; the root is live at each. In the second interval nothing changes.
+const THREE_TICKS: &str = "psitrace 1 cpus=2\n\
+    0 fork 1 / 0\n\
+    0 fork 2 / 1\n\
+    0 switch 0 1 idle\n\
+    500000000 switch 0 0 iowait\n\
+    1000000000 switch 1 2 idle\n\
+    1500000000 wake 1 0\n\
+    4500000000 switch 0 1 idle\n\
+    5000000000 switch 1 0 sleep\n\
+    6000000000 end\n";
+
+/// The number of changes of each of its processors.
+const CHANGES: [u64; 2] = [5, 3];
+
+/// Capacity for the samples of a processor.
+const ROOM: usize = 16;
+
+/// The calls of a gate for a processor.
+#[derive(Drop)]
+struct Notice {
+    /// The number of changes.
+    moved: AtomicU64,
+    /// The number of calls before a sample.
+    requested: AtomicU64,
+    /// The number of calls after a sample.
+    sampled: AtomicU64,
+    /// The number of changes before each sample.
+    counts: Vec<AtomicU64>,
+}
+
+impl Notice {
+    fn new(rt: &impl Host) -> Notice {
+        let mut counts = Vec::new(rt.alloc());
+        for _ in 0..ROOM {
+            counts.push(AtomicU64::new(0)).expect(rt, "memory");
+        }
+        Notice {
+            moved: AtomicU64::new(0),
+            requested: AtomicU64::new(0),
+            sampled: AtomicU64::new(0),
+            counts,
+        }
+    }
+
+    /// The number of changes before sample number `number`.
+    fn count_at(&self, number: usize) -> Option<u64> {
+        self.counts.get(number).map(|count| count.load(SeqCst))
+    }
+}
+
+/// A gate that counts its calls by processor, and records whether a call has an unexpected number.
+#[derive(Drop)]
+struct Counting {
+    known: Vec<Notice>,
+    /// The number of samples of a processor in an interval.
+    each: u64,
+    is_wrong: AtomicBool,
+}
+
+impl Counting {
+    fn new(rt: &impl Host, each: u64) -> Counting {
+        let known = vec![in rt.alloc(); Notice::new(rt), Notice::new(rt)];
+        Counting {
+            known: known.expect(rt, "memory"),
+            each,
+            is_wrong: AtomicBool::new(false),
+        }
+    }
+
+    /// Records whether a call was as expected.
+    fn note(&self, is_right: Option<bool>) {
+        if is_right != Some(true) {
+            self.is_wrong.store(true, SeqCst);
+        }
+    }
+
+    /// Whether a change of a processor is the next one.
+    fn is_next_change(&self, cpu: Cpu, count: u64) -> Option<bool> {
+        let known = self.known.get(cpu.0 as usize)?;
+        let before = known.moved.fetch_add(1, SeqCst);
+        Some(before < count && count - before == 1)
+    }
+
+    /// Whether a sample of a processor is the next one of its interval, and the previous one was
+    /// taken.
+    fn is_next_sample(&self, cpu: Cpu, index: u32) -> Option<bool> {
+        let known = self.known.get(cpu.0 as usize)?;
+        let before = known.requested.fetch_add(1, SeqCst);
+        let place = before.checked_rem(self.each)?;
+        Some(place == u64::from(index) && known.sampled.load(SeqCst) == before)
+    }
+
+    /// Whether the gate was called before this sample, which was taken after `count` changes.
+    fn is_requested(&self, cpu: Cpu, count: u64) -> Option<bool> {
+        let known = self.known.get(cpu.0 as usize)?;
+        let before = known.sampled.fetch_add(1, SeqCst);
+        known.counts.get(before as usize)?.store(count, SeqCst);
+        let requested = known.requested.load(SeqCst);
+        Some(before < requested && requested - before == 1)
+    }
+}
+
+impl Gate for Counting {
+    fn moved(&self, cpu: Cpu, count: u64) {
+        self.note(self.is_next_change(cpu, count));
+    }
+
+    fn before_sample(&self, cpu: Cpu, index: u32) {
+        self.note(self.is_next_sample(cpu, index));
+    }
+
+    fn sampled(&self, cpu: Cpu, count: u64) {
+        self.note(self.is_requested(cpu, count));
+    }
+}
+
+/// The count in a live line of a processor. `None` for another line.
+fn live_count(line: &[u8], cpu: u8) -> Option<u64> {
+    let rest = line.strip_prefix(b"live ")?;
+    let mut words = rest.split(|byte| *byte == b' ').skip(1);
+    let digit = words.next()?.strip_prefix(b"cpu=")?;
+    if digit != [b'0' + cpu % 10].as_slice() {
+        return None;
+    }
+    read_number(words.next()?.strip_prefix(b"count=")?)
+}
+
+/// Whether a processor has `samples` live lines, each with the number of changes that the gate
+/// received for its sample.
+fn are_lines(ran: &Ran, cpu: u8, known: &Notice, samples: usize) -> bool {
+    let lines = ran.output.split(|byte| *byte == b'\n');
+    let live = lines.filter_map(|line| live_count(line, cpu)).count();
+    let lines = ran.output.split(|byte| *byte == b'\n');
+    let counts = lines.filter_map(|line| live_count(line, cpu));
+    live == samples
+        && known.requested.load(SeqCst) == samples as u64
+        && known.sampled.load(SeqCst) == samples as u64
+        && counts
+            .enumerate()
+            .all(|(number, count)| known.count_at(number) == Some(count))
+}
+
+/// Whether the gate of a run received all changes and `samples` samples of each processor.
+fn is_reported(ran: &Ran, gate: &Counting, samples: usize) -> bool {
+    ran.status == Status::Done
+        && !gate.is_wrong.load(SeqCst)
+        && gate.known.iter().enumerate().all(|(cpu, known)| {
+            CHANGES.get(cpu) == Some(&known.moved.load(SeqCst))
+                && are_lines(ran, cpu as u8, known, samples)
+        })
+}
+
+/// Checks that the gate of a command line receives each change, and `samples` samples of each
+/// processor, with `each` an interval.
+fn assert_reported(rt: &impl Host, line: &str, each: u64, samples: usize) {
+    let gate = Counting::new(rt, each);
+    let ran = run_gated(rt, line, THREE_TICKS, &gate);
+    assert!(rt; is_reported(&ran, &gate, samples), "{line}, {ran}");
+}
+
+// For any number of workers.
+#[test]
+fn each_change_once(rt: HostRuntime) {
+    assert_reported(&rt, "replay t", 1, 0);
+    assert_reported(&rt, "replay t --workers 1", 1, 0);
+    assert_reported(&rt, "replay t --tick-ms 1", 1, 0);
+    assert_reported(&rt, "replay t --live /nope", 1, 0);
+}
+
+#[test]
+fn each_sample_by_two_calls(rt: HostRuntime) {
+    assert_reported(&rt, "replay t --live /", 1, 3);
+    assert_reported(&rt, "replay t --live / --workers 1", 1, 3);
+    assert_reported(&rt, "replay t --live / --live-count 4", 4, 12);
+}

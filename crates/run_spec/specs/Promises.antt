@@ -1,0 +1,62 @@
+-- What a run promises about accepted and rejected files, given the counts and the log of reads
+-- before it and at its end.
+use Rattle.std.specs.Prelude.{◌≡◌, ◌⊎◌, ℕ, List, Option, Some, Ok, Err}
+use Rattle.psi_base.specs.Memory.{no_memory}
+use Rattle.outside.specs.Outside.{Files, Increased, content_of}
+use Rattle.outside.specs.Reads.{ReadCall}
+use Rattle.psi_spec.specs.Trace.{Trace}
+use Rattle.ruleset_json.specs.declared.fault.RulesFault.{RulesFault}
+use Rattle.ruleset_json.specs.declared.types.Rule.{Rule}
+use Rattle.ruleset_json.specs.Rules.{rules_of}
+use Rattle.dropin_rules.specs.declared.fault.DropFault.{DropFault}
+use Rattle.run_spec.specs.declared.command.Command.{Command}
+use Rattle.run_spec.specs.declared.command.Command.TheVariants as words
+use Rattle.run_spec.specs.declared.status.Status.{Status}
+use Rattle.run_spec.specs.declared.status.Status.TheVariants as status
+use Rattle.run_spec.specs.declared.status.Which.TheVariants.{DropInFile, RulesFile}
+use Rattle.run_spec.specs.Outputs.{outcome_of, parse_of, rules_from, rules_name, source_of}
+use Rattle.run_spec.specs.ReadOrder.{FailedAt}
+use Rattle.run_spec.specs.Run.{HasContent, ReadsFiles, RulesContent, RunCounts}
+
+-- Accepted rules and an accepted file give the outcome, unless a read or write failed or memory ran
+-- out.
+abbrev pub Completes : Command → Option Files → RunCounts → RunCounts → Status → Type 0
+Completes command files before now result = (rules : List Rule) (bytes : List ℕ) (trace : Trace)
+    → RulesContent command files rules → HasContent command (source_of command) files bytes → parse_of command bytes ≡ Ok trace
+    → (Increased before.shelf.faults now.shelf.faults → ⊥) → (Increased before.writes now.writes → ⊥)
+    → (result ≡ outcome_of command trace rules) ⊎ (result ≡ status.NoMemory no_memory)
+
+-- Accepted rules are printed by `rules`, unless a read or write failed or memory ran out.
+abbrev pub PrintsRules : List ℕ → Option (List ℕ) → Option Files → RunCounts → RunCounts → Status → Type 0
+PrintsRules name drop_in files before now result = (rules : List Rule)
+    → RulesContent (words.Rules name drop_in) files rules
+    → (Increased before.shelf.faults now.shelf.faults → ⊥) → (Increased before.writes now.writes → ⊥)
+    → (result ≡ status.Done) ⊎ (result ≡ status.NoMemory no_memory)
+
+-- A command that reads no file is done, unless a write failed or memory ran out.
+abbrev pub MakesOutput : Command → RunCounts → RunCounts → Status → Type 0
+MakesOutput command before now result = (ReadsFiles command → ⊥) → (Increased before.writes now.writes → ⊥)
+    → (result ≡ status.Done) ⊎ (result ≡ status.NoMemory no_memory)
+
+-- A rejected rules file gives its first error, unless a read of that file failed or memory ran out.
+abbrev pub RejectsRules : Command → Option Files → List ReadCall → List ReadCall → Status → Type 0
+RejectsRules command files before now result = (name bytes : List ℕ) (fault : RulesFault)
+    → rules_name command ≡ Some name → content_of files name ≡ Some bytes → rules_of bytes ≡ Err fault
+    → (result ≡ status.Rules fault) ⊎ (result ≡ status.NoMemory no_memory) ⊎ FailedAt command before now RulesFile result
+
+-- A rejected drop-in file for accepted rules gives its first error, unless a read of one of the two
+-- files failed or memory ran out.
+abbrev pub RejectsDropIn : Command → Option Files → List ReadCall → List ReadCall → Status → Type 0
+RejectsDropIn command files before now result = (bytes drop_in : List ℕ) (fault : DropFault)
+    → HasContent command RulesFile files bytes → HasContent command DropInFile files drop_in
+    → rules_from bytes (Some drop_in) ≡ Err (status.DropIn fault)
+    → (result ≡ status.DropIn fault) ⊎ (result ≡ status.NoMemory no_memory) ⊎ FailedAt command before now RulesFile result
+    ⊎ FailedAt command before now DropInFile result
+
+-- After accepted rules, a rejected file gives the status of its first rejected line, unless a read
+-- failed or memory ran out.
+abbrev pub RejectsSource : Command → Option Files → RunCounts → RunCounts → Status → Type 0
+RejectsSource command files before now result = (rules : List Rule) (bytes : List ℕ) (why : Status)
+    → RulesContent command files rules → HasContent command (source_of command) files bytes → parse_of command bytes ≡ Err why
+    → (Increased before.shelf.faults now.shelf.faults → ⊥)
+    → (result ≡ why) ⊎ (result ≡ status.NoMemory no_memory)

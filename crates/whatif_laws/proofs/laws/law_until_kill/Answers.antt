@@ -1,5 +1,0 @@
-use Rattle.whatif_laws.proofs.Ticking.{same_until_kill}
-use Rattle.whatif_laws.proofs.laws.law_until_kill.Goals as goal
-
-pub returns : goal.returns
-returns c = same_until_kill

@@ -1,0 +1,31 @@
+-- What is printed up to the time at which the tasks of a group are removed from a trace.
+use Rattle.std.specs.Prelude.{◌≡◌, ℕ, suc, ◌≤◌, List, length, Some, Ok, slice_get}
+use Rattle.psi_spec.specs.World.{Limits, most_events}
+use Rattle.psi_spec.specs.Trace.{IsAccepted, Trace}
+use Rattle.pressure_spec.specs.Ticks.{tick_moment}
+use Rattle.ruleset_json.specs.declared.types.Rule.{Rule}
+use Rattle.kill_spec.specs.declared.kill.Kill.{Kill}
+use Rattle.run_spec.specs.Replay.{Beside, Timing, tick_count, tick_text, ticks_text}
+use Rattle.run_spec.specs.Whatif.{after_rounds, all_kills}
+use Rattle.whatif_spec.specs.Without.{trace_without, without}
+
+-- The remaining trace has the same number of ticks, and each tick up to and including the kill's
+-- prints the same.
+abbrev pub SameUntilKill : Type 0
+SameUntilKill =
+    (limits : Limits) (trace : Trace) (timing : Timing) (beside : Beside) (at victim : ℕ) → IsAccepted limits trace.events
+    → length (without trace.events at victim) ≤ most_events →
+    (tick_count (trace_without trace at victim) timing ≡ tick_count trace timing)
+    × ((i : ℕ) → tick_moment timing.length i ≤ at
+    → tick_text (trace_without trace at victim) timing beside i ≡ tick_text trace timing beside i)
+
+-- The same for rounds: the result of a round, which removes a kill from the result of the previous
+-- rounds, has the same number of ticks, and each tick up to and including the kill's prints the
+-- same.
+abbrev pub SameUntilRound : Type 0
+SameUntilRound = (limits : Limits) (trace left next : Trace) (timing : Timing) (rules : List Rule) (beside : Beside) (number : ℕ)
+    (kill : Kill) → IsAccepted limits left.events → after_rounds trace timing rules number ≡ Ok left
+    → slice_get (all_kills left timing rules) number ≡ Some kill → after_rounds trace timing rules (suc number) ≡ Ok next
+    → (tick_count next timing ≡ tick_count left timing)
+    × ((count : ℕ) → tick_moment timing.length count ≤ kill.at
+    → ticks_text next timing beside count ≡ ticks_text left timing beside count)
