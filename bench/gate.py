@@ -6,7 +6,7 @@ usage: bench/gate.py [--anew | --dear]
 --anew  proves again what an earlier run on this machine proved and stored; ignored if this `rt` stores nothing and so has no
         such option
 --dear  runs nothing: lists the functions whose stored borrow-checker walk has at least 3 MB, the largest first. The cause is a
-        deep value that goes out of scope at many exits (docs/DECISIONS.md, "What makes proofs dear")
+        deep value that goes out of scope at many exits (docs/DECISIONS.md, "What makes proofs expensive")
 
 Prints what `rt ci` prints, then the wall-clock minutes. Then, for each crate and in total, the costliest first: minutes of processor
 time for its proofs, the proofs of its tests and its must-fail edits; and when its first check began, its proofs ended and its last

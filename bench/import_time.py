@@ -17,7 +17,7 @@ import tempfile
 from built import program_of
 from effort import peak_of
 from measure import once
-from recorded import text
+from shared.stored import text
 
 SIZE = 100_000_000
 RUNS = 5

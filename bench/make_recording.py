@@ -70,7 +70,7 @@ class Recording:
 
     def __init__(self, folder: str, processors: int) -> None:
         os.mkdir(folder)
-        with tarfile.open(os.path.join(TOP, "tests", "recordings", "mix-2.tar.xz")) as archive:
+        with tarfile.open(os.path.join(TOP, "tests", "data", "mix-2.tar.xz")) as archive:
             found = archive.extractfile("mix-2/formats")
             assert found
             text = found.read()

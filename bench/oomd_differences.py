@@ -5,7 +5,7 @@ figures of the table in docs/RULES.md.
 usage: bench/oomd_differences.py [CASES [DEFAULT_CASES]]     (400 and 200 if left out; PSI_OOMD names the program)
        bench/oomd_differences.py --binary [CASES]            (compares the emulation with oomd itself in each case, 100 if left out)
 
-It begins with the 58 experiments of tests/oomd_checks, whose answers come from oomd itself. Generated incidents with usual rules
+It begins with the 58 experiments of tests/oomd, whose answers come from oomd itself. Generated incidents with usual rules
 follow: at ticks of a second, when both programs look at the same times, and at psi_oomd's default ticks of two seconds, when they
 don't. Kills of oomd are those of tools/oomd. If the first kills differ, the cause is the smallest set of oomd's rules that leads to
 psi_oomd's first kill when psi_oomd's rules replace them.
@@ -26,7 +26,7 @@ sys.dont_write_bytecode = True
 TOP = os.path.dirname(os.path.dirname(os.path.abspath(__file__)))
 sys.path[:0] = [os.path.join(TOP, "tools"), os.path.join(TOP, "tests")]
 
-from oomd_checks.experiments import FOUND  # noqa: E402
+from oomd.experiments import FOUND  # noqa: E402
 from oomd_incidents import incident, usual_rules  # noqa: E402
 from psioomd import binary  # noqa: E402
 from psioomd.detectors import Above, Reclaim, Rising  # noqa: E402

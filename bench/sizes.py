@@ -121,13 +121,13 @@ def sizes() -> Iterator[tuple[str, int]]:
     yield "lines of contracts in the code", contracts
     yield "lines of proofs", sum(map(definition_lines, proofs))
     yield "lines of tests in crates", sum(sum_of(map(rust_lines, tests)))
-    yield "cases of the built program (`tests/cases`)", sum(1 for _ in cases())
-    yield "must-fail edits", len([*CRATES.glob("*/must-fail/*.edit"), *TOP.glob("bench/edits/**/*.edit")])
+    yield "cases of the built program (`tests/run/cases`)", sum(1 for _ in cases())
+    yield "must-fail edits", len([*CRATES.glob("*/must-fail/*.edit"), *TOP.glob("tests/mutations/**/*.edit")])
 
 
 def cases() -> Iterator[str]:
     """The cases of tests/run: a folder, or each of its rows."""
-    for folder in (TOP / "tests" / "cases").iterdir():
+    for folder in (TOP / "tests" / "run" / "cases").iterdir():
         rows = folder / "rows"
         yield from rows.read_text(encoding="latin-1").splitlines() if rows.exists() else [folder.name]
 

@@ -1,0 +1,89 @@
+"""Checks of when wakeups are counted: what the probe shows, the converter's times, and bounds on
+the totals.
+"""
+from __future__ import annotations
+
+import re
+
+from harness import must, must_be
+from shared.stored import accepted, compared, converted, digest_of, digests, hide, recording, stored
+
+from psiconvert.wakeups import Counting, bounds_of, counted_at, lag_bounds, put_at, with_wakeups  # noqa: E402
+from psiread.events import Event, ReadyProbe, Switch, Wakeup  # noqa: E402
+
+# The part of the stored recording that is used, in s.
+PART = ("--to", "20")
+US = 1000
+# Task 8 is counted at 100 us, and its wakeup is written at 160; then it runs, and is counted again
+# when it moves. Task 9 was counted long before a wakeup, so that count belongs to another one.
+EVENTS: list[Event] = [
+    ReadyProbe(100 * US, 0, 7, 8), Wakeup(160 * US, 0, 7, 8, 0), ReadyProbe(170 * US, 0, 7, 8), Switch(180 * US, 0, 7, 7, "S", 8),
+    Wakeup(190 * US, 1, 3, 8, 0), ReadyProbe(200 * US, 1, 3, 9), Wakeup(60_000 * US, 1, 3, 9, 1),
+]  # fmt: skip
+
+
+def check_what_the_probe_tells(_: str) -> None:
+    """Only a wakeup with its own probe event is paired, and it gets the wanted time, in the order
+    of time.
+    """
+    must_be("what is counted", counted_at(EVENTS), {1: 100 * US})
+    for counting, moment in ((Counting.PROBE, 100), (Counting.MIDDLE, 130), (Counting.EVENT, 160)):
+        events = put_at(EVENTS, counted_at(EVENTS), counting)
+        found = [it.moment // US for it in events if isinstance(it, Wakeup)]
+        must_be(f"the wakeups {counting}", found, [moment, 190, 60_000])
+        must_be("the order", [it.moment for it in events], sorted(it.moment for it in events))
+
+
+def check_bounds_of_a_trace(_: str) -> None:
+    """A wakeup of a trace gets its earliest and its latest possible time, wherever it is, and none
+    before its task slept.
+    """
+    for place in (100, 130, 160):
+        lines = ["0 fork 8 / 0", "50000 switch 0 8 idle", "90000 switch 0 0 sleep", f"{place * US} wake 8 0", "170000 end"]
+        for is_first, moment in ((True, 100), (False, 160)):
+            found = with_wakeups(lines, bounds_of(EVENTS, 0), is_first)
+            must_be(f"from {place}, {is_first}", found[3:], [f"{moment * US} wake 8 0", "170000 end"])
+    lines[2] = "140000 switch 0 0 sleep"
+    must_be("not before it slept", with_wakeups(lines, bounds_of(EVENTS, 0), True)[3], "140000 wake 8 0")
+    must_be("one of which nothing tells", with_wakeups(lines, bounds_of([], 0), True)[3], "160000 wake 8 0")
+    must_be("up to 15 us before", with_wakeups(lines, lag_bounds(15 * US), True)[3], "145000 wake 8 0")
+    must_be("a trace that begins later", with_wakeups(["1000 wake 8 0"], bounds_of(EVENTS, 120 * US), False), ["40000 wake 8 0"])
+
+
+def totals_of(printed: bytes) -> list[tuple[str, int, int]]:
+    """For each total of a table: its group, the machine's growth and the trace's, in us."""
+    rows = re.findall(r"^\| (/\S*) +\| \S+ +\| +(\d+) \| +(\d+) \|[^|]*\| +(\d+) \| +(\d+) \|", printed.decode(), re.MULTILINE)
+    return [(row[0], int(row[place]), int(row[place + 1])) for row in rows for place in (1, 3)]
+
+
+def check_the_bracket(program: str) -> None:
+    """Each total of the machine lies between that with wakeups at their events and that with
+    wakeups when psi counted them; the middle totals are within the limits themselves.
+    """
+    with recording("wakeups") as folder:
+        done = converted(folder, *PART)
+        must_be("the sha256", digest_of(done.output), digests()["wakeups"])
+        must_be("the summary", done.said, stored("wakeups.summary"))
+        accepted(program, done.output)
+        found = {way: compared(program, folder, converted(folder, *PART, "--wakeups", way).output) for way in ("probe", "middle", "event")}
+        must_be("the statuses", [it.status for it in found.values()], [0, 0, 0])
+        bars = [re.findall(r"\S+ \.\. \S+ %", it.output.decode()) for it in found.values()]
+        must(len(bars[0]) > 20 and bars[0] == bars[1] == bars[2], f"the bars don't depend on where wakeups stand: {bars}")
+        late, early = totals_of(found["event"].output), totals_of(found["probe"].output)
+        for (_, machine, one), (_, _, two) in zip(late, early):
+            must(min(one, two) <= 1.005 * machine and max(one, two) >= 0.995 * machine, f"{machine} is from {one} to {two}")
+        for group, machine, trace in totals_of(found["middle"].output):
+            most = 0.015 if group == "/" else 0.025
+            must(machine < 500_000 or abs(trace - machine) < most * machine, f"{group}: {trace} of {machine}")
+
+
+def check_a_recording_without_the_probe(_: str) -> None:
+    """Nothing is printed that only the probe could show."""
+    with recording("wakeups") as folder:
+        hide(folder, b"pch")
+        done = converted(folder, *PART)
+        must("wakeups when psi counts them" not in done.said, done.said)
+    with recording("exec-2") as folder:
+        done = converted(folder, "--wakeups", "middle", status=2)
+        must("the recording has no such probe" in done.said and not done.output, done.said)
+        must("psitrace: wakeups at their events, which psi counts somewhat earlier" in converted(folder).said, "it says so")

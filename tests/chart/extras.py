@@ -1,0 +1,303 @@
+"""Checks of what a chart shows in addition to the replay: names and thresholds of rules, memory of
+groups, and interrupts.
+"""
+from __future__ import annotations
+
+import json
+import tempfile
+from typing import Any, Sequence
+
+from chart.near import NEAR, must_be_near
+from harness import must, must_be
+from shared.outputs import run, story
+
+from .drawn import LEFT, RIGHT, SVG, Drawn, Element, compare, compare_paths, drawn_of, inner, number_at, scale_of
+from shared.printed import AVERAGES, Printed
+
+Steps = list[tuple[float, float]]
+
+SECOND = 10**9
+UNITS = {"bytes": 1, "KiB": 2**10, "MiB": 2**20, "GiB": 2**30, "TiB": 2**40}
+NAME = "batch work is short of memory"
+
+# Groups with and without samples; one is removed, and created again without a sample.
+MEMORY_TRACE = """psitrace 1 cpus=1
+0 host 8589934592 0 0
+0 group /a
+0 group /b
+1000000000 mem /a 1073741824 0 0
+4000000000 mem /a 3221225472 1048576 0
+4000000000 mem /a 2147483648 536870912 0
+8000000000 rmgroup /a
+9000000000 group /a
+9500000000 host 4294967296 0 0
+12000000000 mem /a 1024 0 0
+20000000000 end
+"""
+
+
+def pressure(cgroup: str, threshold: Any, **others: Any) -> dict[str, Any]:
+    """A detector of pressure; `rises` replaces the name."""
+    name = "pressure_rising_beyond" if others.pop("rises", False) else "pressure_above"
+    return {"name": name, "args": {"cgroup": cgroup, "resource": "memory", "threshold": threshold, "duration": 20, **others}}
+
+
+def memory(cgroup: str, threshold: str) -> dict[str, Any]:
+    return {"name": "memory_above", "args": {"cgroup": cgroup, "threshold": threshold, "duration": "0"}}
+
+
+def rules_of(*detectors: dict[str, Any], name: str = "R") -> dict[str, Any]:
+    """Rules of one ruleset with these detectors, each in a group of its own."""
+    action = {"name": "kill_by_pressure", "args": {"cgroup": "*/*", "resource": "io"}}
+    groups = [["group", {"name": "exists", "args": {"cgroup": "x"}}, it] for it in detectors]
+    return {"rulesets": [{"name": name, "detectors": groups or [["none"]], "actions": [action]}]}
+
+
+def drawn_with(printed: bytes, rules: dict[str, Any], *words: str) -> Drawn:
+    """The chart drawn with this rules file."""
+    with tempfile.NamedTemporaryFile("w", suffix=".json") as file:
+        json.dump(rules, file)
+        file.flush()
+        return Drawn(drawn_of(printed, "--rules", file.name, *words))
+
+
+def without_kill(program: str) -> bytes:
+    """The story's replay without the kill, whose ruleset other rules don't have."""
+    return b"".join(line for line in story(program).splitlines(keepends=True) if not line.startswith(b"kill"))
+
+
+def must_have_rules(drawn: Drawn, number: int, wanted: Sequence[tuple[str, float, str]]) -> None:
+    """The memory panel of a group has these thresholds: classes, percentages, texts."""
+    found = list(drawn.rules(drawn.panel("memory", number)))
+    must_be("thresholds", [(look, text) for look, _, text in found], [(look, text) for look, _, text in wanted])
+    share = drawn.share_scale("memory", number)
+    must_be_near("their heights", [(y,) for _, y, _ in found], [(share(percent),) for _, percent, _ in wanted])
+    _, top = drawn.numbers(drawn.panel("memory", number))[-1]
+    must(all(y >= top - NEAR for _, y, _ in found), "they stand within the panel")
+
+
+def check_names_of_rulesets(program: str) -> None:
+    drawn = Drawn(drawn_of(story(program), "--group=/batch", "--rules=examples/runaway.json"))
+    compare(Printed(story(program)), drawn, ["/batch"])
+    path = "/batch/import would be killed"
+    who = f"ruleset 0 '{NAME}', action 0 kill_by_memory_size_or_growth"
+    must_be("what is told of the kill", drawn.hints("kill"), [[f"{path} at 146 s by {who}"]])
+    must_be("what stands beside it", drawn.mark_texts("kill"), [[f"{path} at 146 s"]])
+    must_be("the title", drawn.title, f"Pressure of /batch, 5 min, 1 would-be kill by '{NAME}'")
+    early = Drawn(drawn_of(story(program), "--group=/batch", "--rules=examples/runaway.json", "--from=140"))
+    must_be("what stands beside it where there is room", early.mark_texts("kill"), [[f"{path} at 146 s by '{NAME}'"]])
+
+
+def check_names_of_several_rulesets(program: str) -> None:
+    """The title has their number, and each kill its own name as long as there is room."""
+    lines = [b"kill %d000000000 ruleset=%d action=0 /batch/import\n" % (100 + 50 * it, it) for it in range(2)]
+    printed = b"".join(lines) + without_kill(program).replace(b"kills=1", b"kills=2")
+    rules = {"rulesets": rules_of(name="one")["rulesets"] + rules_of(name="other")["rulesets"]}
+    drawn = drawn_with(printed, rules)
+    must_be("the title", drawn.title, "Pressure of /, 5 min, 2 would-be kills by 2 rulesets")
+    texts = [[f"/batch/import would be killed at {moment} s by '{name}'"] for moment, name in ((100, "one"), (150, "other"))]
+    must_be("what stands beside them", drawn.mark_texts("kill"), texts)
+
+
+def check_names_that_a_picture_cannot_have(program: str) -> None:
+    """A name with control characters, with XML markup, and too long for the available room."""
+    name = 'a\x00b\x1b<&"\ufffe' + "long " * 60
+    rules = rules_of(pressure("*", "40"), name=name)
+    drawn = drawn_with(story(program), rules, "--group=/batch")
+    shown = name.replace("\x00", "\ufffd").replace("\x1b", "\ufffd").replace("\ufffe", "\ufffd")
+    must(shown in drawn.hints("kill")[0][0], f"{drawn.hints('kill')} has the name")
+    must_have_rules(drawn, 0, [("avg10", 40, f"full over 10 s above 40 % for 20 s: {shown}")])
+    compare_paths(drawn)
+
+
+def check_thresholds(program: str) -> None:
+    """They are in the panels of the groups and the resource that a detector looks at, and nowhere
+    else.
+    """
+    detectors = (
+        pressure("/web,batch/*", "90"), pressure("b*tch", 35, rises=True), pressure("b*x,b,batch/*m*rt", "7"),
+        pressure("*/*", "50", resource="io"), pressure("/batch/import/x,/", "12", duration="0"),
+    )  # fmt: skip
+    groups = ("/", "/web", "/batch", "/batch/import")
+    drawn = drawn_with(without_kill(program), rules_of(*detectors), *(f"--group={it}" for it in groups))
+    compare(Printed(without_kill(program)), drawn, groups)
+    high = ("avg10", 90.0, "full over 10 s above 90 % for 20 s: R")
+    must_have_rules(drawn, 0, [("avg10", 12, "full over 10 s above 12 %: R")])
+    must_have_rules(drawn, 1, [high])
+    must_have_rules(drawn, 2, [("avg60", 35, "full over 60 s and over 10 s above 35 % for 20 s: R")])
+    must_have_rules(drawn, 3, [high, ("avg10", 7, "full over 10 s above 7 % for 20 s: R")])
+    of_io = [[text for _, _, text in drawn.rules(drawn.panel("io", it))] for it in range(4)]
+    must_be("thresholds of IO", of_io, [[], [], [], ["full over 10 s above 50 % for 20 s: R"]])
+    low = drawn_with(without_kill(program), rules_of(*detectors), "--group=/web")
+    must_have_rules(low, 0, [high])
+    must_be("thresholds of CPU", [list(drawn.rules(drawn.panel("cpu", it))) for it in range(4)], [[]] * 4)
+
+
+def check_thresholds_that_are_near(program: str) -> None:
+    """Two equal thresholds share a label, and labels of near thresholds don't overlap."""
+    detectors = [pressure("batch", str(it)) for it in (40, 40, 41, 42, 43, 44)]
+    rules = rules_of(*detectors)
+    rules["rulesets"] += rules_of(pressure("batch", 40), name="S")["rulesets"]
+    drawn = drawn_with(without_kill(program), rules, "--group=/batch")
+    told = "full over 10 s above {} % for 20 s: R"
+    both = f"{told.format(40)}; full over 10 s above 40 % for 20 s: S"
+    must_have_rules(drawn, 0, [("avg10", it, told.format(it)) for it in (44, 43, 42, 41)] + [("avg10", 40, both)])
+    notes = drawn.all("text", "note", drawn.panel("memory"))
+    places = [(it.get("text-anchor"), float(it.get("y") or 0)) for it in notes]
+    must(0 < len(places) < 5, "some texts have room, and some haven't")
+    for side in ("start", "end"):
+        heights = sorted(y for anchor, y in places if anchor == side)
+        must(all(b - a >= 11 for a, b in zip(heights, heights[1:])), f"texts at the {side} stand apart: {heights}")
+
+
+def boxes_of(panel: Element) -> list[tuple[str, float, float, float, float]]:
+    """Each label of a threshold: its text, and its left, right, top and bottom. Letters of 11 pixels are 6 wide on average."""
+    found = []
+    for it in panel.iter(f"{SVG}text"):
+        if it.get("class") == "note":
+            text, x, y = it.text or "", number_at(it, "x"), number_at(it, "y")
+            width = 6 * len(text)
+            left = x - {"start": 0, "middle": width / 2, "end": width}[it.get("text-anchor") or "start"]
+            found.append((text, left, left + width, y - 9, y + 2))
+    return found
+
+
+def check_labels_cover_nothing(program: str) -> None:
+    """A threshold's label is inside its panel, below the title, and no curve crosses it."""
+    shown = 0
+    for limit in range(0, 101, 20):
+        for group in ("/batch", "/batch/import", "/web"):
+            rules = rules_of(pressure(group, str(limit)), pressure(group, str(min(100, limit + 5)), rises=True), name="a long name")
+            panel = (drawn := drawn_with(without_kill(program), rules, f"--group={group}", "--resource=memory")).panel("memory")
+            (_, low), *_, (_, high) = drawn.numbers(panel)
+            curves = [drawn.lines(panel, f"{level} {average}") for level in ("some", "full") for average in AVERAGES]
+            for text, left, right, top, bottom in boxes_of(panel):
+                shown += 1
+                must(LEFT <= left and right <= RIGHT and high <= top and bottom <= low, f"{text} at {limit} % is in the panel")
+                for (x, y), (end, level) in (pair for lines in curves for line in lines for pair in zip(line, line[1:])):
+                    steps = [(x + (end - x) * part / 16, y + (level - y) * part / 16) for part in range(17)]
+                    is_over = any(left <= one <= right and top <= other <= bottom for one, other in steps)
+                    must(not is_over, f"a curve of {group} goes through {text} at {limit} %")
+    must(shown > 15, f"there are labels: {shown}")
+
+
+def memory_replay(program: str) -> bytes:
+    return run([program, "replay", "-", "--report-s", "1"], MEMORY_TRACE.encode())
+
+
+def drawn_memory(program: str, *words: str, trace: str = MEMORY_TRACE) -> Drawn:
+    """The chart of a replay of this trace, with its memory."""
+    with tempfile.NamedTemporaryFile("w", suffix=".trace") as file:
+        file.write(trace)
+        file.flush()
+        printed = run([program, "replay", file.name, "--report-s", "1"])
+        return Drawn(drawn_of(printed, "--trace", file.name, *words))
+
+
+def byte_marks(drawn: Drawn, number: int = 0) -> list[tuple[float, float]]:
+    """The bytes at the axis of a group's memory, and their positions."""
+    numbers = [(text.partition(" "), place) for text, place in drawn.numbers(drawn.panel("use", number))]
+    return [(float(count) * UNITS[unit], place) for (count, _, unit), place in numbers]
+
+
+def steps_of(drawn: Drawn, what: str, number: int = 0) -> list[Steps]:
+    """A group's memory line: seconds and bytes, by the numbers of its axes."""
+    panel = drawn.panel("use", number)
+    scale = scale_of(byte_marks(drawn, number))
+    place, size = scale(0), scale(1) - scale(0)
+    second, left = drawn.x(SECOND) - drawn.x(0), drawn.x(0)
+    lines = drawn.lines(panel, f"{what}-use")
+    return [[((x - left) / second, (y - place) / size / UNITS["GiB"]) for x, y in line] for line in lines]
+
+
+def must_be_steps(what: str, found: list[Steps], wanted: list[Steps]) -> None:
+    must_be(f"{what}, lines", len(found), len(wanted))
+    for one, other in zip(found, wanted):
+        must_be_near(what, one, other)
+
+
+def check_memory_of_groups(program: str) -> None:
+    drawn = drawn_memory(program, "--group=/a", "--group=/b")
+    again: Steps = [(12, 0), (20, 0)]
+    must_be_steps("memory", steps_of(drawn, "memory"), [[(1, 1), (4, 1), (4, 3), (4, 2), (8, 2)], again])
+    # In a pixel's column only the least and the greatest value are drawn: here 1 MiB of swap is
+    # left out.
+    must_be_steps("swap", steps_of(drawn, "swap"), [[(1, 0), (4, 0), (4, 0.5), (8, 0.5)], again])
+    must_be("a group without a sample", drawn.texts(drawn.panel("use", 1))[-1], "no sample of its memory in this time")
+    must("swap" in drawn.texts(drawn.panel("use")), "the legend has swap where there is some")
+    must("swap" not in drawn.texts(drawn.panel("use", 1)), "and hasn't where there is none")
+    part = drawn_memory(program, "--group=/a", "--from=5", "--to=7")
+    must_be_steps("memory of a part", steps_of(part, "memory"), [[(5, 2), (7, 2)]])
+    gone = drawn_memory(program, "--group=/a", "--from=9", "--to=11")
+    must_be_steps("memory between two lives", steps_of(gone, "memory"), [])
+
+
+def check_thresholds_of_memory(program: str) -> None:
+    """A percentage is relative to the last host sample's memory, and a size is absolute."""
+    detectors = [memory("a", it) for it in ("1.5G", "50%", "0.5g", "4", "3000000K")] + [memory("b", "1G")]
+    with tempfile.NamedTemporaryFile("w", suffix=".json") as file:
+        json.dump(rules_of(*detectors), file)
+        file.flush()
+        drawn = drawn_memory(program, "--group=/a", "--rules", file.name)
+    panel = drawn.panel("use")
+    marks = byte_marks(drawn)
+    found = [(text, y) for _, y, text in drawn.rules(panel)]
+    wanted = [("3000000K", 3000000 * 1024), ("50%", 2**31), ("1.5G", 3 * 2**29), ("0.5g", 2**29), ("4", 4)]
+    must_be("thresholds", [text for text, _ in found], [f"memory above {text}: R" for text, _ in wanted])
+    must_be_near("their heights", [(y,) for _, y in found], [(scale_of(marks)(level),) for _, level in wanted])
+
+
+def check_many_samples(program: str) -> None:
+    """The line of a trace with a sample each millisecond is short, and has the extremes of each
+    pixel's column.
+    """
+    sizes = [(it * 7919) % 4096 * 2**20 for it in range(20000)]
+    samples = "".join(f"{it * 10**6} mem / {size} 0 0\n" for it, size in enumerate(sizes))
+    drawn = drawn_memory(program, trace=f"psitrace 1 cpus=1\n{samples}20000000000 end\n")
+    (points,) = drawn.lines(drawn.panel("use"), "memory-use")
+    must(len(points) <= 4 * (RIGHT - LEFT + 1), f"{len(points)} points are at most four in each column")
+    top, bottom = min(y for _, y in points), max(y for _, y in points)
+    marks = byte_marks(drawn)
+    scale = scale_of(marks)
+    must(abs(top - scale(max(sizes))) <= NEAR and abs(bottom - scale(min(sizes))) <= NEAR, "the most and the least are drawn")
+    must_be_near("its end", [points[-1]], [(RIGHT, scale(sizes[-1]))])
+
+
+def check_interrupts_of_a_replay(program: str) -> None:
+    """The last panel shows what a replay of version 2 reports of each group's interrupts."""
+    given = ["replay", "examples/kernel/42-v2-irq.trace", "--report-s=2"]
+    printed = Printed(run([program, *given]))
+    for group in ("/", "/a"):
+        drawn = Drawn(drawn_of(run([program, *given]), "--group", group))
+        must_be("panels", drawn.panel_names(), [f"{it} pressure" for it in ("IO", "memory", "CPU", "interrupt")])
+        compare(printed, drawn, [group])
+        share = drawn.share_scale("irq")
+        for average in AVERAGES:
+            shares = printed.shares[group, "irq", "full", average]
+            must_be("reports of interrupts", [moment // SECOND for moment, _ in shares], [2, 4, 6])
+            (points,) = drawn.lines(drawn.panel("irq"), f"full {average}")
+            must_be_near(f"interrupts {average}", points, [(drawn.x(moment), share(it)) for moment, it in shares])
+
+
+def check_interrupts(_: str) -> None:
+    """If reports of a drawn group have interrupts, there is another panel, with lines of `full`
+    only.
+    """
+    file = "full avg10=9.05 avg60=1.63 avg300=0.34 total=1000000\n"
+    none = "avg10=0.00 avg60=0.00 avg300=0.00 total=0\n"
+    others = "".join(f"report 2000000000 / {it}\nsome {none}full {none}" for it in ("io", "memory", "cpu"))
+    end = "end 2000000000 ticks=1 events=0 kills=0\n"
+    text = f"{others}report 2000000000 / irq\n{file}{end}".encode()
+    printed = Printed(text)
+    for words, names in (("", ["IO", "memory", "CPU", "interrupt"]), ("--resource=irq", ["interrupt"])):
+        drawn = Drawn(drawn_of(text, *words.split()))
+        must_be("panels", drawn.panel_names(), [f"{it} pressure" for it in names])
+        share = drawn.share_scale("irq")
+        for average in AVERAGES:
+            shares = printed.shares["/", "irq", "full", average]
+            (points,) = drawn.lines(drawn.panel("irq"), f"full {average}")
+            must_be_near(f"interrupts {average}", points, [(drawn.x(moment), share(it)) for moment, it in shares])
+            must_be("lines of some", drawn.lines(drawn.panel("irq"), f"some {average}"), [])
+    plain = Drawn(drawn_of(f"{others}{end}".encode()))
+    must_be("panels without them", plain.panel_names(), ["IO pressure", "memory pressure", "CPU pressure"])
+    must_be("what is told of the panel", inner(plain.panel("io"), "text").text, "IO pressure")

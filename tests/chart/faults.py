@@ -1,0 +1,191 @@
+"""What can't be drawn is reported, with what to do about it."""
+from __future__ import annotations
+
+import functools
+import gzip
+import json
+import os
+import tempfile
+
+from harness import must, must_be
+from shared.outputs import fault_of, run, story
+from shared.program import TOP
+
+from .drawn import CHART
+
+ADVICE = ": give all that `psi_oomd replay` prints, and see what it says on standard error"
+chart_fault = functools.partial(fault_of, CHART)
+
+
+def must_say(said: str, *parts: str) -> None:
+    """A fault is reported as one, and its message has these parts."""
+    must(said.startswith("chart: ") and said.endswith("\n"), f"{said!r} is told by the chart")
+    for part in parts:
+        must(part in said, f"{said!r} has {part!r}")
+
+
+def check_unknown_lines(program: str) -> None:
+    lines = story(program).splitlines(keepends=True)
+    live = b"live 2000000000 cpu=0 count=3 1 2 3 4 5 6 7\n"
+    head, full = b"report 2000000000 / irq\n", lines[2]
+    kill = next(place for place, line in enumerate(lines) if line.startswith(b"kill"))
+    event = next(place for place, line in enumerate(lines) if line.startswith(b"event"))
+    edits: list[tuple[int, list[bytes]]] = [
+        (0, [b"repport 2000000000 / io\n"]), (0, [b"\n"]), (0, []), (1, []), (2, []), (2, [lines[2]] * 2),
+        (1, [lines[1].replace(b"avg60", b"avg61")]), (1, [lines[1].replace(b" total", b"  total")]),
+        (3, [lines[3].replace(b"memory", b"disk")]), (kill, [lines[kill].replace(b"/batch", b"batch")]),
+        (kill, [lines[kill].replace(b"kill 1", b"kill 01")]), (kill, [lines[kill], b"some\xff\n"]),
+        (event, [lines[event].replace(b" memory ", b" irq ")]), (event, [lines[event].replace(b" some ", b" most ")]),
+        (0, [live.replace(b" 7", b"")]), (0, [live.replace(b" 7", b" 7 8")]), (0, [live.replace(b"=3", b"=03")]),
+        (1, [live]), (len(lines) - 1, [lines[-1], live]), (0, [full]),
+        (len(lines) - 1, [lines[-1]] * 2), (len(lines) - 1, [lines[-1], b"\n"]), (len(lines) - 1, [lines[-1][:-1]]),
+        (0, [head, lines[1]]), (0, [head, head]),
+    ]  # fmt: skip
+    for place, instead in edits:
+        text = lines[:place] + instead + lines[place + 1 :]
+        # The first line that is misplaced: the edited one, the one that took its place, or the one
+        # after it.
+        number = place + (2 if len(instead) == 2 else 1)
+        shown = text[number - 1].decode("latin-1")
+        told = repr(shown[:60].rstrip("\n")) + (".." if len(shown) > 60 else "")
+        wanted = f"chart: line {number}: replay prints no such line here: {told}{ADVICE}\n"
+        must_be(f"{instead} for line {place + 1}", chart_fault(b"".join(text)), wanted)
+
+
+def check_too_little(program: str) -> None:
+    printed = story(program)
+    stops = f"chart: the input stops before the last line of a replay, which begins with `end`{ADVICE}\n"
+    must_be("an input that stops", chart_fault(b"".join(printed.splitlines(keepends=True)[:-1])), stops)
+    must_be("an empty input", chart_fault(b""), f"chart: the input is empty{ADVICE}\n")
+    for words in (["--from=298.5", "--to=299.5"], ["--resource=irq"], ["--group=/batch/import", "--from=222"]):
+        said = chart_fault(printed, *words)
+        must(said.startswith("chart: no report of ") and "--report-s" in said, f"{words}: {said}")
+    for words, told in (
+        (["--group=/x"], "no group /x in the replay, which has /, /batch, /batch/import, /batch/index, /web"),
+        (["--group=/batch", "--group=/wbe"], "no group /wbe in the replay, which has /web, .."),
+        (["--from=400"], "--from 400 is after the end of the replay, 300 s"),
+        (["--from=300"], "--from 300 isn't before --to 300: no time is left between"),
+        (["--from=7", "--to=7"], "--from 7 isn't before --to 7: no time is left between"),
+        (["--from=100", "--to=50"], "--from 100 isn't before --to 50: no time is left between"),
+    ):
+        must_be(f"{words}", chart_fault(printed, *words), f"chart: {told}\n")
+    no_report = chart_fault(b"end 5 ticks=0 events=0 kills=0\n")
+    must(no_report.startswith("chart: no report of / from 0 s to 0.000000005 s of 0.000000005 s: "), no_report)
+
+
+def check_wrong_words(program: str) -> None:
+    for words in (
+        ["--resource=disk"], ["--from=1e3"], ["--to=-1"], ["--grou=/batch"], ["--group"], ["--to=0.0000000001"],
+        ["--start"], ["--rules"], ["--trace"],
+    ):  # fmt: skip
+        must_say(chart_fault(story(program), *words), "usage: chart ")
+    for time in (
+        "2026-11-28", "2026-11-28T13:58:12", "2026-11-28 13:58:12Z", "2026-11-31T13:58:12Z", "2026-02-29T00:00:00Z",
+        "2026-11-28T24:00:00Z", "2026-11-28T13:60:12Z", "2026-11-28T13:58:60Z", "2026-13-28T13:58:12Z", "1969-12-31T23:59:59Z",
+        "2026-11-28T13:58:12+0100", "2026-11-28T13:58:12+15:00", "2026-11-28T13:58:12.0000000001Z", "now", "",
+    ):  # fmt: skip
+        must_say(chart_fault(story(program), f"--start={time}"), f"{time} isn't a time with its zone, such as 2026-11-28T13:58:12Z")
+    start, before = "--start=2026-11-28T13:58:12Z", "2026-11-28T13:58:11Z"
+    must_say(chart_fault(story(program), f"--to={before}"), "is a time of day, and nothing says when the trace began: say by --start")
+    must_say(chart_fault(story(program), start, f"--from={before}"), "isn't in the trace, which was recorded from 13:58:12 on 28 November 2026 to 14:03:12, UTC")
+
+
+def check_rules_that_cannot_be_read(program: str) -> None:
+    printed = story(program)
+    must_be("no rules file", chart_fault(printed, "--rules=/nowhere"), "chart: no file: /nowhere\n")
+    must_be("a folder", chart_fault(printed, "--rules=tests"), "chart: tests: Is a directory\n")
+    said = chart_fault(printed, "--rules=examples/runaway.trace")
+    must_be("no rules", said, "chart: psi_oomd refuses the rules file examples/runaway.trace: rules: BadJson: it is a trace, not a rules file\n")
+    other = '{"rulesets":[{"name":"R","detectors":[],"actions":[]}]}'
+    with tempfile.NamedTemporaryFile("w", suffix=".json") as file:
+        file.write(other)
+        file.flush()
+        said = chart_fault(printed, "--rules", file.name)
+        advice = "which kills /batch/import: give the rules file of this replay"
+        must_be("other rules", said, f"chart: {file.name} has no ruleset 0, action 0, {advice}\n")
+
+
+def check_rules_of_another_replay(program: str) -> None:
+    """If a kill is impossible by the rules, they aren't those of the replay, and the kill gets no
+    label of theirs.
+    """
+    printed = story(program)
+    kill = {"name": "kill_by_memory_size_or_growth", "args": {"cgroup": "web,*", "post_action_delay": "0"}}
+    for recursive in ("false", "true"):
+        kill["args"]["recursive"] = recursive  # type: ignore[index]
+        with tempfile.NamedTemporaryFile("w", suffix=".json") as file:
+            json.dump({"rulesets": [{"name": "the database", "detectors": [["always"]], "actions": [kill]}]}, file)
+            file.flush()
+            told = f"{file.name}: ruleset 0, action 0 is of 'web,*', and the replay's kills /batch/import: give the rules file of this replay"
+            for tool, *words in ((CHART,), (os.path.join(TOP, "tools", "openmetrics"), "--start", "2026-11-28T13:58:12Z")):
+                if recursive == "false":
+                    said = fault_of(tool, printed, *words, "--rules", file.name)
+                    must_be("other rules", said, f"{os.path.basename(tool)}: {told}\n")
+                else:  # then `*` reaches /batch/import through /batch
+                    must(b"the database" in run([tool, *words, "--rules", file.name], printed), f"{tool}: the kill has its label")
+
+
+def check_a_summary_of_another_trace(program: str) -> None:
+    """Its time of day would be wrong, since the trace has another length."""
+    printed = story(program)
+    for length, is_same in (("300.000", True), ("300.001", True), ("20.093", False), ("3000.000", False)):
+        with tempfile.NamedTemporaryFile("w") as file:
+            file.write(f"psitrace: {length} s, processors 2, groups 5, lines 77151\npsitrace: 0 is 2026-11-28 13:58:12.000 UTC\n")
+            file.flush()
+            if is_same:
+                must(b"28 November 2026" in run([CHART, "--summary", file.name], printed), "the time of day is there")
+                continue
+            said = chart_fault(printed, "--summary", file.name)
+            shown = length.rstrip("0").rstrip(".")
+            lengths = f"a trace of {shown} s, and the replay's has 300 s"
+            must_be(length, said, f"chart: {file.name} is the summary of {lengths}: give the summary of this trace\n")
+    with tempfile.NamedTemporaryFile("w") as file:
+        file.write("psitrace: 0 is 2026-13-45 13:58:12.000 UTC\n")
+        file.flush()
+        must("isn't a time with its zone" in chart_fault(printed, "--summary", file.name), "a date that isn't one")
+
+
+def check_inputs_of_another_kind(program: str) -> None:
+    """The message says what the input is, and what to do with it."""
+    printed = story(program)
+    with open(os.path.join(TOP, "examples", "runaway.trace"), "rb") as file:
+        trace = file.read()
+    for given, told in (
+        (trace, "it is a trace, not the output of replay: `psi_oomd replay FILE` prints what this tool reads"),
+        (gzip.compress(printed), "it is compressed by gzip, not the output of replay: `gunzip -c FILE` prints its content"),
+        (printed.replace(b"\n", b"\r\n"), "it is a text whose lines end in CR LF, not the output of replay: `tr -d '\\r' < FILE`"
+         " removes each CR"),
+        (b'{"rulesets":[]}', "it is JSON, like a rules file, not the output of replay"),
+    ):  # fmt: skip
+        for tool, *words in ((CHART,), (os.path.join(TOP, "tools", "top"),),
+                             (os.path.join(TOP, "tools", "openmetrics"), "--start", "2026-11-28T13:58:12Z")):  # fmt: skip
+            must_be(told, fault_of(tool, given, *words), f"{os.path.basename(tool)}: the input: {told}\n")
+    huge = b"report " + b"9" * 5000 + b" / io\n"
+    must("replay prints no such line here" in chart_fault(huge), "a number that no replay prints")
+
+
+def check_traces_that_cannot_be_read(program: str) -> None:
+    printed = story(program)
+    must_be("no trace", chart_fault(printed, "--trace=/nowhere"), "chart: no file: /nowhere\n")
+    must_be("a folder", chart_fault(printed, "--trace=tests"), "chart: tests: Is a directory\n")
+    said = chart_fault(printed, "--trace=examples/refused.trace")
+    must_be("no trace", said, "chart: psi_oomd refuses the trace examples/refused.trace: trace line 7: NotReady\n")
+    said = chart_fault(printed, "--trace=examples/one-wait.trace")
+    other = "examples/one-wait.trace ends at 2000000000 ns, and the replay at 300000000000 ns"
+    must_be("another trace", said, f"chart: {other}: give the trace of this replay\n")
+    with tempfile.NamedTemporaryFile("wb") as file:
+        # It is rejected long before its end, while the chart is still passing lines on.
+        file.write(b"psitrace 1 cpus=1\n0 mem / 1 1\n" + b"x mem / y\n0 mem\n0 rmgroup\n" * 100000)
+        file.flush()
+        said = chart_fault(printed, f"--trace={file.name}")
+        must_be("a long trace", said, f"chart: psi_oomd refuses the trace {file.name}: trace line 2: BadField 4\n")
+
+
+def check_no_program(program: str) -> None:
+    printed = story(program)
+    for words in (["--rules=examples/runaway.json"], ["--trace=examples/runaway.trace"]):
+        said = chart_fault(printed, *words, PSI_OOMD="/nowhere")
+        advice = "build ./psi_oomd, or let the variable PSI_OOMD name the program"
+        must_be("no program", said, f"chart: /nowhere can't be run (No such file or directory): {advice}\n")
+        said = chart_fault(printed, *words, PSI_OOMD="/bin/false")
+        must_say(said, "psi_oomd failed on the ", ": its status is 1")

@@ -1,0 +1,1 @@
+"""The independent computation of what `tools/rules explain` prints."""

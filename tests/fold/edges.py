@@ -1,0 +1,191 @@
+"""Checks of the edges of windows, of what `fold` says about them, and of limits: tasks, length, and
+wrong lines.
+"""
+from __future__ import annotations
+
+import json
+import os
+import tempfile
+
+from fold.common import folded, must_replay_alike, printed
+from harness import must, must_be
+from shared.stored import PAGE, accepted, change, count_bytes, recording, tool
+from psifold import fold
+from psifold.victims import Victim
+from shared.traces import MS
+
+SECOND = 1000 * MS
+# Both groups have memory. /b gets its task 500 ms after the tick at 2 s, and has one in each joint
+# state of the second window.
+LATE = """psitrace 1 cpus=1
+0 group /a
+0 group /b
+0 mem /a 10 0 0
+0 mem /b 90 0 0
+0 fork 1 /a 0
+0 fork 3 / 0
+0 switch 0 1 idle
+0 switch 0 3 iowait
+0 switch 0 0 iowait
+1000000000 wake 1 0
+1000000000 wake 3 0
+1000000000 switch 0 1 idle
+1000000000 switch 0 3 sleep
+1000000000 switch 0 0 sleep
+2500000000 wake 1 0
+2500000000 wake 3 0
+2500000000 switch 0 1 idle
+2500000000 switch 0 3 iowait
+2500000000 switch 0 0 iowait
+2500000000 fork 2 /b 0
+4000000000 end
+"""
+# The whole second window is one joint state in which both tasks are ready: one came 1 ns after the
+# edge.
+SOON = """psitrace 1 cpus=1
+0 group /b
+0 fork 1 / 0
+2000000000 switch 0 0 idle
+2000000001 fork 2 /b 0
+4000000000 end
+"""
+LARGEST = {
+    "name": "largest",
+    "detectors": [["stalls", {"name": "exists", "args": {"cgroup": "/*"}}]],
+    "actions": [{"name": "kill_by_memory_size_or_growth", "args": {"cgroup": "/*"}}],
+    "post_action_delay": "0",
+}
+
+
+def check_no_task_before_its_window(program: str) -> None:
+    """A group without a task at a tick has none there in the folded trace: the kills, whose largest
+    group is /b, and all other lines are the same.
+    """
+    with tempfile.NamedTemporaryFile("w", suffix=".json") as file:
+        json.dump({"rulesets": [LARGEST]}, file)
+        file.flush()
+        words = ("--rules", file.name, "--interval-s=2")
+        kills = [line for line in printed(program, LATE, "replay", *words).splitlines() if line.startswith(b"kill ")]
+        must(kills[0] == b"kill 2000000000 ruleset=0 action=0 /a", f"at 2 s /b has no task: {kills}")
+        must_replay_alike("a task that comes after a tick", program, LATE, folded(LATE, 2 * SECOND)[0], 2 * SECOND, words)
+    other, made = folded(SOON, 2 * SECOND)
+    must_be("the times", printed(program, other, "stall"), printed(program, SOON, "stall"))
+    forks = [int(line.split(" ")[0]) for line in other.splitlines() if " fork " in line and line.endswith(" /b 0")]
+    must_be("when /b gets its first task", min(forks), 2 * SECOND + 1)
+    must_be("what rounding left", [left for left in made.check.behind.values() if left], [])
+
+
+def check_processors_that_fall_silent(_: str) -> None:
+    """Psitrace folds a recording in which some processors fall silent early as fold does its trace:
+    whole, and in part.
+    """
+    for name, pages in (("threads", (1, 2, 4)), ("threads", (30, 60, 1)), ("cg-2", (2,))):
+        with recording(name) as folder:
+            for processor, count in enumerate(pages, 1):
+                change(folder, f"cpu{processor}.raw", lambda it, size=count * PAGE: it[:size])  # type: ignore[misc]
+            count_bytes(folder)
+            for words in ((), ("--from=2",)):
+                plain = tool("psitrace", folder, "--force", *words).output
+                made = tool("psitrace", folder, "--force", "--fold=1", *words).output
+                must(len(plain) > 10**5, f"{name} has a trace")
+                must(tool("fold", "-", "--window=1", given=plain).output == made, f"{name} {pages} {words}: both tools give the same")
+
+
+# A task of /v moves at 3 s to /w, or in the other trace to the child of /v.
+MOVES = """psitrace 1 cpus=1
+0 group /v
+0 group /v/x
+0 group /w
+0 fork 1 /v 0
+0 switch 0 1 idle
+0 switch 0 0 iowait
+3000000000 move 1 {}
+6000000000 end
+"""
+
+
+def check_when_whatif_is_exact(program: str) -> None:
+    """The last line says so only if no task of a victim moves out of it or within it after a kill."""
+    for path in ("/w", "/v/x"):
+        trace = MOVES.format(path)
+        _, made = folded(trace, 2 * SECOND, [Victim("/v", True)])
+        changes = made.outcome().changes
+        # A descendant of a victim may be killed by itself.
+        wanted = (int(path == "/v/x"), 1, 3 * SECOND)
+        must_be(f"tasks that came to /v, or moved, and when, with {path}", (changes.came, changes.moved, changes.last), wanted)
+        done = tool("fold", "-", "--window=2", "--victims=v,v/*", given=trace.encode())
+        must("named, if the kills come after 3.000 s; before, it is near: " in done.said, done.said)
+        done = tool("fold", "-", "--window=2", "--victims=v,v/*", given=trace.replace("3000000000 move", "0 move").encode())
+        must("named\n" in done.said or "of them:" in done.said, f"at 0 nothing moves yet: {done.said}")
+
+
+def check_limits_of_folding(program: str) -> None:
+    """Too many tasks for a trace, and a folded trace that is longer than the original, are reported
+    by their status.
+    """
+    before = fold.MOST_TASKS
+    try:
+        fold.MOST_TASKS = 3
+        lines = [f"0 group /g{it}\n0 fork {it + 1} /g{it} 0" for it in range(4)]
+        try:
+            folded("\n".join(["psitrace 1 cpus=1", *lines, "1000000000 end\n"]), SECOND)
+            must(False, "four groups with tasks fit into three tasks")
+        except fold.TooMany as many:
+            must_be("the limit", str(many), "3 tasks")
+    finally:
+        fold.MOST_TASKS = before
+    quiet = MOVES.format("/w").replace("6000000000", "60000000000") + ""
+    longer = tool("fold", "-", "--window=0.5", "--victims=v,w", given=quiet.encode())
+    must_be(f"the status of a trace that is longer, of which was said {longer.said}", longer.status, 3)
+    must("the folded trace is longer, " in longer.said, longer.said)
+    accepted(program, longer.output)
+
+
+def check_lines_that_are_wrong(_: str) -> None:
+    """Lines that psi_oomd rejects are reported with their number, also those that fold doesn't
+    change.
+    """
+    good = LATE.splitlines()
+    for number, line, told in (
+        (4, "0 mem /a 10 0 aaa", "malformed"), (4, "0 mem /a 10 0", "malformed"), (4, "0 mem /q 10 0 0", "can't have it"),
+        (4, "0 mem /a 10 0 1152921504606846977", "malformed"), (4, "0 mem /a 010 0 0", "malformed"), (4, "0 host 1 2", "malformed"),
+        (4, "0 prefer /a perhaps", "malformed"), (4, "0 trigger / io some 5 4", "malformed"), (4, "0 prefer a avoid", "malformed"),
+        (4, "0 trigger / io most 500000 500000", "malformed"), (2, "0 group a", "can't be made"), (2, "0 group /a/", "can't be made"),
+        (3, "0 group /a//b", "can't be made"), (6, "0 fork 0 /a 0", "a task's number"), (6, "0 fork 4294967296 /a 0", "a task's number"),
+        (6, "0 fork 1 /a -1", "can't have it"), (6, "0 fork 1 /a 1", "can't have it"), (8, "0 switch -1 1 idle", "can't have it"),
+        (21, f"{'9' * 5000} fork 2 /b 0", "its time is beyond"), (21, "99999999999999999999 fork 2 /b 0", "its time is beyond"),
+        (21, "2500000000 fork 2 /\u00e4 0", "aren't ASCII"),
+    ):  # fmt: skip
+        wrong = [*good[: number - 1], line, *good[number:]]
+        done = tool("fold", "-", "--window=2", given="\n".join([*wrong, ""]).encode())
+        must_be(f"the status of '{line[:60]}', which said {done.said[-300:]}", done.status, 2)
+        must(f"line {number}" in done.said and told in done.said and len(done.said) < 300, f"{line[:60]}: {done.said[:300]}")
+
+
+def check_files_that_are_no_trace(_: str) -> None:
+    """The message says what they are."""
+    for data, told in (
+        (b"\x1f\x8b\x08\0", "gunzip"), (b"\xfd7zXZ\0", "by xz"), (b"\x17\x08Dtracing", "trace-cmd"), (b"", "empty"),
+        (LATE.replace("\n", "\r\n").encode(), "carriage returns"), (b"report 2000000000 / io\n", "replay printed"),
+    ):  # fmt: skip
+        with tempfile.NamedTemporaryFile() as file:
+            file.write(data)
+            file.flush()
+            done = tool("fold", file.name, "--window=2")
+        must_be(f"the status for {data[:10]!r}", (done.status, done.output), (2, b""))
+        must(told in done.said and file.name in done.said, f"{told}: {done.said}")
+    with tempfile.TemporaryDirectory() as folder:
+        done = tool("fold", folder, "--window=2")
+        must_be("of a folder", (done.status, "it is a folder" in done.said), (2, True))
+
+
+def check_bytes_that_are_no_page(_: str) -> None:
+    """Trailing bytes that aren't a whole page are reported with --fold, too."""
+    with recording("exec-2") as folder:
+        change(folder, "cpu1.raw", lambda it: it + b"abc")
+        count_bytes(folder)
+        for words in ((), ("--fold=1",)):
+            done = tool("psitrace", folder, *words)
+            must_be(f"the status with {words}, which said {done.said}", done.status, 0)
+            must("mended: bytes at the end of cpu1.raw that are no whole page: 3\n" in done.said, f"{words}: {done.said}")
+        must(os.path.isdir(folder), "the recording is there")

@@ -1,0 +1,166 @@
+"""Compares the kills of replays of folded traces with those of the originals by brute force: over
+random traces and recordings, with random rules.
+"""
+from __future__ import annotations
+
+import json
+import os
+import random
+import re
+import sys
+import tempfile
+from collections.abc import Callable, Iterator
+from importlib.machinery import SourceFileLoader
+from importlib.util import module_from_spec, spec_from_loader
+from types import ModuleType
+from typing import Any, NamedTuple
+
+from fold.common import Settled, folded, printed, window_of
+from harness import must, must_be
+from shared.program import TOP
+from shared.traces import MS, Maker
+
+from .replays import FOLDERS, TEXTS, both_of, both_of_folder, names_of
+
+# The number of random traces that the gate compares, and of random rules for each.
+TRACES, RULES = 40, 3
+# The most rulesets of a file. Rulesets don't affect each other in a replay, so one replay compares
+# many.
+MOST_RULESETS = 64
+SECOND = 1000 * MS
+KILL = re.compile("kill [0-9]+ ruleset=([0-9]+) ")
+
+
+class Found(NamedTuple):
+    """The number of compared replays, the number of their kill lines, and each difference: its
+    replay, and both lines.
+    """
+
+    replays: int
+    kills: int
+    differing: list[str]
+
+
+def whatif() -> ModuleType:
+    """The random rules of tests/whatif."""
+    if "whatif" not in sys.modules:
+        loader = SourceFileLoader("whatif", os.path.join(TOP, "tests", "whatif", "test"))
+        spec = spec_from_loader("whatif", loader)
+        assert spec
+        sys.modules["whatif"] = module_from_spec(spec)
+        loader.exec_module(sys.modules["whatif"])
+    return sys.modules["whatif"]
+
+
+def kills_of(program: str, trace: str, rules: str, tick: int) -> list[str]:
+    """The kill lines of a replay at a tick (ns)."""
+    words = ("replay", f"--rules={rules}", f"--tick-ms={tick // MS}", "--report-s=0", "--interval-s=1")
+    return [line for line in printed(program, trace, *words).decode().splitlines() if line.startswith("kill ")]
+
+
+def packed(rules: list[list[Any]]) -> Iterator[list[Any]]:
+    """All rulesets, in as few lists as a rules file may have."""
+    rulesets = [ruleset for one in rules for ruleset in one]
+    for start in range(0, len(rulesets), MOST_RULESETS):
+        yield rulesets[start : start + MOST_RULESETS]
+
+
+def difference(rules: list[Any], wanted: list[str], found: list[str]) -> str:
+    """The first kill line that is in one list only, and its ruleset."""
+    lines = sorted({*wanted} ^ {*found})
+    kill = KILL.match(lines[0]) if lines else None
+    return f"{lines[0]}; ruleset {json.dumps(rules[int(kill[1])])}" if kill else "in another order"
+
+
+def compare(program: str, what: str, traces: tuple[str, str], rules: list[list[Any]], ticks: list[int]) -> Found:
+    """Compares the kills of a trace and of the folded one, with these rules and at these ticks
+    (ns).
+    """
+    replays, kills, differing = 0, 0, []
+    for rulesets in packed(rules):
+        with tempfile.NamedTemporaryFile("w", suffix=".json") as file:
+            json.dump({"rulesets": rulesets}, file)
+            file.flush()
+            for tick in ticks:
+                wanted, found = (kills_of(program, trace, file.name, tick) for trace in traces)
+                replays, kills = replays + 1, kills + len(wanted)
+                if wanted != found:
+                    differing.append(f"{what}, tick {tick // MS} ms: {difference(rulesets, wanted, found)}")
+    return Found(replays, kills, differing)
+
+
+def total(parts: Iterator[Found]) -> Found:
+    """The sums of all parts."""
+    found = list(parts)
+    return Found(sum(it.replays for it in found), sum(it.kills for it in found), [line for it in found for line in it.differing])
+
+
+def random_traces(program: str, numbers: range, count: int) -> Iterator[Found]:
+    """Compares random traces with these numbers, each with `count` random rules, at its window and
+    at two windows.
+    """
+    makers: tuple[Callable[[int, int], Maker], ...] = (whatif().Load, Maker, Settled)
+    for number in numbers:
+        draw = random.Random(number)
+        maker = makers[number % 3](number, 1 + draw.randrange(2))
+        trace, window = maker.trace(), window_of(maker, number)
+        other, _ = folded(trace, window)
+        rules = [whatif().some_rules(draw) for _ in range(count)]
+        ticks = [tick for tick in (window, 2 * window) if tick <= 60 * SECOND]
+        yield compare(program, f"random trace {number}", (trace, other), rules, ticks)
+
+
+# ---------------------------------------------------------------- recordings
+
+
+def patterns_of(trace: str, draw: random.Random) -> str:
+    """Patterns that match some of a trace's groups."""
+    groups = [line.split(" ")[2] for line in trace.splitlines() if " group " in line] or ["/"]
+    some = draw.sample(groups, min(len(groups), draw.randint(1, 3)))
+    return draw.choice(("*", "*/*", "*,*/*", "*/*,*/*/*", ",".join(some), some[0].rpartition("/")[0].lstrip("/") + "/*" if "/" in some[0][1:] else "*"))
+
+
+def rules_of(trace: str, draw: random.Random) -> list[Any]:
+    """Random rules for the groups of a recording."""
+    rules = whatif().some_rules(draw)
+    for ruleset in rules:
+        for group in ruleset["detectors"]:
+            for detector in group[1:]:
+                if "cgroup" in detector["args"]:
+                    detector["args"]["cgroup"] = patterns_of(trace, draw)
+                if "threshold" in detector["args"]:
+                    detector["args"]["threshold"] = str(draw.choice((0, 0, 1, 5)))
+        for action in ruleset["actions"]:
+            action["args"]["cgroup"] = patterns_of(trace, draw)
+    return list(rules)
+
+
+def recordings(program: str, names: list[str], count: int) -> Iterator[Found]:
+    """Compares stored recordings, or those in other folders, folded into windows of a second, with
+    `count` random rules each, at ticks of 1 and 2 s.
+    """
+    for name in names:
+        plain, made = (it.decode() for it in (both_of_folder(name) if os.path.isdir(name) else both_of(name)))
+        draw = random.Random(name)
+        rules = [rules_of(plain, draw) for _ in range(count)]
+        yield compare(program, name, (plain, made), rules, [SECOND, 2 * SECOND])
+
+
+def stored() -> list[str]:
+    """The names of all stored recordings and texts."""
+    return [*names_of(FOLDERS), *names_of(TEXTS)]
+
+
+# ---------------------------------------------------------------- the gate's part
+
+
+def check_kills_by_random_rules(program: str) -> None:
+    """Random rules kill the same groups at the same ticks, in random traces and in a recording
+    whose groups are created and removed.
+    """
+    found = total(random_traces(program, range(TRACES), RULES))
+    must_be("kill lines that differ", found.differing, [])
+    must(found.kills > TRACES, f"there are kills: {found.kills}")
+    found = total(recordings(program, ["cg-2"], 5))
+    must_be("kill lines that differ, in cg-2", found.differing, [])
+    must(found.kills > 5, f"there are kills of cg-2: {found.kills}")

@@ -1,0 +1,224 @@
+"""The harness of the tests: how a check fails, and how checks are run and reported.
+
+A check is a function whose name begins with `check_`; it raises Wrong if what it finds isn't what
+is expected. `run_checks` runs checks at the same time, each in a process and in an empty folder of
+its own. It prints a line when a check ends: ok or FAILED, its seconds and its name. A failure is
+followed by what differs and by the command that repeats this check. The last line lists the checks
+that failed. Each test takes -j N (checks at the same time) and the names of checks.
+"""
+from __future__ import annotations
+
+import contextlib
+import difflib
+import inspect
+import multiprocessing
+import os
+import shlex
+import sys
+import tempfile
+import time
+import traceback
+from collections.abc import Callable, Iterable, Iterator, Mapping, Sequence
+from concurrent.futures import Future, ProcessPoolExecutor, as_completed
+from types import ModuleType
+from typing import IO, NamedTuple
+
+from shared.difference import difference
+from shared.program import TOP, USED, program_of
+
+# The most characters of a failure that are shown: the rest is cut in the middle.
+MOST_SHOWN = 20_000
+
+Check = Callable[..., object]
+# Calls a check; the text is the path of its empty folder.
+Call = Callable[[Check, str], object]
+Source = ModuleType | Mapping[str, object]
+
+
+class Wrong(Exception):
+    """A failed check: what differs from what is expected."""
+
+
+def must(is_right: object, what: str) -> None:
+    """Fails the check unless this is right."""
+    if not is_right:
+        raise Wrong(what)
+
+
+def must_be(what: str, actual: object, expected: object) -> None:
+    """Fails the check unless the actual value is the expected one."""
+    if actual != expected:
+        raise Wrong(f"{what}:\n{difference(expected, actual)}")
+
+
+def must_have_none(faults: Iterable[str]) -> None:
+    """Fails the check if there are faults, each a line."""
+    found = list(faults)
+    must(not found, "\n".join(found))
+
+
+class Outcome(NamedTuple):
+    """The result of a check: its name, its duration in seconds, what is wrong (or ""), and what it
+    printed.
+    """
+
+    name: str
+    seconds: float
+    fault: str
+    printed: str
+
+
+def cut(text: str) -> str:
+    """This text, without its middle if it is too long."""
+    if len(text) <= MOST_SHOWN:
+        return text
+    half = MOST_SHOWN // 2
+    return f"{text[:half]}\n.. {len(text) - 2 * half:,} more characters ..\n{text[-half:]}"
+
+
+@contextlib.contextmanager
+def captured(file: IO[bytes]) -> Iterator[None]:
+    """Puts what this process and its children print into the file."""
+    sys.stdout.flush()
+    output = os.dup(1)
+    os.dup2(file.fileno(), 1)
+    try:
+        yield
+    finally:
+        sys.stdout.flush()
+        os.dup2(output, 1)
+        os.close(output)
+
+
+def outcome_of(name: str, check: Check, call: Call) -> Outcome:
+    """Runs a check in a new folder. An exception of any other kind is a failure with its place."""
+    fault, began = "", time.monotonic()
+    with tempfile.TemporaryDirectory() as folder, tempfile.TemporaryFile() as printed:
+        with captured(printed):
+            try:
+                call(check, os.path.realpath(folder))
+            except Wrong as wrong:
+                fault = str(wrong)
+            except Exception:  # a check must not end the test
+                fault = traceback.format_exc()
+        printed.seek(0)
+        text = printed.read().decode("utf-8", "replace")
+    return Outcome(name, time.monotonic() - began, cut(fault), text)
+
+
+# The checks of this test, which forked workers inherit, and how they are called.
+running: dict[str, Check] = {}
+calling: list[Call] = []
+
+
+def outcome_of_named(name: str) -> Outcome:
+    """Runs a check of this test in a worker."""
+    return outcome_of(name, running[name], calling[0])
+
+
+def outcomes(checks: Mapping[str, Check], call: Call, jobs: int) -> Iterator[Outcome]:
+    """Runs the checks, `jobs` at a time, and gives each one's outcome when it ends."""
+    if jobs == 1 or len(checks) == 1:
+        yield from (outcome_of(name, check, call) for name, check in checks.items())
+        return
+    running.update(checks)
+    calling[:] = [call]
+    sys.stdout.flush()
+    with ProcessPoolExecutor(jobs, multiprocessing.get_context("fork")) as pool:
+        started: list[Future[Outcome]] = [pool.submit(outcome_of_named, name) for name in checks]
+        yield from (future.result() for future in as_completed(started))
+
+
+def test_name() -> str:
+    """The name of the test that runs: its folder's."""
+    return os.path.basename(os.path.dirname(os.path.abspath(sys.argv[0])))
+
+
+def repetition(name: str) -> str:
+    """The command that repeats a check of this test, with the programs that no launcher built."""
+    named = [
+        f"{variable}={shlex.quote(path)}"
+        for variable, path in USED.items()
+        if not path.startswith(f"{TOP}/")
+    ]
+    return " ".join([*named, os.path.relpath(os.path.abspath(sys.argv[0]), TOP), shlex.quote(name)])
+
+
+def print_outcome(outcome: Outcome) -> None:
+    """Prints how a check ended; if it failed, also what differs and how to repeat it."""
+    print(
+        f"{'FAILED' if outcome.fault else 'ok':6} {outcome.seconds:6.1f} s  {outcome.name}",
+        flush=True,
+    )
+    for line in outcome.printed.splitlines():
+        print(f"  {line}")
+    if outcome.fault:
+        print("".join(f"  {line}\n" for line in outcome.fault.splitlines()), end="")
+        print(f"  repeat: {repetition(outcome.name)}", flush=True)
+
+
+def options_of(words: Sequence[str]) -> tuple[int, list[str]]:
+    """How many checks run at the same time, and the names of checks, from a test's arguments."""
+    jobs, names = len(os.sched_getaffinity(0)), list(words)
+    if names[:1] == ["-j"] and len(names) > 1 and names[1].isdecimal() and int(names[1]):
+        jobs, names = int(names[1]), names[2:]
+    return jobs, names
+
+
+def chosen_of(checks: Mapping[str, Check], names: Sequence[str]) -> dict[str, Check]:
+    """The named checks, or all. A name may lack what follows a colon: then it names each part.
+    Exits with status 2 if there is no check with a name.
+    """
+    chosen: dict[str, Check] = {}
+    for name in names:
+        found = {
+            it: check for it, check in checks.items() if it == name or it.startswith(f"{name}:")
+        }
+        if not found:
+            near = difflib.get_close_matches(name, checks, 3)
+            hint = f": did you mean {', '.join(map(shlex.quote, near))}?" if near else ""
+            print(f"tests/{test_name()} has no check {shlex.quote(name)}{hint}", file=sys.stderr)
+            sys.exit(2)
+        chosen.update(found)
+    return chosen if names else dict(checks)
+
+
+def run_checks(checks: Mapping[str, Check], call: Call, words: Sequence[str]) -> int:
+    """Runs the checks, or those that the words name, and returns the exit status: 0 if all passed,
+    1 if one failed or there is none.
+    """
+    jobs, names = options_of(words)
+    chosen = chosen_of(checks, names)
+    failed, began = [], time.monotonic()
+    for outcome in outcomes(chosen, call, jobs):
+        print_outcome(outcome)
+        failed += [outcome.name] if outcome.fault else []
+    passed, seconds = len(chosen) - len(failed), time.monotonic() - began
+    print(f"{test_name()}: {passed} passed, {len(failed)} failed in {seconds:.1f} s")
+    if failed:
+        print(f"failed: {' '.join(map(shlex.quote, failed))}")
+    return 1 if failed or not chosen else 0
+
+
+def checks_of(*sources: Source) -> dict[str, Check]:
+    """The functions `check_NAME` of modules or dictionaries, by NAME."""
+    found: dict[str, Check] = {}
+    for source in sources:
+        names = source if isinstance(source, Mapping) else vars(source)
+        for name, check in names.items():
+            if name.startswith("check_") and inspect.isfunction(check):
+                assert (
+                    found.setdefault(name[6:], check) is check
+                ), f"two checks have the name {name}"
+    return found
+
+
+def run_on_program(*sources: Source) -> int:
+    """Runs all checks of the sources, or the named ones, with the path of psi_oomd."""
+    program, words = program_of(sys.argv[1:])
+    return run_checks(checks_of(*sources), lambda check, _: check(program), words)
+
+
+def run_in_folders(*sources: Source) -> int:
+    """Runs all checks of the sources, or the named ones, with the path of an empty folder."""
+    return run_checks(checks_of(*sources), lambda check, folder: check(folder), sys.argv[1:])

@@ -1,0 +1,59 @@
+"""Companion files for traces that no recording made, computed from the lines of the trace alone."""
+from __future__ import annotations
+
+from shared.rooms import Room
+
+from psicli.times import wall_time
+from psinames.busy import Clocks
+from psinames.companion import Companion, companion_of, digest_of, write
+from psinames.lives import Life
+
+BEGAN = "2026-11-28T14:00:00+01:00"
+WINDOW = 10**9
+
+
+def first_process(label: int) -> int:
+    """Each task is a process of its own."""
+    return 1000 + label
+
+
+def companion(trace: str, names: dict[int, str], begins: str = BEGAN, processes: dict[int, int] = {}) -> Companion:  # noqa: B006
+    """The companion of a trace: `names` by label, and `processes` of labels that are threads."""
+    size, digest = digest_of([trace.encode()])
+    lives: dict[int, Life] = {}
+    groups: dict[int, str] = {}
+    runs: dict[int, int] = {}
+    found, clocks = Companion(size, digest, 0, wall_time(begins), window=WINDOW), Clocks(WINDOW)
+    for line in trace.splitlines()[1:]:
+        now, verb, *fields = line.split()
+        if verb == "fork":
+            label = int(fields[0])
+            process = processes.get(label, first_process(label))
+            leader = next((it for it in reversed(found.tasks) if it.task == process), None)
+            life = lives[label] = Life(label, int(now), first_process(label), process, leader)
+            life.rename(int(now), names.get(label, f"task {label}"))
+            found.tasks.append(life)
+            groups[label] = fields[1]
+        elif verb == "move":
+            groups[int(fields[0])] = fields[1]
+            for processor, label in runs.items():
+                if label == int(fields[0]):
+                    clocks.run(processor, fields[1], lives[label], int(now))
+        elif verb == "switch":
+            processor, label = int(fields[0]), int(fields[1])
+            clocks.run(processor, groups.get(label, ""), lives.get(label), int(now))
+            if fields[2] == "exit":
+                gone = runs[processor]
+                lives.pop(gone).last = int(now)
+            runs[processor] = label
+        elif verb == "end":
+            found.length = int(now)
+    found.busy = clocks.finish(found.length)
+    return found
+
+
+def with_companion(room: Room, name: str, trace: str, found: Companion) -> str:
+    """Writes a trace and its companion."""
+    room.file(name, trace)
+    write(f"{room.path}/{companion_of(name)}", found)
+    return name

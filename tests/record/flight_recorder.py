@@ -1,0 +1,93 @@
+"""Cases of the flight recorder."""
+from __future__ import annotations
+
+import os
+import re
+import signal
+import time
+
+from record import machine_folder as folder
+from record.runs import Run, must, must_be, read
+
+
+UNTIL = ("--ring", "--until", "memory full 100000 1000000")
+
+
+def fire(top: str) -> None:
+    """Signals pressure."""
+    with open(f"{top}/trigger", "wb", buffering=0) as trigger:
+        trigger.write(b"x")
+
+
+def check_ring_that_fires(top: str) -> None:
+    folder.make_machine(top, overrun=7, pages=2)
+    run = Run(top, *UNTIL, "--after-s", "0.7", "--pressure-s", "0.2")
+    run.instance()
+    time.sleep(0.5)
+    must_be("nothing is written before", os.path.getsize(f"{run.out}/cpu0.raw"), 0)
+    fire(top)
+    run.ended(0).says("ended by trigger")
+    must_be("the end and the trigger", run.values("end") + run.values("ring"), ["trigger", "memory full 100000 1000000"])
+    must_be("pages", run.file("cpu1.raw"), b"\2" * (2 * folder.PAGE_BYTES))
+    markers, fired = read(f"{top}.markers"), float(run.values("fired")[0])
+    must_be("one signal", markers.count("psirec fired"), 1)
+    must(re.search(r"fired.*pressure \d+ begin.*stop$", markers), "it goes on for a while after the signal")
+    must(0.6 < time.monotonic() - fired < 5, "and then ends")
+    numbers = re.findall(r"^sample (\d+) / io$", run.file("pressure").decode(), re.MULTILINE)
+    must_be("the readings are there", numbers, [str(it) for it in range(len(numbers))])
+    must(len(numbers) > 4, f"all of them: {numbers}")
+
+
+def check_ring_that_is_stopped(top: str) -> None:
+    folder.make_machine(top, overrun=7)
+    run = Run(top, "--ring", "--memory-s", "30", "--pressure-s", "30")
+    run.instance()
+    time.sleep(0.3)
+    run.child.send_signal(signal.SIGINT)
+    sent = time.monotonic()
+    run.ended(0)
+    must(time.monotonic() - sent < 5, "it ends at once, though nothing is due for long")
+    must_be("the end", run.values("end") + run.values("ring") + run.values("fired"), ["signal", "none"])
+    must_be("pages", run.file("cpu0.raw"), b"\1" * folder.PAGE_BYTES)
+
+
+def check_ring_where_the_buffers_begin(top: str) -> None:
+    """Processor 1's events were overwritten until just after the first snapshot, so a later
+    snapshot must be taken.
+    """
+    folder.make_machine(top)
+    run = Run(top, *UNTIL)
+    instance = run.instance()
+    while "snapshot end" not in read(f"{top}.markers"):
+        time.sleep(0.02)
+    time.sleep(0.1)
+    begin = f"{time.monotonic():.6f}"
+    folder.write(f"{instance}/per_cpu/cpu1/stats", folder.STATS.format(overrun=7, oldest=begin))
+    run.child.terminate()
+    run.ended(0)
+    must_be("where the buffers begin", run.values("ring-start"), [begin])
+    moment = int(run.file("snapshot").split()[1])
+    must(moment >= float(begin) * 1e9, f"the snapshot lies inside: {moment}")
+    must_be("and is inside by the markers", read(f"{top}.markers").count("snapshot begin"), 2)
+
+
+def check_ring_that_was_too_small(top: str) -> None:
+    """The signal comes, and is overwritten before the recording ends."""
+    start = time.monotonic()
+    folder.make_machine(top, overrun=7, oldest=f"{start + 60:.6f}")
+    run = Run(top, *UNTIL, "--after-s", "0.3")
+    run.instance()
+    fire(top)
+    run.ended(3).says("was overwritten", "--buffer-kb")
+    must_be("the end", run.values("end"), ["trigger"])
+
+
+def check_ring_that_was_not_overwritten(top: str) -> None:
+    """If nothing was overwritten, an idle processor's oldest event means nothing."""
+    start = time.monotonic()
+    folder.make_machine(top, oldest=f"{start + 60:.6f}")
+    run = Run(top, *UNTIL, "--seconds", "1").ended(0)
+    begin = float(run.values("ring-start")[0])
+    snapshot = int(run.file("snapshot").split()[1]) / 1e9
+    must(start < begin < snapshot < start + 60, f"it begins with the recording: {begin - start}")
+    must_be("one snapshot is enough", read(f"{top}.markers").count("snapshot begin"), 1)

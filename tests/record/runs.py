@@ -1,0 +1,102 @@
+"""A run of tools/record with its own folder as the machine, and the checks of it."""
+from __future__ import annotations
+
+import contextlib
+import os
+import signal
+import subprocess
+import time
+
+from harness import Wrong, must, must_be
+from record import machine_folder as folder
+
+TOP = os.path.dirname(os.path.dirname(os.path.dirname(os.path.abspath(__file__))))
+RECORD = os.path.join(os.environ.get("RECORD_TOOLS", os.path.join(TOP, "tools")), "record")
+
+
+# ---------------------------------------------------------------- runs
+
+
+# Under nohup, tests would inherit that a hangup is ignored, and a recorder keeps that; nohup has
+# its own case.
+signal.signal(signal.SIGHUP, signal.SIG_DFL)
+
+# The recorders that were started, by folder of the recording.
+STARTED: dict[str, subprocess.Popen[str]] = {}
+
+
+def end_all(scratch: str) -> None:
+    """Ends the recorders of a failed case: those whose recordings are below this folder."""
+    for out in [it for it in STARTED if it.startswith(f"{scratch}/")]:
+        child = STARTED.pop(out)
+        if child.poll() is None:
+            child.kill()
+            child.communicate()
+
+
+class Run:
+    """A recorder with its own folder as the machine, and the results of both."""
+
+    def __init__(self, top: str, *words: str, name: str = "out", prefix: tuple[str, ...] = ()) -> None:
+        self.top, self.out, self.before, self.said = top, f"{top}.{name}", folder.listing(top), ""
+        command = [*prefix, RECORD, "--root", top, self.out, *words]
+        nothing, pipe = subprocess.DEVNULL, subprocess.PIPE
+        self.child = subprocess.Popen(command, stdin=nothing, stdout=pipe, stderr=pipe, text=True)
+        STARTED[self.out] = self.child
+
+    def ended(self, status: int, is_same: bool = True) -> Run:
+        """Waits for the end with this status; the folder must be unchanged, unless the case itself
+        has changed it.
+        """
+        try:
+            printed, self.said = self.child.communicate(timeout=20)
+        except subprocess.TimeoutExpired:
+            self.child.kill()
+            raise Wrong(f"it doesn't end: {self.child.communicate()}") from None
+        must_be(f"the status, after {self.said!r}", self.child.returncode, status)
+        must_be("standard output", printed, "")
+        if is_same:
+            after = folder.listing(self.top)
+            changed = [it for it in sorted({*self.before, *after}) if self.before.get(it) != after.get(it)]
+            must_be("what isn't as before", changed, [])
+        return self
+
+    def says(self, *words: str) -> Run:
+        """Standard error contains these words."""
+        for word in words:
+            must(word in self.said, f"standard error says {word!r}: {self.said!r}")
+        return self
+
+    def file(self, name: str) -> bytes:
+        """The content of a file of the recording."""
+        with open(f"{self.out}/{name}", "rb") as file:
+            return file.read()
+
+    def values(self, key: str) -> list[str]:
+        """The values of a key of `meta`."""
+        lines = self.file("meta").decode().splitlines()
+        must(lines[0] == "recording 2" and lines[-1].startswith("end "), f"the first and the last line of meta: {lines}")
+        return [it.partition(" ")[2] for it in lines if it.partition(" ")[0] == key]
+
+    def instance(self) -> str:
+        """The folder of its tracing instance, as soon as it records."""
+        waited = time.monotonic() + 30
+        while time.monotonic() < waited and self.child.poll() is None:
+            for name in os.listdir(f"{self.top}/tracing/instances"):
+                if read(f"{self.top}/tracing/instances/{name}/tracing_on").startswith("1") and read(f"{self.top}.markers"):
+                    return f"{self.top}/tracing/instances/{name}"
+            time.sleep(0.02)
+        raise Wrong(f"it never records: {self.child.communicate()}")
+
+
+def read(path: str) -> str:
+    """The text of a file; empty if it doesn't exist."""
+    with contextlib.suppress(OSError), open(path, encoding="utf-8", errors="surrogateescape") as file:
+        return file.read()
+    return ""
+
+
+def whole(top: str, *words: str, overrun: int = 0, pages: int = 1) -> Run:
+    """A run over a whole machine."""
+    folder.make_machine(top, overrun=overrun, pages=pages)
+    return Run(top, *(words or ("--seconds", "0.4")))

@@ -1,0 +1,105 @@
+"""Shared by checks of pages: pages of the story and of others, and their contents."""
+from __future__ import annotations
+
+import functools
+import html.parser
+import json
+import os
+import re
+import subprocess
+import sys
+import tempfile
+from typing import Any, Optional
+
+from harness import must, must_be
+from shared.program import TOP
+
+REPORT = "tools/report"
+# What differs from run to run, and from build to build: the time, the commit and the program's sum.
+CHANGING = re.compile(r'(<(?:time|code) class="(?:made|commit|program)">)[^<]*')
+VOID = {"meta", "input", "br"}
+
+
+class Node:
+    """An element of a page, with its texts and elements in order."""
+
+    def __init__(self, tag: str, attributes: dict[str, str]) -> None:
+        self.tag, self.attributes = tag, attributes
+        self.children: list[Node | str] = []
+
+    def find(self, tag: str, **wanted: str) -> list[Node]:
+        """All descendants with this name and these attributes (one class among several suffices)."""
+        found = []
+        for it in self.children:
+            if isinstance(it, Node):
+                is_wanted = all(value in it.attributes.get(name.rstrip("_"), "").split(" ") for name, value in wanted.items())
+                found += [it] if it.tag == tag and is_wanted else []
+                found += it.find(tag, **wanted)
+        return found
+
+    def text(self) -> str:
+        return "".join(it if isinstance(it, str) else it.text() for it in self.children)
+
+
+class Reader(html.parser.HTMLParser):
+    """Reads a page, whose elements must be closed in order."""
+
+    def __init__(self) -> None:
+        super().__init__()
+        self.open = [Node("", {})]
+
+    def handle_starttag(self, tag: str, attrs: list[tuple[str, Optional[str]]]) -> None:
+        node = Node(tag, {name: value or "" for name, value in attrs})
+        self.open[-1].children.append(node)
+        if tag not in VOID:
+            self.open.append(node)
+
+    def handle_endtag(self, tag: str) -> None:
+        must_be("the element that ends", self.open.pop().tag, tag)
+
+    def handle_data(self, data: str) -> None:
+        self.open[-1].children.append(data)
+
+
+def read(page: bytes) -> Node:
+    reader = Reader()
+    reader.feed(page.decode())
+    must_be("elements that are still open", len(reader.open), 1)
+    return reader.open[0]
+
+
+def run(program: str, *words: str, folder: str = TOP) -> subprocess.CompletedProcess[bytes]:
+    environment = {**os.environ, "PSI_OOMD": program}
+    return subprocess.run([sys.executable, os.path.join(TOP, REPORT), *words], cwd=folder, capture_output=True, env=environment)
+
+
+def page_of(program: str, *words: str, folder: str = TOP) -> bytes:
+    """A page; the run must succeed."""
+    done = run(program, *words, folder=folder)
+    must_be(f"the status of report {words}, which said {done.stderr!r}", done.returncode, 0)
+    return done.stdout
+
+
+@functools.lru_cache(maxsize=None)
+def story(program: str) -> bytes:
+    """The page of the story, made as in README."""
+    with tempfile.TemporaryDirectory() as folder:
+        os.symlink(os.path.join(TOP, "examples"), os.path.join(folder, "examples"))
+        page_of(program, "examples/runaway.trace", "--rules", "examples/runaway.json", "-o", "runaway.html", folder=folder)
+        with open(os.path.join(folder, "runaway.html"), "rb") as file:
+            return file.read()
+
+
+def data_of(page: Node) -> dict[str, Any]:
+    """The data for the script."""
+    (found,) = page.find("script", id="data")
+    told: dict[str, Any] = json.loads(found.text())
+    must(told["panels"], "there are panels")
+    return told
+
+
+def same(page: bytes) -> str:
+    """The page without what differs from run to run."""
+    text = CHANGING.sub(r"\1", page.decode())
+    must(text.count('class="made"') == text.count('class="commit"') == text.count('class="program"') == 1, "each stands there once")
+    return text

@@ -1,0 +1,233 @@
+"""Checks of the page's verdict: what stalled most, which ruleset came nearest, what a kill would have changed, and its caveats."""
+from __future__ import annotations
+
+import json
+import os
+import re
+import tempfile
+from types import SimpleNamespace
+from typing import Any, Optional
+from xml.etree import ElementTree
+
+from shared.printed import Printed
+from harness import must, must_be
+from shared.outputs import run
+from shared.program import TOP
+from psireport.trust import recording
+
+from .faults import fault
+from .pages import Node, page_of, read
+from .told import lead_of
+
+SECOND = 10**9
+RUNAWAY = os.path.join(TOP, "examples", "runaway.trace")
+
+# A task of the root always waits for IO, and the only group is empty.
+ROOT = "psitrace 1 cpus=1\n0 group /idle\n0 fork 1 / 0\n0 switch 0 1 idle\n0 switch 0 0 iowait\n60000000000 end\n"
+# Half of the time goes to interrupts, and nothing else happens.
+INTERRUPTS = "psitrace 2 cpus=1\n0 group /a\n0 fork 1 /a 0\n0 switch 0 1 idle\n" + "".join(
+    f"{second}000000000 irq 0 500000000\n" for second in range(1, 41)
+) + "40000000000 end\n"  # fmt: skip
+
+
+def stalled(task: int, start: int, end: int) -> list[tuple[int, str]]:
+    """A task that stalls for memory on processor `task` - 1 from `start` to `end` (s), and sleeps
+    during the stall and after it.
+    """
+    cpu = task - 1
+    begin = [(0, f"switch {cpu} {task} idle"), (start, f"stall {task}"), (start, f"switch {cpu} 0 sleep")]
+    return begin + [(end, it) for it in (f"wake {task} {cpu}", f"switch {cpu} {task} idle", f"unstall {task}", f"switch {cpu} 0 sleep")]
+
+
+def two_stalls(end: int, other: int = 14, first: int = 10, host: str = "host 1000000 0 0") -> str:
+    """A trace in which /a/b stalls from 2 s to `first`, and /x from 2 s to `other` (s)."""
+    made = [(0, host)] if host else []
+    made += [(0, it) for it in ("group /a", "group /a/b", "group /x", "fork 1 /a/b 0", "fork 2 /x 1")]
+    events = sorted([*stalled(1, 2, first), *stalled(2, 2, other)], key=lambda it: it[0])
+    lines = [f"{second * SECOND} {text}" for second, text in [*made, *events, (end, "end")] if second <= end]
+    return "\n".join(["psitrace 1 cpus=2", *lines, ""])
+
+
+OVER = two_stalls(60)
+
+
+def detector(name: str, **args: str) -> dict[str, Any]:
+    return {"name": name, "args": args}
+
+
+def pressure(cgroup: str, threshold: str, duration: str = "0") -> dict[str, Any]:
+    return detector("pressure_above", cgroup=cgroup, resource="memory", threshold=threshold, duration=duration)
+
+
+def ruleset(name: str, cgroup: str, *detectors: dict[str, Any]) -> dict[str, Any]:
+    return {"name": name, "detectors": [["group", *detectors]], "actions": [detector("kill_by_memory_size_or_growth", cgroup=cgroup)]}
+
+
+def page(program: str, trace: str, rulesets: Optional[list[dict[str, Any]]] = None, *words: str) -> Node:
+    """The page of a trace, passed as text or as a path, with rules."""
+    with tempfile.TemporaryDirectory() as folder:
+        if trace.startswith("psitrace"):
+            with open(os.path.join(folder, "a.trace"), "w", encoding="ascii") as file:
+                file.write(trace)
+            trace = "a.trace"
+        if rulesets is not None:
+            with open(os.path.join(folder, "rules.json"), "w", encoding="utf-8") as file:
+                json.dump({"rulesets": rulesets}, file)
+            words = ("--rules", "rules.json", *words)
+        return read(page_of(program, trace, *words, folder=folder))
+
+
+def title_of(found: Node) -> str:
+    (heading,) = found.find("h1")
+    must_be("the title", found.find("title")[0].text(), heading.text())
+    return heading.text()
+
+
+def highest(program: str, trace: str, *key: str) -> float:
+    """The highest printed share, in percent."""
+    return max(it for _, it in Printed(run([program, "replay", "-", "--report-s", "1"], trace.encode())).shares[key])  # type: ignore[index]
+
+
+def check_the_root_alone(program: str) -> None:
+    """If only the root stalled, and no group, the page says so."""
+    found = page(program, ROOT)
+    most = highest(program, ROOT, "/", "io", "some", "avg10")
+    must(most > 99, f"the root waits: {most}")
+    must(lead_of(found).startswith("The machine waited for IO, ") and f"up to {most:.2f} percent" in lead_of(found), lead_of(found))
+    must_be("the title", title_of(found), "Incident: IO pressure of /")
+
+
+def check_interrupts_alone(program: str) -> None:
+    """Interrupts count as a stall if there is no other."""
+    found = page(program, INTERRUPTS)
+    must(lead_of(found).startswith("The machine was held up by interrupts, at its worst from "), lead_of(found))
+    must_be("the title", title_of(found), "Incident: interrupt pressure of /")
+
+
+def check_the_nearest_ruleset(program: str) -> None:
+    """The nearest ruleset is the one closest to a threshold. A detector for a group's existence
+    doesn't count.
+    """
+    full = Printed(run([program, "replay", "examples/runaway.trace", "--report-s", "1"])).shares["/batch", "memory", "full", "avg10"]
+    share, at = max(((share, moment) for moment, share in full if moment // SECOND % 10 in (0, 6)), key=lambda it: (it[0], -it[1]))
+    far = ruleset("far", "web", detector("exists", cgroup="web"), pressure("web", "10"))
+    high, low = (ruleset(f"above {it}", "batch/*", pressure("batch", it)) for it in ("99", "90"))
+    for rulesets, number in (([far, high, low], 2), ([low, high, far], 0), ([high, low], 1)):
+        wanted = f"nearest was ruleset {number} ‘above 90’: full memory pressure of /batch over 10 s was {share:.2f} percent at"
+        must(f"{wanted} {at // SECOND} s, {90 - share:.2f} below the threshold of 90." in lead_of(page(program, RUNAWAY, rulesets)), f"{rulesets}")
+    alone = lead_of(page(program, RUNAWAY, [far]))
+    must("killed nobody; nothing that they watch came near a threshold." in alone, alone)
+    lasting = lead_of(page(program, RUNAWAY, [high, ruleset("long", "batch/*", pressure("batch", "40", "9999"))]))
+    must(f"ruleset 1 ‘long’: full memory pressure of /batch over 10 s was {share:.2f} percent at {at // SECOND} s, above the"
+         " threshold of 40 for 94 s at most, 9905 s short of 9999 s." in lasting, lasting)  # fmt: skip
+    nowhere = lead_of(page(program, RUNAWAY, [ruleset("nowhere", "nowhere/*", pressure("batch", "40"))]))
+    must("killed nobody; ruleset 0 ‘nowhere’ fired at 126 s, and no live group matches 'nowhere/*'." in nowhere, nowhere)
+
+
+def check_a_kill_after_the_stall(program: str) -> None:
+    """The kill would have changed nothing, and the page says that instead of printing the same
+    number twice.
+    """
+    found = page(program, OVER, [ruleset("late", "a/*", pressure("a", "5", "10"))])
+    must("would have killed /a/b at 16 s, which says little before 30 s; the kill would have changed nothing: the stall was over." in
+         lead_of(found), lead_of(found))  # fmt: skip
+    still = lead_of(page(program, two_stalls(60, first=50), [ruleset("early", "a/*", pressure("a", "5", "10"))]))
+    must("; without it /a would have had at most " in still, still)
+
+
+def check_the_worst_group(program: str) -> None:
+    """The title and the first sentence name the worst group, though the rules watch another one."""
+    found = page(program, OVER, [ruleset("late", "a/*", pressure("a", "5", "10"))])
+    must_be("the title", title_of(found), "Incident: memory pressure of /x and /a")
+    shares = [highest(program, OVER, path, "memory", "some", "avg10") for path in ("/x", "/a")]
+    must(shares[0] > shares[1], f"{shares}")
+    said = lead_of(found)
+    must(said.startswith("/x stalled for memory, at its worst from ") and f"up to {shares[0]:.2f} percent" in said, said)
+    must("/a, which the rules watch, stalled for memory, " in said and f"up to {shares[1]:.2f} percent" in said, said)
+    drawn = [it.attributes["data-group"] for it in found.find("figure") if "data-group" in it.attributes]
+    must({"/x", "/a"} <= set(drawn), f"both are drawn: {drawn}")
+
+
+def check_short_traces(program: str) -> None:
+    """The first sentence says what the averages can't show."""
+    little, less = "averages mean little before 30 s, those over 60 and 300 s before 3 min", "averages over 60 and 300 s mean little before 3 min"
+    for end, wanted in ((20, little), (29, little), (30, less), (179, less), (180, "")):
+        first = re.split(r"(?<=\.) ", lead_of(page(program, two_stalls(end))))[0]
+        must(first.endswith(f"; {wanted}." if wanted else " s)."), f"{end} s: {first}")
+    nobody = lead_of(page(program, two_stalls(20), [ruleset("high", "a/*", pressure("a", "99"))]))
+    must("The rules would have killed nobody, which says little before 30 s; nearest was " in nobody, nobody)
+
+
+def check_a_machine_without_swap(program: str) -> None:
+    rules = [ruleset("swap", "a/*", detector("swap_free", threshold_pct="10"))]
+    must("the machine has no swap" in page(program, OVER, rules).text(), "a host without swap")
+    must("the trace says nothing of swap" in page(program, two_stalls(60, host=""), rules).text(), "a trace without a host")
+
+
+def check_control_characters(program: str) -> None:
+    """No name brings a control character onto the page."""
+    rules = [ruleset("a\0b\x1b[31mred\x7f", "a/*", pressure("a", "5", "10"))]
+    rules[0]["detectors"][0][0] = "g\0\x1b[2J"
+    text = page(program, OVER, rules).text()
+    must(not re.search(r"[\x00-\x08\x0b-\x1f\x7f-\x9f]", text), "there is none")
+    must("g\\x00\\x1b[2J" in text, "they are written as escapes")
+
+
+def check_rules_on_other_groups(program: str) -> None:
+    """A pattern that matches no group is reported right after the first sentences."""
+    found = page(program, OVER, [ruleset("slip", "a/*", pressure("/aa", "5"))])
+    notes = [it.text() for it in found.find("p", class_="note")]
+    must_be("the note", notes, ["No group of the trace matches 'aa' of ruleset 'slip': there the rules can do nothing."])
+    text = found.text()
+    must(text.index("No group of the trace matches") < text.index("What happened when"), "it is near the top")
+    must_be("no note", page(program, OVER, [ruleset("right", "a/*", pressure("a", "5"))]).find("p", class_="note"), [])
+
+
+def check_words_that_name_nothing(program: str) -> None:
+    """A missing group, a folder as the page, and each file by its purpose."""
+    for word, told in (("batch", "/batch, .."), ("/bathc", "/batch, .."), ("/nosuch", "")):
+        said = fault(program, 11, RUNAWAY, "--group", word)
+        must(said.startswith(f"no group {word} in the replay, which has {told}"), said)
+    for words, status, wanted in (
+        (["nope.trace"], 4, "there is no trace nope.trace"),
+        ([RUNAWAY, "--rules", "nope.json"], 4, "there is no rules file nope.json"),
+        ([RUNAWAY, "--rules", RUNAWAY, "--drop-in", "nope.json"], 4, "there is no drop-in file nope.json"),
+        ([RUNAWAY, "--rules", TOP], 5, f"the rules file {TOP} is a folder"),
+        ([RUNAWAY, "--recording", "nope"], 4, "the recording nope isn't a folder"),
+    ):
+        must_be(f"{words}", fault(program, status, *words), wanted)
+    said = fault(program, 3, RUNAWAY, "--rules", RUNAWAY)
+    must(said.endswith("rules: BadJson: it is a trace, not a rules file"), said)
+    with tempfile.TemporaryDirectory() as folder:
+        page_folder = os.path.join(folder, "page")
+        os.mkdir(page_folder)
+        must_be("a folder", fault(program, 2, RUNAWAY, "-o", page_folder), f"{page_folder} is a folder: name a file in it")
+        must_be("what is there", os.listdir(folder), ["page"])
+
+
+def trust_text(compared: str, said: str) -> str:
+    """The page's part on a recording, for these messages of compare and psitrace."""
+    run_ = SimpleNamespace(number=1, text=lambda: compared, said=said)
+    element = ElementTree.Element("body")
+    recording(element, SimpleNamespace(recorded=SimpleNamespace(compared=run_, summary=run_, is_same=True)))  # type: ignore[arg-type]
+    (section,) = read(ElementTree.tostring(element, "utf-8", method="html")).find("section")
+    for it in section.find("details"):
+        it.children = []
+    return section.text()
+
+
+def check_repairs_and_causes(program: str) -> None:
+    """Harmless repairs cause no distrust, and totals beyond their limits have their cause beside
+    them.
+    """
+    del program
+    verdict, cause = "3 of 9 totals from 0.5 s on are beyond (!) their limits: 2.5 %", "3 of cpu are too small: the kernel counts"
+    rows = "\n".join(f"| {it} | io |" for it in ("group", "-", "/", "/a"))
+    harmless = "psitrace: mended: wait for IO ended at a migration: 2261\npsitrace: mended: number changed by exec: 3"
+    text = trust_text(f"times\n\n{rows}\n\n{verdict}\n{cause}\n", harmless)
+    must(verdict in text and cause in text and text.index(verdict) < text.index(cause), f"both are shown: {text}")
+    must("the less the trace can be trusted" not in text, f"nothing is distrusted: {text}")
+    harm = f"{harmless}\npsitrace: mended: task ran that wasn't known to be ready there: 87"
+    text = trust_text(f"times\n\n{rows}\n\n{verdict}\n{cause}\n", harm)
+    must("the less the trace can be trusted" in text and "to be ready there: 87" in text, f"real damage is: {text}")
+    must("ended at a migration" not in text, f"and the harmless repair isn't: {text}")

@@ -1,0 +1,76 @@
+"""What differs between two values, as a unified diff for people to read."""
+from __future__ import annotations
+
+import difflib
+import pprint
+from collections.abc import Mapping, Sequence
+
+# The columns after which a line is wrapped, so that a difference within a long line shows.
+COLUMNS = 160
+# The most lines of a difference that are shown: more are cut in the middle.
+MOST_LINES = 80
+
+
+def wrapped(line: str) -> list[str]:
+    """The pieces of a line of at most COLUMNS each."""
+    return [line[at : at + COLUMNS] for at in range(0, len(line), COLUMNS)] or [""]
+
+
+def text_lines(text: str) -> list[str]:
+    """The lines of a text, with control characters escaped."""
+    lines = text.split("\n")
+    ends = lines.pop() == ""
+    shown = [
+        line if line.isprintable() else line.encode("unicode_escape").decode() for line in lines
+    ]
+    return (
+        [piece for line in shown for piece in wrapped(line)]
+        if ends
+        else [*text_lines(text + "\n"), "(no newline at the end)"]
+    )
+
+
+def lines_of(value: object) -> list[str]:
+    """A value as lines: a text's own lines, and those of each item of a sequence or mapping."""
+    if isinstance(value, (bytes, bytearray)):
+        return lines_of(value.decode("utf-8", "backslashreplace"))
+    if isinstance(value, str):
+        return text_lines(value) if "\n" in value or len(value) > COLUMNS else [repr(value)]
+    if isinstance(value, Mapping):
+        return [line for key, item in value.items() for line in item_lines(repr(key), item)]
+    if isinstance(value, Sequence) and not hasattr(value, "_fields"):
+        return [line for item in value for line in item_lines("", item)]
+    return [
+        piece
+        for line in pprint.pformat(value, width=COLUMNS).splitlines()
+        for piece in wrapped(line)
+    ]
+
+
+def item_lines(name: str, item: object) -> list[str]:
+    """The lines of an item, after its name if it has one."""
+    lines = lines_of(item) if isinstance(item, (str, bytes)) else [repr(item)]
+    lines = [piece for line in lines for piece in wrapped(line)]
+    head = f"{name}: " if name else ""
+    return [head + lines[0], *lines[1:]] if lines else [head]
+
+
+def cut(lines: list[str]) -> list[str]:
+    """These lines, or only the first and last of them and how many are between."""
+    if len(lines) <= MOST_LINES:
+        return lines
+    half = MOST_LINES // 2
+    return [
+        *lines[:half],
+        f".. {len(lines) - 2 * half:,} more lines of the difference ..",
+        *lines[-half:],
+    ]
+
+
+def difference(expected: object, actual: object) -> str:
+    """How the actual value differs from the expected one."""
+    old, new = lines_of(expected), lines_of(actual)
+    if len(old) <= 1 and len(new) <= 1 or old == new:
+        return f"  expected: {expected!r}\n  actual:   {actual!r}"
+    found = list(difflib.unified_diff(old, new, "expected", "actual", n=2, lineterm=""))
+    return "\n".join(f"  {line}" for line in cut(found))

@@ -1,0 +1,43 @@
+"""Outputs of the program and of tools that draw, convert or show them."""
+from __future__ import annotations
+
+import functools
+import os
+import subprocess
+from typing import Sequence
+
+from harness import must, must_be
+from shared.program import TOP
+
+RUNAWAY = (
+    "replay",
+    "examples/runaway.trace",
+    "--rules",
+    "examples/runaway.json",
+    "--report-s",
+    "2",
+)
+
+
+def run(words: Sequence[str], given: bytes = b"") -> bytes:
+    """The output of a run, which must succeed."""
+    done = subprocess.run(words, cwd=TOP, input=given, capture_output=True)
+    must_be(f"the status of {words}, which said {done.stderr!r}", done.returncode, 0)
+    return done.stdout
+
+
+@functools.lru_cache(maxsize=None)
+def story(program: str) -> bytes:
+    """The output of a replay of the story."""
+    return run([program, *RUNAWAY])
+
+
+def fault_of(tool: str, printed: bytes, *words: str, **variables: str) -> str:
+    """The tool's message for a fault: the tool must print nothing else, and exit with status 2, with
+    11 for a group that isn't there, or with 12 for a time.
+    """
+    at = {**os.environ, **variables}
+    done = subprocess.run([tool, *words], cwd=TOP, input=printed, capture_output=True, env=at)
+    must_be(f"the output of {words}", done.stdout, b"")
+    must(done.returncode in (2, 11, 12), f"the status of {words}: {done.returncode}")
+    return done.stderr.decode()

@@ -1,0 +1,91 @@
+"""Who ran while a group waited, and who stalled at the same time, by a plain walk: the reference
+for tools/blame.
+
+It follows docs/TRACES.md alone: after each event it looks at all tasks of tests/shared/machine.py, on each
+processor, for each group.
+"""
+from __future__ import annotations
+
+import collections
+from typing import NamedTuple, Optional
+
+from shared.machine import Machine
+
+WAITS_FOR_IO, IN_A_STALL, WAITS = 0, 2, 4
+# Times (ns) by group, and by the group that ran or was in the same state. Groups are numbered in
+# the order of their creation; None means that nothing ran.
+Pairs = collections.Counter[tuple[int, Optional[int]]]
+
+
+class Plain(NamedTuple):
+    """The sums of an interval. `times` is by group, processor and state; `less` by group, for a
+    victim.
+    """
+
+    ran: collections.Counter[int]
+    times: collections.Counter[tuple[int, int, int]]
+    while_ran: Pairs
+    beside: dict[int, Pairs]
+    less: collections.Counter[int]
+    while_victim: collections.Counter[int]
+
+
+def runner_of(machine: Machine, cpu: int) -> Optional[int]:
+    """The group of the task that runs on the processor."""
+    running = machine.running(cpu)
+    return machine.tasks[running[0]].group if running else None
+
+
+def would_wait(machine: Machine, cpu: int, victims: set[int]) -> bool:
+    """Whether a task would wait there if the tasks of these groups, one of which runs, didn't
+    exist: one more task could run.
+    """
+    ready = [task for task in machine.tasks.values() if task.cpu == cpu and task.at == "ready" and task.group not in victims]
+    return len(ready) > 1
+
+
+def add_stretch(plain: Plain, machine: Machine, victims: set[int], length: int) -> None:
+    """Adds what holds for `length` ns."""
+    groups, cpus = range(len(machine.parents)), range(machine.cpus)
+    holds = {(group, cpu): machine.holds(cpu, group) for group in groups for cpu in cpus}
+    for cpu in cpus:
+        runner = runner_of(machine, cpu)
+        for group in groups:
+            plain.ran[group] += length * (runner is not None and machine.is_under(runner, group))
+            for state in (WAITS_FOR_IO, IN_A_STALL, WAITS):
+                plain.times[group, cpu, state] += length * holds[group, cpu][state]
+            if not holds[group, cpu][WAITS]:
+                continue
+            plain.while_ran[group, runner] += length
+            if runner in victims:
+                plain.while_victim[group] += length
+                plain.less[group] += length * (not would_wait(machine, cpu, victims))
+    for state, pairs in plain.beside.items():
+        for group in groups:
+            many = sum(holds[group, cpu][state] for cpu in cpus)
+            for other in groups:
+                pairs[group, other] += length * many * any(holds[other, cpu][state] for cpu in cpus)
+
+
+def walk(trace: str, start: int, to: int, victim: str) -> Plain:
+    """The sums from `start` to `to` (ns). The victim is all groups with this path, and those below."""
+    header, *lines = trace.splitlines()
+    machine = Machine(int(header.partition("cpus=")[2]))
+    plain = Plain(
+        collections.Counter(), collections.Counter(), Pairs(), {WAITS_FOR_IO: Pairs(), IN_A_STALL: Pairs()},
+        collections.Counter(), collections.Counter(),
+    )  # fmt: skip
+    victims = {0} if victim == "/" else set[int]()
+    last = 0
+    for line in lines:
+        moment, verb, *fields = line.split(" ")
+        length = min(int(moment), to) - max(last, start)
+        if length > 0:
+            add_stretch(plain, machine, victims, length)
+        last = int(moment)
+        machine.take(verb, *fields)
+        if verb == "group":
+            made = machine.live[fields[0]]
+            if fields[0] == victim or machine.parents[made] in victims:
+                victims.add(made)
+    return plain

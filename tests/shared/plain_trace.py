@@ -1,0 +1,255 @@
+"""Which traces are rejected, at which line and for which cause, computed plainly: the reference for
+psi_oomd.
+
+It follows docs/TRACES.md alone: a line is spelled as defined there, or it is malformed; then it is
+checked against the state after the previous lines. If a line has several causes, the first in the
+order of that page's table is reported.
+"""
+from __future__ import annotations
+
+import re
+from collections.abc import Iterator
+from typing import Callable, Optional
+
+from shared.machine import Machine, parent_of
+
+LONGEST_LINE = 512
+MOST_MOMENT, MOST_NUMBER = 2 * 10**15, 2**64 - 1
+MOST_EVENTS, MOST_GROUPS, MOST_TASKS, MOST_TRIGGERS, MOST_PRESSURES = 4_000_000, 1024, 65_536, 256, 65_536
+MOST_INTERRUPTS = 10**9
+# The causes for a line that is spelled correctly, in their order.
+ORDER = (
+    "TimeBack", "TimeTooLate", "TooManyEvents", "TooManyGroups", "TooManyTasks", "TooManyTriggers", "TooManyPressures",
+    "UnknownGroup", "GroupExists", "NoParent", "GroupBusy", "RootPressure", "UnknownTask", "TaskExists", "BadWindow", "BadCpu",
+    "NotRunning", "NotReady", "NotBlocked", "WrongHow", "InStall", "NotInStall", "IrqTooLong",
+)  # fmt: skip
+Refusal = tuple[int, str]
+
+# ---------------------------------------------------------------- spelling
+
+Form = Callable[[str], bool]
+
+
+def number(least: int, most: int) -> Form:
+    """A form: a decimal number in a range, without leading zeros."""
+    return lambda text: bool(re.fullmatch("0|[1-9][0-9]{0,19}", text, re.ASCII)) and least <= int(text) <= most
+
+
+def word(*words: str) -> Form:
+    return lambda text: text in words
+
+
+def is_path(text: str) -> bool:
+    """Whether a text is the root, or 1 to 32 components, each after a slash, with at most 255 bytes
+    in total.
+    """
+    parts = text[1:].split("/")
+    are_names = all(re.fullmatch(r"[A-Za-z0-9_.@:\\-]+", part, re.ASCII) and part not in (".", "..") for part in parts)
+    return text == "/" or (text[:1] == "/" and are_names and len(parts) <= 32 and len(text) <= 255)
+
+
+PID, CPU, NEXT = number(1, 2**32 - 1), number(0, 2**32 - 1), number(0, 2**32 - 1)
+SIZE, TIME = number(0, 2**60), number(0, MOST_NUMBER)
+FIELDS: dict[str, tuple[Form, ...]] = {
+    "group": (is_path,),
+    "rmgroup": (is_path,),
+    "prefer": (is_path, word("prefer", "avoid", "none")),
+    "fork": (PID, is_path, CPU),
+    "wake": (PID, CPU),
+    "switch": (CPU, NEXT, word("preempt", "sleep", "iowait", "exit", "idle")),
+    "stall": (PID,),
+    "unstall": (PID,),
+    "migrate": (PID, CPU),
+    "move": (PID, is_path),
+    "mem": (is_path, SIZE, SIZE, SIZE),
+    "host": (SIZE, SIZE, SIZE),
+    "trigger": (is_path, word("io", "memory", "cpu"), word("some", "full"), TIME, TIME),
+    "irq": (CPU, TIME),
+    "pressure": (is_path, word("on", "off")),
+    "end": (),
+}
+
+LATER_VERBS = ("irq", "pressure")
+
+
+def fault_of_spelling(version: int, line: str) -> Optional[str]:
+    """The first fault in the spelling of an event line, or None."""
+    moment, *rest = line.split(" ")
+    if not TIME(moment):
+        return "BadTime"
+    if not rest or rest[0] not in FIELDS or (rest[0] in LATER_VERBS and version < 2):
+        return "BadVerb"
+    forms, fields = FIELDS[rest[0]], rest[1:]
+    for place in range(max(len(forms), len(fields))):
+        if place >= len(forms) or place >= len(fields) or not forms[place](fields[place]):
+            return f"BadField {place + 1}"
+    return None
+
+
+def header_of(line: str) -> Optional[tuple[int, int]]:
+    """The version and the number of processors in a header."""
+    found = re.fullmatch("psitrace ([12]) cpus=([1-9][0-9]?)", line, re.ASCII)
+    return (int(found[1]), int(found[2])) if found and int(found[2]) <= 64 else None
+
+
+# ---------------------------------------------------------------- the world
+
+
+class World:
+    """The state after the lines so far."""
+
+    def __init__(self, cpus: int) -> None:
+        self.machine = Machine(cpus)
+        self.last = self.events = self.triggers = self.pressures = 0
+        self.interrupted: dict[int, int] = {}
+
+    def take(self, moment: int, verb: str, fields: list[str]) -> None:
+        """Applies a valid event, at its time (ns)."""
+        self.machine.take(verb, *fields)
+        self.last, self.events = moment, self.events + 1
+        self.triggers += verb == "trigger"
+        self.pressures += verb == "pressure"
+        if verb == "irq":
+            self.interrupted[int(fields[0])] = moment
+
+    def causes(self, moment: int, verb: str, fields: list[str], most: int) -> Iterator[str]:
+        """All causes against the event, if times may be up to `most` ns."""
+        limits = (moment < self.last, "TimeBack"), (moment > most, "TimeTooLate"), (self.events >= MOST_EVENTS, "TooManyEvents")
+        yield from (cause for stands, cause in limits if stands)
+        against = getattr(self, f"against_{verb}", None)
+        if verb == "irq":
+            yield from self.against_irq(moment, *fields)
+        elif against:
+            yield from (cause for stands, cause in against(*fields) if stands)
+
+    def is_cpu(self, cpu: str) -> bool:
+        return int(cpu) < self.machine.cpus
+
+    def is_at(self, pid: str, *at: str) -> bool:
+        """Whether the task exists and has one of these states."""
+        return pid in self.machine.tasks and self.machine.tasks[pid].at in at
+
+    def is_stalled(self, pid: str) -> bool:
+        return pid in self.machine.tasks and self.machine.tasks[pid].is_stalled
+
+    def against_group(self, path: str) -> Iterator[tuple[bool, str]]:
+        live = self.machine.live
+        yield len(self.machine.parents) >= MOST_GROUPS, "TooManyGroups"
+        yield path in live, "GroupExists"
+        yield path != "/" and parent_of(path) not in live, "NoParent"
+
+    def against_rmgroup(self, path: str) -> Iterator[tuple[bool, str]]:
+        live, tasks = self.machine.live, self.machine.tasks.values()
+        yield path not in live, "UnknownGroup"
+        has_child = any(it != "/" and parent_of(it) == path for it in live)
+        yield path == "/" or has_child or any(task.group == live.get(path) for task in tasks), "GroupBusy"
+
+    def against_prefer(self, path: str, *_: str) -> Iterator[tuple[bool, str]]:
+        yield path not in self.machine.live, "UnknownGroup"
+
+    against_mem = against_prefer
+
+    def against_fork(self, pid: str, path: str, cpu: str) -> Iterator[tuple[bool, str]]:
+        yield len(self.machine.tasks) >= MOST_TASKS, "TooManyTasks"
+        yield path not in self.machine.live, "UnknownGroup"
+        yield pid in self.machine.tasks, "TaskExists"
+        yield not self.is_cpu(cpu), "BadCpu"
+
+    def against_wake(self, pid: str, cpu: str) -> Iterator[tuple[bool, str]]:
+        yield pid not in self.machine.tasks, "UnknownTask"
+        yield not self.is_cpu(cpu), "BadCpu"
+        yield self.is_at(pid, "ready", "running"), "NotBlocked"
+
+    def against_switch(self, cpu: str, then: str, how: str) -> Iterator[tuple[bool, str]]:
+        running = self.machine.running(int(cpu))
+        is_there = then == "0" or then in self.machine.tasks
+        yield not is_there, "UnknownTask"
+        yield not self.is_cpu(cpu), "BadCpu"
+        is_ready = self.is_at(then, "ready") and self.machine.tasks[then].cpu == int(cpu)
+        yield then != "0" and not is_ready, "NotReady"
+        yield (how == "idle") == bool(running), "WrongHow"
+        yield how == "exit" and any(map(self.is_stalled, running)), "InStall"
+
+    def against_stall(self, pid: str) -> Iterator[tuple[bool, str]]:
+        yield pid not in self.machine.tasks, "UnknownTask"
+        yield not self.is_at(pid, "running"), "NotRunning"
+        yield self.is_stalled(pid), "InStall"
+
+    def against_unstall(self, pid: str) -> Iterator[tuple[bool, str]]:
+        yield pid not in self.machine.tasks, "UnknownTask"
+        yield not self.is_at(pid, "running"), "NotRunning"
+        yield not self.is_stalled(pid), "NotInStall"
+
+    def against_migrate(self, pid: str, cpu: str) -> Iterator[tuple[bool, str]]:
+        yield pid not in self.machine.tasks, "UnknownTask"
+        yield not self.is_cpu(cpu), "BadCpu"
+        yield not self.is_at(pid, "ready"), "NotReady"
+
+    def against_move(self, pid: str, path: str) -> Iterator[tuple[bool, str]]:
+        yield path not in self.machine.live, "UnknownGroup"
+        yield pid not in self.machine.tasks, "UnknownTask"
+
+    def against_trigger(self, path: str, _resource: str, _level: str, threshold: str, window: str) -> Iterator[tuple[bool, str]]:
+        yield self.triggers >= MOST_TRIGGERS, "TooManyTriggers"
+        yield path not in self.machine.live, "UnknownGroup"
+        yield not (500_000 <= int(window) <= 10_000_000 and 1 <= int(threshold) <= int(window)), "BadWindow"
+
+    def against_pressure(self, path: str, _switched: str) -> Iterator[tuple[bool, str]]:
+        yield self.pressures >= MOST_PRESSURES, "TooManyPressures"
+        yield path not in self.machine.live, "UnknownGroup"
+        yield path == "/", "RootPressure"
+
+    def against_irq(self, moment: int, cpu: str, length: str) -> Iterator[str]:
+        """Interrupts take at most a second, and at most the time since the processor's previous
+        `irq` line.
+        """
+        if not self.is_cpu(cpu):
+            yield "BadCpu"
+        if int(length) > min(MOST_INTERRUPTS, moment - self.interrupted.get(int(cpu), 0)):
+            yield "IrqTooLong"
+
+
+# ---------------------------------------------------------------- the whole
+
+
+def lines_of(data: bytes) -> Iterator[tuple[int, bytes, Optional[str]]]:
+    """The lines with their numbers from 1, each with its fault if it is too long or cut off; such a
+    line is the last. The last newline is followed by an empty line, which is cut off.
+    """
+    at, count = 0, 1
+    while True:
+        end = data.find(b"\n", at)
+        length = (len(data) if end < 0 else end) - at
+        if length > LONGEST_LINE:
+            yield count, b"", "LineTooLong"
+            return
+        yield count, data[at : at + length], "NoEnd" if end < 0 else None
+        if end < 0:
+            return
+        at, count = end + 1, count + 1
+
+
+def refusal_of(data: bytes, most: int = MOST_MOMENT) -> Optional[Refusal]:
+    """The first bad line of a trace and its cause, if times may be up to `most` ns; None if the
+    trace is valid.
+    """
+    version, world, is_ended = 0, World(1), False
+    for count, line, fault in lines_of(data):
+        text = line.decode("latin-1")
+        if is_ended:
+            return (count, "AfterEnd") if line or fault != "NoEnd" else None
+        if count == 1:
+            header = None if fault else header_of(text)
+            if not header:
+                return count, fault if fault == "LineTooLong" else "BadHeader"
+            version, world = header[0], World(header[1])
+            continue
+        fault = fault or fault_of_spelling(version, text)
+        if not fault:
+            moment, verb, *fields = text.split(" ")
+            fault = min(world.causes(int(moment), verb, fields, most), key=ORDER.index, default=None)
+        if fault:
+            return count, fault
+        world.take(int(moment), verb, fields)
+        is_ended = verb == "end"
+    raise AssertionError("a text has a last line")

@@ -1,0 +1,71 @@
+"""The program that tests run: the one named by `--program PATH` or the variable PSI_OOMD, or else
+the one that the launcher builds, without the launcher itself. Another program has its own variable.
+"""
+from __future__ import annotations
+
+import os
+import shlex
+import subprocess
+import sys
+from typing import NoReturn
+
+# Whether the program was named by the caller: then nothing else is built unasked.
+IS_NAMED = bool(os.environ.get("PSI_OOMD")) or "--program" in sys.argv[1:2]
+TOP = os.path.dirname(os.path.dirname(os.path.dirname(os.path.abspath(__file__))))
+sys.path.append(os.path.join(TOP, "tools"))
+
+from psicli.fault import Fault  # noqa: E402
+from psireplay.program import built_program  # noqa: E402
+
+# What each program prints for a small trace, so that another program isn't taken for it.
+TRACE = os.path.join(TOP, "examples", "one-wait.trace")
+PRINTED = {
+    "psi_oomd": (("check", TRACE), b"ok lines=5 events=4 end=2000000000\n"),
+    "psi_observe": ((TRACE, "1", "/none"), b"end 2000000000 samples=0\n"),
+}
+
+
+# The programs that this test uses, by the variables that name them.
+USED: dict[str, str] = {}
+
+
+def fail(message: str) -> NoReturn:
+    """Ends a test that can't run: status 2."""
+    print(message, file=sys.stderr)
+    sys.exit(2)
+
+
+def must_be_program(path: str, name: str) -> None:
+    """Ends the test unless this is the program with this name."""
+    words, expected = PRINTED[name]
+    done = subprocess.run([path, *words], capture_output=True, check=False)
+    if not done.stdout.endswith(expected):
+        command = shlex.join([path, *words])
+        printed = f"`{command}` prints {done.stdout[-80:]!r}"
+        fail(f"{path} isn't {name}: {printed}, and {name} prints {expected!r}")
+
+
+def program_of(words: list[str], name: str = "psi_oomd") -> tuple[str, list[str]]:
+    """The program of this name, built if none is named, and the arguments after `--program PATH`.
+    Tools that a test runs use it too. `--help` prints the test's own docstring, and builds nothing.
+    """
+    if words[:1] == ["--help"]:
+        print((sys.modules["__main__"].__doc__ or "").strip())
+        sys.exit(0)
+    variable, launcher = name.upper(), os.path.join(TOP, name)
+    if words[:1] == ["--program"] and len(words) > 1:
+        os.environ[variable] = words[1]
+        words = words[2:]
+    program = os.path.abspath(os.environ.get(variable) or launcher)
+    if IS_NAMED and program == launcher:
+        advice = f"the variable {variable} names it; without both names both are built"
+        fail(f"psi_oomd was named, and {name} wasn't: {advice}")
+    try:
+        program = built_program(launcher) if program == launcher else program
+    except Fault as fault:
+        fail(str(fault))
+    if not os.access(program, os.X_OK):
+        fail(f"no program at {program}: see --program and the variable {variable}")
+    must_be_program(program, name)
+    os.environ[variable] = USED[variable] = program
+    return program, words

@@ -1,0 +1,400 @@
+"""Traces for checks that compute the expected output: fixed ones, each for one situation, and
+random ones.
+"""
+from __future__ import annotations
+
+import dataclasses
+import os
+import random
+from collections.abc import Iterable, Iterator
+from typing import TypeVar
+
+from shared.machine import Machine, parent_of
+
+TOP = os.path.dirname(os.path.dirname(os.path.dirname(os.path.abspath(__file__))))
+MS = 10**6
+RANDOM_TRACES = 40
+RANDOM_TRACES_WITH_INTERRUPTS = 10
+# A verb and its fields.
+Event = tuple[str, ...]
+Thing = TypeVar("Thing")
+
+# ---------------------------------------------------------------- fixed traces
+
+STALLS = """psitrace 1 cpus=1
+0 group /a
+0 fork 1 /a 0
+0 fork 2 / 0
+0 switch 0 1 idle
+100000000 stall 1
+300000000 switch 0 2 sleep
+400000000 wake 1 0
+600000000 switch 0 1 iowait
+1000000000 end
+"""
+COMES_AND_GOES = """psitrace 1 cpus=2
+0 group /a
+0 fork 1 /a 0
+0 switch 0 1 idle
+0 fork 2 / 1
+200000000 switch 0 0 exit
+300000000 rmgroup /a
+400000000 group /a
+400000000 fork 1 /a 1
+500000000 switch 1 1 idle
+900000000 switch 1 0 iowait
+1100000000 move 1 /
+1200000000 rmgroup /a
+2300000000 group /a
+2400000000 rmgroup /a
+2500000000 group /a
+2600000000 move 1 /a
+2700000000 wake 1 0
+2800000000 migrate 1 1
+2900000000 move 1 /
+2900000000 rmgroup /a
+3100000000 group /a
+3200000000 move 1 /a
+4400000000 end
+"""
+AT_TICKS = """psitrace 1 cpus=1
+0 fork 1 / 0
+1000000000 group /a
+1000000000 move 1 /a
+2000000000 switch 0 1 idle
+3000000000 move 1 /
+3000000000 rmgroup /a
+4000000000 group /a
+5000000000 move 1 /a
+5000000000 move 1 /
+5000000000 rmgroup /a
+5000000000 group /a
+6000000000 move 1 /a
+7000000000 stall 1
+8000000000 end
+"""
+BELOW = """psitrace 1 cpus=3
+0 group /a
+0 group /a/b
+0 group /a/b/c
+0 group /ab
+0 fork 1 /a/b/c 0
+0 fork 2 /ab 0
+0 fork 3 /a 1
+0 fork 4 /a/b 2
+100000000 switch 0 1 idle
+200000000 switch 1 3 idle
+300000000 switch 0 2 iowait
+400000000 stall 3
+600000000 wake 1 1
+900000000 move 1 /ab
+1000000000 migrate 1 2
+1500000000 migrate 4 2
+1700000000 move 4 /a/b/c
+1800000000 unstall 3
+2000000000 move 1 /a/b
+2400000000 switch 2 4 idle
+2600000000 switch 2 1 preempt
+2600000000 switch 1 0 exit
+3100000000 end
+"""
+STALLS_ASLEEP = """psitrace 1 cpus=2
+0 fork 1 / 0
+0 fork 2 / 0
+0 switch 0 1 idle
+300000000 stall 1
+700000000 switch 0 2 iowait
+1200000000 stall 2
+1400000000 wake 1 1
+1900000000 switch 0 0 sleep
+2000000000 switch 1 1 idle
+2300000000 unstall 1
+2300000000 switch 1 0 exit
+2600000000 wake 2 0
+3300000000 switch 0 2 idle
+3500000000 unstall 2
+5000000000 end
+"""
+# The trace for which docs/COMMANDS.md shows a live line.
+BETWEEN = """psitrace 1 cpus=1
+0 fork 1 / 0
+0 switch 0 1 idle
+500000000 switch 0 0 iowait
+1500000000 wake 1 0
+2000000000 end
+"""
+# No count differs at most events here, and each is a change.
+NOTHING_DIFFERS = """psitrace 1 cpus=2
+0 switch 0 0 idle
+0 fork 1 / 0
+100000000 switch 0 0 idle
+200000000 migrate 1 0
+300000000 move 1 /
+400000000 switch 0 1 idle
+500000000 switch 0 0 sleep
+500000000 switch 0 0 idle
+1500000000 wake 1 0
+1500000000 mem / 4096 0 0
+3500000000 end
+"""
+IDLE = """psitrace 1 cpus=2
+0 fork 1 / 0
+0 switch 0 1 idle
+0 switch 0 0 iowait
+9000000000 end
+"""
+# Interrupts are changes, also on an idle processor; they begin and end no state, and live lines
+# don't have their time.
+INTERRUPTS = """psitrace 2 cpus=2
+0 irq 0 0
+0 group /a
+0 fork 1 /a 0
+0 switch 0 1 idle
+400000000 irq 0 400000000
+400000000 irq 1 100000000
+900000000 switch 0 0 iowait
+1000000000 irq 0 600000000
+1500000000 wake 1 1
+2500000000 irq 1 1000000000
+2500000000 irq 0 1
+3000000000 end
+"""
+# An account goes off over a tick and a change of its task, and another has a child that is on; a
+# group is removed, and created again.
+SWITCHED = """psitrace 2 cpus=2
+0 group /a
+0 group /a/b
+0 fork 1 /a/b 0
+0 fork 2 /a 1
+0 switch 0 1 idle
+0 switch 1 2 idle
+300000000 switch 0 0 iowait
+700000000 pressure /a off
+1200000000 wake 1 0
+1200000000 irq 1 50000000
+1500000000 switch 0 1 idle
+1700000000 pressure /a/b off
+1700000000 pressure /a on
+1700000000 irq 1 20000000
+2000000000 switch 1 0 iowait
+2000000000 pressure /a/b on
+2000000000 pressure /a/b off
+2600000000 move 1 /
+2600000000 rmgroup /a/b
+2600000000 group /a/b
+2600000000 move 1 /a/b
+3100000000 pressure /a on
+4000000000 end
+"""
+NO_TICK = """psitrace 1 cpus=2
+0 fork 1 / 0
+999999999 end
+"""
+MANY = "psitrace 1 cpus=64\n" + "".join(
+    f"{moment} {event}\n"
+    for moment, event in (
+        *((0, f"fork {cpu + 1} / {cpu}") for cpu in range(0, 64, 3)),
+        *((cpu * 10 * MS, f"switch {cpu} {cpu + 1} idle") for cpu in range(0, 64, 3)),
+        *((700 * MS, f"switch {cpu} 0 iowait") for cpu in range(0, 64, 6)),
+        *(((800 + cpu) * MS, f"wake {cpu + 1} {63 - cpu}") for cpu in range(0, 64, 6)),
+        (2000 * MS, "end"),
+    )
+)
+RUNAWAY = ("--rules", "examples/runaway.json")
+
+
+@dataclasses.dataclass(frozen=True)
+class Run:
+    """A trace with a path, and the options of its replay: the length of ticks (ms), the period of
+    reports (s) and other arguments.
+    """
+
+    name: str
+    trace: str
+    path: str
+    tick_ms: int
+    report_s: int
+    words: tuple[str, ...] = ()
+
+
+def text_of(name: str) -> str:
+    """A trace of the examples."""
+    with open(os.path.join(TOP, "examples", name), encoding="ascii") as file:
+        return file.read()
+
+
+def fixed_runs() -> list[Run]:
+    """The traces above, and some of the examples, each with a path that is, was or never is live."""
+    return [
+        Run("one-wait", text_of("one-wait.trace"), "/", 2000, 10),
+        Run("one-wait-in-ticks", text_of("one-wait.trace"), "/", 300, 1),
+        Run("between", BETWEEN, "/", 2000, 10),
+        Run("between-in-ticks", BETWEEN, "/", 250, 0),
+        Run("two-processors", text_of("two-processors.trace"), "/", 2000, 10),
+        Run("two-processors-in-ticks", text_of("two-processors.trace"), "/", 100, 1),
+        Run("never-live", COMES_AND_GOES, "/nope", 1000, 1),
+        Run("below-none", BELOW, "/a/b/c/d", 1000, 1),
+        Run("comes-and-goes", COMES_AND_GOES, "/a", 1000, 1),
+        Run("comes-and-goes-in-a-tick", COMES_AND_GOES, "/a", 4400, 1),
+        Run("comes-and-goes-between", COMES_AND_GOES, "/a", 100, 0),
+        Run("root-while-others-go", COMES_AND_GOES, "/", 700, 1),
+        Run("at-ticks", AT_TICKS, "/a", 1000, 2),
+        Run("at-each-other-tick", AT_TICKS, "/a", 2000, 10),
+        Run("below", BELOW, "/a", 1000, 1),
+        Run("far-below", BELOW, "/a/b", 500, 3),
+        Run("beside", BELOW, "/ab", 500, 3600),
+        Run("stalls-asleep", STALLS_ASLEEP, "/", 500, 1),
+        Run("stalls", STALLS, "/a", 100, 1),
+        Run("nothing-differs", NOTHING_DIFFERS, "/", 1000, 10),
+        Run("idle", IDLE, "/", 2000, 10),
+        Run("interrupts", INTERRUPTS, "/", 1000, 1),
+        Run("interrupts-of-a-group", INTERRUPTS, "/a", 250, 0),
+        Run("switched", SWITCHED, "/a", 1000, 1),
+        Run("switched-below", SWITCHED, "/a/b", 500, 1),
+        Run("switched-of-the-root", SWITCHED, "/", 700, 0),
+        Run("no-tick", NO_TICK, "/", 1000, 1),
+        Run("many-processors", MANY, "/", 200, 1),
+        Run("signals-and-kills", text_of("runaway.trace"), "/batch", 2000, 4, RUNAWAY),
+        Run("a-real-machine", text_of("real/debian-2cpu.trace"), "/", 200, 10),
+    ]
+
+
+# ---------------------------------------------------------------- random traces
+
+
+class Maker:
+    """Makes a valid random trace: in each turn time passes, or not, and a possible event happens."""
+
+    PATHS = ("/a", "/a/b", "/a/b/c", "/d", "/d/e")
+    # The least and the largest number of turns.
+    TURNS = (30, 120)
+    # How often each verb comes, by the version of the trace.
+    FIRST = dict(fork=2, switch=8, wake=4, stall=2, unstall=2, migrate=2, move=3, group=4, rmgroup=2, side=1)
+    OFTEN = {1: FIRST, 2: {**FIRST, "irq": 8, "pressure": 5}}
+
+    def __init__(self, seed: int, version: int) -> None:
+        self.draw, self.often = random.Random(seed), self.OFTEN[version]
+        self.machine = Machine(self.draw.randint(1, 8))
+        self.tick = self.draw.choice((40, 100, 333, 1000, 2000)) * MS
+        self.lines, self.now = [f"psitrace {version} cpus={self.machine.cpus}"], 0
+        self.last_interrupts = [0] * self.machine.cpus
+
+    def trace(self) -> str:
+        """The complete trace, with its end."""
+        for _ in range(self.draw.randint(*self.TURNS)):
+            verb = self.draw.choices(list(self.often), list(self.often.values()))[0]
+            for event in getattr(self, f"some_{verb}")():
+                self.machine.take(*event)
+                self.lines.append(f"{self.now} {' '.join(event)}")
+            self.pass_time()
+        return "\n".join([*self.lines, f"{self.now} end\n"])
+
+    def pass_time(self) -> None:
+        """Half of the turns take no time; some events are at a tick, some intervals are empty."""
+        way = self.draw.random()
+        if way > 0.95:
+            self.now += self.draw.randrange(4 * self.tick)
+        elif way > 0.85:
+            self.now += self.tick - self.now % self.tick
+        elif way > 0.5:
+            self.now += self.draw.randrange(self.tick // 2)
+
+    def path(self) -> str:
+        """The root, or a path that some group has had."""
+        return self.draw.choice(["/", *(path for path in self.PATHS if any(line.endswith(f" group {path}") for line in self.lines))])
+
+    def cpu(self) -> str:
+        return str(self.draw.randrange(self.machine.cpus))
+
+    def some(self, them: Iterable[Thing]) -> list[Thing]:
+        """A list of one random thing, or an empty one if there is none."""
+        listed = list(them)
+        return [self.draw.choice(listed)] if listed else []
+
+    def task(self, *at: str) -> list[str]:
+        """The number of a random task in one of these states, or none."""
+        return self.some(pid for pid, task in self.machine.tasks.items() if task.at in at)
+
+    def some_fork(self) -> list[Event]:
+        pids = (str(pid) for pid in range(1, 3 * self.machine.cpus + 2))
+        free = self.some(pid for pid in pids if pid not in self.machine.tasks)
+        return [("fork", pid, self.some(self.machine.live)[0], self.cpu()) for pid in free]
+
+    def some_switch(self) -> list[Event]:
+        cpu = self.cpu()
+        here = {pid: task for pid, task in self.machine.tasks.items() if task.cpu == int(cpu)}
+        then = self.some(["0", *(pid for pid, task in here.items() if task.at == "ready")])[0]
+        runs = [task for task in here.values() if task.at == "running"]
+        ways = ["idle"] if not runs else ["preempt", "sleep", "iowait", "iowait"]
+        ways += ["exit"] if runs and not runs[0].is_stalled else []
+        return [("switch", cpu, then, self.some(ways)[0])]
+
+    def some_wake(self) -> list[Event]:
+        return [("wake", pid, self.cpu()) for pid in self.task("sleep", "iowait")]
+
+    def some_migrate(self) -> list[Event]:
+        return [("migrate", pid, self.cpu()) for pid in self.task("ready")]
+
+    def some_move(self) -> list[Event]:
+        return [("move", pid, self.some(self.machine.live)[0]) for pid in self.task("ready", "running", "sleep", "iowait")]
+
+    def some_stall(self) -> list[Event]:
+        return [("stall", pid) for pid in self.task("running") if not self.machine.tasks[pid].is_stalled]
+
+    def some_unstall(self) -> list[Event]:
+        stalled = (pid for pid, task in self.machine.tasks.items() if task.at == "running" and task.is_stalled)
+        return [("unstall", pid) for pid in self.some(stalled)]
+
+    def some_group(self) -> list[Event]:
+        live = self.machine.live
+        return [("group", path) for path in self.some(it for it in self.PATHS if it not in live and parent_of(it) in live)]
+
+    def some_rmgroup(self) -> list[Event]:
+        """A group without children is removed, and perhaps created again at once, after its tasks."""
+        live = self.machine.live
+        parents = {parent_of(path) for path in live if path != "/"}
+        for path in self.some(it for it in live if it != "/" and it not in parents):
+            tasks = [pid for pid, task in self.machine.tasks.items() if task.group == live[path]]
+            again = [("group", path)] if self.draw.random() < 0.3 else []
+            return [*(("move", pid, parent_of(path)) for pid in tasks), ("rmgroup", path), *again]
+        return []
+
+    def some_irq(self) -> list[Event]:
+        """Interrupts take some or all of the time since the processor's previous `irq` line, but at
+        most a second.
+        """
+        busy = [cpu for cpu in range(self.machine.cpus) if self.machine.running(cpu)]
+        cpu = self.draw.choice(busy if busy and self.draw.random() < 0.8 else range(self.machine.cpus))
+        most = min(self.now - self.last_interrupts[cpu], 1000 * MS)
+        self.last_interrupts[cpu] = self.now
+        return [("irq", str(cpu), str(self.draw.choice((0, most, self.draw.randint(0, most)))))]
+
+    def some_pressure(self) -> list[Event]:
+        """The account of a group is set on or off, perhaps to its present state, and sometimes back
+        at once.
+        """
+        switches = self.draw.choice((("on",), ("off",), ("off",), ("off", "on"), ("on", "off")))
+        return [("pressure", path, to) for path in self.some(it for it in self.machine.live if it != "/") for to in switches]
+
+    def some_side(self) -> list[Event]:
+        """An event that changes neither a processor nor a group."""
+        (path,) = self.some(self.machine.live)
+        resource, level = self.draw.choice(("io", "memory", "cpu")), self.draw.choice(("some", "full"))
+        sides: list[Event] = [("mem", path, "4096", "0", "7"), ("prefer", path, "avoid"), ("host", "4096", "0", "0")]
+        return self.some([*sides, ("trigger", path, resource, level, "50000", "500000")])
+
+
+def random_run(number: int, version: int = 1, kind: type[Maker] = Maker) -> Run:
+    """A random trace of this version by this kind of maker; the same number gives the same trace."""
+    maker = kind(number, version)
+    trace = maker.trace()
+    # Mostly with the ticks that it was made for.
+    tick_ms = maker.tick // MS * maker.draw.choice((2, 2, 2, 1, 7)) // 2
+    return Run(f"random-{number}" + "-with-interrupts" * (version - 1), trace, maker.path(), tick_ms, maker.draw.choice((0, 1, 10)))
+
+
+def all_runs() -> Iterator[Run]:
+    """The fixed traces, and random ones of both versions."""
+    yield from fixed_runs()
+    yield from (random_run(number) for number in range(RANDOM_TRACES))
+    yield from (random_run(number, 2) for number in range(RANDOM_TRACES_WITH_INTERRUPTS))
