@@ -71,6 +71,11 @@ version() {
         commit=$(git -C "$top" describe --always --dirty=', with changes' --abbrev=40 --exclude='*' 2>/dev/null)
     fi
     # The version is the top heading of the list of changes: `## 1.0 (2026-12-01)`, or a name without a number.
-    version=$(sed -n 's/^## \[\{0,1\}\([0-9][0-9A-Za-z.+-]*\).*/\1/p;/^## /q' "$top/CHANGELOG.md" 2>/dev/null)
-    echo "$name ${version:+$version, commit }${commit:-of no known commit}"
+    version=$(sed -n '/^## /{s/^## \[\{0,1\}\([0-9][0-9A-Za-z.+-]*\).*/\1/p;q;}' "$top/CHANGELOG.md" 2>/dev/null)
+    if [ -n "$version" ]; then
+        commit=${commit:+commit $commit}
+        echo "$name $version, ${commit:-of no known commit}"
+    else
+        echo "$name ${commit:-of no known commit}"
+    fi
 }

@@ -1,1 +1,3 @@
-"""Who ran on the processors where a group waited, and who else waited for IO or stalled for memory at the same time."""
+"""Who ran on the processors where a group waited, and who else waited for IO or stalled for memory
+at the same time.
+"""

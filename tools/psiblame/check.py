@@ -3,7 +3,9 @@ from __future__ import annotations
 
 from collections.abc import Iterable
 
-from .faults import NO_SUM, Stop
+from psicli.fault import Fault
+from psicli.status import Status
+
 from .groups import Group
 from .sums import Sums
 from .trace import Stalls, States
@@ -21,15 +23,19 @@ def states_of(parts: list[Sums], processor: int, group: Group) -> States:
 
 
 def must_add_up(parts: list[Sums], live: Iterable[Group], cpus: int, told: Stalls) -> None:
-    """Whether, for each processor and each group that is live at the end, the parts add up to psi_oomd's time of the state. It is
-    a fault where they don't, or where the groups are others."""
+    """Whether, for each processor and each group that is live at the end, the parts add up to
+    psi_oomd's time of the state. It is a fault where they don't, or where the groups are others.
+    """
     groups = {(processor, group.path): group for processor in range(cpus) for group in live}
     if groups.keys() != told.keys():
         processor, path = min(groups.keys() ^ told.keys())
         who = "psi_oomd stall has" if (processor, path) in told else "this tool has"
-        raise Stop(NO_SUM, f"only {who} a group {path} on processor {processor}: {ADVICE}")
+        raise Fault(f"only {who} a group {path} on processor {processor}: {ADVICE}", Status.NO_SUM)
     for (processor, path), group in groups.items():
-        for what, mine, other in zip(WHAT, states_of(parts, processor, group), told[processor, path]):
+        for what, mine, other in zip(
+            WHAT, states_of(parts, processor, group), told[processor, path]
+        ):
             if mine != other:
                 where = f"{what} of {path} on processor {processor}"
-                raise Stop(NO_SUM, f"the parts of the {where} add up to {mine} ns, and `psi_oomd stall` says {other} ns: {ADVICE}")
+                sums = f"add up to {mine} ns, and `psi_oomd stall` says {other} ns"
+                raise Fault(f"the parts of the {where} {sums}: {ADVICE}", Status.NO_SUM)

@@ -1,30 +1,39 @@
-"""What is shown of a group: its times and who ran or stalled meanwhile, as text and JSON have it."""
+"""What is shown of a group: its times and who ran or stalled meanwhile, as text and JSON have it.
+"""
 from __future__ import annotations
 
 import collections
 from collections.abc import Mapping
 from typing import NamedTuple, Optional
 
-from .groups import Group, Groups
+from psinames.lives import Life
+from psinames.tasks import Share
+
+from .groups import Group
 from .memory import Growth
 from .overlap import Pairs
 from .processor import NOBODY
-from .sums import Sums
+from .walk import Walk
 
 DEEPEST = 32
 
 
 class Part(NamedTuple):
-    """A time (ns) of a group's, or of none."""
+    """A time (ns) of a group's, or of none; and which of its processes it is of, if they have
+    names.
+    """
 
     group: Optional[Group]
     time: int
+    shares: tuple[Share, ...] = ()
 
 
 class Figures(NamedTuple):
-    """A group in the asked time, in ns: how long tasks of it ran, summed over processors; how long it waited for each processor,
-    for IO and was in a memory stall; and what ran, waited or stalled meanwhile. `while_victim` is how long the victim ran while it waited,
-    and `less` how much of that it wouldn't have waited without it; none where it is the victim itself, or below it."""
+    """A group in the asked time, in ns: how long tasks of it ran, summed over processors; how long
+    it waited for each processor, for IO and was in a memory stall; and what ran, waited or stalled
+    meanwhile. `while_victim` is how long the victim ran while it waited, and `less` how much of
+    that it wouldn't have waited without it; none where it is the victim itself, or below it.
+    """
 
     group: Group
     ran: int
@@ -37,6 +46,7 @@ class Figures(NamedTuple):
     memory_beside: list[Part]
     while_victim: Optional[int]
     less: Optional[int]
+    shares: tuple[Share, ...]
 
     @property
     def waited(self) -> int:
@@ -58,26 +68,32 @@ def longest_first(times: Mapping[Optional[Group], int]) -> list[Part]:
 
 
 class Asker:
-    """Reads figures off the sums of a stretch; groups deeper than `depth` are told as the one at that depth above them."""
+    """Reads figures off the sums of a stretch; groups deeper than `depth` are shown as the one at
+    that depth above them. Processes have their names at the end of the stretch, `to` (ns).
+    """
 
-    def __init__(self, groups: Groups, sums: Sums, cpus: int, depth: int, victims: set[int]) -> None:
-        self.groups, self.sums, self.cpus, self.depth, self.victims = groups, sums, cpus, depth, victims
-        self.ran = collections.Counter[Group]()
+    def __init__(self, walk: Walk, cpus: int, depth: int, to: int) -> None:
+        self.groups, self.runners, self.victims = walk.groups, walk.runners, walk.victims.numbers
+        self.sums, self.cpus, self.depth, self.to = walk.stretches.asked, cpus, depth, to
+        sums = self.sums
+        self.ran = collections.defaultdict[Group, collections.Counter[Optional[Life]]](
+            collections.Counter
+        )
         for runner, time in sums.ran.items():
-            for group in groups.all[runner].line() if runner != NOBODY else ():
-                self.ran[group] += time
-        self.runners: dict[int, dict[int, int]] = collections.defaultdict(dict)
-        for (group, runner), time in sums.pairs.items():
-            self.runners[group][runner] = time
+            for group in self.runners.all[runner].group.line() if runner != NOBODY else ():
+                self.ran[group][self.runners.all[runner].life] += time
+        self.pairs: dict[int, dict[int, int]] = collections.defaultdict(dict)
+        for (number, runner), time in sums.pairs.items():
+            self.pairs[number][runner] = time
 
     def figures(self, group: Group) -> Figures:
         number, sums = group.number, self.sums
         places = [(processor, number) for processor in range(self.cpus)]
-        runners = self.runners.get(number, {})
-        is_victim = number in self.victims
+        runners = self.pairs.get(number, {})
+        is_victim, ran = number in self.victims, self.ran[group]
         return Figures(
             group=group,
-            ran=self.ran[group],
+            ran=ran.total(),
             waits=[sums.waited.get(place, 0) for place in places],
             io=sum(sums.io.get(place, 0) for place in places),
             memory=sum(sums.memory.get(place, 0) for place in places),
@@ -85,21 +101,57 @@ class Asker:
             while_ran=self.while_ran(runners),
             io_beside=self.beside(group, sums.io_beside),
             memory_beside=self.beside(group, sums.memory_beside),
-            while_victim=None if is_victim else sum(time for runner, time in runners.items() if runner in self.victims),
-            less=None if is_victim else sum(sums.alone.get((number, runner), 0) for runner in runners),
+            while_victim=None if is_victim else self.of_victims(runners),
+            less=(
+                None
+                if is_victim
+                else sum(sums.alone.get((number, runner), 0) for runner in runners)
+            ),
+            shares=self.shares(ran),
         )
+
+    def of_victims(self, runners: dict[int, int]) -> int:
+        """The time in which a task of the victim ran."""
+        of = self.runners.all
+        return sum(
+            time
+            for runner, time in runners.items()
+            if runner != NOBODY and of[runner].group.number in self.victims
+        )
+
+    def shares(self, times: Mapping[Optional[Life], int]) -> tuple[Share, ...]:
+        """The times by process, if processes have names."""
+        return tuple(self.runners.tasks.shares(times, self.to)) if self.runners.tasks.lives else ()
 
     def while_ran(self, runners: dict[int, int]) -> list[Part]:
         """The parts of a wait for processors, by who ran there."""
-        times = collections.Counter[Optional[Group]]()
-        for runner, time in runners.items():
-            times[None if runner == NOBODY else self.groups.all[runner].at_depth(self.depth)] += time
-        return longest_first(times)
+        times = collections.defaultdict[Optional[Group], collections.Counter[Optional[Life]]](
+            collections.Counter
+        )
+        for number, time in runners.items():
+            runner = self.runners.all[number] if number != NOBODY else None
+            times[runner.group.at_depth(self.depth) if runner else None][
+                runner.life if runner else None
+            ] += time
+        found = longest_first({group: lives.total() for group, lives in times.items()})
+        return [
+            it._replace(shares=self.shares(times[it.group]) if it.group else ()) for it in found
+        ]
 
     def beside(self, group: Group, pairs: Pairs) -> list[Part]:
         """Who was in the state at the same time. Those above the group always are."""
-        others = {self.groups.all[other]: time for (asked, other), time in pairs.items() if asked == group.number}
-        return longest_first({it: time for it, time in others.items() if it.depth() <= self.depth and not group.is_below(it)})
+        others = {
+            self.groups.all[other]: time
+            for (asked, other), time in pairs.items()
+            if asked == group.number
+        }
+        return longest_first(
+            {
+                it: time
+                for it, time in others.items()
+                if it.depth() <= self.depth and not group.is_below(it)
+            }
+        )
 
     def table(self) -> list[Figures]:
         """All groups down to the depth, the worst first."""

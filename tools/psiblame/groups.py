@@ -1,20 +1,27 @@
-"""The groups of a trace, each by a number of its own: a group that is removed and made again is another group."""
+"""The groups of a trace, each by a number of its own: a group that is removed and made again is
+another group.
+"""
 from __future__ import annotations
 
 from typing import Iterator, Optional
 
-from .faults import no_such_group
+from psicli.fault import Fault
+from psicli.status import Status
+from psicli.wording import suggested
 
 ROOT = 0
 
 
 class Group:
-    """A group: the moments (ns) when it was made and removed, and `chain`, the numbers of those groups whose account is on, of this
-    one and all above. A task of it counts in these."""
+    """A group: the moments (ns) when it was made and removed, and `chain`, the numbers of those
+    groups whose account is on, of this one and all above. A task of it counts in these.
+    """
 
     __slots__ = ("path", "number", "parent", "chain", "is_on", "made", "removed", "life")
 
-    def __init__(self, path: str, number: int, parent: Optional[Group], made: int, life: int) -> None:
+    def __init__(
+        self, path: str, number: int, parent: Optional[Group], made: int, life: int
+    ) -> None:
         self.path, self.number, self.parent = path, number, parent
         self.made, self.life = made, life
         self.removed: Optional[int] = None
@@ -48,7 +55,9 @@ class Group:
 
 
 class Groups:
-    """All groups that the trace made so far, by number, and those that are live, by path as it stands in the trace."""
+    """All groups that the trace made so far, by number, and those that are live, by path as it
+    stands in the trace.
+    """
 
     def __init__(self) -> None:
         self.all = [Group("/", ROOT, None, 0, 1)]
@@ -68,20 +77,29 @@ class Groups:
         self.live.pop(path).removed = now
 
     def switch(self, group: Group, is_on: bool) -> None:
-        """Switches an account. A group is made after the one above it, so each is looked up after that."""
+        """Switches an account. A group is made after the one above it, so each is looked up after
+        that.
+        """
         group.is_on = is_on
         for other in self.all[group.number :]:
             if other.is_below(group):
                 other.find_chain()
 
     def name(self, group: Group) -> str:
-        """The path; where several groups had it, with the number of this one among them: a path has no `#`."""
+        """The path; where several groups had it, with the number of this one among them: a path has
+        no `#`.
+        """
         return group.path if self.lives[group.path] == 1 else f"{group.path}#{group.life}"
 
     def named(self, word: str) -> list[Group]:
-        """The groups of this path, or the group that PATH#N names. A group that never existed is a fault."""
+        """The groups of this path, or the group that PATH#N names. A group that never existed is a
+        fault.
+        """
         path, _, life = word.partition("#")
         found = [it for it in self.all if it.path == path and (not life or str(it.life) == life)]
         if not found:
-            raise no_such_group(word, [self.name(it) for it in self.all])
+            had = suggested(word, [self.name(it) for it in self.all])
+            raise Fault(
+                f"no group {word} ever lived in the trace, which has {had}", Status.NO_GROUP
+            )
         return found

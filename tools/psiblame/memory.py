@@ -5,16 +5,19 @@ from typing import NamedTuple
 
 
 class Growth(NamedTuple):
-    """By how many bytes a group's memory grew in a time, from the last sample before it to the highest in it (from the first one in
-    it, if there is none before), and by how much its count of scanned pages rose."""
+    """By how many bytes a group's memory grew in a time, from the last sample before it to the
+    highest in it (from the first one in it, if there is none before), and by how much its count of
+    scanned pages rose.
+    """
 
     grown: int
     scanned: int
 
 
 class Samples:
-    """The samples of each group, by number, since the sums were taken. The last one before that counts as the first of them: the
-    group had that memory when the time began."""
+    """The samples of each group, by number, since the sums were taken. The last one before that
+    counts as the first of them: the group had that memory when the time began.
+    """
 
     def __init__(self) -> None:
         self.first: dict[int, int] = {}
@@ -34,7 +37,10 @@ class Samples:
 
     def taken(self) -> dict[int, Growth]:
         """What there is up to now, from which on it is counted anew."""
-        found = {group: Growth(self.highest[group] - self.first[group], self.scanned[group]) for group in self.last}
+        found = {
+            group: Growth(self.highest[group] - self.first[group], self.scanned[group])
+            for group in self.last
+        }
         self.first = {group: current for group, (current, _) in self.last.items()}
         self.highest = dict(self.first)
         self.scanned = dict.fromkeys(self.last, 0)

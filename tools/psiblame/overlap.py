@@ -1,4 +1,6 @@
-"""How much of the time in which asked groups waited for IO, or were in a memory stall, others did at the same time."""
+"""How much of the time in which asked groups waited for IO, or were in a memory stall, others did
+at the same time.
+"""
 from __future__ import annotations
 
 import collections
@@ -8,8 +10,10 @@ Pairs = dict[tuple[int, int], int]
 
 
 class Beside:
-    """An asked group's clock: the time (ns) in which it was in the state, summed over processors; it is so on `processors` of
-    them now. An other's stretch in the state adds by how much the clock went on in it: `since` has what it showed at its begin."""
+    """An asked group's clock: the time (ns) in which it was in the state, summed over processors;
+    it is so on `processors` of them now. An other's stretch in the state adds by how much the clock
+    went on in it: `since` has what it showed at its begin.
+    """
 
     __slots__ = ("group", "total", "processors", "last", "since", "sums")
 
@@ -28,15 +32,17 @@ class Beside:
         self.processors += by
 
     def count(self, other: int, now: int) -> None:
-        """Adds what went on in the other's stretch. Before this group was made there was nothing."""
+        """Adds what went on in the other's stretch. Before this group was made there was nothing.
+        """
         total = self.at(now)
         self.sums[other] += total - self.since.get(other, 0)
         self.since[other] = total
 
 
 class Overlap:
-    """For each asked group and each other one: how much of the asked one's time the other was in the state too, on whatever
-    processor."""
+    """For each asked group and each other one: how much of the asked one's time the other was in
+    the state too, on whatever processor.
+    """
 
     def __init__(self) -> None:
         self.asked: list[Beside] = []

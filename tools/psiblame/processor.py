@@ -4,33 +4,43 @@ from __future__ import annotations
 import collections
 from typing import Iterable, Optional
 
+from psinames.lives import Life
+
 from .groups import Group
 from .overlap import Overlap
 
 READY, RUNNING, ASLEEP, IOWAIT = range(4)
-# What stands in place of a group's number where no task runs.
+# The number of the runner if no task runs.
 NOBODY = -1
 # In a row, how long (ns) it was going on.
 LENGTH = -1
-# Added to the number of who runs in the row for times when without the victim nobody of those who wait would have waited.
-ALONE = 1 << 16
+# Added to the runner's number for times when without the victim nobody of those who wait would have
+# waited.
+ALONE = 1 << 40
 Row = collections.defaultdict[int, int]
 
 
 class Task:
-    """A task: its number as it stands in the trace, its group, its processor and what it does."""
+    """A task: its number in the trace, its group, its processor, what it does, for whom it counts
+    if that is known, and the number of this runner in its group.
+    """
 
-    __slots__ = ("pid", "group", "processor", "at", "is_stalled")
+    __slots__ = ("pid", "group", "processor", "at", "is_stalled", "life", "runner")
 
-    def __init__(self, pid: bytes, group: Group, processor: Processor) -> None:
+    def __init__(
+        self, pid: bytes, group: Group, processor: Processor, life: Optional[Life], runner: int
+    ) -> None:
         self.pid, self.group, self.processor = pid, group, processor
         self.at, self.is_stalled = READY, False
+        self.life, self.runner = life, runner
 
 
 class Held:
-    """Which groups have tasks on a processor that wait for IO, or are in a memory stall, and for how long (ns) each had some.
+    """Which groups have tasks on a processor that wait for IO, or are in a memory stall, and for
+    how long (ns) each had some.
 
-    An interval is counted at its end, or where the sums are taken. `overlap` sees it begin and end."""
+    An interval is counted at its end, or where the sums are taken. `overlap` sees it begin and end.
+    """
 
     __slots__ = ("counts", "since", "sums", "overlap")
 
@@ -77,7 +87,9 @@ class Held:
 
 
 class Rows(dict[int, Row]):
-    """By the number of who runs, the time (ns) of each group that waits meanwhile, and under LENGTH of all of it."""
+    """By the number of who runs, the time (ns) of each group that waits meanwhile, and under LENGTH
+    of all of it.
+    """
 
     def __missing__(self, runner: int) -> Row:
         row = self[runner] = Row(int)
@@ -85,7 +97,9 @@ class Rows(dict[int, Row]):
 
 
 class Processor:
-    """What stands still between two events: who runs, and which groups have a task that is ready, with how many they have."""
+    """What stands still between two events: who runs, and which groups have a task that is ready,
+    with how many they have.
+    """
 
     __slots__ = ("number", "task", "ready", "rows", "row", "last", "io", "memory")
 
@@ -109,7 +123,9 @@ class Processor:
                 row[group] += length
 
     def add(self, task: Task) -> None:
-        """The task is ready here from now on. It is `count`, without a call for each of so many events."""
+        """The task is ready here from now on. It is `count`, without a call for each of so many
+        events.
+        """
         ready = self.ready
         for group in task.group.chain:
             ready[group] = ready.get(group, 0) + 1
@@ -132,7 +148,7 @@ class Processor:
     def run(self, task: Optional[Task]) -> None:
         """The task runs from now on, or none."""
         self.task = task
-        self.row = self.rows[task.group.number if task else NOBODY]
+        self.row = self.rows[task.runner if task else NOBODY]
 
     def drop(self, group: int, now: int) -> None:
         """The group is in no state from now on."""
@@ -150,12 +166,16 @@ class Processor:
 
 
 class WatchedProcessor(Processor):
-    """The same, where it matters who would run if the tasks of a victim weren't there: `others` is how many are ready of others.
-    While the victim runs and there is one at most, nobody would wait here without it."""
+    """The same, where it matters who would run if the tasks of a victim weren't there: `others` is
+    how many are ready of others. While the victim runs and there is one at most, nobody would wait
+    here without it.
+    """
 
     __slots__ = ("victims", "others")
 
-    def __init__(self, number: int, io: Optional[Overlap], memory: Optional[Overlap], victims: set[int]) -> None:
+    def __init__(
+        self, number: int, io: Optional[Overlap], memory: Optional[Overlap], victims: set[int]
+    ) -> None:
         self.victims, self.others = victims, 0
         super().__init__(number, io, memory)
 
@@ -173,5 +193,6 @@ class WatchedProcessor(Processor):
 
     def run(self, task: Optional[Task]) -> None:
         self.task = task
-        runner = task.group.number if task else NOBODY
-        self.row = self.rows[runner + ALONE if runner in self.victims and self.others <= 1 else runner]
+        runner = task.runner if task else NOBODY
+        is_alone = task is not None and task.group.number in self.victims and self.others <= 1
+        self.row = self.rows[runner + ALONE if is_alone else runner]

@@ -12,10 +12,13 @@ Places = collections.defaultdict[tuple[int, int], int]
 
 
 class Sums:
-    """What happened in a stretch. Who runs stands for itself alone, a group that waits for itself and all below it.
+    """What happened in a stretch. Who runs stands for itself alone, a group that waits for itself
+    and all below it.
 
-    `waited`, `io` and `memory` are by processor and group; `pairs` by the group that waited for a processor and who ran there
-    meanwhile, NOBODY among these; `alone` the part of it in which, without the victim that ran, nobody would have waited there."""
+    `waited`, `io` and `memory` are by processor and group; `pairs` by the group that waited for a
+    processor and who ran there meanwhile, NOBODY among these; `alone` the part of it in which,
+    without the victim that ran, nobody would have waited there.
+    """
 
     def __init__(self) -> None:
         self.length = 0

@@ -1,17 +1,20 @@
 """What is told to people: of one group a few lines, of all a table and a matrix."""
 from __future__ import annotations
 
-from collections.abc import Callable
+from collections.abc import Callable, Sequence
 from typing import Optional
 
-from psireplay.times import seconds
+from psicli.times import seconds
+from psinames.known import Known
+from psinames.tasks import Share, shares_text
 
 from .figures import Figures, Part
 from .groups import Group, Groups
 from .told import Asked
 
 MS = 10**6
-# So many of a kind are told where the words don't say, and so many letters of a group's name stand over a column.
+# So many of a kind are told where the words don't say, and so many letters of a group's name stand
+# over a column.
 TOP = 10
 HEAD = 22
 NONE = "no task"
@@ -44,74 +47,122 @@ def shortened(name: str) -> str:
 def columns(rows: list[list[str]], indent: str = "") -> list[str]:
     """Rows whose first cell stands at the left, and the others at the right of their column."""
     widths = [max(len(row[place]) for row in rows) for place in range(len(rows[0]))]
-    cells = ([row[0].ljust(widths[0]), *(cell.rjust(width) for cell, width in zip(row[1:], widths[1:]))] for row in rows)
+    cells = (
+        [row[0].ljust(widths[0]), *(cell.rjust(width) for cell, width in zip(row[1:], widths[1:]))]
+        for row in rows
+    )
     return [indent + "  ".join(row).rstrip() for row in cells]
 
 
 def without_same(found: list[Figures], shown: Callable[[Figures], object]) -> list[Figures]:
-    """The rows without those of groups for which the same is shown as for a group right below them: all that they have is of that one."""
+    """The rows without those of groups for which the same is shown as for a group right below them:
+    all that they have is of that one.
+    """
     by_group = {it.group: it for it in found}
-    hidden = {above for it in found if (above := it.group.parent) and above in by_group and shown(it) == shown(by_group[above])}
+    hidden = {
+        above
+        for it in found
+        if (above := it.group.parent) and above in by_group and shown(it) == shown(by_group[above])
+    }
     return [it for it in found if it.group not in hidden]
+
+
+def with_names(lines: list[str], shares: Sequence[Sequence[Share]], head: str = "") -> list[str]:
+    """The lines of a table with the processes of each row after it, if they have names."""
+    if not any(shares):
+        return lines
+    width = max(map(len, lines))
+    texts = [head, *map(shares_text, shares)]
+    return [f"{line.ljust(width)}  {text}".rstrip() for line, text in zip(lines, texts)]
 
 
 class Teller:
     """Tells figures of groups of one trace."""
 
-    def __init__(self, groups: Groups, asked: Asked) -> None:
-        self.groups, self.asked = groups, asked
+    def __init__(self, groups: Groups, asked: Asked, known: Known) -> None:
+        self.groups, self.asked, self.known = groups, asked, known
         self.top = TOP if asked.top is None else asked.top
         self.when = f"between {seconds(asked.start)} s and {seconds(asked.to)} s"
+
+    def shown(self, group: Group) -> str:
+        """The name of a group, in which containers have their names."""
+        return self.known.groups.shown(group.path) + self.groups.name(group).removeprefix(
+            group.path
+        )
 
     def name(self, of: Group, group: Optional[Group]) -> str:
         """How a part of a group's time is named."""
         if group is None:
             return NONE
-        return self.groups.name(group) + (" itself" if group is of else " (in it)" if group.is_below(of) else "")
+        return self.shown(group) + (
+            " itself" if group is of else " (in it)" if group.is_below(of) else ""
+        )
 
     def parts(self, of: Group, parts: list[Part], whole: int, head: str) -> list[str]:
         """Parts with how much of the whole they are, and how many more there are than are shown."""
         rows = [[head, "s", "of it"]]
-        rows += [[self.name(of, it.group), three(it.time), f"{percent(it.time, whole)} %"] for it in parts[: self.top]]
+        rows += [
+            [self.name(of, it.group), three(it.time), f"{percent(it.time, whole)} %"]
+            for it in parts[: self.top]
+        ]
         left = len(parts) - self.top
         more = [f"  and {left} more: --top shows them"] if left > 0 else []
-        return columns(rows, "  ") + more
+        return with_names(columns(rows, "  "), [it.shares for it in parts[: self.top]]) + more
 
     # ------------------------------------------------------------ one group
 
     def group(self, it: Figures, growing: list[Figures]) -> list[str]:
-        """All that is shown of one group. The last block has the groups whose memory grew meanwhile."""
+        """All that is shown of one group. The last block has the groups whose memory grew
+        meanwhile.
+        """
         lines = [self.waited(it)]
-        lines += self.parts(it.group, it.while_ran, it.waited, "while there ran") if it.waited else []
-        lines += self.without(it) if it.while_victim is not None and self.asked.victim is not None else []
+        lines += (
+            self.parts(it.group, it.while_ran, it.waited, "while there ran") if it.waited else []
+        )
+        lines += (
+            self.without(it)
+            if it.while_victim is not None and self.asked.victim is not None
+            else []
+        )
         lines += self.beside(it, "for IO", "waited for IO", it.io, it.io_beside)
         lines += self.beside(it, "in a memory stall", "were in one", it.memory, it.memory_beside)
         return lines + (self.growth(it, growing) if it.memory else [])
 
     def waited(self, it: Figures) -> str:
-        name = self.groups.name(it.group)
+        name = self.shown(it.group)
         made, removed = it.group.made, it.group.removed
         if made > self.asked.to or (removed is not None and removed < self.asked.start):
-            life = f"it was there from {seconds(made)} s" + (f" to {seconds(removed)} s" if removed is not None else "")
+            life = f"it was there from {seconds(made)} s" + (
+                f" to {seconds(removed)} s" if removed is not None else ""
+            )
             return f"{name} wasn't there {self.when}: {life}"
         if not it.waited:
             return f"{name} didn't wait for a processor {self.when}"
         many = sum(map(bool, it.waits))
-        share = f"{percent(it.waited, self.asked.length)} percent of the time on {many} of {self.asked.cpus} processors"
+        share = (
+            f"{percent(it.waited, self.asked.length)} percent of the time on {many} of"
+            f" {self.asked.cpus} processors"
+        )
         return f"{name} waited {three(it.waited)} s for a processor {self.when} ({share})"
 
     def without(self, it: Figures) -> list[str]:
         """What the victim has to do with the wait for processors."""
         ran, less = three(it.while_victim or 0), three(it.less or 0)
-        return [f"  {self.asked.victim} ran there for {ran} s of it: without it at least {less} s less"]
+        return [
+            f"  {self.asked.victim} ran there for {ran} s of it: without it at least {less} s less"
+        ]
 
     def beside(self, it: Figures, where: str, did: str, whole: int, parts: list[Part]) -> list[str]:
         """Who did the same at the same time: a trace doesn't say why."""
         if not whole:
             return []
         if not parts:
-            return [f"and {where} {three(whole)} s: no tasks of other groups {did} at the same time"]
-        first = f"and {where} {three(whole)} s: of that, tasks of these groups {did} at the same time"
+            return [
+                f"and {where} {three(whole)} s: no tasks of other groups {did} at the same time"
+            ]
+        first = (
+            f"and {where} {three(whole)} s: of that, tasks of these groups {did} at the same time"
+        )
         return [first, *self.parts(it.group, parts, whole, "")]
 
     def growth(self, it: Figures, growing: list[Figures]) -> list[str]:
@@ -121,8 +172,17 @@ class Teller:
         rows = [["", "grown", "pages scanned"]]
         for other in growing[: self.top]:
             assert other.growth
-            rows.append([self.name(it.group, other.group), size(other.growth.grown), str(other.growth.scanned)])
-        return [f"and the memory of these groups grew or was scanned {self.when}", *columns(rows, "  ")]
+            rows.append(
+                [
+                    self.name(it.group, other.group),
+                    size(other.growth.grown),
+                    str(other.growth.scanned),
+                ]
+            )
+        return [
+            f"and the memory of these groups grew or was scanned {self.when}",
+            *columns(rows, "  "),
+        ]
 
     # ------------------------------------------------------------ all groups
 
@@ -130,18 +190,39 @@ class Teller:
         """All groups that did something, the worst first."""
         some = without_same([it for it in found if it.has_some], lambda it: self.row(it)[1:])
         victim = self.asked.victim
-        heads = ["group", "ran", "waited: processor", "IO", "memory stall", "memory grown", "scanned"]
+        heads = [
+            "group",
+            "ran",
+            "waited: processor",
+            "IO",
+            "memory stall",
+            "memory grown",
+            "scanned",
+        ]
         heads += [f"while {shortened(victim)} ran", "at least less"] if victim is not None else []
         rows = [self.row(it) for it in some[: self.top]]
-        lines = [f"times in s {self.when}, {self.asked.cpus} processors; the longest wait first", *columns([heads, *rows])]
+        shown = with_names(
+            columns([heads, *rows]), [it.shares for it in some[: self.top]], "processes that ran"
+        )
+        lines = [
+            f"times in s {self.when}, {self.asked.cpus} processors; the longest wait first",
+            *shown,
+        ]
         rest, idle = len(some) - len(rows), sum(not it.has_some for it in found)
         lines += [f"and {rest} more groups: --top shows them"] if rest > 0 else []
         lines += [f"and {idle} groups that neither ran nor waited"] if idle else []
         return lines
 
     def row(self, it: Figures) -> list[str]:
-        grown, scanned = (size(it.growth.grown), str(it.growth.scanned)) if it.growth else ("-", "-")
-        cells = [self.groups.name(it.group), *map(three, (it.ran, it.waited, it.io, it.memory)), grown, scanned]
+        grown, scanned = (
+            (size(it.growth.grown), str(it.growth.scanned)) if it.growth else ("-", "-")
+        )
+        cells = [
+            self.shown(it.group),
+            *map(three, (it.ran, it.waited, it.io, it.memory)),
+            grown,
+            scanned,
+        ]
         without = ["-" if time is None else three(time) for time in (it.while_victim, it.less)]
         return cells + (without if self.asked.victim is not None else [])
 
@@ -156,19 +237,33 @@ class Teller:
                 totals[part.group] = totals.get(part.group, 0) + part.time
         runners = sorted(totals, key=lambda group: -totals[group])
         shown, hidden = runners[: self.top], runners[self.top :]
-        heads = [shortened(self.groups.name(it)) if it else NONE for it in shown] + (["others"] if hidden else [])
+        heads = [shortened(self.shown(it)) if it else NONE for it in shown] + (
+            ["others"] if hidden else []
+        )
         rows = [["waited \\ ran there", "s", *heads]]
         for it in sorted(waiting, key=lambda it: -it.waited)[: self.top]:
             times = {part.group: part.time for part in it.while_ran}
-            cells = [times.get(group, 0) for group in shown] + ([sum(times.get(it, 0) for it in hidden)] if hidden else [])
-            rows.append([self.groups.name(it.group), three(it.waited), *(three(cell) if cell else "." for cell in cells)])
+            cells = [times.get(group, 0) for group in shown] + (
+                [sum(times.get(it, 0) for it in hidden)] if hidden else []
+            )
+            rows.append(
+                [
+                    self.shown(it.group),
+                    three(it.waited),
+                    *(three(cell) if cell else "." for cell in cells),
+                ]
+            )
         rest = len(waiting) - self.top
-        return columns(rows) + ([f"and {rest} more groups waited: --top shows them"] if rest > 0 else [])
+        return columns(rows) + (
+            [f"and {rest} more groups waited: --top shows them"] if rest > 0 else []
+        )
 
 
-def as_text(groups: Groups, found: list[Figures], everyone: list[Figures], asked: Asked) -> str:
+def as_text(
+    groups: Groups, found: list[Figures], everyone: list[Figures], asked: Asked, known: Known
+) -> str:
     """Of the groups that were asked for, or a table and a matrix of all where none was."""
-    teller = Teller(groups, asked)
+    teller = Teller(groups, asked, known)
     if not found:
         return "\n".join([*teller.table(everyone), "", *teller.matrix(everyone), ""])
     growing = [it for it in everyone if it.growth and any(it.growth)]

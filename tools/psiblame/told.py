@@ -2,14 +2,21 @@
 from __future__ import annotations
 
 import json
+from collections.abc import Sequence
 from typing import Any, NamedTuple, Optional
+
+from psinames.clock import wall_text
+from psinames.known import Known
+from psinames.tasks import Share
 
 from .figures import Figures, Part
 from .groups import Groups
 
 
 class Asked(NamedTuple):
-    """What was asked: the trace's name and end, the time (all ns), the victim's path, and how many of each kind are told."""
+    """What was asked: the trace's name and end, the time (all ns), the victim's path, and how many
+    of each kind are told.
+    """
 
     trace: str
     end: int
@@ -26,7 +33,23 @@ class Asked(NamedTuple):
 
 def parts_of(groups: Groups, parts: list[Part], top: Optional[int]) -> list[dict[str, Any]]:
     """The parts, the longest first; null is told where no task ran."""
-    return [{"group": groups.name(it.group) if it.group else None, "ns": it.time} for it in parts[:top]]
+    return [
+        {
+            "group": groups.name(it.group) if it.group else None,
+            "ns": it.time,
+            **shares_of(it.shares),
+        }
+        for it in parts[:top]
+    ]
+
+
+def shares_of(shares: Sequence[Share]) -> dict[str, Any]:
+    """The processes, if they have names."""
+    rows = [
+        {"name": it.name, "threads" if it.is_thread else "pids": list(it.numbers), "ns": it.time}
+        for it in shares
+    ]
+    return {"processes": rows} if rows else {}
 
 
 def group_of(groups: Groups, it: Figures, asked: Asked, is_named: bool) -> dict[str, Any]:
@@ -42,6 +65,7 @@ def group_of(groups: Groups, it: Figures, asked: Asked, is_named: bool) -> dict[
         "memory_ns": it.memory,
         "memory_grown_bytes": it.growth.grown if it.growth else None,
         "scanned_pages": it.growth.scanned if it.growth else None,
+        **shares_of(it.shares),
         "while_ran": parts_of(groups, it.while_ran, asked.top),
     }
     if is_named:
@@ -52,13 +76,16 @@ def group_of(groups: Groups, it: Figures, asked: Asked, is_named: bool) -> dict[
     return told
 
 
-def as_json(groups: Groups, found: list[Figures], everyone: list[Figures], asked: Asked) -> str:
+def as_json(
+    groups: Groups, found: list[Figures], everyone: list[Figures], asked: Asked, known: Known
+) -> str:
     """One object: what was asked, and the groups that were asked for, or all where none was."""
     whole = {
         "trace": asked.trace,
         "end_ns": asked.end,
         "from_ns": asked.start,
         "to_ns": asked.to,
+        "began": wall_text(known.wall) if known.wall else None,
         "processors": asked.cpus,
         "victim": asked.victim,
         "groups": [group_of(groups, it, asked, bool(found)) for it in found or everyone],

@@ -1,4 +1,6 @@
-"""The trace that is read: psi_oomd must accept it first, and says how long each group was in each state."""
+"""The trace that is read: psi_oomd must accept it first, and says how long each group was in each
+state.
+"""
 from __future__ import annotations
 
 import contextlib
@@ -11,26 +13,29 @@ import tempfile
 import time
 from typing import Iterator, NamedTuple
 
-from psireplay.command import Fault
+from psicli.fault import Fault
+from psicli.status import ProgramStatus
 from psireplay.kinds import folder_told, why_refused
 from psireplay.program import ADVICE, LAUNCHER, built_program, program_path
 
-from .faults import MEMORY, NO_FILE, NO_PROGRAM, READ, REFUSED, Stop
-
-STALL = re.compile(r"stall cpu=([0-9]+) (\S+) ([0-9]+) [0-9]+ ([0-9]+) [0-9]+ ([0-9]+) [0-9]+ [0-9]+(?: [0-9]+)?\n")
+STALL = re.compile(
+    r"stall cpu=([0-9]+) (\S+) ([0-9]+) [0-9]+ ([0-9]+) [0-9]+ ([0-9]+) [0-9]+ [0-9]+(?: [0-9]+)?\n"
+)
 # Bytes that are read at once, and how often progress is shown, in s.
 PIECE = 1 << 20
 OFTEN = 0.5
-TOLD = {
-    REFUSED: "psi_oomd refuses {name}: {said}",
-    NO_FILE: "no file: {name}",
-    READ: "psi_oomd can't read {name}: {said}",
-    MEMORY: "psi_oomd found no memory for {name}",
+TOLD: dict[int, str] = {
+    ProgramStatus.TRACE_REFUSED: "psi_oomd refuses {name}: {said}",
+    ProgramStatus.NO_FILE: "no file: {name}",
+    ProgramStatus.READ_FAULT: "psi_oomd can't read {name}: {said}",
+    ProgramStatus.NO_MEMORY: "psi_oomd found no memory for {name}",
 }
 
 
 class States(NamedTuple):
-    """How long (ns) a group waited on a processor for IO, was in a memory stall, and waited for that processor."""
+    """How long (ns) a group waited on a processor for IO, was in a memory stall, and waited for
+    that processor.
+    """
 
     io: int
     memory: int
@@ -58,30 +63,38 @@ def program() -> str:
     try:
         return built_program(path) if path == LAUNCHER else path
     except (Fault, OSError) as fault:
-        raise Stop(NO_PROGRAM, str(fault)) from None
+        raise Fault(str(fault), ProgramStatus.NOT_BUILT) from None
 
 
 def stalls(file: str, name: str) -> Stalls:
-    """What `psi_oomd stall` prints of the trace. One that it refuses is a fault, in its words and with its status."""
+    """What `psi_oomd stall` prints of the trace. One that it refuses is a fault, in its words and
+    with its status.
+    """
     path = program()
     try:
         done = subprocess.run([path, "stall", "--", file], capture_output=True, encoding="latin-1")
     except OSError as fault:
-        raise Stop(NO_PROGRAM, f"{path} can't be run ({fault.strerror}): {ADVICE}") from None
+        raise Fault(
+            f"{path} can't be run ({fault.strerror}): {ADVICE}", ProgramStatus.NOT_BUILT
+        ) from None
     said = why_refused(done.stderr.strip(), file, name)
     if os.path.isdir(file):
-        raise Stop(READ, folder_told(name))
+        raise Fault(folder_told(name), ProgramStatus.READ_FAULT)
     if done.returncode in TOLD:
-        raise Stop(done.returncode, TOLD[done.returncode].format(name=name, said=said))
+        raise Fault(TOLD[done.returncode].format(name=name, said=said), done.returncode)
     lines = done.stdout.splitlines(keepends=True)
     found = [STALL.fullmatch(line) for line in lines]
     if done.returncode or not lines or not all(found):
-        raise Stop(NO_PROGRAM, f"{path} printed no times of states (status {done.returncode}): {said or ADVICE}")
+        raise Fault(
+            f"{path} printed no times of states (status {done.returncode}): {said or ADVICE}",
+            ProgramStatus.NOT_BUILT,
+        )
     return {(int(it[1]), it[2]): States(int(it[3]), int(it[4]), int(it[5])) for it in found if it}
 
 
 class Lines:
-    """The lines of a trace that was accepted: `cpus` of its header, `end` in ns of its last line."""
+    """The lines of a trace that was accepted: `cpus` of its header, `end` in ns of its last line.
+    """
 
     def __init__(self, file: str) -> None:
         self.file, self.size = open(file, "rb"), os.path.getsize(file)
@@ -100,6 +113,11 @@ class Lines:
                 yield lines
                 if is_shown and time.monotonic() > shown + OFTEN:
                     shown = time.monotonic()
-                    print(f"\rblame: {100 * self.file.tell() // self.size} %", end="", file=sys.stderr, flush=True)
+                    print(
+                        f"\rblame: {100 * self.file.tell() // self.size} %",
+                        end="",
+                        file=sys.stderr,
+                        flush=True,
+                    )
         if is_shown:
             print("\r\33[K", end="", file=sys.stderr, flush=True)

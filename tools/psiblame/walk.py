@@ -1,4 +1,6 @@
-"""Plays the events of a trace that psi_oomd accepts, and sums up who ran, who waited and who stalled."""
+"""Plays the events of a trace that psi_oomd accepts, and sums up who ran, who waited and who
+stalled.
+"""
 from __future__ import annotations
 
 from typing import Callable, Optional
@@ -7,6 +9,7 @@ from .groups import Group, Groups
 from .memory import Samples
 from .overlap import Overlap
 from .processor import ASLEEP, IOWAIT, READY, RUNNING, Processor, Task, WatchedProcessor
+from .runners import Runners
 from .sums import Stretches
 
 Fields = list[bytes]
@@ -14,7 +17,9 @@ Play = Callable[[int, Fields], None]
 
 
 class Named:
-    """Words that name groups, by a path or as PATH#N, and the numbers of those that were made so far."""
+    """Words that name groups, by a path or as PATH#N, and the numbers of those that were made so
+    far.
+    """
 
     def __init__(self, words: list[str], with_below: bool) -> None:
         self.words, self.with_below = set(words), with_below
@@ -23,7 +28,9 @@ class Named:
     def takes(self, group: Group) -> bool:
         """Looks at a group that was just made."""
         is_named = group.path in self.words or f"{group.path}#{group.life}" in self.words
-        is_below = self.with_below and group.parent is not None and group.parent.number in self.numbers
+        is_below = (
+            self.with_below and group.parent is not None and group.parent.number in self.numbers
+        )
         if is_named or is_below:
             self.numbers.add(group.number)
         return is_named or is_below
@@ -32,8 +39,10 @@ class Named:
 class Walk:
     """The machine of a trace, event by event. What each verb does is told in docs/TRACES.md."""
 
-    def __init__(self, cpus: int, stretches: Stretches, asked: Named, victims: Named) -> None:
-        self.stretches, self.asked, self.victims = stretches, asked, victims
+    def __init__(
+        self, cpus: int, stretches: Stretches, asked: Named, victims: Named, runners: Runners
+    ) -> None:
+        self.stretches, self.asked, self.victims, self.runners = stretches, asked, victims, runners
         self.io, self.memory, self.samples = Overlap(), Overlap(), Samples()
         self.groups = Groups()
         self.tasks: dict[bytes, Task] = {}
@@ -42,7 +51,9 @@ class Walk:
         self.processors = {b"%d" % it.number: it for it in self.all}
         self.notice(self.groups.all[0])
         verbs = "group rmgroup fork wake switch stall unstall migrate move mem pressure end"
-        self.plays: dict[bytes, Play] = {verb.encode(): getattr(self, f"play_{verb}") for verb in verbs.split()}
+        self.plays: dict[bytes, Play] = {
+            verb.encode(): getattr(self, f"play_{verb}") for verb in verbs.split()
+        }
 
     def processor(self, number: int, io: Optional[Overlap], memory: Optional[Overlap]) -> Processor:
         if self.victims.words:
@@ -87,7 +98,10 @@ class Walk:
 
     def play_fork(self, now: int, fields: Fields) -> None:
         processor = self.processors[fields[4]]
-        task = self.tasks[fields[2]] = Task(fields[2], self.groups.live[fields[3]], processor)
+        group, life = self.groups.live[fields[3]], self.runners.life(fields[2], now)
+        task = self.tasks[fields[2]] = Task(
+            fields[2], group, processor, life, self.runners.number(group, life)
+        )
         processor.pass_time(now)
         processor.add(task)
 
@@ -168,7 +182,7 @@ class Walk:
             processor.io.leave(old, now)
         if task.is_stalled:
             processor.memory.leave(old, now)
-        task.group = group
+        task.group, task.runner = group, self.runners.number(group, task.life)
         if task.at == READY:
             processor.add(task)
         elif task.at == RUNNING:
@@ -179,7 +193,8 @@ class Walk:
             processor.memory.enter(group.chain, now)
 
     def play_pressure(self, now: int, fields: Fields) -> None:
-        """The account of a group is switched: it is in no state, or in those that its tasks are in."""
+        """The account of a group is switched: it is in no state, or in those that its tasks are in.
+        """
         group, is_on = self.groups.live[fields[2]], fields[3] == b"on"
         if is_on == group.is_on:
             return

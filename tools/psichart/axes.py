@@ -5,12 +5,25 @@ import itertools
 import math
 from typing import Iterator, NamedTuple, Optional
 
-from psireplay.times import DAY, HOUR, MINUTE, MONTHS, SECOND, ClockTime, WallTime, seconds, shown, told, zone
+from psicli.times import (
+    DAY,
+    HOUR,
+    MINUTE,
+    MONTHS,
+    SECOND,
+    ClockTime,
+    WallTime,
+    clock_time,
+    duration,
+    seconds,
+    zone,
+)
 
 from .svg import LEFT, LETTER, RIGHT
 
 CLOCK_STEPS = [
-    count * SECOND for count in (10, 20, 30, 60, 120, 300, 600, 1200, 1800, 3600, 7200, 10800, 21600, 43200)
+    count * SECOND for count in (10, 20, 30, 60, 120, 300, 600, 1200, 1800, 3600, 7200,
+    10800, 21600, 43200)
 ]  # fmt: skip
 UNITS = (("days", DAY), ("hours", HOUR), ("minutes", MINUTE), ("seconds", SECOND))
 SIZES = ("bytes", "KiB", "MiB", "GiB", "TiB", "PiB", "EiB")
@@ -62,7 +75,9 @@ class TimeAxis:
     def __init__(self, start: int, end: int) -> None:
         self.start, self.end = start, end
         self.step = next(step for step in time_steps() if MOST_STEPS * step >= end - start)
-        self.unit, self.length = next((unit, it) for unit, it in UNITS if self.step >= it or it == SECOND)
+        self.unit, self.length = next(
+            (unit, it) for unit, it in UNITS if self.step >= it or it == SECOND
+        )
 
     def x(self, moment: int) -> float:
         """The x coordinate (pixels) of a time: rounded as it is written, so that it is in the pixel
@@ -75,14 +90,16 @@ class TimeAxis:
 
     def marks(self) -> Iterator[Mark]:
         for moment in range(-(-self.start // self.step) * self.step, self.end + 1, self.step):
-            yield Mark(moment, seconds(moment) if self.unit == "seconds" else str(moment // self.length))
+            yield Mark(
+                moment, seconds(moment) if self.unit == "seconds" else str(moment // self.length)
+            )
 
     def caption(self) -> str:
         return f"{self.unit} since the start of the trace"
 
     def told(self, moment: int) -> str:
         """A time in the format of this axis: `146 s`, `2 h 1 min`."""
-        return f"{seconds(moment)} s" if self.unit == "seconds" else told(moment)
+        return f"{seconds(moment)} s" if self.unit == "seconds" else duration(moment)
 
 
 class WallAxis(TimeAxis):
@@ -101,13 +118,17 @@ class WallAxis(TimeAxis):
 
     def text(self, local: int, step: int) -> str:
         """The label of a time of day: the beginning of a day has its date."""
-        at = shown(local)
+        at = clock_time(local)
         if step >= DAY or (local % DAY == 0 and self.has_days()):
             return f"{at.date.tm_mday} {MONTHS[at.date.tm_mon - 1][:3]}"
         if step >= MINUTE:
             return at.clock[:5]
         decimals = len(seconds(step % SECOND)) - 2 if step % SECOND else 0
-        return f"{at.clock.partition('.')[0]}.{local % SECOND:09}"[: 9 + decimals] if decimals else at.clock
+        return (
+            f"{at.clock.partition('.')[0]}.{local % SECOND:09}"[: 9 + decimals]
+            if decimals
+            else at.clock
+        )
 
     def marks(self) -> Iterator[Mark]:
         first, last = self.first + self.start, self.first + self.end
@@ -115,7 +136,7 @@ class WallAxis(TimeAxis):
             yield Mark(local - self.first, self.text(local, self.step))
 
     def days(self) -> tuple[ClockTime, ClockTime]:
-        return shown(self.first + self.start), shown(self.first + self.end)
+        return clock_time(self.first + self.start), clock_time(self.first + self.end)
 
     def has_days(self) -> bool:
         """Whether the chart spans more than one day."""
@@ -125,11 +146,13 @@ class WallAxis(TimeAxis):
     def caption(self) -> str:
         first, last = self.days()
         until = f" to {last.day} {last.date.tm_year}" if self.has_days() else ""
-        year = f" {first.date.tm_year}" if not until or first.date.tm_year != last.date.tm_year else ""
+        year = (
+            f" {first.date.tm_year}" if not until or first.date.tm_year != last.date.tm_year else ""
+        )
         return f"time of day, {first.day}{year}{until}, {zone(self.wall.ahead)}"
 
     def told(self, moment: int) -> str:
-        at = shown(self.first + moment)
+        at = clock_time(self.first + moment)
         return f"{at.clock} on {at.day}" if self.has_days() else at.clock
 
 

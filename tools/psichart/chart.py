@@ -6,10 +6,11 @@ from __future__ import annotations
 from typing import NamedTuple, Optional
 from xml.etree import ElementTree
 
+from psicli.times import rounded
+from psinames.groups import GroupNames
 from psireplay.lines import Kill
 from psireplay.rules import Rules
 from psireplay.samples import Samples
-from psireplay.times import rounded
 
 from .axes import TimeAxis
 from .marks import ROW, Mark, Moment, marks_of, place
@@ -19,7 +20,8 @@ from .svg import LEFT, RIGHT, STYLE, STYLE_BESIDE, WIDTH, Element, add, counted,
 from .thresholds import memory_thresholds, pressure_thresholds
 
 NAMES = {
-    "io": "IO pressure", "memory": "memory pressure", "cpu": "CPU pressure", "irq": "interrupt pressure", "use": "memory in use"
+    "io": "IO pressure", "memory": "memory pressure", "cpu": "CPU pressure",
+    "irq": "interrupt pressure", "use": "memory in use"
 }  # fmt: skip
 MARKS_TOP = 74
 # The room for the first panel's name, below the labels of vertical lines.
@@ -47,6 +49,9 @@ class Place(NamedTuple):
         return self.top + self.height
 
 
+NO_NAMES = GroupNames({})
+
+
 class Wanted(NamedTuple):
     """What to draw, and its input. `recorded` is a replay of the original trace, to be drawn next
     to a replay without the killed groups.
@@ -58,6 +63,7 @@ class Wanted(NamedTuple):
     rules: Optional[Rules]
     samples: Optional[Samples]
     recorded: Optional[Replay]
+    names: GroupNames = NO_NAMES
 
 
 class Chart:
@@ -65,17 +71,24 @@ class Chart:
 
     def __init__(self, wanted: Wanted) -> None:
         self.wanted, self.replay, self.axis = wanted, wanted.replay, wanted.axis
+        self.shown = wanted.names.shown
         self.heading = self.title(60 // min(TITLED, len(self.replay.groups)))
-        self.marks = marks_of(filter(lambda it: self.axis.holds(it.moment), self.moments()), self.axis.x)
+        self.marks = marks_of(
+            filter(lambda it: self.axis.holds(it.moment), self.moments()), self.axis.x
+        )
         self.unnamed = place(self.marks)
-        self.panels = [panel for resource in [*wanted.resources, "use"] for panel in self.panels_of(resource)]
+        self.panels = [
+            panel for resource in [*wanted.resources, "use"] for panel in self.panels_of(resource)
+        ]
         rows = [mark.row + 1 for mark in self.marks if mark.row is not None]
         self.marks_top = MARKS_TOP + (LEGEND_ROW if wanted.recorded else 0)
         self.marks_bottom = self.marks_top + ROW * max(rows, default=0)
         self.top = self.marks_bottom + 14 + (NAME_ROOM if rows else 0)
         self.places = self.places_of()
         self.bottom = self.places[-1].bottom + PANEL_GAP - 28
-        self.svg = ElementTree.Element("svg", {"xmlns": "http://www.w3.org/2000/svg", "role": "img"})
+        self.svg = ElementTree.Element(
+            "svg", {"xmlns": "http://www.w3.org/2000/svg", "role": "img"}
+        )
 
     # ------------------------------------------------------------ what is drawn
 
@@ -86,14 +99,20 @@ class Chart:
 
     def panel(self, resource: str, path: str) -> list[Panel]:
         rules, samples = self.wanted.rules, self.wanted.samples
-        name = NAMES[resource] + (f" of {short(path, 80)}" if len(self.replay.groups) > 1 else "")
+        name = NAMES[resource] + (
+            f" of {short(self.shown(path), 80)}" if len(self.replay.groups) > 1 else ""
+        )
         if resource != "use":
             thresholds = pressure_thresholds(rules, path, resource)
             replays = [self.replay, *filter(None, [self.wanted.recorded])]
             return [PressurePanel(name, self.axis, thresholds, replays, path, resource)]
         if not samples:
             return []
-        return [MemoryPanel(name, self.axis, memory_thresholds(rules, path, samples.host), samples.lives[path])]
+        return [
+            MemoryPanel(
+                name, self.axis, memory_thresholds(rules, path, samples.host), samples.lives[path]
+            )
+        ]
 
     def places_of(self) -> list[Place]:
         """The positions of the panels, one below the other; those without pressure are low."""
@@ -107,36 +126,46 @@ class Chart:
 
     def moments(self) -> list[Moment]:
         """The kills, and the removals of groups."""
-        return [self.kill(it) for it in self.replay.kills] + [self.end(it) for it in self.replay.gone()]
+        return [self.kill(it) for it in self.replay.kills] + [
+            self.end(it) for it in self.replay.gone()
+        ]
 
     def kill(self, kill: Kill) -> Moment:
         at = self.axis.told(kill.moment)
-        would, who = f"{kill.path} would be killed", f"ruleset {kill.ruleset}, action {kill.action}"
+        path = self.shown(kill.path)
+        would, who = f"{path} would be killed", f"ruleset {kill.ruleset}, action {kill.action}"
         hint = f"{would} at {at} by {who}"
         if self.wanted.rules:
             killer = self.wanted.rules.killer(kill)
             who = f"'{killer.ruleset}'"
-            hint = f"{would} at {at} by ruleset {kill.ruleset} {who}, action {kill.action} {killer.plugin}"
+            hint = (
+                f"{would} at {at} by ruleset {kill.ruleset} {who}, action"
+                f" {kill.action} {killer.plugin}"
+            )
         # The name of the killer matters more than the time, which the axis shows, unless the title
         # has the name.
         second = f"{would} at {at}" if f" by {who}" in self.heading else f"{would} by {who}"
-        texts = (f"{would} at {at} by {who}", second, f"{would} at {at}", would, kill.path)
+        texts = (f"{would} at {at} by {who}", second, f"{would} at {at}", would, path)
         return Moment(kill.moment, "kill", hint, texts)
 
     def end(self, gone: Gone) -> Moment:
         # Only the first report without the group is known, not the time of its removal.
-        was = f"{gone.path} was gone"
+        was = f"{self.shown(gone.path)} was gone"
         by = f"{was} by {self.axis.told(gone.moment)}"
         return Moment(gone.moment, "gone", by, (by, by, by, was, was))
 
     def title(self, most: int) -> str:
         groups = self.replay.groups
-        paths = [short(path, most) for path in groups]
+        paths = [short(self.shown(path), most) for path in groups]
         which = ", ".join(paths[:-1]) + " and " * (len(paths) > 1) + paths[-1]
         which = which if len(paths) <= TITLED else f"{len(paths)} groups"
         kills = counted(self.replay.end.kills, "would-be kill")
         title = f"Pressure of {which}, {rounded(self.replay.end.moment)}, {kills}"
-        return title + self.killers() if len(title + self.killers()) <= max(most, TITLE_ROOM) else title
+        return (
+            title + self.killers()
+            if len(title + self.killers()) <= max(most, TITLE_ROOM)
+            else title
+        )
 
     def killers(self) -> str:
         """The killers: a ruleset's name, or the number of rulesets, if the rules are known."""
@@ -154,7 +183,9 @@ class Chart:
 
     def draw(self) -> Element:
         height = self.bottom + 46
-        self.svg.attrib.update({"width": str(WIDTH), "height": str(height), "viewBox": f"0 0 {WIDTH} {height}"})
+        self.svg.attrib.update(
+            {"width": str(WIDTH), "height": str(height), "viewBox": f"0 0 {WIDTH} {height}"}
+        )
         add(self.svg, "title", self.title(1000))
         add(self.svg, "style", STYLE + STYLE_BESIDE if self.wanted.recorded else STYLE)
         add(self.svg, "rect", class_="ground", width="100%", height="100%")
@@ -168,7 +199,12 @@ class Chart:
             # Panels of one kind have the same scale, so that groups can be compared, except panels
             # without pressure.
             alike = [it for it in self.panels if it.kind == panel.kind]
-            panel.draw(self.svg, at.top, at.height, max(it.most() for it in ([panel] if panel.is_flat() else alike)))
+            panel.draw(
+                self.svg,
+                at.top,
+                at.height,
+                max(it.most() for it in ([panel] if panel.is_flat() else alike)),
+            )
         self.draw_marks()
         return self.svg
 
@@ -215,7 +251,8 @@ class Chart:
         left = self.axis.x(max(first, self.axis.start))
         shade = add(self.svg, "g", class_="shade")
         for at in self.places:
-            add(shade, "rect", class_="supposed", x=left, y=at.top, width=RIGHT - left, height=at.height)
+            add(shade, "rect", class_="supposed", x=left, y=at.top, width=RIGHT - left,
+            height=at.height)  # fmt: skip
 
     def draw_time(self) -> None:
         """The lines of the time axis through all panels, and their labels below the last."""
@@ -226,7 +263,8 @@ class Chart:
                 add(axis, "line", class_="grid", x1=x, y1=at.top, x2=x, y2=at.bottom)
             add(axis, "text", mark.text, x=x, y=self.bottom + 16, text_anchor="middle")
         middle = (LEFT + RIGHT) / 2
-        add(self.svg, "text", self.axis.caption(), class_="small", x=middle, y=self.bottom + 34, text_anchor="middle")
+        add(self.svg, "text", self.axis.caption(), class_="small", x=middle, y=self.bottom + 34,
+        text_anchor="middle")  # fmt: skip
 
     def draw_marks(self) -> None:
         marks = add(self.svg, "g", class_="marks")
@@ -234,8 +272,19 @@ class Chart:
             self.draw_mark(marks, mark)
         unnamed = sum(len(mark.moments) for mark in self.unnamed)
         if unnamed:
-            text = f"{counted(unnamed, 'upright line')} without a path, for want of room: draw less time by --from and --to"
-            add(marks, "text", text, class_="small", x=RIGHT, y=self.marks_top - 4, text_anchor="end")
+            text = (
+                f"{counted(unnamed, 'upright line')} without a path, for want of room: draw less"
+                " time by --from and --to"
+            )
+            add(
+                marks,
+                "text",
+                text,
+                class_="small",
+                x=RIGHT,
+                y=self.marks_top - 4,
+                text_anchor="end",
+            )
 
     def draw_mark(self, marks: Element, mark: Mark) -> None:
         """A line from its label down through all panels, with a triangle for a kill, and a cross
@@ -246,7 +295,9 @@ class Chart:
         y = self.marks_bottom if mark.row is None else self.marks_bottom - ROW * mark.row - 9
         add(group, "line", x1=mark.x, y1=y, x2=mark.x, y2=self.bottom)
         x = decimal(mark.x - 4)
-        add(group, "path", d=f"M{x} {y}h8l-4 7z" if mark.kind == "kill" else f"M{x} {y}l8 8m-8 0l8 -8")
+        add(group, "path",
+            d=f"M{x} {y}h8l-4 7z" if mark.kind == "kill" else f"M{x} {y}l8 "
+                                                              f"8m-8 0l8 -8")  # fmt: skip
         if mark.row is not None:
             place, anchor = (mark.x - 7, "end") if mark.is_left else (mark.x + 7, "start")
             add(group, "text", mark.text, class_="path", x=place, y=y + 7, text_anchor=anchor)

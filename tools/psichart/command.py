@@ -1,159 +1,123 @@
 """The command line, and the chart that it draws."""
 from __future__ import annotations
 
-import argparse
-import re
 import shutil
-import sys
 import tempfile
-from typing import IO, NamedTuple, Optional, Union
+from typing import IO, Any, NamedTuple, Optional
 from xml.etree import ElementTree
 
-from psireplay.command import Fault, Words, groups_told, run_tool
+from psicli.fault import Fault
+from psicli.options import add_interval, add_tick
+from psicli.parser import Parser
+from psicli.running import complain, run, write
+from psicli.status import Status
+from psicli.times import seconds
+from psicli.values import whole_number
+from psinames.known import Known, add_names, add_times, has_start, known_of, must_fit, span_in
 from psireplay.lines import RESOURCES
 from psireplay.program import opened
+from psireplay.replaying import TRACE_HELP, replayed
 from psireplay.rules import Rules, unmatched
 from psireplay.samples import Samples
 from psireplay.stalls import ranked
-from psireplay.times import SECOND, WallTime, seconds, wall_time
+from psireplay.trace_end import end_of
 
 from .axes import time_axis
 from .chart import Chart, Wanted
 from .replay import Replay, read_replay
+from .summary import Summary, summary_of
 
-ABOUT = "Draws the output of `psi_oomd replay` or `whatif` as an SVG. Lines of --live are ignored."
-AFTER = (
-    "--rules and --trace run the psi_oomd beside this tool, or the program in the variable PSI_OOMD, which checks "
-    "the file."
+ABOUT = (
+    "Draws a trace, or the output of `psi_oomd replay` or `whatif` on standard input, as an SVG."
+    " Lines of --live are ignored."
 )
-Moment = Union[int, WallTime]
-
-
-class Given(NamedTuple):
-    """The parsed command line; times in ns since the start of the trace."""
-
-    groups: list[str]
-    resource: Optional[str]
-    start: int
-    end: Optional[int]
-    wall: Optional[WallTime]
-    rules: Optional[str]
-    trace: Optional[str]
-    beside: Optional[str]
-    top: Optional[int]
-    summary: Optional[Summary]
-
-
-def moment(word: str) -> Moment:
-    """A number of seconds, or a time of day."""
-    found = re.fullmatch(r"([0-9]{1,9})(?:\.([0-9]{1,9}))?", word)
-    if found:
-        return int(found[1]) * SECOND + int((found[2] or "").ljust(9, "0"))
-    if "T" in word:
-        return wall_time(word)
-    raise argparse.ArgumentTypeError(f"{word} is no number of seconds, and no time as 2026-11-28T13:58:12Z")
-
-
-def count(word: str) -> int:
-    """The number of groups to draw."""
-    if not re.fullmatch("[1-9][0-9]?", word):
-        raise argparse.ArgumentTypeError(f"{word} is no number from 1 to 99")
-    return int(word)
-
-
-class Summary(NamedTuple):
-    """The summary that tools/psitrace printed about a trace: when the trace began, if known, the
-    time (ns) at which the recording begins in it, and its length (ns, rounded to ms).
-    """
-
-    name: str
-    wall: Optional[WallTime]
-    begins: int
-    length: Optional[int]
-
-    def must_be_of(self, replay: Replay) -> None:
-        """Rejects the summary of a trace of a different length, since it is another recording's,
-        with another time of day.
-        """
-        if self.length is not None and abs(self.length - replay.end.moment) > SECOND // 1000:
-            lengths = f"a trace of {seconds(self.length)} s, and the replay's has {seconds(replay.end.moment)} s"
-            raise Fault(f"{self.name} is the summary of {lengths}: give the summary of this trace")
-
-
-def summary_of(name: str) -> Summary:
-    """The summary in a file."""
-    with opened(name) as file:
-        said = file.read().decode("utf-8", "replace")
-    if not re.search("^psitrace: ", said, re.MULTILINE):
-        raise Fault(f"{name} has no line of psitrace: give what it said of the recording, by `2> FILE`")
-    start = re.search(r"^psitrace: 0 is (\S+) (\S+) UTC$", said, re.MULTILINE)
-    begins = re.search(r"^psitrace: the recording begins at (\d+)\.(\d{3}) s", said, re.MULTILINE)
-    length = re.search(r"^psitrace: (\d+)\.(\d{3}) s, processors ", said, re.MULTILINE)
-    lead_in, whole = (int(it[1]) * SECOND + int(it[2]) * SECOND // 1000 if it else None for it in (begins, length))
-    try:
-        wall = wall_time(f"{start[1]}T{start[2]}Z") if start else None
-    except argparse.ArgumentTypeError as fault:
-        raise Fault(f"{name}: {fault}") from None
-    return Summary(name, wall, lead_in or 0, whole)
-
-
+AFTER = (
+    "The program that replays and checks files is the psi_oomd beside this tool, or that in the"
+    " variable PSI_OOMD."
+)
+REPORT_S = 2
+STANDARD_INPUT = "-"
 HELP = {
-    "group": "a group whose pressure is drawn; may be repeated: / if left out",
+    "group": (
+        "a group whose pressure is drawn, by its path or its last component; may be repeated: / if"
+        " left out"
+    ),
     "resource": "the one resource to draw: all if left out, irq if reports have it",
-    "from": "where the chart begins: seconds, or a time with --start",
-    "to": "where the chart ends, in the same form",
     "top": "draw the N groups that stalled most, in place of --group",
-    "summary": "a file with psitrace's report on the trace: when it began, in place of --start, and where the recording begins",
-    "start": "when the trace began, as 2026-11-28T13:58:12Z: all times are times of day",
+    "summary": (
+        "a file with psitrace's report on the trace: when it began, in place of --start, and where"
+        " the recording begins"
+    ),
     "rules": "the rules of the replay: draws thresholds of the groups, and names rulesets",
-    "trace": "the trace of the replay: draws the groups' memory too",
-    "beside": "the output of `replay` for the trace: draws it thin, and the output of `whatif` thick",
+    "trace": "the trace of the replay on standard input: draws the groups' memory too",
+    "beside": (
+        "the output of `replay` for the trace: draws it thin, and the output of `whatif` thick"
+    ),
 }
 
 
-def words() -> Words:
-    parser = Words("chart", ABOUT, AFTER)
-    parser.reads_input = True
-    option = parser.add_argument
-    option("--group", action="append", metavar="PATH", help=HELP["group"])
-    option("--top", type=count, metavar="N", help=HELP["top"])
+class Given(NamedTuple):
+    """The parsed command line: the trace to replay, if any, and the trace of the replay; and all
+    options by name.
+    """
+
+    replayed: Optional[str]
+    trace: Optional[str]
+    groups: list[str]
+    resource: Optional[str]
+    rules: Optional[str]
+    beside: Optional[str]
+    top: Optional[int]
+    summary: Optional[Summary]
+    values: dict[str, Any]
+
+
+def parser() -> Parser:
+    """The parser of the command line."""
+    words = Parser(ABOUT, AFTER, reads_input=True)
+    option = words.add_argument
+    option("replayed", nargs="?", metavar="TRACE", help=TRACE_HELP)
+    option("--group", action="append", metavar="GROUP", help=HELP["group"])
+    option("--top", type=whole_number(1, 99), metavar="N", help=HELP["top"])
     option("--resource", choices=RESOURCES, help=HELP["resource"])
-    option("--from", dest="start", type=moment, metavar="S", help=HELP["from"])
-    option("--to", dest="end", type=moment, metavar="S", help=HELP["to"])
-    option("--start", dest="wall", type=wall_time, metavar="TIME", help=HELP["start"])
+    add_times(words)
     option("--summary", metavar="FILE", help=HELP["summary"])
     option("--rules", metavar="FILE", help=HELP["rules"])
+    add_tick(words)
+    add_interval(words)
     option("--trace", metavar="FILE", help=HELP["trace"])
     option("--beside", metavar="FILE", help=HELP["beside"])
-    return parser
-
-
-def since_start(given: Moment, wall: Optional[WallTime], option: str) -> int:
-    """The time in ns since the start of the trace."""
-    if not isinstance(given, WallTime):
-        return given
-    if not wall:
-        raise Fault(f"{option} is a time on the wall: say by --start when the trace began, or give seconds")
-    if given.epoch < wall.epoch:
-        raise Fault(f"{option} is before --start, when the trace began")
-    return given.epoch - wall.epoch
+    add_names(words)
+    return words
 
 
 def read_words() -> Given:
-    given = words().parse_args()
-    if given.top and given.group:
+    values = parser().values()
+    must_fit(values)
+    if values["top"] and values["group"]:
         raise Fault("--top chooses the groups: not with --group")
+    if values["replayed"] is not None and values["trace"] is not None:
+        raise Fault("--trace is for a replay on standard input: the TRACE is known")
     summary = None
-    if given.summary is not None:
-        if given.wall:
+    if values["summary"] is not None:
+        if values["wall"]:
             raise Fault("--summary has the time of --start: give one of both")
-        summary = summary_of(given.summary)
-        given.wall = summary.wall
-        given.start = summary.begins if given.start is None else given.start
-    start = since_start(given.start or 0, given.wall, "--from")
-    end = None if given.end is None else since_start(given.end, given.wall, "--to")
-    groups = list(dict.fromkeys(given.group or ["/"]))
-    return Given(groups, given.resource, start, end, given.wall, given.rules, given.trace, given.beside, given.top, summary)
+        summary = summary_of(values["summary"])
+        values["wall"] = summary.wall
+    trace = values["replayed"] if values["trace"] is None else values["trace"]
+    groups = list(dict.fromkeys(values["group"] or ["/"]))
+    it = values
+    return Given(
+        it["replayed"],
+        trace,
+        groups,
+        it["resource"],
+        it["rules"],
+        it["beside"],
+        it["top"],
+        summary,
+        values,
+    )
 
 
 def resources_of(replay: Replay, given: Given) -> list[str]:
@@ -165,30 +129,23 @@ def resources_of(replay: Replay, given: Given) -> list[str]:
     return list(RESOURCES if has_interrupts else RESOURCES[:3])
 
 
-def must_be_times(start: int, end: int, replay: Replay) -> None:
-    """Rejects times (ns) between which nothing of the replay is left."""
-    if start > replay.end.moment:
-        raise Fault(f"--from {seconds(start)} is after the end of the replay, {seconds(replay.end.moment)} s")
-    if start >= end > 0:
-        raise Fault(f"--from {seconds(start)} isn't before --to {seconds(end)}: no time is left between")
-
-
-def must_be_groups(replay: Replay, groups: list[str]) -> None:
-    """Rejects groups that never have a report."""
-    paths = replay.rounds.paths
-    for path in groups if paths else ():
-        if path not in paths:
-            raise Fault(f"no group {path} in the replay, which has {groups_told(path, sorted(paths))}")
-
-
-def must_have_reports(replay: Replay, resources: list[str], start: int, end: int, groups: list[str]) -> None:
+def must_have_reports(
+    replay: Replay, resources: list[str], start: int, end: int, groups: list[str]
+) -> None:
     """Rejects a time span without reports on these groups; the error says what to do."""
-    series = [it for (path, resource), it in replay.series.items() if path in groups and resource in resources]
+    series = [
+        it
+        for (path, resource), it in replay.series.items()
+        if path in groups and resource in resources
+    ]
     if start < end and any(start <= moment <= end for it in series for moment in it.moments):
         return
     about = f" on {resources[0]}" if len(resources) == 1 and resources[0] == "irq" else ""
     when = f"from {seconds(start)} s to {seconds(end)} s of {seconds(replay.end.moment)} s"
-    advice = "ask replay for more by --report-s and --tick-ms, or chart for another --group, --from or --to"
+    advice = (
+        "ask replay for more by --report-s and --tick-ms, or chart for another --group, --from or"
+        " --to"
+    )
     raise Fault(f"no report of {', '.join(groups)}{about} {when}: {advice}")
 
 
@@ -200,44 +157,100 @@ def read_recorded(name: str, groups: list[str], replay: Replay) -> Replay:
         except Fault as fault:
             raise Fault(f"{name}: {fault}") from None
     if (recorded.end.moment, recorded.end.ticks) != (replay.end.moment, replay.end.ticks):
-        ends = [f"{it.end.ticks} ticks up to {seconds(it.end.moment)} s" for it in (recorded, replay)]
-        raise Fault(f"{name} has {ends[0]}, and the standard input {ends[1]}: give two of one trace and of one --tick-ms")
+        ends = [
+            f"{it.end.ticks} ticks up to {seconds(it.end.moment)} s" for it in (recorded, replay)
+        ]
+        raise Fault(
+            f"{name} has {ends[0]}, and the standard input {ends[1]}: give two of one trace and of"
+            " one --tick-ms"
+        )
     return recorded
 
 
-def read_top(printed: IO[bytes], given: Given) -> tuple[Given, Replay]:
-    """The output for the groups that stalled most, which requires reading it twice."""
+def read_printed(printed: IO[bytes], given: Given, known: Known) -> tuple[list[str], Replay]:
+    """The drawn groups, and what the output has of them. If their paths aren't known yet, it is
+    read twice.
+    """
+    if not given.top and all(
+        it.startswith("/") and known.groups.shown(it) == it for it in given.groups
+    ):
+        return given.groups, read_replay(printed, given.groups)
     with tempfile.TemporaryFile() as kept:
         shutil.copyfileobj(printed, kept)
         kept.seek(0)
-        groups = [it.path for it in ranked(kept)][: given.top]
+        if given.top:
+            groups = [it.path for it in ranked(kept)][: given.top] or ["/"]
+        else:
+            paths = sorted(read_replay(kept, []).rounds.paths)
+            groups = (
+                list(
+                    dict.fromkeys(
+                        known.groups.find(it, paths, "in the replay") for it in given.groups
+                    )
+                )
+                if paths
+                else ["/"]
+            )
         kept.seek(0)
-        given = given._replace(groups=groups or ["/"])
-        return given, read_replay(kept, given.groups)
+        return groups, read_replay(kept, groups)
 
 
-def chart() -> bytes:
+def span_of(given: Given, known: Known, replay: Replay) -> tuple[int, int]:
+    """The drawn time in ns. Without options it begins where the recording does."""
+    span = span_in(given.values, known.wall, replay.end.moment, "replay")
+    begins = (
+        given.summary.begins if given.summary else known.companion.begins if known.companion else 0
+    )
+    return (span.start if has_start(given.values) else begins), span.end
+
+
+def samples_of(given: Given, groups: list[str], end: int) -> Optional[Samples]:
+    """The samples of the groups' memory: of a trace that is replayed, if it has some."""
+    if given.trace is None:
+        return None
+    samples = Samples(given.trace, groups, end)
+    has_some = any(life.samples for lives in samples.lives.values() for life in lives)
+    return samples if has_some or given.replayed is None else None
+
+
+def chart() -> int:
+    """Draws the chart."""
     given = read_words()
     rules = Rules(given.rules) if given.rules is not None else None
-    with open(0, "rb", closefd=False) as printed:
-        given, replay = read_top(printed, given) if given.top else (given, read_replay(printed, given.groups))
+    known = known_of(given.trace or STANDARD_INPUT, given.values)
+    if given.replayed is not None:
+        span_in(given.values, known.wall, end_of(given.replayed), "replay")
+    with replayed(given.replayed, given.values, REPORT_S) as printed:
+        groups, replay = read_printed(printed, given, known)
     for what in unmatched(rules.rulesets, replay.rounds.paths | {"/"}) if rules else ():
-        print(f"chart: note: no group of the replay matches {what}", file=sys.stderr)
+        complain(f"note: no group of the replay matches {what}")
     if given.summary:
-        given.summary.must_be_of(replay)
-    end = replay.end.moment if given.end is None else min(given.end, replay.end.moment)
-    must_be_times(given.start, end, replay)
-    must_be_groups(replay, given.groups)
+        given.summary.must_be_of(replay, given.trace)
+    start, end = span_of(given, known, replay)
+    for path in groups if replay.rounds.paths else ():
+        known.groups.find(path, sorted(replay.rounds.paths), "in the replay")
     resources = resources_of(replay, given)
-    for path in given.groups:
+    for path in groups:
         must_have_reports(replay, resources, 0, max(1, replay.end.moment), [path])
-    must_have_reports(replay, resources, given.start, end, given.groups)
-    recorded = read_recorded(given.beside, given.groups, replay) if given.beside is not None else None
-    samples = Samples(given.trace, given.groups, replay.end.moment) if given.trace is not None else None
-    picture = Chart(Wanted(replay, resources, time_axis(given.start, end, given.wall), rules, samples, recorded)).draw()
+    must_have_reports(replay, resources, start, end, groups)
+    recorded = read_recorded(given.beside, groups, replay) if given.beside is not None else None
+    samples = samples_of(given, groups, replay.end.moment)
+    picture = Chart(
+        Wanted(
+            replay,
+            resources,
+            time_axis(start, end, known.wall),
+            rules,
+            samples,
+            recorded,
+            known.groups,
+        )
+    ).draw()
     ElementTree.indent(picture, "")
-    return bytes(ElementTree.tostring(picture, "utf-8", xml_declaration=True)) + b"\n"
+    write(bytes(ElementTree.tostring(picture, "utf-8", xml_declaration=True)) + b"\n")
+    return Status.DONE
 
 
 def main() -> int:
-    return run_tool("chart", chart)
+    """Runs the command; returns the exit status."""
+    return run(chart)

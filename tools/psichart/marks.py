@@ -43,7 +43,9 @@ class Mark:
     def told(self) -> str:
         """The description of each event, or only of the first ones if there are many."""
         lines = [it.hint for it in self.moments[:NAMED]]
-        return "\n".join(lines + ([f"and {len(self.moments) - NAMED} more"] if len(self.moments) > NAMED else []))
+        return "\n".join(
+            lines + ([f"and {len(self.moments) - NAMED} more"] if len(self.moments) > NAMED else [])
+        )
 
     def span(self, is_left: bool) -> tuple[float, float]:
         """The left and right end of the label, beside the line."""
@@ -72,7 +74,9 @@ class Mark:
         there is room for others.
         """
         rows = range(ROWS)
-        for row, is_left in itertools.chain(((row, False) for row in rows), ((row, True) for row in reversed(rows))):
+        for row, is_left in itertools.chain(
+            ((row, False) for row in rows), ((row, True) for row in reversed(rows))
+        ):
             if self.is_free(row, is_left, placed):
                 self.row, self.is_left = row, is_left
                 return True
@@ -85,7 +89,10 @@ def marks_of(moments: Iterable[Moment], x_of: Callable[[int], float]) -> list[Ma
     def column_of(it: Moment) -> tuple[int, str]:
         return int(x_of(it.moment)), it.kind
 
-    columns = [list(column) for _, column in itertools.groupby(sorted(moments, key=column_of), key=column_of)]
+    columns = [
+        list(column)
+        for _, column in itertools.groupby(sorted(moments, key=column_of), key=column_of)
+    ]
     return [Mark(x_of(column[0].moment), column) for column in columns]
 
 

@@ -4,13 +4,24 @@ from __future__ import annotations
 import itertools
 from typing import Iterator, NamedTuple, Optional
 
+from psicli.times import SECOND
 from psireplay.lines import AVERAGES, LEVELS
 from psireplay.samples import Life, Sample
-from psireplay.times import SECOND
 
 from .axes import TimeAxis, byte_step, share_step, told_bytes
 from .replay import Replay, Series
-from .svg import LEFT, RIGHT, Element, Point, add, add_line, counted, decimal, thinned, thinned_steps
+from .svg import (
+    LEFT,
+    RIGHT,
+    Element,
+    Point,
+    add,
+    add_line,
+    counted,
+    decimal,
+    thinned,
+    thinned_steps,
+)
 from .thresholds import Threshold, draw_thresholds
 
 # The least scale of a panel is 1 %, or 1 MiB, so that tiny values don't look large.
@@ -80,12 +91,14 @@ class Panel:
         add(panel, "text", self.name, class_="name", x=16, y=top - 13)
         middle = top + height / 2
         turn = f"rotate(-90 44 {decimal(middle)})"
-        add(panel, "text", self.of_what, class_="small", x=44, y=middle, text_anchor="middle", transform=turn)
+        add(panel, "text", self.of_what, class_="small", x=44, y=middle, text_anchor="middle",
+            transform=turn)  # fmt: skip
         axis = add(panel, "g", class_="share")
         for value in range(0, frame.most + 1, step):
             y = frame.bottom - value * frame.scale
             add(axis, "line", class_="grid" if value else "edge", x1=LEFT, y1=y, x2=RIGHT, y2=y)
-            add(axis, "text", self.number(value, step), x=LEFT - 7, y=y, dy=".35em", text_anchor="end")
+            add(axis, "text", self.number(value, step), x=LEFT - 7, y=y, dy=".35em",
+            text_anchor="end")  # fmt: skip
         self.draw_inside(panel, frame)
         draw_thresholds(panel, self.thresholds, frame.top, frame.bottom, frame.scale)
 
@@ -99,7 +112,12 @@ class Curves:
 
     def most(self) -> int:
         """The greatest value, in hundredths of a percent."""
-        shares = (shares[place] for shares in self.series.shares.values() if shares for place in self.shown)
+        shares = (
+            shares[place]
+            for shares in self.series.shares.values()
+            if shares
+            for place in self.shown
+        )
         return max(shares, default=0)
 
     def draw(self, panel: Element, frame: Frame) -> None:
@@ -108,7 +126,10 @@ class Curves:
             lines = add(panel, "g", class_=f"series {level} {average}{self.look}")
             look = {"class_": "climbing"} if self.does_climb(average) else {}
             for places in self.unbroken() if shares else ():
-                points = ((self.axis.x(self.series.moments[it]), frame.bottom - shares[it] * frame.scale) for it in places)
+                points = (
+                    (self.axis.x(self.series.moments[it]), frame.bottom - shares[it] * frame.scale)
+                    for it in places
+                )
                 add_line(lines, thinned(points), **look)
 
     def does_climb(self, average: str) -> bool:
@@ -118,8 +139,14 @@ class Curves:
         period = int(average[len("avg") :]) * SECOND
         if self.axis.start >= period or self.axis.end >= SETTLED * period:
             return False
-        each = [[shares[place] for place in self.shown] for shares in (self.series.shares[level, average] for level in LEVELS) if shares]
-        return any(any(it) for it in each) and all(one <= other for it in each for one, other in zip(it, it[1:]))
+        each = [
+            [shares[place] for place in self.shown]
+            for shares in (self.series.shares[level, average] for level in LEVELS)
+            if shares
+        ]
+        return any(any(it) for it in each) and all(
+            one <= other for it in each for one, other in zip(it, it[1:])
+        )
 
     def unbroken(self) -> Iterator[list[int]]:
         """The places of the reports, split if the group didn't exist for two pixels or more."""
@@ -143,7 +170,13 @@ class PressurePanel(Panel):
     of_what = "share of time"
 
     def __init__(
-        self, name: str, axis: TimeAxis, thresholds: list[Threshold], replays: list[Replay], path: str, resource: str
+        self,
+        name: str,
+        axis: TimeAxis,
+        thresholds: list[Threshold],
+        replays: list[Replay],
+        path: str,
+        resource: str,
     ) -> None:
         super().__init__(name, axis, thresholds)
         self.kind = resource
@@ -151,15 +184,25 @@ class PressurePanel(Panel):
         self.curves = [Curves(series, axis, look) for series, look in zip(found, ("", " was"))]
         # The times of the shown events, by replay and by level.
         self.events = [
-            [list(filter(axis.holds, replay.events.get((path, resource, level), []))) for level in LEVELS] for replay in replays
+            [
+                list(filter(axis.holds, replay.events.get((path, resource, level), [])))
+                for level in LEVELS
+            ]
+            for replay in replays
         ]
 
     def most(self) -> int:
-        return max(LEAST_SHARE, *(it.most() for it in self.curves), *(it.level for it in self.thresholds))
+        return max(
+            LEAST_SHARE, *(it.most() for it in self.curves), *(it.level for it in self.thresholds)
+        )
 
     def is_flat(self) -> bool:
         """Whether it has no pressure, no event, and no threshold of a rule."""
-        return not any(it.most() for it in self.curves) and not self.has_events() and not self.thresholds
+        return (
+            not any(it.most() for it in self.curves)
+            and not self.has_events()
+            and not self.thresholds
+        )
 
     def has_events(self) -> bool:
         return any(moments for events in self.events for moments in events)
@@ -175,14 +218,19 @@ class PressurePanel(Panel):
             curves.draw(panel, frame)
         climbing = [it for it in AVERAGES if self.curves[0].does_climb(it)]
         if climbing:
-            text = f"thin: {' and '.join(climbing)} only climb{'s' if len(climbing) == 1 else ''} from 0, where the trace begins"
+            text = (
+                f"thin: {' and '.join(climbing)} only climb{'s' if len(climbing) == 1 else ''} from"
+                " 0, where the trace begins"
+            )
             add(panel, "text", text, class_="small", x=RIGHT, y=frame.top - 13, text_anchor="end")
         self.draw_events(panel, frame.bottom + 5)
 
     def draw_events(self, panel: Element, top: float) -> None:
         for row, (level, moments) in enumerate(zip(LEVELS, self.events[0])):
             columns = itertools.groupby(map(self.axis.x, moments), key=int)
-            ticks = "".join(f"M{decimal(next(column))} {decimal(top + 7 * row)}v6" for _, column in columns)
+            ticks = "".join(
+                f"M{decimal(next(column))} {decimal(top + 7 * row)}v6" for _, column in columns
+            )
             if ticks:
                 add(panel, "path", class_=f"tick {level}", d=ticks)
         add(panel, "text", self.counts(), class_="small", x=LEFT - 7, y=top + 10, text_anchor="end")
@@ -205,7 +253,9 @@ class MemoryPanel(Panel):
     kind = "use"
     of_what = "bytes"
 
-    def __init__(self, name: str, axis: TimeAxis, thresholds: list[Threshold], lives: list[Life]) -> None:
+    def __init__(
+        self, name: str, axis: TimeAxis, thresholds: list[Threshold], lives: list[Life]
+    ) -> None:
         super().__init__(name, axis, thresholds)
         self.lives = [samples for samples in map(self.shown, lives) if samples]
         self.has_swap = any(it.swap for samples in self.lives for it in samples)
@@ -234,20 +284,25 @@ class MemoryPanel(Panel):
     def draw_inside(self, panel: Element, frame: Frame) -> None:
         for place, what in enumerate(("memory", "swap") if self.has_swap else ("memory",)):
             look, x, y = f"series {what}-use", RIGHT - 194 + 106 * place, frame.top - 17
-            add(panel, "polyline", class_=look, points=f"{decimal(x)},{decimal(y)} {decimal(x + 32)},{decimal(y)}")
+            add(panel, "polyline", class_=look,
+            points=f"{decimal(x)},{decimal(y)} {decimal(x + 32)},{decimal(y)}")  # fmt: skip
             add(panel, "text", what, x=x + 38, y=y + 4)
             lines = add(panel, "g", class_=look)
             for samples in self.lives:
                 add_line(lines, thinned_steps(self.steps(samples, what == "swap", frame)))
         if not self.lives:
             middle, text = (LEFT + RIGHT) / 2, "no sample of its memory in this time"
-            add(panel, "text", text, class_="note", x=middle, y=frame.top + 20, text_anchor="middle")
+            add(panel, "text", text, class_="note", x=middle, y=frame.top + 20,
+            text_anchor="middle")  # fmt: skip
 
     def steps(self, samples: list[Sample], is_swap: bool, frame: Frame) -> Iterator[Point]:
         """A constant value up to the next sample, and then a step to that one's."""
         last: Optional[float] = None
         for sample in samples:
-            x, y = self.axis.x(sample.moment), frame.bottom - (sample.swap if is_swap else sample.memory) * frame.scale
+            x, y = (
+                self.axis.x(sample.moment),
+                frame.bottom - (sample.swap if is_swap else sample.memory) * frame.scale,
+            )
             if last is not None:
                 yield x, last
             if y != last:

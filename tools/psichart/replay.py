@@ -18,7 +18,9 @@ class Series:
 
     def __init__(self) -> None:
         self.moments, self.rounds = array("Q"), array("Q")
-        self.shares: dict[Which, array[int]] = {(level, it): array("Q") for level in LEVELS for it in AVERAGES}
+        self.shares: dict[Which, array[int]] = {
+            (level, it): array("Q") for level in LEVELS for it in AVERAGES
+        }
 
     def take(self, report: Report, number: int) -> None:
         """Takes the report in the round of this number."""
@@ -85,7 +87,9 @@ class Replay:
 
     def take_event(self, event: Event) -> None:
         if event.path in self.groups:
-            self.events.setdefault((event.path, event.resource, event.level), []).append(event.moment)
+            self.events.setdefault((event.path, event.resource, event.level), []).append(
+                event.moment
+            )
 
     def gone(self) -> list[Gone]:
         """The removals of the drawn groups, and of groups that would be killed."""

@@ -24,7 +24,8 @@ text { font: 12px sans-serif; fill: #222; }
 .title { font-size: 16px; font-weight: bold; }
 .name { font-size: 13px; font-weight: bold; }
 .small { font-size: 11px; fill: #555; }
-.note { font-size: 11px; paint-order: stroke; stroke: #fff; stroke-width: 4px; stroke-linejoin: round; }
+.note { font-size: 11px; paint-order: stroke; stroke: #fff; stroke-width: 4px; \
+stroke-linejoin: round; }
 .path { font: 11px monospace; }
 .ground { fill: #fff; }
 .grid { stroke: #e0e0e0; }
@@ -78,13 +79,20 @@ def decimal(value: float) -> str:
     return f"{value:.2f}".rstrip("0").rstrip(".")
 
 
-def add(parent: Element, tag: str, text: Optional[str] = None, **attributes: Union[str, float]) -> Element:
+def add(
+    parent: Element, tag: str, text: Optional[str] = None, **attributes: Union[str, float]
+) -> Element:
     """Adds an element. In an attribute's name `_` means `-`, and a trailing `_` avoids a Python
     keyword.
     """
     names = {name.rstrip("_").replace("_", "-"): value for name, value in attributes.items()}
     element = ElementTree.SubElement(
-        parent, tag, {name: value if isinstance(value, str) else decimal(value) for name, value in names.items()}
+        parent,
+        tag,
+        {
+            name: value if isinstance(value, str) else decimal(value)
+            for name, value in names.items()
+        },
     )
     element.text = text
     return element
@@ -104,7 +112,11 @@ def counted(number: int, what: str) -> str:
 
 def short(text: str, most: int) -> str:
     """The text, or its beginning and its end if it is longer than `most`."""
-    return text if len(text) <= most else f"{text[: most // 2 - 1]}…{text[len(text) - (most - most // 2) :]}"
+    return (
+        text
+        if len(text) <= most
+        else f"{text[: most // 2 - 1]}…{text[len(text) - (most - most // 2) :]}"
+    )
 
 
 def columns(points: Iterable[Point]) -> Iterator[list[Point]]:
@@ -116,7 +128,9 @@ def columns(points: Iterable[Point]) -> Iterator[list[Point]]:
 def thinned(points: Iterable[Point]) -> Iterator[Point]:
     """The highest and the lowest point of each pixel column, in order."""
     for column in columns(points):
-        yield from sorted({min(column, key=lambda point: point[1]), max(column, key=lambda point: point[1])})
+        yield from sorted(
+            {min(column, key=lambda point: point[1]), max(column, key=lambda point: point[1])}
+        )
 
 
 def thinned_steps(points: Iterable[Point]) -> Iterator[Point]:
@@ -125,5 +139,10 @@ def thinned_steps(points: Iterable[Point]) -> Iterator[Point]:
     """
     for column in columns(points):
         places = range(len(column))
-        ends = (0, min(places, key=lambda it: column[it][1]), max(places, key=lambda it: column[it][1]), len(column) - 1)
+        ends = (
+            0,
+            min(places, key=lambda it: column[it][1]),
+            max(places, key=lambda it: column[it][1]),
+            len(column) - 1,
+        )
         yield from (column[place] for place in sorted(set(ends)))

@@ -9,7 +9,10 @@ from .svg import LEFT, RIGHT, Element, Point, add, short
 
 # What each detector of pressure compares: the average whose colour its line has, and its
 # description.
-WATCHED = {"pressure_above": ("avg10", "full over 10 s"), "pressure_rising_beyond": ("avg60", "full over 60 s and over 10 s")}
+WATCHED = {
+    "pressure_above": ("avg10", "full over 10 s"),
+    "pressure_rising_beyond": ("avg60", "full over 60 s and over 10 s"),
+}
 # The largest width of a label's character (pixels); the free space around a label, and its distance
 # from its line.
 NOTE_LETTER = 6.6
@@ -34,14 +37,20 @@ def lasting(args: dict[str, str]) -> str:
 def of_pressure(ruleset: Ruleset, detector: Plugin) -> Threshold:
     look, what = WATCHED[detector.name]
     args = detector.args
-    return Threshold(int(args["threshold"]) * 100, look, f"{what} above {args['threshold']} %{lasting(args)}: {ruleset.name}")
+    return Threshold(
+        int(args["threshold"]) * 100,
+        look,
+        f"{what} above {args['threshold']} %{lasting(args)}: {ruleset.name}",
+    )
 
 
 def of_memory(ruleset: Ruleset, detector: Plugin, host: Optional[int]) -> Iterator[Threshold]:
     args = detector.args
     level = size(args["threshold"], host)
     if level is not None:
-        yield Threshold(level, "memory-use", f"memory above {args['threshold']}{lasting(args)}: {ruleset.name}")
+        yield Threshold(
+            level, "memory-use", f"memory above {args['threshold']}{lasting(args)}: {ruleset.name}"
+        )
 
 
 def pressure_thresholds(rules: Optional[Rules], path: str, resource: str) -> list[Threshold]:
@@ -50,7 +59,9 @@ def pressure_thresholds(rules: Optional[Rules], path: str, resource: str) -> lis
         of_pressure(ruleset, detector)
         for ruleset in (rules.rulesets if rules else [])
         for detector in ruleset.detectors
-        if detector.name in WATCHED and detector.args["resource"] == resource and detector.covers(path)
+        if detector.name in WATCHED
+        and detector.args["resource"] == resource
+        and detector.covers(path)
     ]
 
 
@@ -85,7 +96,12 @@ class Box(NamedTuple):
     bottom: float
 
     def overlaps(self, other: Box) -> bool:
-        return self.left < other.right and other.left < self.right and self.top < other.bottom and other.top < self.bottom
+        return (
+            self.left < other.right
+            and other.left < self.right
+            and self.top < other.bottom
+            and other.top < self.bottom
+        )
 
     def is_crossed(self, points: list[Point]) -> bool:
         """Whether a line through these points crosses it."""
@@ -99,7 +115,11 @@ class Box(NamedTuple):
         if end < self.left or x > self.right:
             return False
         slope = (level - y) / (end - x) if end > x else 0.0
-        first, last = (y + slope * (max(x, self.left) - x), y + slope * (min(end, self.right) - x)) if end > x else (y, level)
+        first, last = (
+            (y + slope * (max(x, self.left) - x), y + slope * (min(end, self.right) - x))
+            if end > x
+            else (y, level)
+        )
         return min(first, last) < self.bottom and max(first, last) > self.top
 
 
@@ -114,7 +134,9 @@ class Label(NamedTuple):
     def box(self) -> Box:
         width = NOTE_LETTER * len(self.text)
         left = self.x - {"start": 0.0, "middle": width / 2, "end": width}[self.anchor]
-        return Box(left - NEXT_TO, left + width + NEXT_TO, self.y - 10 - NEXT_TO, self.y + 2 + NEXT_TO)
+        return Box(
+            left - NEXT_TO, left + width + NEXT_TO, self.y - 10 - NEXT_TO, self.y + 2 + NEXT_TO
+        )
 
 
 def labels_of(it: Threshold, y: float) -> Iterator[Label]:
@@ -123,12 +145,20 @@ def labels_of(it: Threshold, y: float) -> Iterator[Label]:
     just the part before the ruleset's name.
     """
     for text in dict.fromkeys((short(it.text, 100), short(it.text.partition(":")[0], 60))):
-        for part, anchor in ((1.0, "end"), (0.0, "start"), (0.5, "middle"), (0.25, "middle"), (0.75, "middle")):
+        for part, anchor in (
+            (1.0, "end"),
+            (0.0, "start"),
+            (0.5, "middle"),
+            (0.25, "middle"),
+            (0.75, "middle"),
+        ):
             x = LEFT + 6 + (RIGHT - LEFT - 12) * part
             yield from (Label(text, x, y + shift, anchor) for shift in (ABOVE, BELOW))
 
 
-def draw_thresholds(panel: Element, thresholds: list[Threshold], top: float, bottom: float, scale: float) -> None:
+def draw_thresholds(
+    panel: Element, thresholds: list[Threshold], top: float, bottom: float, scale: float
+) -> None:
     """Draws the thresholds from the top down. A label must not cover a curve, another label or
     anything outside of the panel; if there is no such place, the line has only its tooltip.
     """
@@ -139,16 +169,27 @@ def draw_thresholds(panel: Element, thresholds: list[Threshold], top: float, bot
         y = bottom - it.level * scale
         group = add(panel, "g", class_="rule")
         add(group, "title", it.text)
-        add(group, "polyline", class_=f"threshold {it.look}", points=f"{LEFT},{y:.2f} {RIGHT},{y:.2f}")
+        add(group, "polyline", class_=f"threshold {it.look}",
+            points=f"{LEFT},{y:.2f} {RIGHT},{y:.2f}")  # fmt: skip
         for label in labels_of(it, y):
             box = label.box()
-            is_inside = LEFT <= box.left and box.right <= RIGHT and top <= box.top and box.bottom <= bottom
-            if is_inside and not any(map(box.overlaps, placed)) and not any(map(box.is_crossed, curves)):
+            is_inside = (
+                LEFT <= box.left and box.right <= RIGHT and top <= box.top and box.bottom <= bottom
+            )
+            if (
+                is_inside
+                and not any(map(box.overlaps, placed))
+                and not any(map(box.is_crossed, curves))
+            ):
                 placed.append(box)
-                add(group, "text", label.text, class_="note", x=label.x, y=label.y, text_anchor=label.anchor)
+                add(group, "text", label.text, class_="note", x=label.x, y=label.y,
+                    text_anchor=label.anchor)  # fmt: skip
                 break
 
 
 def points_of(line: Element) -> list[Point]:
     """The points of a drawn line."""
-    return [(float(x), float(y)) for x, y in (it.split(",") for it in (line.get("points") or "").split())]
+    return [
+        (float(x), float(y))
+        for x, y in (it.split(",") for it in (line.get("points") or "").split())
+    ]

@@ -11,7 +11,7 @@ from collections.abc import Sequence
 from functools import lru_cache
 from typing import NamedTuple
 
-from psiread.pressure import File, Readings, Totals
+from psiread.pressure import File, Totals
 from psirec.layout import RESOURCES
 
 from .clocks import Clocks
@@ -49,7 +49,9 @@ class Asked(NamedTuple):
 
     def ends(self) -> tuple[int, int]:
         """The earliest start and the latest end."""
-        return min(begin for begin, _ in self.spans.values()), max(end for _, end in self.spans.values())
+        return min(begin for begin, _ in self.spans.values()), max(
+            end for _, end in self.spans.values()
+        )
 
 
 class Sampling(NamedTuple):
@@ -79,7 +81,11 @@ def asked_of(readings: Sequence[dict[File, Totals]], clocks: Clocks, start: int)
         for resource, after in ends.items():
             before = Totals(made + start, 0, 0)
             if made <= began:
-                before = next(files[File(path, resource)] for files in readings if File(path, resource) in files)
+                before = next(
+                    files[File(path, resource)]
+                    for files in readings
+                    if File(path, resource) in files
+                )
             spans[resource] = before.moment - start, after.moment - start
             machine[resource] = after.some - before.some, after.full - before.full
         found.append(Asked(path, number, spans, machine))
@@ -100,7 +106,9 @@ def growths_of(asked: Asked, clocks: Clocks, sampling: Sampling, hertz: int) -> 
 def grown(before: Sequence[int], after: Sequence[int], resource: str, path: str) -> tuple[int, int]:
     """The growth of some and full of a resource, us. The root's full line of cpu has zeros."""
     place = LEVELS * RESOURCES.index(resource)
-    some, full = ((after[place + level] - before[place + level]) // MICROSECOND for level in range(LEVELS))
+    some, full = (
+        (after[place + level] - before[place + level]) // MICROSECOND for level in range(LEVELS)
+    )
     return some, 0 if has_no_full(path, resource) else full
 
 
@@ -112,7 +120,9 @@ def has_no_full(path: str, resource: str) -> bool:
 # ---------------------------------------------------------------- the sampling times
 
 
-def sampling_of(asked: Asked, clocks: Clocks, told: Moments, inside: Sequence[int], start: int, hertz: int) -> Sampling:
+def sampling_of(
+    asked: Asked, clocks: Clocks, told: Moments, inside: Sequence[int], start: int, hertz: int
+) -> Sampling:
     """When the group was sampled: according to the recording, or fitted. `inside` has the numbers
     of the readings that are compared.
     """
@@ -122,7 +132,11 @@ def sampling_of(asked: Asked, clocks: Clocks, told: Moments, inside: Sequence[in
         moments = told.between(asked.path, inside[-1], begin + start, end + start)
         return Sampling(sorted(own | {it - start for it in moments}), None)
     files = [shifted(told.readings[number], asked.path, start) for number in inside]
-    files = [it for it in files if len(it) == len(RESOURCES) and min(totals.moment for totals in it.values()) >= begin]
+    files = [
+        it
+        for it in files
+        if len(it) == len(RESOURCES) and min(totals.moment for totals in it.values()) >= begin
+    ]
     own |= {totals.moment for it in files for totals in it.values()}
     period = period_of(hertz)
     phase = fitted_phase(asked, clocks, files, sorted(own), hertz) if len(files) > 1 else 0
@@ -131,17 +145,25 @@ def sampling_of(asked: Asked, clocks: Clocks, told: Moments, inside: Sequence[in
 
 def shifted(files: dict[File, Totals], path: str, start: int) -> dict[str, Totals]:
     """A group's totals in a reading, by resource, at times of the trace."""
-    return {file.resource: it._replace(moment=it.moment - start) for file, it in files.items() if file.path == path}
+    return {
+        file.resource: it._replace(moment=it.moment - start)
+        for file, it in files.items()
+        if file.path == path
+    }
 
 
-def fitted_phase(asked: Asked, clocks: Clocks, files: Sequence[dict[str, Totals]], own: Sequence[int], hertz: int) -> int:
+def fitted_phase(
+    asked: Asked, clocks: Clocks, files: Sequence[dict[str, Totals]], own: Sequence[int], hertz: int
+) -> int:
     """The phase for which the totals of a group come nearest to those of its files, by the squared
     differences of growth from reading to reading. The readings are samplings too, at the times
     `own`.
     """
     (begin, end), period = asked.ends(), period_of(hertz)
     grids = [range(begin + period * place // PHASES, end, period) for place in range(PHASES)]
-    sums = Sums(clocks, asked.number, sorted({*own, *(moment for grid in grids for moment in grid)}), hertz)
+    sums = Sums(
+        clocks, asked.number, sorted({*own, *(moment for grid in grids for moment in grid)}), hertz
+    )
 
     @lru_cache(maxsize=None)
     def distance(place: int) -> int:
@@ -165,5 +187,7 @@ def distance_of(path: str, files: Sequence[dict[str, Totals]], totals: dict[int,
             one, two = before[resource], after[resource]
             some, full = grown(totals[one.moment].told, totals[two.moment].told, resource, path)
             machine = two.full - one.full
-            whole += (some - two.some + one.some) ** 2 + (full - (0 if has_no_full(path, resource) else machine)) ** 2
+            whole += (some - two.some + one.some) ** 2 + (
+                full - (0 if has_no_full(path, resource) else machine)
+            ) ** 2
     return whole

@@ -9,12 +9,14 @@ from __future__ import annotations
 
 from array import array
 from bisect import bisect_right
-from collections.abc import Iterable, Sequence
+from collections.abc import Callable, Iterable, Sequence
 
 from psiworld.groups import ROOT, parent_of
 
 # The states, by their bits.
-IO_SOME, IO_FULL, MEMORY_SOME, MEMORY_FULL, CPU_SOME, CPU_FULL, NONIDLE = (1 << place for place in range(7))
+IO_SOME, IO_FULL, MEMORY_SOME, MEMORY_FULL, CPU_SOME, CPU_FULL, NONIDLE = (
+    1 << place for place in range(7)
+)
 STATES = 7
 # The states that hold, by mask.
 HELD = [tuple(state for state in range(STATES) if mask >> state & 1) for mask in range(1 << STATES)]
@@ -68,8 +70,9 @@ def mask_of(counts: Sequence[int], runs: bool, stalls: bool) -> int:
 
 
 class Task:
-    """A task: its group's number, its processor, whether it is asleep (S), waits for IO (D), or is ready or running (R), and whether
-    it is in a memory stall."""
+    """A task: its group's number, its processor, whether it is asleep (S), waits for IO (D), or is
+    ready or running (R), and whether it is in a memory stall.
+    """
 
     __slots__ = ("group", "processor", "state", "is_stalled")
 
@@ -94,9 +97,11 @@ class Clocks:
         self.tasks: dict[str, Task] = {}
         self.runs: dict[int, Task] = {}
         self.clocks: list[dict[int, Clock]] = [{}]
-        acts = {
-            "group": self.group, "rmgroup": self.rmgroup, "fork": self.fork, "wake": self.wake, "switch": self.switch,
-            "stall": self.stall, "unstall": self.unstall, "migrate": self.wake, "move": self.move, "pressure": self.pressure,
+        acts: dict[str, Callable[..., None]] = {
+            "group": self.group, "rmgroup": self.rmgroup, "fork": self.fork, "wake": self.wake,
+            "switch": self.switch,
+            "stall": self.stall, "unstall": self.unstall, "migrate": self.wake, "move": self.move,
+            "pressure": self.pressure,
         }  # fmt: skip
         for line in lines:
             words = line.split()
@@ -169,7 +174,9 @@ class Clocks:
         stalls = running is not None and running.is_stalled
         for group in groups:
             clock = self.clock(group, processor)
-            clock.put(self.now, 0 if group in self.off else mask_of(clock.counts, group in above, stalls))
+            clock.put(
+                self.now, 0 if group in self.off else mask_of(clock.counts, group in above, stalls)
+            )
 
     def fork(self, label: str, path: str, processor: str) -> None:
         """A task is created, ready."""

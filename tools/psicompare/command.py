@@ -1,35 +1,43 @@
-"""Compares a trace with the recording from which it was made: its totals of each group's pressure with those of the machine's own
-files.
+"""Compares a trace with the recording from which it was made: its totals of each group's pressure
+with those of the machine's own files.
 
   tools/compare FOLDER TRACE
 
-FOLDER is a recording by tools/record, and TRACE the trace that tools/psitrace made from it. The trace's totals are added up as the
-machine's kernel did: at the times at which it sampled each group, and in 32 bits. If the recording doesn't show these times, the phase
-of each group's grid is fitted, and reported. With --tick-ms the totals are those of a replay with such ticks: the program is the
-psi_oomd beside tools, or the one in the variable PSI_OOMD.
+FOLDER is a recording by tools/record, and TRACE the trace that tools/psitrace made from it. The
+trace's totals are added up as the machine's kernel did: at the times at which it sampled each
+group, and in 32 bits. If the recording doesn't show these times, the phase of each group's grid is
+fitted, and reported. With --tick-ms the totals are those of a replay with such ticks: the program
+is the psi_oomd beside tools, or the one in the variable PSI_OOMD.
 
-The table has each file whose total grew by at least --shown-s: the growth from the first reading of the machine's files in the trace
-to the last, in us, on the machine and in the trace, and the difference in percent. A value that exceeds its limit has a mark (!); if
-the machine's own sums lost something, since they have 32 bits, it has another (w). The kernel shows zeros in the root's full line of
-cpu, and so does the trace.
+The table has each file whose total grew by at least --shown-s: the growth from the first reading of
+the machine's files in the trace to the last, in us, on the machine and in the trace, and the
+difference in percent. A value that exceeds its limit has a mark (!); if the machine's own sums lost
+something, since they have 32 bits, it has another (w). The kernel shows zeros in the root's full
+line of cpu, and so does the trace.
 
-The status is 0 if all totals are within the limits, 1 if one isn't, and 2 if there was nothing to compare: a usage error, something
-that can't be read, or no trace.
+The status is 0 if all totals are within the limits, 1 if one isn't, and 2 if there was nothing to
+compare: a usage error, something that can't be read, or no trace.
 """
 from __future__ import annotations
 
 import os
 import subprocess
-import sys
 from collections.abc import Callable, Iterable, Iterator, Sequence
-from typing import NamedTuple
+from functools import partial
+from typing import Any, NamedTuple
 
+from psicli.parser import Parser
+from psicli.running import run
+from psicli.status import Status
+from psicli.times import SECOND
+from psicli.values import decimal, length, nanoseconds, whole_number
 from psiconvert.wakeups import bounds_of, lag_bounds, with_wakeups
+from psinames.known import add_names
+from psinames.shown import show_containers
 from psiread.kinds import kind_of_file
 from psiread.pressure import compared, machine_readings, made_in, readings_within, replay_series
 from psiread.recording import read_recording
 from psiread.source import Source, Unreadable
-from psiread.words import SECOND, Parser, guarded, length, nanoseconds, number_from, share
 from psireplay.program import named_program
 from psireplay.sampled import refusal, sampled
 
@@ -39,7 +47,6 @@ from .moments import COMMON_RATE, Moments, period_of
 from .origin import must_be_in_order, must_be_of, must_have_switches_of
 from .table import LEVELS, MICROSECONDS, Limits, Row, Shown, Span, cell_of, report
 
-BEYOND, NOTHING = 1, 2
 # The allowed errors of totals, in percent, at the root and in groups: with the kernel's sampling
 # times, and with a replay.
 LIMITS, REPLAY_LIMITS = (1.5, 2.5), (2.5, 4.0)
@@ -60,27 +67,43 @@ class Options(NamedTuple):
     lead_in: int
     limits: Limits
     shown: int
+    values: dict[str, Any]
 
 
-def options_of(given: list[str]) -> Options:
-    """Parses the command line."""
-    words = Parser("compare", __doc__, NOTHING)
+def parser() -> Parser:
+    """The parser of the command line."""
+    words = Parser(__doc__)
     words.add_argument("folder", metavar="FOLDER", help="the recording")
     words.add_argument("trace", metavar="TRACE", help="the trace that was made from it")
     words.add_argument("--from", dest="start", metavar="S", type=nanoseconds, default=0,
-                       help="where the trace begins in the recording: --from of psitrace, or as in its summary (0)")  # fmt: skip
+                       help="where the trace begins in the recording: --from of psitrace, or as in "
+                            "its summary (0)")  # fmt: skip
     words.add_argument("--lead-in", dest="lead_in", metavar="LENGTH", type=length, default=0,
                        help="the length of the trace's warm-up: --lead-in of psitrace")  # fmt: skip
-    words.add_argument("--tick-ms", metavar="N", type=int, help="compare with a replay by psi_oomd with such ticks")
-    words.add_argument("--hz", dest="hertz", metavar="N", type=number_from(24, 10_000),
-                       help="the rate of the kernel's timer, CONFIG_HZ (from the recording, else 250)")  # fmt: skip
-    words.add_argument("--lag-us", dest="lag", metavar="N", type=number_from(1, 10_000),
-                       help="without probes: how long before its event the kernel counts a wakeup, at most")  # fmt: skip
-    words.add_argument("--root", metavar="PERCENT", type=share, help="the limit at the root (1.5; with a replay 2.5)")
-    words.add_argument("--groups", metavar="PERCENT", type=share, help="the limit in groups (2.5; with a replay 4)")
-    words.add_argument("--least-s", metavar="S", type=share, default=0.5, help="totals below this have no limit (0.5)")
-    words.add_argument("--shown-s", metavar="S", type=share, default=0.01, help="totals below this aren't shown (0.01)")
-    found = words.words_of(given)
+    words.add_argument("--tick-ms", metavar="N", type=int,
+                       help="compare with a replay by psi_oomd with such ticks")  # fmt: skip
+    words.add_argument("--hz", dest="hertz", metavar="N", type=whole_number(24, 10_000),
+                       help="the rate of the kernel's timer, CONFIG_HZ (from the recording, "
+                            "else 250)")  # fmt: skip
+    words.add_argument("--lag-us", dest="lag", metavar="N", type=whole_number(1, 10_000),
+                       help="without probes: how long before its event the kernel counts a wakeup, "
+                            "at most")  # fmt: skip
+    words.add_argument("--root", metavar="PERCENT", type=decimal,
+                       help="the limit at the root (1.5; with a replay 2.5)")  # fmt: skip
+    words.add_argument("--groups", metavar="PERCENT", type=decimal,
+                       help="the limit in groups (2.5; with a replay 4)")  # fmt: skip
+    words.add_argument("--least-s", metavar="S", type=decimal, default=0.5,
+                       help="totals below this have no limit (0.5)")  # fmt: skip
+    words.add_argument("--shown-s", metavar="S", type=decimal, default=0.01,
+                       help="totals below this aren't shown (0.01)")  # fmt: skip
+    add_names(words)
+    return words
+
+
+def options_of() -> Options:
+    """Parses the command line."""
+    words = parser()
+    found = words.values()
     root, groups = LIMITS if found["tick_ms"] is None else REPLAY_LIMITS
     if found["tick_ms"] is not None and (found["hertz"] or found["lag"]):
         words.error("--hz and --lag-us are for the kernel's own moments: not with --tick-ms")
@@ -91,7 +114,8 @@ def options_of(given: list[str]) -> Options:
     )
     shown = round(found["shown_s"] * MICROSECONDS)
     lag = None if found["lag"] is None else found["lag"] * 1000
-    return Options(found["folder"], found["trace"], found["start"], found["tick_ms"], found["hertz"], lag, found["lead_in"], limits, shown)
+    return Options(found["folder"], found["trace"], found["start"], found["tick_ms"],
+                   found["hertz"], lag, found["lead_in"], limits, shown, found)  # fmt: skip
 
 
 def start_of(options: Options, source: Source) -> int:
@@ -108,12 +132,21 @@ def span_line(first: int, last: int, length: int) -> str:
 
 
 def end_of(trace: str) -> int:
-    """The length of a trace in ns, from its last line. A trace made from samples is rejected: it can't
-    be compared with the events of a recording.
+    """The length of a trace in ns, from its last line. A trace made from samples is rejected: it
+    can't be compared with the events of a recording.
     """
     found = sampled(trace)
     if found:
-        raise Unreadable(refusal(trace, found, "when its tasks changed their states, and tools/samples compared it with its samples"))
+        raise Unreadable(
+            refusal(
+                trace,
+                found,
+                (
+                    "when its tasks changed their states, and tools/samples compared it with its"
+                    " samples"
+                ),
+            )
+        )
     try:
         with open(trace, "rb") as file:
             file.seek(0, os.SEEK_END)
@@ -146,14 +179,18 @@ def by_replay(options: Options, tick_ms: int) -> tuple[list[Row], Shown]:
     start, end = start_of(options, source), end_of(options.trace)
     must_be_of(source, options.trace, start, end, options.lead_in)
     series = replay_series(replayed(options.trace, tick_ms))
-    found = compared(machine_readings(options.folder, source), series, made_in(source), start, start + end)
+    found = compared(
+        machine_readings(options.folder, source), series, made_in(source), start, start + end
+    )
     if found is None:
         raise Unreadable(TOO_FEW)
     rows = [Row(pair.file, pair.machine, pair.replay) for pair in found.pairs]
-    return rows, Shown([span_line(found.first, found.last, found.length)], "replay", "", options.shown)
+    return rows, Shown(
+        [span_line(found.first, found.last, found.length)], "replay", "", options.shown
+    )
 
 
-# ---------------------------------------------------------------- at the kernel's own sampling times
+# -------------------------------------------------------------- at the kernel's own sampling times
 
 
 def clocks_of(trace: str, edited: Callable[[Iterable[str]], Iterable[str]] = iter) -> Clocks:
@@ -177,7 +214,9 @@ def clocks_of(trace: str, edited: Callable[[Iterable[str]], Iterable[str]] = ite
     except OSError as fault:
         raise Unreadable(f"{trace}: {kind_of_file(trace) or fault.strerror}") from None
     except (LookupError, ValueError, TypeError, OverflowError):
-        raise Unreadable(f"{trace}: line {number} can't be followed: psi_oomd check says what is wrong with it") from None
+        raise Unreadable(
+            f"{trace}: line {number} can't be followed: psi_oomd check says what is wrong with it"
+        ) from None
     if clocks.now != end_of(trace):
         raise Unreadable(f"{trace}: it goes on after its end")
     return clocks
@@ -192,8 +231,14 @@ def extremes_of(options: Options, source: Source) -> list[Clocks]:
     found = []
     for is_first in (False, True):
         start = start_of(options, source)
-        bounds = bounds_of(source.events, start) if source.has_ready_probe else lag_bounds(options.lag or 0)
-        found.append(clocks_of(options.trace, lambda lines, bounds=bounds, first=is_first: with_wakeups(lines, bounds, first)))
+        bounds = (
+            bounds_of(source.events, start)
+            if source.has_ready_probe
+            else lag_bounds(options.lag or 0)
+        )
+        found.append(
+            clocks_of(options.trace, partial(with_wakeups, bounds=bounds, is_first=is_first))
+        )
     return found
 
 
@@ -230,18 +275,31 @@ def by_moments(options: Options) -> tuple[list[Row], Shown]:
             sampling = sampling_of(asked, clocks, told, inside, start, hertz)
             ways = [growths_of(asked, it, sampling, hertz) for it in (clocks, *extremes)]
             rows += [row_of(growth, sampling.phase, others) for growth, *others in zip(*ways)]
-    first, last = (min(it.moment for it in told.readings[number].values()) for number in (inside[0], inside[-1]))
+    first, last = (
+        min(it.moment for it in told.readings[number].values())
+        for number in (inside[0], inside[-1])
+    )
     fitted = any(row.note for row in rows)
-    head = [span_line(inside[0], inside[-1], last - first), *sampling_lines(told, fitted, hertz, options), *bar_lines(options, source)]
+    head = [
+        span_line(inside[0], inside[-1], last - first),
+        *sampling_lines(told, fitted, hertz, options),
+        *bar_lines(options, source),
+    ]
     return sorted(rows), Shown(head, "trace", "phase" if fitted else "", options.shown)
 
 
 def bar_lines(options: Options, source: Source) -> list[str]:
     """Explains the error bars."""
     if source.has_ready_probe:
-        return ["from .. to: with wakeups at their events, and when psi counted them; what lies between the recording doesn't say"]
+        return [
+            "from .. to: with wakeups at their events, and when psi counted them; what lies between"
+            " the recording doesn't say"
+        ]
     if options.lag:
-        return [f"from .. to: with wakeups at their events, and {options.lag // 1000} us before, as --lag-us says"]
+        return [
+            f"from .. to: with wakeups at their events, and {options.lag // 1000} us before, as"
+            " --lag-us says"
+        ]
     return []
 
 
@@ -249,12 +307,22 @@ def sampling_lines(told: Moments, fitted: bool, hertz: int, options: Options) ->
     """Explains how the sampling times were found."""
     if told.is_known:
         line = "each group is sampled when the kernel did, as the recording says"
-        return [line + "; of those with a phase it doesn't, and that is fitted by all readings" * fitted]
-    rate = f"its timer has {hertz} Hz" + ("" if options.hertz else ", which is a guess: --hz sets it")
+        return [
+            line + "; of those with a phase it doesn't, and that is fitted by all readings" * fitted
+        ]
+    rate = f"its timer has {hertz} Hz" + (
+        "" if options.hertz else ", which is a guess: --hz sets it"
+    )
     period = f"{period_of(hertz) / SECOND:.3f} s"
     return [
-        "the recording doesn't say when the kernel sampled: each group is sampled at its readings and each",
-        f"{period} ({rate}), and how far after the first reading that begins, its phase, is fitted by all readings",
+        (
+            "the recording doesn't say when the kernel sampled: each group is sampled at its"
+            " readings and each"
+        ),
+        (
+            f"{period} ({rate}), and how far after the first reading that begins, its phase, is"
+            " fitted by all readings"
+        ),
     ]
 
 
@@ -262,40 +330,45 @@ def cause_lines(rows: Sequence[Row], limits: Limits) -> list[str]:
     """The known causes of totals that exceed their limits."""
     cells = [(row, cell_of(row, level, limits)) for row in rows for level in range(len(LEVELS))]
     beyond = [(row, cell) for row, cell in cells if cell.is_beyond]
-    short = [row for row, cell in beyond if row.file.resource == "cpu" and not row.bars and cell.off and cell.off[1] < 0]
+    short = [
+        row
+        for row, cell in beyond
+        if row.file.resource == "cpu" and not row.bars and cell.off and cell.off[1] < 0
+    ]
     lines = []
     if short:
         lines.append(
-            f"{len(short)} of cpu are too small: the kernel counts a wakeup before it writes the event, and this recording doesn't say"
-            " how long before. record --wakeups does; --lag-us N shows what up to N us make of it"
+            f"{len(short)} of cpu are too small: the kernel counts a wakeup before it writes the"
+            " event, and this recording doesn't say how long before. record --wakeups does;"
+            " --lag-us N shows what up to N us make of it"
         )
     if len(short) < len(beyond):
-        lines.append(f"{len(beyond) - len(short)} have no cause that is known here: see what psitrace says was mended, guessed or lost")
+        lines.append(
+            f"{len(beyond) - len(short)} have no cause that is known here: see what psitrace says"
+            " was mended, guessed or lost"
+        )
     return lines
 
 
 # ---------------------------------------------------------------- the command
 
 
-def run(options: Options) -> int:
-    """Compares, and prints the table; returns the status."""
-    rows, shown = by_moments(options) if options.tick_ms is None else by_replay(options, options.tick_ms)
+def compare() -> int:
+    """Compares, and prints the table; returns the exit status."""
+    options = options_of()
+    must_be_in_order(options.folder, options.trace)
+    show_containers([options.trace], options.values)
+    rows, shown = (
+        by_moments(options) if options.tick_ms is None else by_replay(options, options.tick_ms)
+    )
     text, beyond = report(rows, options.limits, shown)
     print(text)
     if options.tick_ms is None:
         for line in cause_lines(rows, options.limits):
             print(line)
-    return BEYOND if beyond else 0
+    return Status.FOUND if beyond else Status.DONE
 
 
-def main(given: list[str]) -> int:
-    """Runs the command; returns its status."""
-    options = options_of(given)
-    try:
-        must_be_in_order(options.folder, options.trace)
-        return guarded("compare", lambda: run(options), NOTHING)
-    except Unreadable as fault:
-        print(f"compare: {fault}", file=sys.stderr)
-    except MemoryError:
-        print("compare: out of memory", file=sys.stderr)
-    return NOTHING
+def main() -> int:
+    """Runs the command; returns the exit status."""
+    return run(compare)

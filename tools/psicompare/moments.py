@@ -10,10 +10,10 @@ from collections import Counter, defaultdict
 from collections.abc import Sequence
 from statistics import median
 
+from psicli.times import SECOND
 from psiread.events import AverageProbe, ShowProbe
-from psiread.pressure import File, Readings, Totals, recorder_of, spans_of
+from psiread.pressure import Readings, recorder_of, spans_of
 from psiread.source import Source
-from psiread.words import SECOND
 from psirec.layout import RESOURCES
 
 # The work is within a group's accounts, which have at most this many bytes.
@@ -74,13 +74,23 @@ class Moments:
         spans = spans_of(source)
         for number, files in self.readings.items():
             begin, end = spans[number]
-            own = [it for it in shows[bisect_left(begins, begin) : bisect_right(begins, end)] if it.current == recorder]
+            own = [
+                it
+                for it in shows[bisect_left(begins, begin) : bisect_right(begins, end)]
+                if it.current == recorder
+            ]
             if [it.resource for it in own] == [RESOURCES.index(it.resource) for it in files]:
                 known = {file.path: show.group for file, show in zip(files, own)}
             self.addresses[number] = known
-            places = {(show.group, RESOURCES[show.resource]): show.moment for show in own if show.resource < len(RESOURCES)}
+            places = {
+                (show.group, RESOURCES[show.resource]): show.moment
+                for show in own
+                if show.resource < len(RESOURCES)
+            }
             self.readings[number] = {
-                file: totals._replace(moment=places.get((known.get(file.path, 0), file.resource), totals.moment))
+                file: totals._replace(
+                    moment=places.get((known.get(file.path, 0), file.resource), totals.moment)
+                )
                 for file, totals in files.items()
             }
 
@@ -95,12 +105,16 @@ class Moments:
         reading of this number; the ends of the stretch are included; ns of the recording's clock.
         """
         moments = self.sampled.get(self.addresses.get(number, {}).get(path, 0), [])
-        return sorted({begin, end, *moments[bisect_left(moments, begin) : bisect_right(moments, end)]})
+        return sorted(
+            {begin, end, *moments[bisect_left(moments, begin) : bisect_right(moments, end)]}
+        )
 
 
 def offset_of(groups: dict[int, list[int]], works: dict[int, list[int]]) -> int:
     """The offset of the work in a group's accounts: the commonest difference among all pairs."""
-    found = Counter(work - group for work in works for group in groups if 0 <= work - group < MOST_ACCOUNTS)
+    found = Counter(
+        work - group for work in works for group in groups if 0 <= work - group < MOST_ACCOUNTS
+    )
     return found.most_common(1)[0][0] if found else 0
 
 

@@ -8,10 +8,10 @@ import os
 import re
 from collections.abc import Iterator
 
+from psicli.times import seconds_to_ms
 from psiread.events import Attach, GroupMade, Switch
 from psiread.kinds import is_trace
 from psiread.source import Source, Unreadable
-from psiread.window import seconds
 from psirec.layout import escaped_path
 from psiworld.groups import ROOT, prefixes_of
 
@@ -48,10 +48,20 @@ def must_be_of(source: Source, trace: str, start: int, length: int, lead_in: int
     header = HEADER.match(next(lines, ""))
     processors = int(header[1]) if header else 0
     if processors < source.processors or (processors > source.processors and not lead_in):
-        raise Unreadable(other(trace, f"it has {processors} processors, and the recording {source.processors}"))
+        raise Unreadable(
+            other(trace, f"it has {processors} processors, and the recording {source.processors}")
+        )
     left = source.stop - start
     if length > left + SLACK:
-        raise Unreadable(other(trace, f"it lasts {seconds(length)} s, and the recording {seconds(max(left, 0))} s from there on"))
+        raise Unreadable(
+            other(
+                trace,
+                (
+                    f"it lasts {seconds_to_ms(length)} s, and the recording"
+                    f" {seconds_to_ms(max(left, 0))} s from there on"
+                ),
+            )
+        )
     known = groups_of(source)
     for line in lines:
         words = line.split()
@@ -61,8 +71,16 @@ def must_be_of(source: Source, trace: str, start: int, length: int, lead_in: int
 
 def groups_of(source: Source) -> set[str]:
     """All groups that a recording names, and their ancestors."""
-    made = {escaped_path(event.path) for event in source.events if isinstance(event, (GroupMade, Attach))}
-    named = {*source.snapshot.groups, *(task.path for task in source.snapshot.tasks.values()), *made}
+    made = {
+        escaped_path(event.path)
+        for event in source.events
+        if isinstance(event, (GroupMade, Attach))
+    }
+    named = {
+        *source.snapshot.groups,
+        *(task.path for task in source.snapshot.tasks.values()),
+        *made,
+    }
     return {ROOT, *(above for path in named for above in prefixes_of(path))}
 
 
@@ -79,7 +97,12 @@ def must_have_switches_of(source: Source, trace: str, start: int, lead_in: int) 
             found += int(moment) in moments
     if found < LEAST_SHARE * count:
         why = f"{found} of its {count} switches are at times of the recording's"
-        raise Unreadable(other(trace, f"{why}. Was it made with --from, or folded (--tick-ms compares a folded one)?"))
+        raise Unreadable(
+            other(
+                trace,
+                f"{why}. Was it made with --from, or folded (--tick-ms compares a folded one)?",
+            )
+        )
 
 
 def other(trace: str, why: str) -> str:

@@ -12,7 +12,7 @@ from itertools import accumulate
 from operator import add
 from typing import NamedTuple
 
-from psiread.words import SECOND
+from psicli.times import SECOND
 
 from .clocks import STATES, Clocks
 
@@ -37,7 +37,10 @@ def shares(processors: Sequence[Times], hertz: int) -> list[int]:
     """
     weights = [times[NONIDLE] * hertz // SECOND for times in processors]
     whole = max(1, sum(weights))
-    return [sum(times[state] * weight for times, weight in zip(processors, weights)) // whole for state in range(NONIDLE)]
+    return [
+        sum(times[state] * weight for times, weight in zip(processors, weights)) // whole
+        for state in range(NONIDLE)
+    ]
 
 
 def step_of(processors: Sequence[Times], hertz: int) -> Step:
@@ -65,13 +68,19 @@ class Sums:
     def __init__(self, clocks: Clocks, group: int, moments: Sequence[int], hertz: int) -> None:
         self.hertz = hertz
         self.places = {moment: place for place, moment in enumerate(moments)}
-        self.times = [list(accumulate(times, added, initial=(0,) * STATES)) for times in clocks.times(group, moments)]
+        self.times = [
+            list(accumulate(times, added, initial=(0,) * STATES))
+            for times in clocks.times(group, moments)
+        ]
         self.steps: dict[tuple[int, int], Step] = {}
 
     def step(self, first: int, last: int) -> Step:
         """The growth between the times with these indexes, which is computed once."""
         if (first, last) not in self.steps:
-            grown = [[after - before for before, after in zip(times[first], times[last])] for times in self.times]
+            grown = [
+                [after - before for before, after in zip(times[first], times[last])]
+                for times in self.times
+            ]
             self.steps[first, last] = step_of(grown, self.hertz)
         return self.steps[first, last]
 

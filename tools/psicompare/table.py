@@ -78,7 +78,11 @@ def words_of(row: Row, level: int, cell: Cell) -> list[str]:
         low, high = (f"{it:+.1f}" for it in cell.off)
         words = f"{low} % " if low == high else f"{low} .. {high} % "
     is_wrong = row.right is not None and row.right[level] != row.trace[level]
-    return [str(row.machine[level]), str(row.trace[level]), f"{words}{'w ' * is_wrong}{'! ' * cell.is_beyond}".rstrip()]
+    return [
+        str(row.machine[level]),
+        str(row.trace[level]),
+        f"{words}{'w ' * is_wrong}{'! ' * cell.is_beyond}".rstrip(),
+    ]
 
 
 def table_of(rows: Sequence[Sequence[str]]) -> str:
@@ -86,30 +90,51 @@ def table_of(rows: Sequence[Sequence[str]]) -> str:
     widths = [max(len(row[place]) for row in rows) for place in range(len(rows[0]))]
     columns = list(enumerate(widths))
     lines = [
-        "| " + " | ".join(row[place].ljust(width) if place < 2 else row[place].rjust(width) for place, width in columns) + " |"
+        "| "
+        + " | ".join(
+            row[place].ljust(width) if place < 2 else row[place].rjust(width)
+            for place, width in columns
+        )
+        + " |"
         for row in rows
     ]
-    rule = "|" + "|".join("-" * (width + 1) + ("-" if place < 2 else ":") for place, width in columns) + "|"
+    rule = (
+        "|"
+        + "|".join("-" * (width + 1) + ("-" if place < 2 else ":") for place, width in columns)
+        + "|"
+    )
     return "\n".join([lines[0], rule, *lines[1:]])
 
 
 def wrap_lines(rows: Sequence[Row]) -> list[str]:
     """What the machine's files should have contained if its sums have lost something."""
     lines = [
-        f"  {row.file.path} {row.file.resource}: some {row.right[0]}, full {row.right[1]}" for row in rows if row.right is not None
+        f"  {row.file.path} {row.file.resource}: some {row.right[0]}, full {row.right[1]}"
+        for row in rows
+        if row.right is not None
     ]
-    head = "the machine is wrong there (w): a state held for more than 4.294 s between two of its samplings, and its sums have 32 bits"
+    head = (
+        "the machine is wrong there (w): a state held for more than 4.294 s between two of its"
+        " samplings, and its sums have 32 bits"
+    )
     return [f"{head}. By the trace it is, in us:", *lines, ""] if lines else []
 
 
 def verdict_of(cells: Sequence[Cell], limits: Limits, has_bars: bool) -> str:
     """The number of totals that are within their limits."""
     asked, beyond = sum(it.is_asked for it in cells), sum(it.is_beyond for it in cells)
-    least, said = f"{limits.least / MICROSECONDS:g} s", f"{limits.root:g} % at the root, {limits.groups:g} % in groups"
+    least, said = (
+        f"{limits.least / MICROSECONDS:g} s",
+        f"{limits.root:g} % at the root, {limits.groups:g} % in groups",
+    )
     said += " of what the trace may be" * has_bars
     if beyond:
         return f"{beyond} of {asked} totals from {least} on are beyond (!) their limits: {said}"
-    return f"all {asked} totals from {least} on are within {said}" if asked else f"no total is from {least} on"
+    return (
+        f"all {asked} totals from {least} on are within {said}"
+        if asked
+        else f"no total is from {least} on"
+    )
 
 
 class Shown(NamedTuple):
@@ -126,7 +151,19 @@ class Shown(NamedTuple):
 def report(rows: Sequence[Row], limits: Limits, shown: Shown) -> tuple[str, int]:
     """The table with its remarks, and the number of totals that exceed their limits."""
     notes = [shown.notes] if shown.notes else []
-    table = [["group", "resource", "some: machine", shown.second, "", "full: machine", shown.second, "", *notes]]
+    table = [
+        [
+            "group",
+            "resource",
+            "some: machine",
+            shown.second,
+            "",
+            "full: machine",
+            shown.second,
+            "",
+            *notes,
+        ]
+    ]
     cells = []
     chosen = [row for row in rows if max(*row.machine, *row.trace) >= shown.least]
     for row in rows:
@@ -135,5 +172,12 @@ def report(rows: Sequence[Row], limits: Limits, shown: Shown) -> tuple[str, int]
         if row in chosen:
             words = [word for level, cell in enumerate(pair) for word in words_of(row, level, cell)]
             table.append([row.file.path, row.file.resource, *words, *([row.note] if notes else [])])
-    lines = [*shown.head, "", table_of(table), "", *wrap_lines(chosen), verdict_of(cells, limits, any(it.bars for it in rows))]
+    lines = [
+        *shown.head,
+        "",
+        table_of(table),
+        "",
+        *wrap_lines(chosen),
+        verdict_of(cells, limits, any(it.bars for it in rows)),
+    ]
     return "\n".join(lines), sum(it.is_beyond for it in cells)

@@ -30,7 +30,11 @@ class Accounts(NamedTuple):
 def told_by(event: Event) -> Account | None:
     """A group's accounting according to a marker; None if the marker reports something else."""
     text = event.text if isinstance(event, Marker) else b""
-    words = text.decode("utf-8", "surrogateescape")[len(MARK) :].split() if text.startswith(MARK.encode()) else []
+    words = (
+        text.decode("utf-8", "surrogateescape")[len(MARK) :].split()
+        if text.startswith(MARK.encode())
+        else []
+    )
     if len(words) != 3 or words[0] != "accounting" or words[2] not in ("on", "off"):
         return None
     return Account(escaped_path(words[1].encode("utf-8", "surrogateescape")), words[2] == "on")

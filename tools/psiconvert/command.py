@@ -7,35 +7,45 @@ A text is a file (possibly gzipped) or - for the standard input. S is a number o
 start of the recording. The trace always begins at 0, even if it is cut from the middle. It has version 2 with --interrupts, and if a
 group wasn't accounted all the time (its cgroup.pressure was 0); else version 1.
 
-The status is 0; 1 for a usage error; 2 if something can't be read or written; 3 if events were lost or a limit of traces was reached,
+The status is 0; 2 for a usage error, or if something can't be read or written; 3 if events were lost or a limit of traces was reached,
 and if folding makes the trace longer: then nothing is written, except with --force, which writes the longest stretch without losses;
 and 4 if the check of a folded trace found a difference, which is a bug of this tool.
 """
 from __future__ import annotations
 
-import argparse
 import os
 import re
 import sys
-from collections.abc import Iterable
-from typing import NamedTuple
+from collections.abc import Iterable, Iterator, Sequence
+from typing import IO, NamedTuple
 
+from psicli.fault import Fault, Malformed
+from psicli.parser import Parser
+from psicli.running import run
+from psicli.status import Status
+from psicli.times import SECOND, WallTime
+from psicli.values import length, whole_number
 from psifold.check import Different
 from psifold.words import Folding, add_window, folding_lines, folding_of, is_longer
 from psifold.world import NotATrace
 from psiftrace.text import read_text
+from psinames.clock import Given, in_zone
+from psinames.companion import Companion, companion_of, digest_of
+from psinames.companion import write as write_file
+from psinames.known import add_times, must_fit, span_in
 from psiread.events import Interrupts, SwitchProbe, WaitEnds
 from psiread.files import text_of
 from psiread.pressure import spans_of
 from psiread.recording import read_recording
 from psiread.slices import Survey
-from psiread.source import Faulty, Source, Unreadable
+from psiread.source import Source, Unreadable
 from psiread.waits import Method, best_method
 from psiread.window import Window, longest_stretch, loss_text, overlapping
-from psiread.words import SECOND, Parser, guarded, length, nanoseconds, number_from
 from psirec.layout import PRESSURE, RESOURCES, escaped_path
 from psiworld.limits import LEAST_WINDOW, MOST_PROCESSORS, MOST_WINDOW
 
+from .anonymous import Anonymous
+from .companion import Written, companion
 from .convert import Converted, Past, Wanted, convert
 from .folded import Slices, convert_folded, looked_ahead
 from .lead_in import TICK, averages_in
@@ -43,7 +53,6 @@ from .summary import limit_lines, summary_of
 from .unwritten import UNWRITTEN, silent_tasks, with_unwritten
 from .wakeups import Counting, Wakeups
 
-FAULTY, UNREADABLE, LOST, DIFFERENT = 1, 2, 3, 4
 LEVELS = ("some", "full")
 # A recording of at least this size (bytes) is surveyed in several processes, and folded in a
 # process of its own.
@@ -55,14 +64,18 @@ DEFAULT_PREFERENCES = {"prefer": "prefer", "avoid": "avoid", "omit": "avoid"}
 
 
 class Options(NamedTuple):
-    """The parsed command line. Times are ns from the start of the recording."""
+    """The parsed command line. `wall` is when the recording began, if it doesn't say so itself."""
 
     source: str
     output: str | None
     processors: int | None
     method: Method | None
-    start: int
-    end: int | None
+    start: Given | None
+    end: Given | None
+    at: Given | None
+    window: int | None
+    wall: WallTime | None
+    tz: str | None
     deepest: int | None
     triggers: list[str]
     has_interrupts: bool
@@ -70,6 +83,8 @@ class Options(NamedTuple):
     folding: Folding | None
     counting: Counting | None
     lead_in: int | None
+    no_names: bool
+    is_anonymous: bool
 
 
 def trigger_of(text: str) -> str:
@@ -77,18 +92,20 @@ def trigger_of(text: str) -> str:
     words = text.split()
     is_whole = len(words) == 5 and words[0].startswith("/") and words[1] in RESOURCES and words[2] in LEVELS
     if not is_whole or not all(re.fullmatch("[1-9][0-9]{0,7}", word) for word in words[3:]):
-        raise argparse.ArgumentTypeError(f"'{text}' isn't 'PATH io|memory|cpu some|full THRESHOLD WINDOW'")
+        raise Malformed(f"'{text}' isn't 'PATH io|memory|cpu some|full THRESHOLD WINDOW'")
     if not LEAST_WINDOW <= int(words[4]) <= MOST_WINDOW or int(words[3]) > int(words[4]):
-        raise argparse.ArgumentTypeError(f"'{text}': a window is {LEAST_WINDOW} to {MOST_WINDOW} us, a threshold at most that")
+        raise Malformed(f"'{text}': a window is {LEAST_WINDOW} to {MOST_WINDOW} us, a threshold at most that")
     return " ".join([escaped_path(words[0].encode("utf-8", "surrogateescape")), *words[1:]])
 
 
 def parser() -> Parser:
     """The parser of the command line."""
-    words = Parser("psitrace", __doc__, FAULTY)
+    words = Parser(__doc__)
     words.add_argument("source", metavar="FOLDER|TEXT", help="a folder of tools/record, or a file of ftrace's text")
-    words.add_argument("-o", dest="output", metavar="FILE", help="write the trace to FILE instead of the standard output")
-    words.add_argument("--cpus", dest="processors", metavar="N", type=number_from(1, MOST_PROCESSORS),
+    words.add_argument("-o", dest="output", metavar="FILE",
+                       help="write the trace to FILE instead of the standard output, and names of its tasks and its time of day"
+                       " to FILE.names")  # fmt: skip
+    words.add_argument("--cpus", dest="processors", metavar="N", type=whole_number(1, MOST_PROCESSORS),
                        help="the number of processors of a text's machine (without it: as many as the text shows)")  # fmt: skip
     words.add_argument("--iowait", dest="method", choices=[it.value for it in Method],
                        help="what shows a wait for IO: a probe of the recorder, sched_stat_iowait, or each sleep in state D"
@@ -96,9 +113,8 @@ def parser() -> Parser:
     words.add_argument("--wakeups", dest="counting", choices=[it.value for it in Counting],
                        help="the time of a wakeup: when psi counted it, by a probe of the recorder; halfway from there to its event;"
                        " or at its event (without it the first of these that the recording has)")  # fmt: skip
-    words.add_argument("--from", dest="start", metavar="S", type=nanoseconds, default=0, help="begin the trace there")
-    words.add_argument("--to", dest="end", metavar="S", type=nanoseconds, help="end it there")
-    words.add_argument("--groups", dest="deepest", metavar="DEPTH", type=number_from(0, 32),
+    add_times(words)
+    words.add_argument("--groups", dest="deepest", metavar="DEPTH", type=whole_number(0, 32),
                        help="groups down to DEPTH levels below the root; deeper ones count in their ancestor; 0: the"
                        " root alone")  # fmt: skip
     words.add_argument("--trigger", dest="triggers", metavar="'PATH RES LEVEL THRESHOLD WINDOW'", type=trigger_of,
@@ -113,19 +129,22 @@ def parser() -> Parser:
                        " least 5min")  # fmt: skip
     add_window(words, "--fold", False, "fold the trace into windows of S seconds, which divide the tick's length: the pressure at such"
                " ticks is the same, and its size depends on the recording's length instead of its events")  # fmt: skip
+    words.add_argument("--no-names", action="store_true",
+                       help="leave the names of tasks and containers out of FILE.names")  # fmt: skip
+    words.add_argument("--anonymize", dest="is_anonymous", action="store_true",
+                       help="replace groups and tasks by numbers, and leave out their names")  # fmt: skip
     words.add_argument("--force", dest="is_forced", action="store_true",
                        help="if something was lost, write the longest stretch without loss")  # fmt: skip
     return words
 
 
-def options_of(given: list[str]) -> Options:
+def options_of(given: Sequence[str] | None) -> Options:
     """Parses the command line."""
     words = parser()
-    found = words.words_of(given)
+    found = words.values(given)
     if len(found["triggers"]) > MOST_TRIGGERS:
         words.error(f"more than {MOST_TRIGGERS} triggers")
-    if found["end"] is not None and found["end"] <= found["start"]:
-        words.error("--to is not after --from")
+    must_fit(found)
     if found["lead_in"] is not None and (not LEAST_PAST <= found["lead_in"] <= MOST_PAST or found["lead_in"] % TICK):
         words.error(f"--lead-in is {LEAST_PAST // SECOND} to {MOST_PAST // SECOND} s, in whole ticks of 2 s")
     found["folding"] = folding_of(found)
@@ -160,7 +179,7 @@ def reading_of(options: Options) -> Reading:
         source = read_text(options.source, options.processors)
         return Reading(source, lambda: [source.events], silent_tasks(source.events))
     if options.processors:
-        raise Faulty("--cpus is for texts: a recording says how many processors it has")
+        raise Fault("--cpus is for texts: a recording says how many processors it has")
     if options.folding is None:
         return Reading(read_recording(options.source, options.is_forced), lambda: [], set())
     survey = Survey(options.source, is_large(options))
@@ -168,12 +187,19 @@ def reading_of(options: Options) -> Reading:
     return Reading(source, lambda: survey.slices(source.whole_from), survey.silent)
 
 
-def part_of(options: Options, whole: Window) -> Window:
+def set_clock(options: Options, source: Source) -> None:
+    """Sets when the recording began, and its zone, as far as the options say so."""
+    if options.wall:
+        source.realtime, source.ahead = options.wall.epoch - source.start, options.wall.ahead
+    if source.realtime is not None:
+        source.ahead = in_zone(WallTime(source.start + source.realtime, source.ahead), options.tz).ahead
+
+
+def part_of(options: Options, source: Source, whole: Window) -> Window:
     """The part that the options select."""
-    end = whole.end if options.end is None else min(whole.start + options.end, whole.end)
-    if whole.start + options.start > end:
-        raise Faulty("--from is after the end of the recording")
-    return Window(whole.start + options.start, end)
+    wall = None if source.realtime is None else WallTime(whole.start + source.realtime, source.ahead)
+    span = span_in(options._asdict(), wall, whole.length(), "recording")
+    return Window(whole.start + span.start, whole.start + span.end)
 
 
 def method_of(options: Options, source: Source) -> Method:
@@ -183,7 +209,7 @@ def method_of(options: Options, source: Source) -> Method:
     has_probe = source.has_switch_probe or SwitchProbe in kinds
     has = {Method.PROBE: has_probe, Method.STATISTICS: WaitEnds in kinds, Method.STATE: True}
     if options.method and not has[options.method]:
-        raise Faulty(f"--iowait {options.method.value}: the recording has no such events; it has {best.value}")
+        raise Fault(f"--iowait {options.method.value}: the recording has no such events; it has {best.value}")
     return options.method or best
 
 
@@ -191,14 +217,14 @@ def wakeups_of(options: Options, source: Source) -> Wakeups:
     """Moves each wakeup to the requested time, if the recording has that."""
     counting = options.counting or (Counting.PROBE if source.has_ready_probe else Counting.EVENT)
     if counting is not Counting.EVENT and not source.has_ready_probe:
-        raise Faulty(f"--wakeups {counting.value}: the recording has no such probe (record --wakeups)")
+        raise Fault(f"--wakeups {counting.value}: the recording has no such probe (record --wakeups)")
     return Wakeups(counting)
 
 
 def check_interrupts(options: Options, source: Source) -> None:
     """Rejects interrupts if they are requested and the recording has none."""
     if options.has_interrupts and not any(isinstance(event, Interrupts) for event in source.events):
-        raise Faulty("--interrupts: the recording has no such events: its kernel doesn't account interrupts, or is newer than 6.9")
+        raise Fault("--interrupts: the recording has no such events: its kernel doesn't account interrupts, or is newer than 6.9")
 
 
 def upon_of(options: Options, source: Source) -> dict[str, list[str]]:
@@ -222,7 +248,7 @@ def past_of(options: Options, source: Source, window: Window) -> Past | None:
     number = min(spans, key=lambda it: abs(spans[it][0] - window.start), default=None)
     averages = averages_in(text_of(options.source, PRESSURE), number) if number is not None else {}
     if not averages:
-        raise Faulty("--lead-in: the recording has no reading of the machine's pressure files")
+        raise Fault("--lead-in: the recording has no reading of the machine's pressure files")
     return Past(options.lead_in // TICK, averages)
 
 
@@ -239,17 +265,35 @@ def losses_of(source: Source, window: Window, whole: Window) -> list[str]:
     return [f"lost: {it}" for it in [*source.losses, *([loss_text(gaps, whole)] if gaps else [])]]
 
 
-def write(options: Options, parts: Iterable[bytes]) -> None:
+def write(options: Options, parts: Iterable[bytes]) -> Written:
     """Writes the trace."""
     if options.output is None:
-        sys.stdout.buffer.writelines(parts)
+        written = Written(*digest_of(passed_on(parts, sys.stdout.buffer)))
         sys.stdout.buffer.flush()
-        return
+        return written
     try:
         with open(options.output, "wb") as file:
-            file.writelines(parts)
+            return Written(*digest_of(passed_on(parts, file)))
     except OSError as fault:
         raise Unreadable(f"{options.output}: {fault.strerror}") from None
+
+
+def passed_on(parts: Iterable[bytes], file: IO[bytes]) -> Iterator[bytes]:
+    """Writes each part, and passes it on."""
+    for part in parts:
+        file.write(part)
+        yield part
+
+
+def write_companion(options: Options, known: Companion) -> None:
+    """Writes the companion file, beside a trace that has a name."""
+    if options.output is None or not os.path.isfile(options.output):
+        return
+    name = companion_of(options.output)
+    try:
+        write_file(name, known)
+    except OSError as fault:
+        raise Unreadable(f"{name}: {fault.strerror}") from None
 
 
 def is_large(options: Options) -> bool:
@@ -288,15 +332,16 @@ def converted_of(options: Options, reading: Reading, wanted: Wanted) -> Made:
     return Made(made.converted, made.spool.parts(), folding_lines(options.folding, made.outcome), longer)
 
 
-def run(options: Options) -> int:
+def convert_recording(options: Options) -> int:
     """Converts, reports and writes; returns the exit status."""
     reading = reading_of(options)
     source = reading.source
     if source.processors > MOST_PROCESSORS:
         tell(f"limit: {source.processors} processors, and a trace has {MOST_PROCESSORS} at most: nothing is written")
-        return LOST
+        return Status.INCOMPLETE
+    set_clock(options, source)
     whole = Window(source.start, source.stop)
-    window = part_of(options, whole)
+    window = part_of(options, source, whole)
     losses = losses_of(source, window, whole)
     if losses and options.is_forced:
         window = longest_stretch(overlapping(source.gaps, window), window)
@@ -308,31 +353,32 @@ def run(options: Options) -> int:
     converted = made.converted
     never_made = [path for path, words in upon.items() if any(it.startswith("trigger") for it in words)]
     if never_made:
-        raise Faulty(f"--trigger: there is no group {never_made[0]} in the trace")
+        raise Fault(f"--trigger: there is no group {never_made[0]} in the trace")
     losses += limit_lines(source, converted) + ["limit: the folded trace is longer than the trace"] * made.is_longer
+    anonymous = Anonymous() if options.is_anonymous else None
     for line in [*summary_of(source, converted, method, window, whole), *made.told, *losses]:
-        tell(line)
+        tell(anonymous.text(line) if anonymous else line)
     if losses and not options.is_forced:
         tell("nothing is written; --force writes what is sound")
-        return LOST
-    write(options, made.parts)
-    return LOST if losses else 0
+        return Status.INCOMPLETE
+    written = write(options, anonymous.parts(made.parts) if anonymous else made.parts)
+    tell(f"trace: {written.size} bytes, sha256 {written.digest}")
+    known = companion(source, converted, window, written, not options.no_names)
+    if anonymous:
+        anonymous.companion(known)
+    write_companion(options, known)
+    return Status.INCOMPLETE if losses else Status.DONE
 
 
-def main(given: list[str]) -> int:
-    """Runs the command; returns its exit status."""
+def psitrace(given: Sequence[str] | None) -> int:
+    """Does what the arguments ask for; returns the exit status."""
     try:
-        options = options_of(given)
-        return guarded("psitrace", lambda: run(options), UNREADABLE)
-    except Faulty as fault:
-        tell(str(fault))
-        return FAULTY
-    except Unreadable as fault:
-        tell(str(fault))
-        return UNREADABLE
-    except MemoryError:
-        tell("out of memory")
-        return UNREADABLE
+        return convert_recording(options_of(given))
     except (Different, NotATrace) as fault:
-        tell(f"the check of the folded trace found a difference, and nothing is written: {fault}")
-        return DIFFERENT
+        what = "the check of the folded trace found a difference, and nothing is written"
+        raise Fault(f"{what}: {fault}", Status.DIFFERENT) from None
+
+
+def main(given: Sequence[str] | None = None) -> int:
+    """Runs the command, with the tool's own arguments if `given` is None; returns the exit status."""
+    return run(lambda: psitrace(given))

@@ -7,6 +7,8 @@ from collections.abc import Sequence, Sized
 from dataclasses import dataclass, field
 from typing import NamedTuple
 
+from psinames.busy import Clocks
+from psinames.text import escaped
 from psiread.events import NAMES, NEVER, Attach, Event, GroupMade, GroupRemoved
 from psiread.missing import MOST_LENGTH
 from psiread.source import Snapshot, Source
@@ -22,14 +24,18 @@ from .first import Beginning, First, beginning_of, tells_of_births
 from .lead_in import TICK, Averages, LeadIn
 from .player import Player, Samples
 
+# The length (ns) of the windows in which a companion says who ran most.
+WINDOW = 10**9
+
 
 class Known(NamedTuple):
-    """What is known of a task before the trace begins."""
+    """What is known of a task before the trace begins. Its name is escaped."""
 
     path: str
     process: int
     first: First
     is_stalled: bool
+    name: str = ""
 
 
 @dataclass
@@ -98,7 +104,8 @@ def snapshot_prior(snapshot: Snapshot, events: Sequence[Event], beginning: Begin
         if moved & {number, task.process}:
             prior.mended["task moved before the snapshot, whose group at the start is guessed"] += 1
         state = State.RUNNING if task.state == "R" else State.ASLEEP
-        prior.tasks[number] = Known(path, task.process, First(state, task.processor), False)
+        name = escaped(task.name.encode("utf-8", "surrogateescape"))
+        prior.tasks[number] = Known(path, task.process, First(state, task.processor), False, name)
     if snapshot.tasks:
         unlisted = set(beginning.tasks) - set(prior.tasks)
         prior.mended["task that the snapshot doesn't list, taken to be in the root"] += len(unlisted)
@@ -108,7 +115,7 @@ def snapshot_prior(snapshot: Snapshot, events: Sequence[Event], beginning: Begin
 def world_prior(world: World, samples: Samples, is_sound: bool) -> Prior:
     """The state of a world that was played up to here."""
     tasks = {
-        number: Known(task.group, task.process, First(task.state, task.processor), task.is_stalled)
+        number: Known(task.group, task.process, First(task.state, task.processor), task.is_stalled, task.life.name)
         for number, task in world.tasks.items()
     }
     groups = sorted(world.groups.live - world.groups.leaving)
@@ -148,6 +155,8 @@ def begin_task(world: World, number: int, known: Known, first: First, is_stalled
     """Writes a task that exists at the start: turns of no length make it sleep, wait or stall."""
     processor = first.processor if 0 <= first.processor < world.processors else 0
     task = world.fork(number, known.path, processor, known.process)
+    if known.name:
+        task.life.rename(world.now, known.name)
     if first.state is State.RUNNING and not world.running(processor):
         world.run(number, processor)
         if is_stalled:
@@ -296,12 +305,15 @@ def convert(source: Source, wanted: Wanted) -> Converted:
         lead_in = LeadIn(world, wanted.lead_in.averages, wanted.lead_in.ticks, MOST_PROCESSORS)
         lead_in.play()
         origin -= wanted.lead_in.length()
+        world.lives.clear()  # made-up tasks have no names
+    world.clocks = Clocks(WINDOW)
     begin(world, prior, beginning_of(source.events[places.start : places.stop], tells_of_births(source.events)))
     player = player_of(world, source, told)
     limit = play(player, source, places, Window(origin, window.end))
     if world.groups.leaving:
         world.mended["removed group that a task never left"] += len(world.groups.leaving)
-    counts = Counter(NAMES[type(event)] for event in source.events[places.start : places.stop])
+    kinds = Counter(map(type, source.events[places.start : places.stop]))
+    counts = Counter({NAMES[kind]: count for kind, count in kinds.items() if kind in NAMES})
     lines = [f"psitrace {world.version()} cpus={world.processors}", *world.lines, f"{world.now} end"]
     uninterruptible = waits_for_io(source.events, Method.STATE)
     told_waits = count_in(told.waits, places), count_in(uninterruptible, places)

@@ -7,7 +7,18 @@ from __future__ import annotations
 from collections.abc import Iterable, Sequence
 from typing import NamedTuple
 
-from psiread.events import NEVER, Event, FirstWakeup, Migration, NewTask, StallBegins, StallEnds, Switch, WaitEnds, Wakeup
+from psiread.events import (
+    NEVER,
+    Event,
+    FirstWakeup,
+    Migration,
+    NewTask,
+    StallBegins,
+    StallEnds,
+    Switch,
+    WaitEnds,
+    Wakeup,
+)
 from psiworld.world import State
 
 # Hardly any task is ready for longer than this without running, ns.

@@ -17,11 +17,12 @@ from collections import Counter
 from collections.abc import Callable, Iterable, Iterator
 from dataclasses import dataclass
 from operator import itemgetter
-from typing import NamedTuple
+from typing import Any, NamedTuple
 
 from psifold.fold import Fold, Outcome, TooMany
 from psifold.process import Elsewhere, Here
 from psifold.words import Folding, Progress
+from psinames.busy import Clocks
 from psiread.events import NAMES, NEVER, Event, Exec, Marker, Migration, Switch, SwitchProbe, Wakeup
 from psiread.slices import WaitingSwitch
 from psiread.source import Source, Unreadable
@@ -201,11 +202,12 @@ def looked_ahead(source: Source, slices: Iterable[list[Event]], silent: set[int]
 
 class Conversion:
     """Plays the events of a recording, and passes the resulting lines on. `accounts` has the
-    accounting by the markers that report it.
+    accounting by the markers that report it; `window` is the length (ns) of windows.
     """
 
-    def __init__(self, source: Source, wanted: Wanted, ahead: Ahead, put: Callable[[list[str]], None]) -> None:
+    def __init__(self, source: Source, wanted: Wanted, ahead: Ahead, put: Callable[[list[str]], None], window: int) -> None:
         self.source, self.wanted, self.ahead, self.put = source, wanted, ahead, put
+        self.window_length = window
         told = accounts_of(source.events, source.snapshot)
         self.off, self.accounts = told.off, {source.events[place]: found for place, found in told.found.items()}
         self.player: Player | None = None
@@ -291,6 +293,7 @@ class Conversion:
         assert self.prior
         world = World(source.processors, Groups(wanted.deepest), wanted.has_interrupts)
         world.upon = wanted.upon
+        world.clocks = Clocks(self.window_length)
         world.mended.update(self.prior.mended)
         self.player, self.is_begun = self.new_player(world, self.ahead.window), True
 
@@ -300,7 +303,8 @@ class Conversion:
         """
         world, start, put, play = player.world, self.wanted.window.start, self.put, player.play
         switch, wake, migrate, lines = player.switch, player.wake, player.migrate, world.lines
-        for place, event in zip(places, events[places.start : places.stop]):
+        pairs: Iterable[tuple[int, Any]] = zip(places, events[places.start : places.stop])
+        for place, event in pairs:
             moment = event[0] - start
             if moment > world.now:
                 world.now = moment
@@ -319,6 +323,7 @@ class Conversion:
         if lines:
             put(lines)
             lines.clear()
+        world.lives.clear()  # a folded trace doesn't have these tasks
 
     def world(self) -> World:
         """The world of the trace."""
@@ -341,7 +346,7 @@ class Conversion:
         """Counts the played events, for the summary."""
         counts = Counter(map(type, events))
         counts[Switch] += counts.pop(WaitingSwitch, 0)
-        self.counts.update({NAMES[kind]: count for kind, count in counts.items()})
+        self.counts.update({NAMES[kind]: count for kind, count in counts.items() if kind in NAMES})
         self.waits += sum(it in places for it in waits)
         self.uninterruptible += len(by_state(events))
 
@@ -362,8 +367,8 @@ def convert_folded(source: Source, slices: Slices, ahead: Ahead, silent: set[int
     gc.disable()
     spool = Spool()
     fold = Fold(source.processors, folding.length, spool.put, folding.victims)
-    folder = Elsewhere(fold) if is_large else Here(fold)
-    conversion, mender, limit = Conversion(source, wanted, ahead, folder.take), Mender(source, silent), None
+    folder: Elsewhere | Here = Elsewhere(fold) if is_large else Here(fold)
+    conversion, mender, limit = Conversion(source, wanted, ahead, folder.take, folding.length), Mender(source, silent), None
     progress = Progress("psitrace", wanted.window.length())
     try:
         for part in mender.pairs(slices()):

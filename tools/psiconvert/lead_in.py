@@ -13,7 +13,7 @@ import re
 from collections.abc import Iterable, Sequence
 from typing import NamedTuple
 
-from psiread.words import SECOND
+from psicli.times import SECOND
 from psirec.layout import RESOURCES, escaped_path
 from psiworld.groups import ROOT, prefixes_of
 from psiworld.world import How, State, World
@@ -31,7 +31,10 @@ NEAR, MOST_OWN, LEAST = 0.5, 48, 0.5
 STRETCHES = 3
 WHOLE = 100.0
 PRESSURES = [(resource, level) for resource in RESOURCES for level in ("some", "full")]
-SAMPLE = re.compile(r"sample (\d+) (\S+) (io|memory|cpu)\n((?:(?:some|full) avg10=[\d.]+ avg60=[\d.]+ avg300=[\d.]+ total=\d+\n){2})")
+SAMPLE = re.compile(
+    r"sample (\d+) (\S+) (io|memory|cpu)\n((?:(?:some|full) avg10=[\d.]+ avg60=[\d.]+ avg300=[\d.]+"
+    r" total=\d+\n){2})"
+)
 LINE = re.compile(r"(some|full) avg10=([\d.]+) avg60=([\d.]+) avg300=([\d.]+)")
 
 # The averages of a group's files by resource and level: percent over 10, 60 and 300 s.
@@ -39,8 +42,9 @@ Averages = dict[tuple[str, str], tuple[float, float, float]]
 
 
 class Shares(NamedTuple):
-    """The percent of a tick for which some and all tasks of a group on a processor wait for IO, are short of memory, and wait for
-    the processor."""
+    """The percent of a tick for which some and all tasks of a group on a processor wait for IO, are
+    short of memory, and wait for the processor.
+    """
 
     io_some: float
     io_full: float
@@ -75,7 +79,10 @@ def stretches_of(averages: Sequence[float], ticks: int) -> list[float]:
     for _ in range(500):
         for place in range(3):
             gain = sum(row[place] ** 2 for row in rows)
-            off = [sum(map(float.__mul__, row, found)) - average for row, average in zip(rows, averages)]
+            off = [
+                sum(map(float.__mul__, row, found)) - average
+                for row, average in zip(rows, averages)
+            ]
             step = sum(row[place] * it for row, it in zip(rows, off)) / gain
             found[place] = min(WHOLE, max(0.0, found[place] - step))
     return found
@@ -85,7 +92,9 @@ def possible(shares: Iterable[float]) -> Shares:
     """The nearest shares that one processor can have: full is never more than some, and while all
     tasks wait for IO none is ready.
     """
-    io_some, io_full, memory_some, memory_full, cpu_some, cpu_full = (min(WHOLE, max(0.0, it)) for it in shares)
+    io_some, io_full, memory_some, memory_full, cpu_some, cpu_full = (
+        min(WHOLE, max(0.0, it)) for it in shares
+    )
     io_full, memory_full = min(io_full, io_some), min(memory_full, memory_some)
     cpu_some = min(cpu_some, WHOLE - io_full)
     memory_some = min(memory_some, WHOLE - io_full + memory_full)
@@ -117,7 +126,8 @@ def timeline(shares: Shares) -> list[tuple[float, Status]]:
     queued, outside = WHOLE - shares.cpu_some, WHOLE - shares.cpu_full
     places = {0.0, begins, shares.io_some, shares.memory_full, some, ends, queued, outside}
     return [
-        (at, Status(at < shares.io_some, at < shares.memory_full or some <= at < ends, at < shares.memory_full, at >= begins,
+        (at, Status(at < shares.io_some, at < shares.memory_full or some <= at < ends,
+        at < shares.memory_full, at >= begins,
                     at >= queued and at >= begins, at >= outside and at >= begins))
         for at in sorted(it for it in places if it < WHOLE)
     ]  # fmt: skip
@@ -130,7 +140,9 @@ class Stage:
 
     def __init__(self, world: World, path: str, processor: int, number: int) -> None:
         self.world, self.processor = world, processor
-        self.waiter, self.staller, self.runner, self.other, self.outsider = range(number, number + 5)
+        self.waiter, self.staller, self.runner, self.other, self.outsider = range(
+            number, number + 5
+        )
         for task in range(number, number + 5):
             world.fork(task, ROOT if task == self.outsider else path, processor, task)
             world.detour(task, How.SLEEP)
@@ -145,7 +157,9 @@ class Stage:
             world.stall(it)
         elif it.is_stalled and not is_stalled:
             world.unstall(it)
-        how = {State.ASLEEP: How.SLEEP, State.WAITING: How.WAIT, State.READY: How.PREEMPT}.get(state)
+        how = {State.ASLEEP: How.SLEEP, State.WAITING: How.WAIT, State.READY: How.PREEMPT}.get(
+            state
+        )
         if how:
             world.leave(self.processor, how)
 
@@ -155,10 +169,16 @@ class Stage:
         stalls_ready = status.all_stall and status.is_ready
         self.put(self.waiter, State.WAITING if status.waits else asleep, False)
         self.put(self.staller, asleep, status.stalls and not stalls_ready)
-        self.put(self.other, ready if status.is_queued else asleep, status.is_queued and stalls_ready)
+        self.put(
+            self.other, ready if status.is_queued else asleep, status.is_queued and stalls_ready
+        )
         if not status.is_outside:
             self.put(self.outsider, asleep, False)
-        own = State.RUNNING if status.is_ready and not status.is_outside else ready if status.is_ready else asleep
+        own = (
+            State.RUNNING
+            if status.is_ready and not status.is_outside
+            else ready if status.is_ready else asleep
+        )
         self.put(self.runner, own, stalls_ready)
         if status.is_outside:
             self.put(self.outsider, State.RUNNING, False)
@@ -197,10 +217,17 @@ class LeadIn:
     def __init__(self, world: World, averages: dict[str, Averages], ticks: int, most: int) -> None:
         self.world, self.ticks = world, ticks
         live = {path: it for path, it in averages.items() if path in world.groups.live}
-        wanted = {path: it for path, it in live.items() if max(max(each) for each in it.values()) >= LEAST}
+        wanted = {
+            path: it for path, it in live.items() if max(max(each) for each in it.values()) >= LEAST
+        }
         # A group comes after its descendants.
-        self.paths = sorted(wanted, key=lambda path: (-path.count("/") if path != ROOT else 1, path))
-        self.shares = {path: {key: stretches_of(it, ticks) for key, it in wanted[path].items()} for path in self.paths}
+        self.paths = sorted(
+            wanted, key=lambda path: (-path.count("/") if path != ROOT else 1, path)
+        )
+        self.shares = {
+            path: {key: stretches_of(it, ticks) for key, it in wanted[path].items()}
+            for path in self.paths
+        }
         self.stages: dict[str, list[Stage]] = {}
         self.left_out = 0
         self.make_stages(world.processors, most)
@@ -215,18 +242,28 @@ class LeadIn:
                 self.paths.remove(path)
                 self.left_out += 1
                 continue
-            offs = [(self.off(path, count, own), count) for count in range(1, min(MOST_OWN, most - first) + 1)]
+            offs = [
+                (self.off(path, count, own), count)
+                for count in range(1, min(MOST_OWN, most - first) + 1)
+            ]
             count = next((count for off, count in offs if off <= NEAR), min(offs)[1])
             number = FIRST_NUMBER + 5 * first
-            self.stages[path] = [Stage(self.world, path, first + place, number + 5 * place) for place in range(count)]
+            self.stages[path] = [
+                Stage(self.world, path, first + place, number + 5 * place) for place in range(count)
+            ]
             for stretch, shares in enumerate(own):
-                shares[path] = possible(self.rest_of(path, count, self.wanted(path, stretch), shares))
+                shares[path] = possible(
+                    self.rest_of(path, count, self.wanted(path, stretch), shares)
+                )
             first += count
         self.world.processors = max(self.world.processors, first)
 
     def wanted(self, path: str, stretch: int) -> list[float]:
         """The shares of a group in a stretch."""
-        return [self.shares[path][key][stretch] if key in self.shares[path] else 0.0 for key in PRESSURES]
+        return [
+            self.shares[path][key][stretch] if key in self.shares[path] else 0.0
+            for key in PRESSURES
+        ]
 
     def off(self, path: str, count: int, own: list[dict[str, Shares]]) -> float:
         """The largest error of a group's shares, percent, if it has `count` processors of its own,
@@ -236,20 +273,34 @@ class LeadIn:
         for stretch, shares in enumerate(own):
             rest = self.rest_of(path, count, self.wanted(path, stretch), shares)
             missed = max(abs(one - other) for one, other in zip(rest, possible(rest)))
-            worst = max(worst, missed * count / (count + sum(len(self.stages[it]) for it in shares if is_below(it, path))))
+            worst = max(
+                worst,
+                missed
+                * count
+                / (count + sum(len(self.stages[it]) for it in shares if is_below(it, path))),
+            )
         return worst
 
     def play(self) -> None:
         """Writes the lead-in, tick by tick."""
         diffusion = Diffusion()
         for tick in range(self.ticks):
-            stretch = 2 if tick >= self.ticks - LAST else 1 if tick >= self.ticks - LAST - MIDDLE else 0
+            stretch = (
+                2 if tick >= self.ticks - LAST else 1 if tick >= self.ticks - LAST - MIDDLE else 0
+            )
             acts = []
             own: dict[str, Shares] = {}
             for path in self.paths:
-                shares = [diffusion.percent(path, key, it) for key, it in zip(PRESSURES, self.wanted(path, stretch))]
+                shares = [
+                    diffusion.percent(path, key, it)
+                    for key, it in zip(PRESSURES, self.wanted(path, stretch))
+                ]
                 own[path] = possible(self.rest_of(path, len(self.stages[path]), shares, own))
-                acts += [(at, stage, status) for at, status in timeline(own[path]) for stage in self.stages[path]]
+                acts += [
+                    (at, stage, status)
+                    for at, status in timeline(own[path])
+                    for stage in self.stages[path]
+                ]
             for at, stage, status in sorted(acts, key=lambda it: it[0]):
                 self.world.now = tick * TICK + int(at * TICK / WHOLE)
                 stage.show(status)
@@ -258,13 +309,20 @@ class LeadIn:
             for stage in stages:
                 stage.end()
 
-    def rest_of(self, path: str, count: int, wanted: Sequence[float], own: dict[str, Shares]) -> list[float]:
+    def rest_of(
+        self, path: str, count: int, wanted: Sequence[float], own: dict[str, Shares]
+    ) -> list[float]:
         """The shares that each of a group's `count` processors needs so that, with those of its
         descendants, the group has the wanted shares. The root's full of cpu is always shown as 0.
         """
-        below = [(len(self.stages[it]), seen_from(own[it], path)) for it in own if is_below(it, path)]
+        below = [
+            (len(self.stages[it]), seen_from(own[it], path)) for it in own if is_below(it, path)
+        ]
         whole = count + sum(it for it, _ in below)
-        rest = [whole * share - sum(number * it[place] for number, it in below) for place, share in enumerate(wanted)]
+        rest = [
+            whole * share - sum(number * it[place] for number, it in below)
+            for place, share in enumerate(wanted)
+        ]
         return [it / count for it in rest]
 
 

@@ -7,9 +7,12 @@ from __future__ import annotations
 from collections import Counter, defaultdict
 from collections.abc import Callable, Sequence
 
+from psinames.text import escaped
+
 from psiread.events import (
-    CLONE_INTO_CGROUP, CLONE_THREAD, GONE, Attach, AttachProbe, Event, Exec, FirstWakeup, GroupMade, GroupRemoved, Interrupts,
-    Marker, Migration, NewTask, StallBegins, StallEnds, Switch, Victim, Wakeup,
+    CLONE_INTO_CGROUP, CLONE_THREAD, GONE, Attach, AttachProbe, Event, Exec, FirstWakeup, GroupMade,
+    GroupRemoved, Interrupts,
+    Marker, Migration, Named, NewTask, StallBegins, StallEnds, Switch, Victim, Wakeup,
 )  # fmt: skip
 from psirec.layout import MARK, PLAIN_TYPE, escaped_path
 from psiworld.groups import ROOT
@@ -20,7 +23,6 @@ from .accounts import Account
 
 # The letter of a task that leaves and stays ready.
 STAYS = "R"
-
 
 
 class Samples:
@@ -37,7 +39,12 @@ class Player:
     """
 
     def __init__(
-        self, world: World, events: Sequence[Event], waits: set[int], accounts: dict[int, list[Account]], types: dict[str, str]
+        self,
+        world: World,
+        events: Sequence[Event],
+        waits: set[int],
+        accounts: dict[int, list[Account]],
+        types: dict[str, str],
     ) -> None:
         self.world, self.waits, self.accounts, self.types = world, waits, accounts, dict(types)
         self.samples = Samples()
@@ -64,6 +71,8 @@ class Player:
             self.migrate(event)
         elif isinstance(event, (StallBegins, StallEnds)):
             self.stall(event)
+        elif isinstance(event, Named):
+            self.name(event)
         elif isinstance(event, Interrupts):
             self.world.interrupt(event.processor, event.delta)
         elif isinstance(event, Marker):
@@ -135,7 +144,11 @@ class Player:
         """
         world, (_, processor, _, previous, state, number) = self.world, event
         runs, comes = world.runs.get(processor, 0), world.tasks.get(number)
-        if runs != previous or number in self.changes or not (comes.is_on(processor, State.READY) if comes else number == 0):
+        if (
+            runs != previous
+            or number in self.changes
+            or not (comes.is_on(processor, State.READY) if comes else number == 0)
+        ):
             self.leaver(place, event)
             self.follower(place, event)
             runs = world.runs.get(processor, 0)
@@ -219,8 +232,19 @@ class Player:
         path = self.group_of(event.current)
         if event.flags & CLONE_INTO_CGROUP:
             path = self.named_group(event.current) or path
-        self.world.fork(event.task, path, event.processor, process)
+        parent = self.world.tasks.get(event.current)
+        task = self.world.fork(event.task, path, event.processor, process)
+        if parent and parent.life.name:
+            task.life.rename(self.world.now, parent.life.name)
         self.world.detour(event.task, How.SLEEP)
+
+    def name(self, event: Named) -> None:
+        """A task has this name from now on."""
+        task, name = self.world.tasks.get(event.task), escaped(event.name)
+        if task:
+            task.life.rename(self.world.now, name)
+        else:
+            self.world.names[event.task] = name
 
     def process_of(self, number: int) -> int:
         """The process of a thread, as far as it is known."""
@@ -248,7 +272,11 @@ class Player:
 
     def exec(self, event: Exec) -> None:
         """The number of a thread has changed; often that was noticed earlier."""
-        if event.task == event.old or event.old not in self.world.tasks or not self.is_task(event.task):
+        if (
+            event.task == event.old
+            or event.old not in self.world.tasks
+            or not self.is_task(event.task)
+        ):
             return
         if event.task not in self.world.tasks or self.world.running(event.processor) == event.old:
             self.change_number(event.task, event.old)
@@ -322,7 +350,9 @@ class Player:
                 self.samples.host = sample
                 self.world.put(f"host {sample}")
         elif words[:1] == ["mem"] and len(words) == 5:
-            path, sample = escaped_path(words[1].encode("utf-8", "surrogateescape")), sample_of(words[2:])
+            path, sample = escaped_path(words[1].encode("utf-8", "surrogateescape")), sample_of(
+                words[2:]
+            )
             if sample and path in self.world.groups.live:
                 self.samples.groups[path] = sample
                 self.world.put(f"mem {path} {sample}")
@@ -330,6 +360,8 @@ class Player:
 
 def sample_of(words: Sequence[str]) -> str | None:
     """The three numbers of a sample as in a trace, or None if the words aren't such numbers."""
-    if len(words) != 3 or not all(word.isascii() and word.isdecimal() and int(word) <= MOST_MEMORY for word in words):
+    if len(words) != 3 or not all(
+        word.isascii() and word.isdecimal() and int(word) <= MOST_MEMORY for word in words
+    ):
         return None
     return " ".join(str(int(word)) for word in words)

@@ -5,10 +5,10 @@ from __future__ import annotations
 
 from datetime import datetime, timezone
 
+from psicli.times import SECOND, seconds_to_ms
 from psiread.source import Source
 from psiread.waits import Method
-from psiread.window import Window, seconds
-from psiread.words import SECOND
+from psiread.window import Window
 from psiworld.groups import ROOT
 from psiworld.world import World
 
@@ -31,11 +31,13 @@ def waits_text(method: Method, converted: Converted) -> str:
     """How waits for IO are recognised, and how reliable that is."""
     if method is Method.STATE:
         return (
-            f"waits for IO by state D alone: all {converted.uninterruptible} such sleeps count, on a journaling file system up"
-            " to 3.5 times too long"
+            f"waits for IO by state D alone: all {converted.uninterruptible} such sleeps count, on"
+            " a journaling file system up to 3.5 times too long"
         )
     way = "psi's own mark" if method is Method.PROBE else "sched_stat_iowait"
-    return f"waits for IO by {way}: {converted.waits}; sleeps in state D: {converted.uninterruptible}"
+    return (
+        f"waits for IO by {way}: {converted.waits}; sleeps in state D: {converted.uninterruptible}"
+    )
 
 
 def exact_seconds(moment: int) -> str:
@@ -45,17 +47,29 @@ def exact_seconds(moment: int) -> str:
 
 def counted(found: dict[str, int]) -> str:
     """Kinds with their numbers, the largest first."""
-    return ", ".join(f"{kind} {count}" for kind, count in sorted(found.items(), key=lambda it: (-it[1], it[0])) if count)
+    return ", ".join(
+        f"{kind} {count}"
+        for kind, count in sorted(found.items(), key=lambda it: (-it[1], it[0]))
+        if count
+    )
 
 
 def whole_lines(source: Source, converted: Converted, window: Window, whole: Window) -> list[str]:
     """The size of the trace."""
-    groups, count = converted.world.groups.made, len(converted.lines if converted.folded is None else converted.folded)
-    lines = [f"{seconds(converted.world.now)} s, processors {source.processors}, groups {groups}, lines {count}"]
+    groups, count = converted.world.groups.made, len(
+        converted.lines if converted.folded is None else converted.folded
+    )
+    lines = [
+        f"{seconds_to_ms(converted.world.now)} s, processors {source.processors}, groups {groups},"
+        f" lines {count}"
+    ]
     if window != whole:
         start = window.start - whole.start
         end = start + converted.world.now - converted.begins
-        lines.append(f"of {seconds(whole.length())} s: --from {exact_seconds(start)} --to {exact_seconds(end)}")
+        lines.append(
+            f"of {seconds_to_ms(whole.length())} s: --from {exact_seconds(start)} --to"
+            f" {exact_seconds(end)}"
+        )
     if source.realtime is not None:
         lines.append(f"0 is {moment_text(window.start - converted.begins + source.realtime)}")
     return lines
@@ -67,26 +81,39 @@ def accounting_lines(source: Source, world: World) -> list[str]:
     if ROOT in source.snapshot.unaccounted:
         lines.append("the machine doesn't account the root, a trace does")
     if world.switches:
-        version = "so it has version 2" + ("" if world.has_interrupts else ", without times of interrupts")
+        version = "so it has version 2" + (
+            "" if world.has_interrupts else ", without times of interrupts"
+        )
         groups = ", ".join(sorted(world.switched))
-        lines.append(f"not accounted all the time: {groups}: lines `pressure` {world.switches}, {version}")
+        lines.append(
+            f"not accounted all the time: {groups}: lines `pressure` {world.switches}, {version}"
+        )
     return lines
 
 
 def told_lines(source: Source, converted: Converted) -> list[str]:
     """What a trace can't express, or expresses differently."""
     lines = list(source.notes)
-    omitted = [path for path, preference in sorted(source.snapshot.groups.items()) if preference == "omit"]
+    omitted = [
+        path for path, preference in sorted(source.snapshot.groups.items()) if preference == "omit"
+    ]
     if omitted:
         lines.append(f"omit is told as avoid: {', '.join(omitted)}")
     lines += accounting_lines(source, converted.world)
     if converted.counts["psi_account_irqtime"] and not converted.world.has_interrupts:
-        lines.append("times of interrupts are left out: --interrupts writes them, into a trace of version 2")
-    lines += [f"the kernel's own killer chose task {task} at {seconds(moment)} s" for moment, task in converted.victims]
+        lines.append(
+            "times of interrupts are left out: --interrupts writes them, into a trace of version 2"
+        )
+    lines += [
+        f"the kernel's own killer chose task {task} at {seconds_to_ms(moment)} s"
+        for moment, task in converted.victims
+    ]
     return lines
 
 
-def summary_of(source: Source, converted: Converted, method: Method, window: Window, whole: Window) -> list[str]:
+def summary_of(
+    source: Source, converted: Converted, method: Method, window: Window, whole: Window
+) -> list[str]:
     """All lines but those about losses. No line about repairs means that there were none."""
     mended = {**source.mended, **converted.world.mended}
     return [
@@ -105,7 +132,10 @@ def other_way(converted: Converted) -> str:
         return ""
     if converted.folded is not None:
         return ", and --fold with a longer window and --groups make it smaller"
-    return ", and --fold 1 makes a trace as long as the recording, with the same pressure at ticks of a second"
+    return (
+        ", and --fold 1 makes a trace as long as the recording, with the same pressure at ticks of"
+        " a second"
+    )
 
 
 def past_lines(converted: Converted) -> list[str]:
@@ -113,19 +143,29 @@ def past_lines(converted: Converted) -> list[str]:
     if not converted.begins:
         settled = f"avg10 means something from {SETTLED_10} s on, avg60 from {SETTLED_60} s on"
         return [f"averages begin at 0, as the machine's didn't: {settled}"]
-    lines = [f"the recording begins at {seconds(converted.begins)} s: what is before is made up, so that averages begin as the machine's"]
+    lines = [
+        f"the recording begins at {seconds_to_ms(converted.begins)} s: what is before is made up,"
+        " so that averages begin as the machine's"
+    ]
     if converted.without_past:
-        lines.append(f"lead-in: groups whose averages begin at 0, since there are too few processors for more: {converted.without_past}")
+        lines.append(
+            "lead-in: groups whose averages begin at 0, since there are too few processors for"
+            f" more: {converted.without_past}"
+        )
     return lines
 
 
 def limit_lines(source: Source, converted: Converted) -> list[str]:
     """The limits of traces that were met."""
     lines = [
-        f"limit: {why}: {len(paths)} folded into the group above, first {paths[0]}; --groups sets how deep groups go"
+        f"limit: {why}: {len(paths)} folded into the group above, first {paths[0]}; --groups sets"
+        " how deep groups go"
         for why, paths in sorted(converted.world.groups.limits.items())
     ]
     if converted.limit:
-        end = seconds(converted.world.now)
-        lines.append(f"limit: more than {converted.limit}: what comes after {end} s; --from and --to cut{other_way(converted)}")
+        end = seconds_to_ms(converted.world.now)
+        lines.append(
+            f"limit: more than {converted.limit}: what comes after {end} s; --from and --to"
+            f" cut{other_way(converted)}"
+        )
     return lines

@@ -25,7 +25,11 @@ def renamed(events: Sequence[Event]) -> set[tuple[int, int]]:
     """The pairs of numbers that an exec exchanges: the processor goes from one to the other without
     a switch.
     """
-    changes = [(event.old, event.task) for event in events if isinstance(event, Exec) and event.old != event.task]
+    changes = [
+        (event.old, event.task)
+        for event in events
+        if isinstance(event, Exec) and event.old != event.task
+    ]
     return {*changes, *((new, old) for old, new in changes)}
 
 
@@ -73,13 +77,19 @@ class Chains:
         if (known, runs) in self.renamed or self.is_gap(event):
             return []
         follows = [runs] if runs in self.ready or not runs else []
-        return list(self.switches(event.processor, [known, *self.waiting(event.processor, {known, runs}), *follows]))
+        return list(
+            self.switches(
+                event.processor, [known, *self.waiting(event.processor, {known, runs}), *follows]
+            )
+        )
 
     def waiting(self, processor: int, others: set[int]) -> list[int]:
         """Tasks that write no switch and were ready there, the earliest first: they ran before
         whatever task follows.
         """
-        waiting = [it for it in self.silent - others if it in self.ready and self.ready[it][0] == processor]
+        waiting = [
+            it for it in self.silent - others if it in self.ready and self.ready[it][0] == processor
+        ]
         return sorted(waiting, key=lambda it: self.ready[it][1])
 
     def is_gap(self, event: Event) -> bool:
@@ -93,7 +103,9 @@ class Chains:
         for previous, following in zip(route, route[1:]):
             self.ready.pop(previous, None)
             moment = max(moment, self.ready.pop(following)[1] if following else 0)
-            yield Switch(moment, processor, previous, previous, SLEEPS if previous else STAYS, following)
+            yield Switch(
+                moment, processor, previous, previous, SLEEPS if previous else STAYS, following
+            )
 
     def take(self, event: Event) -> None:
         """Takes a written event."""
@@ -106,7 +118,9 @@ class Chains:
             self.ready.pop(previous, None)
             if state == STAYS and previous:
                 self.ready[previous] = processor, moment
-        elif isinstance(event, (Wakeup, FirstWakeup)) or (isinstance(event, Migration) and event.task in self.ready):
+        elif isinstance(event, (Wakeup, FirstWakeup)) or (
+            isinstance(event, Migration) and event.task in self.ready
+        ):
             self.ready[event.task] = event.target, moment
 
 

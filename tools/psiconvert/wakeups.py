@@ -53,7 +53,9 @@ def put_at(events: Sequence[Event], counted: dict[int, int], counting: Counting)
     moved: list[Event] = list(events)
     for place, moment in counted.items():
         event = events[place]
-        moved[place] = event._replace(moment=moment if counting is Counting.PROBE else (moment + event.moment) // 2)
+        moved[place] = event._replace(
+            moment=moment if counting is Counting.PROBE else (moment + event.moment) // 2
+        )
     moved.sort(key=MOMENT)
     return moved
 
@@ -73,7 +75,9 @@ class Wakeups:
         """The next events, with their wakeups at the requested time."""
         counted = counted_at(events, self.told)
         self.lags.update(events[place].moment - moment for place, moment in counted.items())
-        self.untold += sum(isinstance(event, (Wakeup, FirstWakeup)) for event in events) - len(counted)
+        self.untold += sum(isinstance(event, (Wakeup, FirstWakeup)) for event in events) - len(
+            counted
+        )
         return put_at(events, counted, self.counting)
 
     def slices(self, slices: Iterable[list[Event]]) -> Iterator[list[Event]]:
@@ -106,16 +110,21 @@ class Wakeups:
         count = sum(self.lags.values())
         if not count:
             return (
-                "wakeups at their events, which psi counts somewhat earlier: waits for CPU come out short by that, and record --wakeups"
-                " says by how much"
+                "wakeups at their events, which psi counts somewhat earlier: waits for CPU come out"
+                " short by that, and record --wakeups says by how much"
             )
         way = {
             Counting.PROBE: "when psi counts them, and not at their events",
             Counting.MIDDLE: "halfway from when psi counts them to their events",
             Counting.EVENT: "at their events, and not when psi counts them",
         }[self.counting]
-        middle, most = (self.lag_at((count - 1) // 2) + self.lag_at(count // 2)) / 2, self.lag_at(count * 99 // 100)
-        return f"wakeups {way}: {middle:.1f} us apart at the median, {most:.1f} at 99 of 100; unknown of {self.untold}"
+        middle, most = (self.lag_at((count - 1) // 2) + self.lag_at(count // 2)) / 2, self.lag_at(
+            count * 99 // 100
+        )
+        return (
+            f"wakeups {way}: {middle:.1f} us apart at the median, {most:.1f} at 99 of 100; unknown"
+            f" of {self.untold}"
+        )
 
 
 # ---------------------------------------------------------------- the wakeups of a trace

@@ -4,8 +4,8 @@ independent sums, with other times.
 
 The joint states that are kept are the *basis*. The column of a joint state has a 1 for each sum
 that it takes part in, and the columns of the basis are linearly independent. A further joint state
-is either independent too and is added to the basis, or its column is a combination of columns in the
-basis. In that case its time is distributed among them until the time of one is 0: this one is
+is either independent too and is added to the basis, or its column is a combination of columns in
+the basis. In that case its time is distributed among them until the time of one is 0: this one is
 removed, and the new one stays with the rest of its time (a step of the simplex method, called a
 *pivot*). Usually the basis has room for all of the time, and even for many joint states at once: so
 their sums are tried together first, and if that fails, fewer of them, down to one.
@@ -51,12 +51,20 @@ class Fields:
         data = (packed + self.signs).to_bytes(size * self.rows, "little")
         if size == 8:
             return [number - half for number in memoryview(data).cast("Q").tolist()]
-        return [int.from_bytes(data[at : at + size], "little") - half for at in range(0, len(data), size)]
+        return [
+            int.from_bytes(data[at : at + size], "little") - half
+            for at in range(0, len(data), size)
+        ]
 
     def packed(self, numbers: Sequence[int]) -> int:
         """The column with these numbers."""
         size, half = self.bits // 8, self.half
-        return int.from_bytes(b"".join((number + half).to_bytes(size, "little") for number in numbers), "little") - self.signs
+        return (
+            int.from_bytes(
+                b"".join((number + half).to_bytes(size, "little") for number in numbers), "little"
+            )
+            - self.signs
+        )
 
     def number(self, packed: int, row: int) -> int:
         """One number of a column."""
@@ -70,11 +78,15 @@ class Units:
 
     def __init__(self, used: int, fields: Fields) -> None:
         self.fields, self.size = fields, (used.bit_length() + 7) // 8
-        self.bytes = [ByteFields(value, fields.bits // 8) for value in used.to_bytes(self.size, "little")]
+        self.bytes = [
+            ByteFields(value, fields.bits // 8) for value in used.to_bytes(self.size, "little")
+        ]
 
     def packed(self, column: int) -> int:
         """The packed column, with a 1 in each row whose bit is set."""
-        return int.from_bytes(b"".join(map(getitem, self.bytes, column.to_bytes(self.size, "little"))), "little")
+        return int.from_bytes(
+            b"".join(map(getitem, self.bytes, column.to_bytes(self.size, "little"))), "little"
+        )
 
 
 class ByteFields(dict[int, bytes]):
@@ -86,7 +98,9 @@ class ByteFields(dict[int, bytes]):
         self.places, self.size = list(bits_of(used)), size
 
     def __missing__(self, value: int) -> bytes:
-        found = self[value] = b"".join((value >> place & 1).to_bytes(self.size, "little") for place in self.places)
+        found = self[value] = b"".join(
+            (value >> place & 1).to_bytes(self.size, "little") for place in self.places
+        )
         return found
 
 
@@ -112,13 +126,17 @@ class Basis:
         total = 0
         for start in range(0, len(columns), TOGETHER):
             sums = [0]
-            for column, time in zip(columns[start : start + TOGETHER], times[start : start + TOGETHER]):
+            for column, time in zip(
+                columns[start : start + TOGETHER], times[start : start + TOGETHER]
+            ):
                 sums.append(sums[-1] + time * column)
             self.take_some(start, columns, times, sums)
             total += sums[-1]
         return total
 
-    def take_some(self, start: int, columns: Sequence[int], times: Sequence[int], sums: Sequence[int]) -> None:
+    def take_some(
+        self, start: int, columns: Sequence[int], times: Sequence[int], sums: Sequence[int]
+    ) -> None:
         """Takes the joint states from `start`, whose cumulative sums are `sums`: all at once, or
         half as many as long as there is no room. If there was no room for all, there is none for
         the rest either after some were taken; only a pivot changes that.
@@ -133,7 +151,9 @@ class Basis:
                     is_full = is_full or wanted == end
                     wanted = taken + (wanted - taken) // 2
             else:
-                is_full &= not self.take(start + taken, columns[start + taken], times[start + taken])
+                is_full &= not self.take(
+                    start + taken, columns[start + taken], times[start + taken]
+                )
                 taken, wanted = taken + 1, min(taken + 3, end)
 
     def made_of(self, packed: int) -> int:
@@ -165,7 +185,12 @@ class Basis:
             rows = [row for row, at in enumerate(self.numbers) if at is None and found[row]]
             self.pivot(min(rows, key=lambda row: abs(found[row])), number, parts, time)
         elif times & signs:
-            self.pivot(first_at_zero(self.fields.numbers(self.times), self.fields.numbers(parts)), number, parts, time)
+            self.pivot(
+                first_at_zero(self.fields.numbers(self.times), self.fields.numbers(parts)),
+                number,
+                parts,
+                time,
+            )
         else:
             self.times = times
             return False
@@ -182,19 +207,30 @@ class Basis:
         change = parts - (divisor << row * fields.bits)
         owns = [fields.number(column, row) for column in self.columns]
         if abs(factor) == divisor == 1:
-            self.columns = [column - sign * own * change if own else column for column, own in zip(self.columns, owns)]
+            self.columns = [
+                column - sign * own * change if own else column
+                for column, own in zip(self.columns, owns)
+            ]
         else:
             pairs = zip(self.columns, owns)
-            self.columns = [sign * (factor * column - own * change) // divisor for column, own in pairs]
+            self.columns = [
+                sign * (factor * column - own * change) // divisor for column, own in pairs
+            ]
         # Times are computed one by one, since intermediate results are far larger than fields.
         given = times[row] + time * factor
         times = [
-            sign * (factor * (at + time * part) - given * part) // divisor if place != row else sign * given
+            (
+                sign * (factor * (at + time * part) - given * part) // divisor
+                if place != row
+                else sign * given
+            )
             for place, (at, part) in enumerate(zip(times, found))
         ]
         self.times, self.divisor, self.numbers[row] = fields.packed(times), abs(factor), number
         self.free &= ~(fields.mask << row * fields.bits)
-        self.most = (abs(factor) * self.most + max(map(abs, found)) * max(map(abs, owns))) // divisor + 1
+        self.most = (
+            abs(factor) * self.most + max(abs(it) for it in found) * max(abs(it) for it in owns)
+        ) // divisor + 1
         if not self.fits():
             self.make_room()
 
@@ -211,7 +247,9 @@ class Basis:
         """Computes the greatest number of the inverse, and widens the fields if it is too large for
         them.
         """
-        self.most = max(abs(number) for column in self.columns for number in self.fields.numbers(column))
+        self.most = max(
+            abs(number) for column in self.columns for number in self.fields.numbers(column)
+        )
         while not self.fits():
             before, self.fields = self.fields, Fields(self.fields.rows, 2 * self.fields.bits)
             self.columns = [self.fields.packed(before.numbers(column)) for column in self.columns]

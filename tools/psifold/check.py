@@ -14,7 +14,8 @@ from collections.abc import Callable
 from dataclasses import dataclass, field
 from typing import NamedTuple
 
-# A group's counts on a processor: tasks that wait for IO, that are stalled, that are ready or run, and that do so in a stall.
+# A group's counts on a processor: tasks that wait for IO, that are stalled, that are ready or run,
+# and that do so in a stall.
 WAITING, STALLED, ACTIVE, ACTIVE_STALLED = range(4)
 STATES = 7
 # The number of ns that a sum may be off at any time, by the rounding of all windows up to then.
@@ -147,8 +148,14 @@ class Clocks:
         found: dict[Key, int] = {}
         for (processor, path), clock in self.clocks.items():
             clock.go_to(end)
-            if path in accounted and all(path != it and path in chain_of(it) for it in self.without):
-                found.update((Key(processor, path, state, self.without), time) for state, time in enumerate(clock.times) if time)
+            if path in accounted and all(
+                path != it and path in chain_of(it) for it in self.without
+            ):
+                found.update(
+                    (Key(processor, path, state, self.without), time)
+                    for state, time in enumerate(clock.times)
+                    if time
+                )
             clock.times = [0] * STATES
         self.start = end
         return found
@@ -178,7 +185,8 @@ class Check:
         self.edge: tuple[int, set[str]] | None = None
         self.most_tasks = 0
         self.verbs: dict[str, Callable[..., None]] = {
-            "fork": self.fork, "wake": self.wake, "switch": self.switch, "stall": self.stall, "unstall": self.stall, "irq": self.irq,
+            "fork": self.fork, "wake": self.wake, "switch": self.switch, "stall": self.stall,
+            "unstall": self.stall, "irq": self.irq,
         }  # fmt: skip
 
     # ------------------------------------------------------------ lines
@@ -229,7 +237,10 @@ class Check:
         processor, leaving = int(place), self.runs.pop(int(place), "0")
         coming = self.tasks.get(following)
         self.must((how == "idle") == (leaving == "0"), line)
-        self.must(following == "0" or (coming and coming.does == READY and coming.processor == processor), line)
+        self.must(
+            following == "0" or (coming and coming.does == READY and coming.processor == processor),
+            line,
+        )
         if how in AFTER:
             self.change(self.tasks[leaving], does=AFTER[how])
         elif how == "exit":
@@ -251,7 +262,11 @@ class Check:
     def irq(self, line: str, place: str, length: str) -> None:
         """Interrupts took time from the task that runs."""
         processor, time = int(place), int(length)
-        self.must(time <= min(MOST_INTERRUPTS, self.now - self.interrupted.get(processor, 0)) and processor in self.runs, line)
+        self.must(
+            time <= min(MOST_INTERRUPTS, self.now - self.interrupted.get(processor, 0))
+            and processor in self.runs,
+            line,
+        )
         self.interrupted[processor] = self.now
         self.interrupts[processor, self.tasks[self.runs[processor]].path] += time
 
@@ -308,7 +323,9 @@ class Check:
 
     def compare_tasks(self, where: str, wanted: set[str]) -> None:
         """Rejects the window if the groups that have tasks differ from `wanted`."""
-        self.compare("which groups have tasks", where, {task.path for task in self.tasks.values()}, wanted)
+        self.compare(
+            "which groups have tasks", where, {task.path for task in self.tasks.values()}, wanted
+        )
 
     def compare(self, what: str, where: str, found: object, wanted: object) -> None:
         """Rejects the window if the two differ."""
@@ -325,6 +342,9 @@ class Check:
             if off:
                 self.behind[key] += off
                 if abs(self.behind[key]) > MOST_OFF:
-                    name = f"the time of {key.path} on processor {key.processor} in state {key.state + 1}"
+                    name = (
+                        f"the time of {key.path} on processor {key.processor} in state"
+                        f" {key.state + 1}"
+                    )
                     without = f" without {', '.join(key.without)}" if key.without else ""
                     raise Different(f"{name}{without} {where} differs by {self.behind[key]} ns")

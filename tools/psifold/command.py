@@ -1,21 +1,27 @@
-"""Folds a trace: makes a trace with the same pressure, which has far fewer lines where the machine was busy.
+"""Folds a trace: makes a trace with the same pressure, which has far fewer lines where the machine
+was busy.
 
   tools/fold TRACE --window 1 > FOLDED
 
-Within each window of S seconds other events replace the original ones, so that each group was in each state for the same time on
-each processor. A replay at a tick of S seconds, or of a multiple, prints the same for both traces: totals, averages, signals and
-kills; but times are rounded to whole ns. So totals may differ by 1 us, and a signal or an average whose time is exactly at an edge may
-differ. The details that --live or a --tick-ms below S would show are lost, and so is which task did what when within a window.
+Within each window of S seconds other events replace the original ones, so that each group was in
+each state for the same time on each processor. A replay at a tick of S seconds, or of a multiple,
+prints the same for both traces: totals, averages, signals and kills; but times are rounded to whole
+ns. So totals may differ by 1 us, and a signal or an average whose time is exactly at an edge may
+differ. The details that --live or a --tick-ms below S would show are lost, and so is which task did
+what when within a window.
 
-TRACE is a file for psi_oomd, or - for the standard input. `whatif` is exact up to the first kill. After it, it is exact if the victim
-is among the groups that --victims or --rules select, and no task came to that group, left it or moved within it later; a line on
-standard error says until when some did.
+TRACE is a file for psi_oomd, or - for the standard input. `whatif` is exact up to the first kill.
+After it, it is exact if the victim is among the groups that --victims or --rules select, and no
+task came to that group, left it or moved within it later; a line on standard error says until when
+some did.
 
-Each window is checked before it is written: other code replays its lines, and compares the sums with those of TRACE.
+Each window is checked before it is written: other code replays its lines, and compares the sums
+with those of TRACE.
 
-The status is 0; 1 for a usage error; 2 if something can't be read or written, or TRACE isn't a trace; 3 if the folded trace has more
-events or tasks than a trace may have, so that the output has no end line, or if it is longer than TRACE; and 4 if the check found a
-difference, which is a bug of this tool: then the output ends before that window, and has no end line.
+The status is 0; 2 for a usage error, if something can't be read or written, or TRACE isn't a trace;
+3 if the folded trace has more events or tasks than a trace may have, so that the output has no end
+line, or if it is longer than TRACE; and 4 if the check found a difference, which is a bug of this
+tool: then the output ends before that window, and has no end line.
 """
 from __future__ import annotations
 
@@ -25,9 +31,12 @@ from collections.abc import Iterable, Iterator
 from itertools import chain, islice
 from typing import IO, NamedTuple
 
+from psicli.fault import Fault
+from psicli.parser import Parser
+from psicli.running import complain, run
+from psicli.status import Status
 from psiread.kinds import HEAD, kind_of, kind_of_file
-from psiread.source import Faulty, Unreadable
-from psiread.words import Parser, guarded
+from psiread.source import Unreadable
 from psireplay.sampled import refusal, sampled_in
 from psiworld.limits import MOST_EVENTS, MOST_PROCESSORS
 
@@ -36,18 +45,12 @@ from .fold import Fold, TooMany
 from .words import Folding, Progress, add_window, folding_lines, folding_of, is_longer
 from .world import NotATrace, shortened
 
-FAULTY, UNREADABLE, TOO_MANY, DIFFERENT = 1, 2, 3, 4
 HEADER = re.compile("psitrace ([12]) cpus=([1-9][0-9]?)")
 MAKE_FEWER = ", and so does a longer window"
 # The number of lines that are read at once, and of the first lines, which show whether the trace
 # was made from samples.
 LINES = 10_000
 MARK_LINES = 3
-
-
-def tell(line: str) -> None:
-    """Prints a line on standard error."""
-    print(f"fold: {line}", file=sys.stderr)
 
 
 class Options(NamedTuple):
@@ -57,12 +60,17 @@ class Options(NamedTuple):
     folding: Folding
 
 
-def options_of(given: list[str]) -> Options:
+def options_of() -> Options:
     """Parses the command line."""
-    words = Parser("fold", __doc__, FAULTY)
+    words = Parser(__doc__)
     words.add_argument("trace", metavar="TRACE", help="the trace, or - for the standard input")
-    add_window(words, "--window", True, "the length of a window in seconds: that of the tick, or a whole part of it")
-    found = words.words_of(given)
+    add_window(
+        words,
+        "--window",
+        True,
+        "the length of a window in seconds: that of the tick, or a whole part of it",
+    )
+    found = words.values()
     folding = folding_of(found)
     assert folding
     return Options(found["trace"], folding)
@@ -71,7 +79,13 @@ def options_of(given: list[str]) -> Options:
 def opened(name: str) -> IO[str]:
     """The trace, opened for reading."""
     try:
-        return open(0 if name == "-" else name, encoding="ascii", errors="surrogateescape", newline="\n", closefd=name != "-")
+        return open(
+            0 if name == "-" else name,
+            encoding="ascii",
+            errors="surrogateescape",
+            newline="\n",
+            closefd=name != "-",
+        )
     except OSError as fault:
         kind = kind_of_file(name)
         raise Unreadable(f"{name}: {kind or fault.strerror}") from None
@@ -118,17 +132,25 @@ def refuse_victims(options: Options, beginning: list[str]) -> None:
     """In a trace that was made of samples nobody knows what a victim's end changes for others."""
     found = sampled_in("".join(beginning).encode("ascii", "replace"))
     if found and options.folding.victims:
-        raise Faulty(refusal(options.trace, found, "what others would have had without a victim, so victims can't be kept"))
+        raise Fault(
+            refusal(
+                options.trace,
+                found,
+                "what others would have had without a victim, so victims can't be kept",
+            )
+        )
 
 
-def run(options: Options) -> int:
-    """Folds; answers the status."""
+def fold_trace(options: Options) -> int:
+    """Folds; returns the exit status."""
     with opened(options.trace) as file:
         beginning = list(islice(file, MARK_LINES))
         refuse_victims(options, beginning)
         header = beginning[0].rstrip("\n") if beginning else ""
         output = Output()
-        fold = Fold(processors_of(header), options.folding.length, output.put, options.folding.victims)
+        fold = Fold(
+            processors_of(header), options.folding.length, output.put, options.folding.victims
+        )
         output.write([header])
         source, progress = lines_of(chain(beginning[1:], file)), Progress("fold")
         while lines := list(islice(source, LINES)):
@@ -137,30 +159,30 @@ def run(options: Options) -> int:
         progress.end()
         if not fold.is_ended:
             raise NotATrace("the last line isn't that of the end")
-        sys.stdout.flush()
         outcome = fold.outcome()
         for line in folding_lines(options.folding, outcome):
-            tell(line)
-        return TOO_MANY if is_longer(outcome.counts) else 0
+            complain(line)
+        return Status.INCOMPLETE if is_longer(outcome.counts) else Status.DONE
 
 
-def main(given: list[str]) -> int:
-    """Runs the command; answers its status."""
+def fold() -> int:
+    """Folds the trace that the arguments name; returns the exit status."""
+    options = options_of()
     try:
-        options = options_of(given)
-        return guarded("fold", lambda: run(options), UNREADABLE)
-    except Faulty as fault:
-        tell(str(fault))
-        return FAULTY
-    except Unreadable as fault:
-        tell(str(fault))
-        return UNREADABLE
+        return fold_trace(options)
     except NotATrace as fault:
-        tell(f"{options.trace}: {fault}")
-        return UNREADABLE
+        raise Fault(f"{options.trace}: {fault}") from None
     except TooMany as fault:
-        tell(f"more than {fault} come of it: a trace of fewer levels of groups makes fewer{MAKE_FEWER * ('events' in str(fault))}")
-        return TOO_MANY
+        advice = (
+            f"a trace of fewer levels of groups makes fewer{MAKE_FEWER * ('events' in str(fault))}"
+        )
+        raise Fault(f"more than {fault} come of it: {advice}", Status.INCOMPLETE) from None
     except Different as fault:
-        tell(f"the check found a difference, and nothing more is written: {fault}")
-        return DIFFERENT
+        raise Fault(
+            f"the check found a difference, and nothing more is written: {fault}", Status.DIFFERENT
+        ) from None
+
+
+def main() -> int:
+    """Runs the command; returns the exit status."""
+    return run(fold)

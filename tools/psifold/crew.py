@@ -26,6 +26,7 @@ from .world import Catalog
 # processes.
 MUCH, MOST_WORKERS = 4_000, 8
 
+
 class Work(NamedTuple):
     """A window: additions to the catalog, the sums to keep if they have changed, and the turns by
     processor.
@@ -53,7 +54,10 @@ class Share:
         self.catalog.add(*work.news)
         if work.plan is not None:
             self.sums = Sums(self.catalog, work.plan)
-        return {processor: self.folded[processor].fold(turn, self.sums, self.catalog) for processor, turn in work.turns.items()}
+        return {
+            processor: self.folded[processor].fold(turn, self.sums, self.catalog)
+            for processor, turn in work.turns.items()
+        }
 
     def serve(self, own: Connection, others: Sequence[Connection]) -> None:
         """Folds what arrives on a connection, in a process of its own, until the other end closes
@@ -100,7 +104,11 @@ class Crew:
 
     def hand_in(self, work: Work) -> None:
         """Submits the next window."""
-        if not self.lines and len(self.shares) > 1 and sum(len(turn.spent) for turn in work.turns.values()) >= MUCH:
+        if (
+            not self.lines
+            and len(self.shares) > 1
+            and sum(len(turn.spent) for turn in work.turns.values()) >= MUCH
+        ):
             self.start()
         if self.lines:
             for share, line in zip(self.shares, self.lines):
@@ -108,7 +116,13 @@ class Crew:
                     line.send(share.of(work))
             self.waiting.append(None)
         else:
-            self.waiting.append({number: piece for share in self.shares for number, piece in share.fold(share.of(work)).items()})
+            self.waiting.append(
+                {
+                    number: piece
+                    for share in self.shares
+                    for number, piece in share.fold(share.of(work)).items()
+                }
+            )
 
     def take_out(self) -> dict[int, Piece]:
         """The pieces, by processor, of the first window whose result wasn't returned yet."""

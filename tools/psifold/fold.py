@@ -66,7 +66,13 @@ class Fold:
     takes the resulting lines. The result has the same times without the groups of `victims`, too.
     """
 
-    def __init__(self, processors: int, length: int, put: Callable[[list[str]], None], victims: Sequence[Victim] = ()) -> None:
+    def __init__(
+        self,
+        processors: int,
+        length: int,
+        put: Callable[[list[str]], None],
+        victims: Sequence[Victim] = (),
+    ) -> None:
         self.length, self.put = length, put
         self.world = FoldWorld(processors)
         self.crew = Crew(processors)
@@ -142,7 +148,9 @@ class Fold:
         else:
             raise NotATrace("there is no such verb")
 
-    def between(self, moment: int, line: str, act: Callable[[], None], removed: Iterable[str] = ()) -> None:
+    def between(
+        self, moment: int, line: str, act: Callable[[], object], removed: Iterable[str] = ()
+    ) -> None:
         """Takes a line that ends a window, since it changes the groups or whether they are
         accounted.
         """
@@ -173,7 +181,8 @@ class Fold:
         """
         world, paths = self.world, self.world.paths
         populated = {paths[slot]: slot for slot, count in world.members.items() if count}
-        window = Window(self.start, end, accounted={paths[slot] for slot in world.live.values() if slot not in world.off})
+        accounted = {paths[slot] for slot in world.live.values() if slot not in world.off}
+        window = Window(self.start, end, accounted=accounted)
         window.populated = set(populated) if is_edge else None
         window.lines = self.kept
         spent, interrupts = world.close(end), world.close_interrupts()
@@ -182,11 +191,12 @@ class Fold:
             told = moments_of(interrupts[processor], paths, self.interrupted[processor], self.first)
             for it in told:
                 self.interrupted[processor] = it.moment
-                window.interrupts[processor, it.path] = window.interrupts.get((processor, it.path), 0) + it.length
-            kept = {path: self.kept_of(slot, processor) for path, slot in populated.items()} if is_edge else {}
-            turns[processor] = Turn(
-                self.start, end, spent[processor], told, set(removed), window.populated, kept, self.states[processor], self.present
-            )
+                before = window.interrupts.get((processor, it.path), 0)
+                window.interrupts[processor, it.path] = before + it.length
+            known = populated.items() if is_edge else ()
+            kept = {path: self.kept_of(slot, processor) for path, slot in known}
+            state = set(removed), window.populated, kept, self.states[processor], self.present
+            turns[processor] = Turn(self.start, end, spent[processor], told, *state)
         self.crew.hand_in(Work(world.catalog.since(self.size), self.plan, turns))
         self.size, self.plan = world.catalog.size(), None
         self.states, self.present = list(world.states), window.populated
@@ -200,7 +210,11 @@ class Fold:
         of the processors; and for a group that might be killed all that may ever be needed, since a
         task that is created later is there in spite of a kill.
         """
-        return MOST_AT_ONCE if slot in self.world.watched else int(slot % self.world.processors == processor)
+        return (
+            MOST_AT_ONCE
+            if slot in self.world.watched
+            else int(slot % self.world.processors == processor)
+        )
 
     # ------------------------------------------------------------ what is written
 
@@ -208,7 +222,9 @@ class Fold:
         """Writes what is due, except the last `waiting` windows, which may still be computed, and
         what follows them.
         """
-        while self.due and (len(self.crew.waiting) > waiting or not isinstance(self.due[0], Window)):
+        while self.due and (
+            len(self.crew.waiting) > waiting or not isinstance(self.due[0], Window)
+        ):
             due = self.due.popleft()
             if isinstance(due, Window):
                 lines = self.lines_of(due, self.crew.take_out())
@@ -233,5 +249,7 @@ class Fold:
             self.counts.kept += piece.kept
             for (slot, state, without), time in piece.sums.items():
                 if time:
-                    window.sums[Key(processor, paths[slot], state, tuple(paths[it] for it in without))] = time
+                    window.sums[
+                        Key(processor, paths[slot], state, tuple(paths[it] for it in without))
+                    ] = time
         return [line for _, line in merge(*each, key=itemgetter(0))]

@@ -31,7 +31,11 @@ class Kind(IntEnum):
 STALLED, WAY = 4, 3
 KINDS = len(Kind)
 # What a task does after it left its processor, by the word of its switch line.
-LEFT_BY = {How.PREEMPT.word: int(Kind.READY), How.SLEEP.word: int(Kind.ASLEEP), How.WAIT.word: int(Kind.WAITING)}
+LEFT_BY = {
+    How.PREEMPT.word: int(Kind.READY),
+    How.SLEEP.word: int(Kind.ASLEEP),
+    How.WAIT.word: int(Kind.WAITING),
+}
 # The word of the switch line, by what the task does next.
 LEAVES_TO = {kind: word for word, kind in LEFT_BY.items()}
 

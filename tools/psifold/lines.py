@@ -50,7 +50,9 @@ class Move(NamedTuple):
         """Whether it must run for no time, in order to sleep, wait, exit, or begin or end a stall.
         """
         is_runner = runs(self.before) or runs(self.after)
-        return not is_runner and (self.after is None or self.after & WAY in BLOCKED or self.changes_stall())
+        return not is_runner and (
+            self.after is None or self.after & WAY in BLOCKED or self.changes_stall()
+        )
 
     def changes_stall(self) -> bool:
         """Whether it enters or leaves a stall."""
@@ -100,7 +102,11 @@ class Writer:
         self.runner = 0
 
     def write(
-        self, start: int, durations: dict[JointState, int], interrupts: Sequence[Interrupt] = (), present: set[str] | None = None
+        self,
+        start: int,
+        durations: dict[JointState, int],
+        interrupts: Sequence[Interrupt] = (),
+        present: set[str] | None = None,
     ) -> list[Line]:
         """The lines that keep the processor in each joint state for its duration (ns),
         beginning at `start`, and the lines of interrupts among them, in order of time. If `present`
@@ -111,7 +117,9 @@ class Writer:
         # The order is the same in each run: it doesn't depend on the order of sets.
         left = {state: durations[state] for state in sorted(durations, key=sorted)}
         while left:
-            fitting = left if moment > start else [state for state in left if is_within(state, present)]
+            fitting = (
+                left if moment > start else [state for state in left if is_within(state, present)]
+            )
             state = min(fitting or left, key=self.distance)
             lines += self.change(moment, state)
             moment += left.pop(state)
@@ -134,7 +142,8 @@ class Writer:
             lines += self.perform([Move(told.path, self.new_task(), None, Kind.ASLEEP)])
         task, before = self.asleep[told.path][-1], self.runner
         lines += [
-            f"wake {task} {self.processor}", f"switch {self.processor} {task} {'preempt' if before else 'idle'}", line,
+            f"wake {task} {self.processor}",
+            f"switch {self.processor} {task} {'preempt' if before else 'idle'}", line,
             f"switch {self.processor} {before} sleep",
         ]  # fmt: skip
         return [(told.moment, words) for words in lines]
@@ -154,7 +163,9 @@ class Writer:
         for path, kind in sorted(self.state - state):
             leaving.setdefault(path, []).append(kind)
         moves = [
-            move for path in sorted({*coming, *leaving}) for move in self.moves(path, leaving.get(path, []), coming.get(path, []))
+            move
+            for path in sorted({*coming, *leaving})
+            for move in self.moves(path, leaving.get(path, []), coming.get(path, []))
         ]
         return [(moment, words) for words in self.perform(moves)]
 
@@ -163,7 +174,9 @@ class Writer:
         aren't needed any more, those that sleep, and new ones.
         """
         busy = self.busy.get(path, {})
-        pairs = sorted((COSTS[before, after], before, after) for before in leaving for after in coming)
+        pairs = sorted(
+            (COSTS[before, after], before, after) for before in leaving for after in coming
+        )
         for _, before, after in pairs:
             if before in leaving and after in coming:
                 leaving.remove(before)
@@ -173,7 +186,11 @@ class Writer:
             yield Move(path, busy[before], before, Kind.ASLEEP)
         asleep = list(self.asleep.get(path, ()))
         for after in coming:
-            yield Move(path, asleep.pop(), Kind.ASLEEP, after) if asleep else Move(path, self.new_task(), None, after)
+            yield (
+                Move(path, asleep.pop(), Kind.ASLEEP, after)
+                if asleep
+                else Move(path, self.new_task(), None, after)
+            )
 
     def new_task(self) -> int:
         """The number of a new task."""
@@ -184,7 +201,9 @@ class Writer:
         """The lines that end all representatives in these groups."""
         moves = []
         for path in sorted(set(paths) & self.groups()):
-            moves += [Move(path, task, kind, None) for kind, task in self.busy.get(path, {}).items()]
+            moves += [
+                Move(path, task, kind, None) for kind, task in self.busy.get(path, {}).items()
+            ]
             moves += [Move(path, task, Kind.ASLEEP, None) for task in self.asleep.get(path, ())]
         return [(moment, words) for words in self.perform(moves)]
 
@@ -213,7 +232,11 @@ class Writer:
         turns = [it for it in moves if it.turns()]
         following = comes.task if comes else 0 if leaves else before
         if turns or following != before:
-            how = "idle" if not before else leaves.how() if leaves and leaves is not comes else How.PREEMPT.word
+            how = (
+                "idle"
+                if not before
+                else leaves.how() if leaves and leaves is not comes else How.PREEMPT.word
+            )
             words += self.chain(turns, following, how)
         if comes and comes is not leaves and comes.changes_stall():
             words.append(comes.stall())
@@ -246,6 +269,10 @@ class Writer:
         self.runner = runner
         moved = {it.path for it in moves}
         self.busy = {path: tasks for path, tasks in self.busy.items() if tasks or path not in moved}
-        self.asleep = {path: tasks for path, tasks in self.asleep.items() if tasks or path not in moved}
+        self.asleep = {
+            path: tasks for path, tasks in self.asleep.items() if tasks or path not in moved
+        }
         stays = [it for it in self.state if it.path not in moved]
-        self.state = frozenset([*stays, *(Element(path, kind) for path in moved for kind in self.busy.get(path, ()))])
+        self.state = frozenset(
+            [*stays, *(Element(path, kind) for path in moved for kind in self.busy.get(path, ()))]
+        )

@@ -43,7 +43,9 @@ class Elsewhere:
         context = multiprocessing.get_context("fork")
         there, self.lines = context.Pipe(duplex=False)
         self.told, said = context.Pipe(duplex=False)
-        self.process = context.Process(target=serve, args=(fold, there, said, (self.lines, self.told)))
+        self.process = context.Process(
+            target=serve, args=(fold, there, said, (self.lines, self.told))
+        )
         self.process.start()
         self.found: Outcome | None = None
         there.close()
@@ -84,7 +86,9 @@ class Elsewhere:
         return self.found
 
 
-def serve(fold: Fold, lines: Connection, told: Connection, others: tuple[Connection, Connection]) -> None:
+def serve(
+    fold: Fold, lines: Connection, told: Connection, others: tuple[Connection, Connection]
+) -> None:
     """Folds the lines that arrive, and sends the outcome."""
     signal.signal(signal.SIGINT, signal.SIG_IGN)
     for line in others:

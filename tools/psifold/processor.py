@@ -7,15 +7,14 @@ from collections import Counter
 from collections.abc import Sequence
 from typing import NamedTuple
 
+from psiworld.limits import MOST_INTERRUPTS
+
 from .basis import FIELD_BITS, Basis, Fields, Units
 from .joint import JointState
 from .lines import Interrupt, Line, Writer, is_within
 from .rounding import Left, whole_times
 from .sums import Sum, Sums
 from .world import Catalog, Interrupts, bits_of
-
-# The longest time (ns) that one line of interrupts may have.
-MOST_INTERRUPTS = 10**9
 
 
 class Few(NamedTuple):
@@ -46,16 +45,22 @@ def few_of(spent: dict[int, int], sums: Sums, left: Left) -> Few:
     order = sorted(columns, key=lambda it: (-columns[it], it))
     length, rows = sum(spent.values()), used.bit_count()
     units = Units(used, Fields(rows, FIELD_BITS))
-    packed, times = [units.packed(column | sums.total) for column in order], [columns[column] for column in order]
+    packed, times = [units.packed(column | sums.total) for column in order], [
+        columns[column] for column in order
+    ]
     basis = Basis(rows, length)
     totals = units.fields.numbers(basis.take_all(packed, times))
     whole = whole_times(basis.shares(), basis.divisor, order, sums.sum_of, left)
-    found = {sums.least(states[order[number]], order[number]): time for number, time in whole.items()}
+    found = {
+        sums.least(states[order[number]], order[number]): time for number, time in whole.items()
+    }
     had = {sums.sum_of(bit): time for bit, time in zip(bits_of(used), totals) if bit != sums.size}
     return Few(found, had, len(spent))
 
 
-def moments_of(interrupts: Interrupts, paths: Sequence[str], last: int, first: int) -> list[Interrupt]:
+def moments_of(
+    interrupts: Interrupts, paths: Sequence[str], last: int, first: int
+) -> list[Interrupt]:
     """The interrupts of a window with their times (ns). Each line is as early as possible: its
     whole length fits between the line before it (the first one: `last`) and its own time, which is
     at least `first`. So the last line isn't later than in the original.
@@ -139,6 +144,13 @@ class FoldedProcessor:
             durations = states_of(few, catalog)
         lines = self.writer.write(turn.start, durations, turn.interrupts, turn.present)
         groups = self.writer.groups()
-        lines += self.writer.empty(turn.end, groups & turn.removed if turn.populated is None else groups - turn.populated)
+        lines += self.writer.empty(
+            turn.end, groups & turn.removed if turn.populated is None else groups - turn.populated
+        )
         lines += self.writer.keep(turn.end, turn.kept)
-        return Piece([(moment, f"{moment} {words}") for moment, words in lines], few.sums, few.had, len(durations))
+        return Piece(
+            [(moment, f"{moment} {words}") for moment, words in lines],
+            few.sums,
+            few.had,
+            len(durations),
+        )

@@ -23,7 +23,9 @@ class Rounding:
     ns.
     """
 
-    def __init__(self, shares: list[Share], divisor: int, columns: list[int], behind: dict[int, int]) -> None:
+    def __init__(
+        self, shares: list[Share], divisor: int, columns: list[int], behind: dict[int, int]
+    ) -> None:
         self.divisor, self.columns = divisor, columns
         self.times = {number: time // divisor for number, time in shares}
         self.rests = {number: time % divisor for number, time in shares if time % divisor}
@@ -34,7 +36,10 @@ class Rounding:
                 self.behind[bit] += rest
         # What the sums of each joint state lack in total, by its number, in units of 1/`divisor`
         # ns.
-        self.lags = {number: sum(self.behind[bit] for bit in bits_of(columns[number])) for number in self.times}
+        self.lags = {
+            number: sum(self.behind[bit] for bit in bits_of(columns[number]))
+            for number in self.times
+        }
 
     def round(self) -> None:
         """Distributes the remainder, a number of whole ns, to joint states whose times aren't
@@ -80,7 +85,10 @@ class Rounding:
             for giver in sorted(givers) for taker in takers if giver != taker
         ]  # fmt: skip
         for _ in range(MOST_STEPS if pairs else 0):
-            growth, giver, taker = min((alone + 2 * (lags[giver] - lags[taker]), giver, taker) for alone, giver, taker in pairs)
+            growth, giver, taker = min(
+                (alone + 2 * (lags[giver] - lags[taker]), giver, taker)
+                for alone, giver, taker in pairs
+            )
             if growth >= 0:
                 return
             self.give(giver, -1)
@@ -88,7 +96,9 @@ class Rounding:
             pairs = [it for it in pairs if self.times[it[1]]]
 
 
-def whole_times(shares: list[Share], divisor: int, columns: list[int], sum_of: Callable[[int], Sum], left: Left) -> dict[int, int]:
+def whole_times(
+    shares: list[Share], divisor: int, columns: list[int], sum_of: Callable[[int], Sum], left: Left
+) -> dict[int, int]:
     """The times in whole ns, by number of the joint state. `left` is carried from window to window.
     """
     if divisor == 1 and not any(left.values()):

@@ -17,7 +17,12 @@ STATES = 7
 # The sets of groups that a joint state has: groups with a task that waits for IO, is stalled, is
 # ready, is ready or runs and isn't stalled, runs, and runs while stalled.
 WAITS, STALLS, IS_READY, UNSTALLED, RUNS, RUNS_STALLED = range(6)
-BY_WAY = {int(Kind.WAITING): (WAITS,), int(Kind.READY): (IS_READY,), int(Kind.RUNNING): (RUNS,), int(Kind.ASLEEP): ()}
+BY_WAY = {
+    int(Kind.WAITING): (WAITS,),
+    int(Kind.READY): (IS_READY,),
+    int(Kind.RUNNING): (RUNS,),
+    int(Kind.ASLEEP): (),
+}
 BYTE = 256
 
 
@@ -48,7 +53,8 @@ class View:
         self.catalog, self.groups, self.without = catalog, groups, without
         self.size = STATES * len(groups)
         self.place = {slot: place for place, slot in enumerate(groups)}
-        # What each byte of a joint state's number adds to the sets of groups, by its place and value.
+        # What each byte of a joint state's number adds to the sets of groups, by its place and
+        # value.
         self.bytes: list[dict[int, int]] = []
 
     def sum_of(self, bit: int) -> Sum:
@@ -60,7 +66,8 @@ class View:
         """The group and its ancestors, as far as their sums are kept; empty for a group that is
         excluded.
         """
-        chain, at = 0, slot
+        chain = 0
+        at: int | None = slot
         while at is not None:
             if at in self.without:
                 return 0
@@ -94,9 +101,21 @@ class View:
         width = len(self.groups)
         every = (1 << width) - 1
         waits, stalls, ready = sets & every, sets >> width & every, sets >> 2 * width & every
-        unstalled, runs, runs_stalled = sets >> 3 * width & every, sets >> 4 * width & every, sets >> 5 * width
+        unstalled, runs, runs_stalled = (
+            sets >> 3 * width & every,
+            sets >> 4 * width & every,
+            sets >> 5 * width,
+        )
         active = ready | runs
-        some = (waits, waits & ~active, stalls, stalls & ~(unstalled & ~runs_stalled), ready, ready & ~runs, waits | stalls | active)
+        some = (
+            waits,
+            waits & ~active,
+            stalls,
+            stalls & ~(unstalled & ~runs_stalled),
+            ready,
+            ready & ~runs,
+            waits | stalls | active,
+        )
         found = 0
         for one in reversed(some):
             found = found << width | one

@@ -8,7 +8,8 @@ from collections.abc import Iterator, Sequence
 from itertools import combinations
 from typing import Any, NamedTuple
 
-from psiread.source import Faulty, Unreadable
+from psicli.fault import Fault
+from psiread.source import Unreadable
 from psirules.patterns import is_pattern, matches
 
 from .world import FoldWorld
@@ -30,7 +31,10 @@ class Victim(NamedTuple):
         if not self.is_recursive:
             return matches(self.pattern, path)
         parts = path.split("/")
-        return any(matches(self.pattern, "/".join(parts[:count]) or "/") for count in range(1, len(parts) + 1))
+        return any(
+            matches(self.pattern, "/".join(parts[:count]) or "/")
+            for count in range(1, len(parts) + 1)
+        )
 
 
 def victims_of(text: str) -> list[Victim]:
@@ -38,7 +42,7 @@ def victims_of(text: str) -> list[Victim]:
     patterns = text.split(",")
     wrong = next((it for it in patterns if not is_pattern(it)), None)
     if wrong is not None:
-        raise Faulty(f"--victims: '{wrong}' is no pattern of groups' paths")
+        raise Fault(f"--victims: '{wrong}' is no pattern of groups' paths")
     return [Victim(it) for it in patterns]
 
 
@@ -50,7 +54,7 @@ def victims_of_rules(name: str) -> list[Victim]:
     except OSError as fault:
         raise Unreadable(f"{name}: {fault.strerror}") from None
     except (ValueError, KeyError, TypeError, AttributeError):
-        raise Faulty(f"--rules: {name} is no rules file: psi_oomd rules says why") from None
+        raise Fault(f"--rules: {name} is no rules file: psi_oomd rules says why") from None
 
 
 def victims_in(rules: dict[str, Any]) -> Iterator[Victim]:
@@ -58,7 +62,10 @@ def victims_in(rules: dict[str, Any]) -> Iterator[Victim]:
     for ruleset in rules["rulesets"]:
         for action in ruleset["actions"]:
             is_recursive = str(action["args"].get("recursive", "false")) in TRUE
-            yield from (victim._replace(is_recursive=is_recursive) for victim in victims_of(action["args"]["cgroup"]))
+            yield from (
+                victim._replace(is_recursive=is_recursive)
+                for victim in victims_of(action["args"]["cgroup"])
+            )
 
 
 class Victims:
@@ -81,14 +88,22 @@ class Victims:
         long as all sets of one size fit. A set doesn't contain a group and its ancestor: the
         ancestor suffices.
         """
-        slots = sorted(slot for path, slot in world.live.items() if self.matches(path)) if self.wanted else []
+        slots = (
+            sorted(slot for path, slot in world.live.items() if self.matches(path))
+            if self.wanted
+            else []
+        )
         world.watch(slots)
         # If the root is killed, nothing remains.
         slots = [slot for slot in slots if slot]
         found: list[tuple[int, ...]] = []
         above = {slot: world.catalog.above(slot) for slot in slots}
         for size in range(1, len(slots) + 1):
-            sets = [it for it in combinations(slots, size) if not any(one in above[other] for one in it for other in it)]
+            sets = [
+                it
+                for it in combinations(slots, size)
+                if not any(one in above[other] for one in it for other in it)
+            ]
             if len(found) + len(sets) > MOST_REMOVALS:
                 self.whole = min(size - 1, self.whole if self.whole is not None else size)
                 return found or [(slot,) for slot in slots[:MOST_REMOVALS]]

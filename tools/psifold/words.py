@@ -8,16 +8,16 @@ import sys
 import time
 from typing import Any, NamedTuple
 
-from psiread.source import Faulty
-from psiread.window import seconds
-from psiread.words import SECOND, nanoseconds
+from psicli.fault import Fault, Malformed
+from psicli.times import SECOND, seconds_to_ms
+from psicli.values import nanoseconds
 
 from .fold import Counts, Outcome
 from .victims import Victim, victims_of, victims_of_rules
 
 ROUNDING = (
-    "but times are rounded to whole ns: totals may differ by 1 us, and so may a signal exactly at its threshold, and an average of a"
-    " tick whose share is exactly a whole percent"
+    "but times are rounded to whole ns: totals may differ by 1 us, and so may a signal exactly at"
+    " its threshold, and an average of a tick whose share is exactly a whole percent"
 )
 # A tick is a whole number of ms, at most 60 s.
 MILLISECOND, LONGEST_TICK = 10**6, 60 * SECOND
@@ -27,19 +27,22 @@ def window_of(text: str) -> int:
     """The length of a window in ns: whole ms, at most the longest tick."""
     length = nanoseconds(text)
     if not 0 < length <= LONGEST_TICK or length % MILLISECOND:
-        raise argparse.ArgumentTypeError(f"{text} is no window: it has 0.001 to 60 s, of whole ms, as ticks have")
+        raise Malformed(f"{text} is no window: it has 0.001 to 60 s, of whole ms, as ticks have")
     return length
 
 
 def add_window(words: argparse.ArgumentParser, name: str, is_required: bool, text: str) -> None:
     """Adds the options of folding: the window, named `name`, and the groups that might be killed.
     """
-    words.add_argument(name, dest="fold", metavar="S", type=window_of, required=is_required, help=text)
+    words.add_argument(name, dest="fold", metavar="S", type=window_of, required=is_required,
+    help=text)  # fmt: skip
     words.add_argument("--victims", metavar="PATTERNS", action="append", default=[],
-                       help="groups that might be killed, as comma-separated patterns of rules: `whatif` is exact without"
+                       help="groups that might be killed, as comma-separated patterns of rules: "
+                            "`whatif` is exact without"
                        " them, too; may be repeated")  # fmt: skip
     words.add_argument("--rules", metavar="FILE", action="append", default=[],
-                       help="like --victims, for all groups that the actions of a rules file might kill")  # fmt: skip
+                       help="like --victims, for all groups that the actions of a rules file "
+                            "might kill")  # fmt: skip
 
 
 class Folding(NamedTuple):
@@ -53,9 +56,13 @@ def folding_of(found: dict[str, Any]) -> Folding | None:
     """Takes the options of folding out of the parsed ones; None if nothing is to be folded."""
     length, patterns, rules = found.pop("fold"), found.pop("victims"), found.pop("rules")
     if length is None and (patterns or rules):
-        raise Faulty("--victims and --rules say how to fold: --fold")
+        raise Fault("--victims and --rules say how to fold: --fold")
     victims = [victim for text in patterns for victim in victims_of(text)]
-    return Folding(length, victims + [victim for name in rules for victim in victims_of_rules(name)]) if length else None
+    return (
+        Folding(length, victims + [victim for name in rules for victim in victims_of_rules(name)])
+        if length
+        else None
+    )
 
 
 def folding_lines(folding: Folding, outcome: Outcome) -> list[str]:
@@ -63,8 +70,14 @@ def folding_lines(folding: Folding, outcome: Outcome) -> list[str]:
     counts, length = outcome.counts, folding.length
     tick = f"{length // MILLISECOND} ms" if length % SECOND else f"{length // SECOND} s"
     return [
-        f"folded into {counts.windows} windows: lines {counts.lines} to {counts.written}, joint states {counts.had} to {counts.kept}",
-        f"a replay at ticks of {tick}, or of a multiple, prints what it prints of the trace that wasn't folded",
+        (
+            f"folded into {counts.windows} windows: lines {counts.lines} to {counts.written}, joint"
+            f" states {counts.had} to {counts.kept}"
+        ),
+        (
+            f"a replay at ticks of {tick}, or of a multiple, prints what it prints of the trace"
+            " that wasn't folded"
+        ),
         ROUNDING,
         whatif_line(folding, outcome),
         *longer_lines(outcome.counts),
@@ -80,21 +93,34 @@ def longer_lines(counts: Counts) -> list[str]:
     """Advice about a folded trace that is longer than the original."""
     if not is_longer(counts):
         return []
-    return [f"the folded trace is longer, {counts.written} lines from {counts.lines}: take the trace itself, or a longer window"]
+    return [
+        f"the folded trace is longer, {counts.written} lines from {counts.lines}: take the trace"
+        " itself, or a longer window"
+    ]
 
 
 def whatif_line(folding: Folding, outcome: Outcome) -> str:
     """How far `whatif` is exact."""
     if not folding.victims:
-        return "after the first kill `whatif` is near, and not exact: --victims or --rules say who might be killed"
+        return (
+            "after the first kill `whatif` is near, and not exact: --victims or --rules say who"
+            " might be killed"
+        )
     said = "`whatif` is exact after kills of those who were named"
     if outcome.whole is not None:
         said += f", up to {outcome.whole} of them: more are at a time than can be told apart"
     changes = outcome.changes
     if not changes.last:
         return said
-    what = [f"{count} tasks {verb}" for count, verb in ((changes.came, "came to"), (changes.moved, "moved out of or within")) if count]
-    return f"{said}, if the kills come after {seconds(changes.last)} s; before, it is near: {' and '.join(what)} these groups until then"
+    what = [
+        f"{count} tasks {verb}"
+        for count, verb in ((changes.came, "came to"), (changes.moved, "moved out of or within"))
+        if count
+    ]
+    return (
+        f"{said}, if the kills come after {seconds_to_ms(changes.last)} s; before, it is near:"
+        f" {' and '.join(what)} these groups until then"
+    )
 
 
 class Progress:

@@ -10,15 +10,12 @@ from collections import Counter, defaultdict
 from collections.abc import Callable, Iterator, Sequence
 
 from psiworld.groups import MOST_BYTES
-from psiworld.limits import LEAST_WINDOW, MOST_LABEL, MOST_MEMORY, MOST_WINDOW
+from psiworld.limits import LEAST_WINDOW, MOST_INTERRUPTS, MOST_LABEL, MOST_MEMORY, MOST_WINDOW
 
 from .joint import KINDS, LEFT_BY, STALLED, WAY, Element, JointState, Kind
 
-# The longest time (ns) that one line of interrupts may have.
-MOST_INTERRUPTS = 10**9
 # As plain integers, since they are used at each line.
 READY, RUNNING = int(Kind.READY), int(Kind.RUNNING)
-
 
 # The number of characters of a line that are shown.
 SHOWN = 100
@@ -28,7 +25,9 @@ PATH = r"(?:/|(?:/(?!\.{1,2}(?:/|$))[A-Za-z0-9_.@:\\-]+){1,32}(?= |$))"
 GROUP = re.compile(PATH)
 SAMPLE = re.compile(rf"mem ({PATH}) {NUMBER} {NUMBER} {NUMBER}|host {NUMBER} {NUMBER} {NUMBER}")
 PREFERENCE = re.compile(rf"prefer ({PATH}) (?:prefer|avoid|none)")
-TRIGGER = re.compile(rf"trigger ({PATH}) (?:io|memory|cpu) (?:some|full) ([1-9][0-9]{{0,7}}) ([1-9][0-9]{{0,7}})")
+TRIGGER = re.compile(
+    rf"trigger ({PATH}) (?:io|memory|cpu) (?:some|full) ([1-9][0-9]{{0,7}}) ([1-9][0-9]{{0,7}})"
+)
 
 
 class NotATrace(Exception):
@@ -166,7 +165,8 @@ class FoldWorld:
         self.watched: dict[int, set[int]] = {}
         self.changes = Changes()
         self.verbs: dict[str, Callable[[int, list[str]], None]] = {
-            "fork": self.fork, "wake": self.ready, "migrate": self.ready, "switch": self.switch, "stall": self.stall,
+            "fork": self.fork, "wake": self.ready, "migrate": self.ready, "switch": self.switch,
+            "stall": self.stall,
             "unstall": self.stall, "move": self.move, "irq": self.interrupt,
         }  # fmt: skip
 
@@ -291,7 +291,12 @@ class FoldWorld:
     def group(self, path: str) -> int:
         """A group is created; returns its number."""
         parent = path.rpartition("/")[0] or "/"
-        if path in self.live or parent not in self.live or not GROUP.fullmatch(path) or len(path) > MOST_BYTES:
+        if (
+            path in self.live
+            or parent not in self.live
+            or not GROUP.fullmatch(path)
+            or len(path) > MOST_BYTES
+        ):
             raise NotATrace(f"{shortened(path)} can't be made")
         slot = self.live[path] = len(self.paths)
         self.paths.append(path)
@@ -315,7 +320,14 @@ class FoldWorld:
 
     def watch(self, slots: Sequence[int]) -> None:
         """Watches for tasks that come to these groups, or to their descendants."""
-        each = ((slot, {slot, *self.catalog.above(slot)}.intersection(slots)) for slot in self.live.values()) if slots else ()
+        each = (
+            (
+                (slot, {slot, *self.catalog.above(slot)}.intersection(slots))
+                for slot in self.live.values()
+            )
+            if slots
+            else ()
+        )
         self.watched = {slot: found for slot, found in each if found}
 
     def note_move(self, moment: int, source: int, target: int) -> None:

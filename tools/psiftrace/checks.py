@@ -128,7 +128,12 @@ class Check:
 
     def findings(self) -> list[str]:
         """The defects that make a trace of the text wrong; empty if it can be trusted."""
-        return [*self.form_findings(), *self.missing_findings(), *self.order_findings(), *self.sleep_findings()]
+        return [
+            *self.form_findings(),
+            *self.missing_findings(),
+            *self.order_findings(),
+            *self.sleep_findings(),
+        ]
 
     def form_findings(self) -> list[str]:
         """Forms that an importer rejects or doesn't see; psitrace accepts all of them."""
@@ -136,11 +141,20 @@ class Check:
         if not self.kinds["sched_switch"]:
             found.append("there is no sched_switch line that can be read")
         if self.faults["perf"]:
-            found.append(f"{self.faults['perf']} lines are perf's: an importer of ftrace's text passes over them")
+            found.append(
+                f"{self.faults['perf']} lines are perf's: an importer of ftrace's text passes over"
+                " them"
+            )
         if self.faults["plain"]:
-            found.append(f"{self.faults['plain']} switches have no names of fields: trace-cmd report needs -N")
+            found.append(
+                f"{self.faults['plain']} switches have no names of fields: trace-cmd report"
+                " needs -N"
+            )
         if self.faults["fields"]:
-            found.append(f"{self.faults['fields']} events lack fields: the name of a task with a newline, or lines that were cut")
+            found.append(
+                f"{self.faults['fields']} events lack fields: the name of a task with a newline, or"
+                " lines that were cut"
+            )
         if self.faults["return"]:
             found.append(f"{self.faults['return']} lines end in a carriage return")
         return found
@@ -151,16 +165,24 @@ class Check:
         if self.lost:
             found.append(f"{sum(self.lost)} events were lost, at {len(self.lost)} places")
         for number, left, written in self.overwritten:
-            found.append(f"line {number}: the buffer was overwritten: {left} of {written} events are left")
+            found.append(
+                f"line {number}: the buffer was overwritten: {left} of {written} events are left"
+            )
         if self.kinds["sched_switch"] >= LEAST_SWITCHES:
             if not self.kinds["sched_wakeup"]:
-                found.append("there is no sched_wakeup: each sleep seems to last until the task runs. Was the event on?")
+                found.append(
+                    "there is no sched_wakeup: each sleep seems to last until the task runs. Was"
+                    " the event on?"
+                )
             if not self.idle:
-                found.append("there is no switch from or to the idle task: no processor ever seems idle. Was it filtered out?")
+                found.append(
+                    "there is no switch from or to the idle task: no processor ever seems idle. Was"
+                    " it filtered out?"
+                )
         if self.strangers:
             found.append(
-                f"{len(self.strangers)} switches leave a task that didn't run there, first in line {self.strangers[0]}: lines are"
-                " missing, or a number changed by exec"
+                f"{len(self.strangers)} switches leave a task that didn't run there, first in line"
+                f" {self.strangers[0]}: lines are missing, or a number changed by exec"
             )
         return found
 
@@ -170,13 +192,14 @@ class Check:
         if self.backs:
             number, back = self.backs[0]
             found.append(
-                f"time goes back at {len(self.backs)} lines, first in line {number} by {back / 1e9:.3f} s: files of single"
-                " processors, or two recordings, one after the other?"
+                f"time goes back at {len(self.backs)} lines, first in line {number} by"
+                f" {back / 1e9:.3f} s: files of single processors, or two recordings, one after the"
+                " other?"
             )
         if self.execs:
             found.append(
-                f"{len(self.execs)} tasks took over another number by exec, first in line {self.execs[0]}: to an importer the old"
-                " one stays ready for ever"
+                f"{len(self.execs)} tasks took over another number by exec, first in line"
+                f" {self.execs[0]}: to an importer the old one stays ready for ever"
             )
         return found
 
@@ -186,12 +209,16 @@ class Check:
         count = self.sleeps.waits[False]
         if self.kinds["sched_stat_iowait"]:
             if other > MOST_OTHER_SLEEP * (other + waits):
-                return [f"{count} of {sum(self.sleeps.waits.values())} sleeps in state D, {other / 1e9:.3f} of"
+                return [f"{count} of {sum(self.sleeps.waits.values())} sleeps in state D, "
+                        f"{other / 1e9:.3f} of"
                         f" {(other + waits) / 1e9:.3f} s, weren't waits for IO"]  # fmt: skip
             return []
         length = self.latest - min(self.firsts.values(), default=0)
         if other > MOST_UNKNOWN_SLEEP * length * max(len(self.firsts), 1):
-            return [f"no sched_stat_iowait shows which of the {count} sleeps in state D, {other / 1e9:.3f} s, were waits for IO"]
+            return [
+                f"no sched_stat_iowait shows which of the {count} sleeps in state D,"
+                f" {other / 1e9:.3f} s, were waits for IO"
+            ]
         return []
 
     def remarks(self) -> list[str]:

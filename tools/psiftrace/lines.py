@@ -12,12 +12,17 @@ from collections.abc import Callable
 from typing import NamedTuple
 
 from psiread.events import (
-    Attach, AttachProbe, Event, Exec, FirstWakeup, GroupMade, GroupRemoved, Marker, Migration, NewTask, StallBegins, StallEnds,
+    Attach, AttachProbe, Event, Exec, FirstWakeup, GroupMade, GroupRemoved, Marker, Migration,
+    NewTask, StallBegins, StallEnds,
     Switch, SwitchProbe, Victim, WaitEnds, Wakeup,
 )  # fmt: skip
 
 TIME = rb"(\d{1,10})\.(\d{1,9}):"
-FTRACE = rb"-(\d{1,10}) +(?:\([ \d-]+\) +)?\[(\d{1,5})\](?: +[A-Za-z0-9.*#]{4,6})? +" + TIME + rb" +([A-Za-z0-9_]+):(?: +(.*))?$"
+FTRACE = (
+    rb"-(\d{1,10}) +(?:\([ \d-]+\) +)?\[(\d{1,5})\](?: +[A-Za-z0-9.*#]{4,6})? +"
+    + TIME
+    + rb" +([A-Za-z0-9_]+):(?: +(.*))?$"
+)
 PERF = rb" +(?:\d+ +)?[a-z0-9_]+:([A-Za-z0-9_]+):(?: +(.*))?$"
 HEADS = (
     # The kernel pads names to 16 columns, so the dash after them has a fixed position.
@@ -47,7 +52,14 @@ def head_of(line: bytes) -> Line | None:
         if found:
             current, processor, whole, part, kind, fields = found.groups()
             moment = int(whole) * 10**9 + int(part.ljust(9, b"0"))
-            return Line(moment, int(processor), int(current), kind.decode(), fields or b"", head is HEADS[-1])
+            return Line(
+                moment,
+                int(processor),
+                int(current),
+                kind.decode(),
+                fields or b"",
+                head is HEADS[-1],
+            )
     return None
 
 
@@ -79,7 +91,14 @@ def numbers(kind: type) -> Callable[[Line, tuple[bytes, ...]], Event]:
 def switch(line: Line, fields: tuple[bytes, ...]) -> Event:
     """A switch; if a state has several letters, the first counts, and `R+` is ready."""
     previous, state, following = fields
-    return Switch(line.moment, line.processor, line.current, int(previous), state[:1].decode("latin-1"), int(following))
+    return Switch(
+        line.moment,
+        line.processor,
+        line.current,
+        int(previous),
+        state[:1].decode("latin-1"),
+        int(following),
+    )
 
 
 def new_task(line: Line, fields: tuple[bytes, ...]) -> Event:
@@ -89,12 +108,18 @@ def new_task(line: Line, fields: tuple[bytes, ...]) -> Event:
 
 def attach(line: Line, fields: tuple[bytes, ...]) -> Event:
     """A task moves to a group."""
-    return Attach(line.moment, line.processor, line.current, int(fields[0]), fields[1], int(fields[2]))
+    return Attach(
+        line.moment, line.processor, line.current, int(fields[0]), fields[1], int(fields[2])
+    )
 
 
-def group(kind: Callable[[int, int, int, int, bytes], Event]) -> Callable[[Line, tuple[bytes, ...]], Event]:
+def group(
+    kind: Callable[[int, int, int, int, bytes], Event]
+) -> Callable[[Line, tuple[bytes, ...]], Event]:
     """A group is created or removed."""
-    return lambda line, fields: kind(line.moment, line.processor, line.current, int(fields[0]), fields[1])
+    return lambda line, fields: kind(
+        line.moment, line.processor, line.current, int(fields[0]), fields[1]
+    )
 
 
 def stall_ends(line: Line, fields: tuple[bytes, ...]) -> Event:
@@ -118,18 +143,25 @@ FORMS: dict[str, tuple[Form, ...]] = {
         form(rb".*:(\d{1,10}) " + PLAIN + rb" (\S+) ==> .*:(\d{1,10}) " + PLAIN, switch),
     ),
     "sched_wakeup": (
-        form(rb"comm=.* pid=(\d{1,10})" + PRIORITY + rb"(?: success=\d+)? target_cpu=(\d{1,10})", numbers(Wakeup)),
+        form(rb"comm=.* pid=(\d{1,10})" + PRIORITY + rb"(?: success=\d+)? target_cpu=(\d{1,10})",
+        numbers(Wakeup)),
         form(rb".*:(\d{1,10}) " + PLAIN + rb"(?: success=\d+)? CPU:(\d{1,10})", numbers(Wakeup)),
     ),
     "sched_wakeup_new": (
-        form(rb"comm=.* pid=(\d{1,10})" + PRIORITY + rb"(?: success=\d+)? target_cpu=(\d{1,10})", numbers(FirstWakeup)),
-        form(rb".*:(\d{1,10}) " + PLAIN + rb"(?: success=\d+)? CPU:(\d{1,10})", numbers(FirstWakeup)),
+        form(rb"comm=.* pid=(\d{1,10})" + PRIORITY + rb"(?: success=\d+)? target_cpu=(\d{1,10})",
+        numbers(FirstWakeup)),
+        form(rb".*:(\d{1,10}) " + PLAIN + rb"(?: success=\d+)? CPU:(\d{1,10})",
+        numbers(FirstWakeup)),
     ),
-    "sched_migrate_task": (form(rb"comm=.* pid=(\d{1,10})" + PRIORITY + rb" orig_cpu=(\d{1,10}) dest_cpu=(\d{1,10})", numbers(Migration)),),
+    "sched_migrate_task": (form(rb"comm=.* pid=(\d{1,10})" + PRIORITY + rb" orig_cpu=(\d{1,10}) "
+                                                                        rb"dest_cpu=(\d{1,10})",
+                                                                        numbers(Migration)),),
     "sched_process_exec": (form(rb"filename=.* pid=(\d{1,10}) old_pid=(\d{1,10})", numbers(Exec)),),
     "sched_stat_iowait": (form(rb"comm=.* pid=(\d{1,10}) delay=\d+ \[ns\]", numbers(WaitEnds)),),
-    "task_newtask": (form(rb"pid=(\d{1,10}) comm=.* clone_flags=([0-9a-f]+) oom_score_adj=-?\d+", new_task),),
-    "cgroup_attach_task": (form(rb"dst_root=(\d{1,10}) dst_id=\d+ dst_level=\d+ dst_path=(.*) pid=(\d{1,10}) comm=.*", attach),),
+    "task_newtask": (form(rb"pid=(\d{1,10}) comm=.* clone_flags=([0-9a-f]+) "
+                          rb"oom_score_adj=-?\d+", new_task),),
+    "cgroup_attach_task": (form(rb"dst_root=(\d{1,10}) dst_id=\d+ dst_level=\d+ dst_path=(.*) "
+                                rb"pid=(\d{1,10}) comm=.*", attach),),
     "cgroup_mkdir": (form(rb"root=(\d{1,10}) id=\d+ level=\d+ path=(.*)", group(GroupMade)),),
     "cgroup_rmdir": (form(rb"root=(\d{1,10}) id=\d+ level=\d+ path=(.*)", group(GroupRemoved)),),
     "mark_victim": (form(rb"pid=(\d{1,10})(?: .*)?", numbers(Victim)),),
@@ -141,8 +173,12 @@ FORMS: dict[str, tuple[Form, ...]] = {
 PROBES = {
     b"(psi_memstall_enter": form(rb"\(\S+\)", numbers(StallBegins)),
     b"(psi_memstall_leave": form(rb"\(\S+\)(?: .*)? flags=0x([0-9a-f]+)(?: .*)?", stall_ends),
-    b"(psi_task_switch": form(rb"\(\S+\) pid=(\d{1,10}) io=(\d{1,10})(?: .*)?", numbers(SwitchProbe)),
-    b"(cgroup_attach_task": form(rb"\(\S+\) pid=(\d{1,10}) all=(\d{1,10})(?: .*)?", numbers(AttachProbe)),
+    b"(psi_task_switch": form(
+        rb"\(\S+\) pid=(\d{1,10}) io=(\d{1,10})(?: .*)?", numbers(SwitchProbe)
+    ),
+    b"(cgroup_attach_task": form(
+        rb"\(\S+\) pid=(\d{1,10}) all=(\d{1,10})(?: .*)?", numbers(AttachProbe)
+    ),
 }
 
 
@@ -150,7 +186,9 @@ def forms_of(line: Line) -> tuple[Form, ...]:
     """The possible forms of this line's fields; empty if the event isn't needed."""
     forms = FORMS.get(line.kind, ())
     if not forms and line.fields.startswith((b"(psi_", b"(cgroup_")):
-        forms = tuple(it for start, it in PROBES.items() if re.match(re.escape(start) + rb"[+)]", line.fields))
+        forms = tuple(
+            it for start, it in PROBES.items() if re.match(re.escape(start) + rb"[+)]", line.fields)
+        )
     return forms
 
 

@@ -11,14 +11,15 @@ import zlib
 from collections import Counter
 from operator import itemgetter
 
+from psicli.fault import Fault
 from psiread.events import NEVER, Event, FirstWakeup, Gap, Switch, Wakeup
-from psiread.kinds import HEAD, TRACE_HEADER, kind_of
+from psiread.kinds import HEAD, TRACE_HEADER, kind_of, kind_of_file
 from psiread.missing import bound_times
 from psiread.recording import first_moment, first_moments
-from psiread.source import Faulty, Source, Unreadable
+from psiread.source import Source, Unreadable
 from psirec.layout import START, STOP
 
-from .lines import Line, event_of, forms_of, head_of
+from .lines import event_of, forms_of, head_of
 
 LOST = re.compile(rb"CPU:(\d{1,5}) \[(?:LOST )?(\d{0,18}) ?EVENTS(?: DROPPED)?\]")
 ENTRIES = re.compile(rb"# entries-in-buffer/entries-written: (\d{1,18})/(\d{1,18})")
@@ -41,6 +42,8 @@ def bytes_of(name: str) -> bytes:
             with open(name, "rb") as file:
                 data = file.read()
         return unpacked(name, data) if data.startswith(GZIP) else data
+    except IsADirectoryError:
+        raise Unreadable(f"{name}: {kind_of_file(name)}") from None
     except (OSError, EOFError, zlib.error) as fault:
         raise Unreadable(f"{name}: {getattr(fault, 'strerror', None) or fault}") from None
 
@@ -53,7 +56,10 @@ def unpacked(name: str, data: bytes) -> bytes:
             pieces.append(piece)
             size += len(piece)
             if size > MOST_UNPACKED:
-                raise Unreadable(f"{name}: unpacked it has more than {MOST_UNPACKED} bytes: unpack it, and give a part")
+                raise Unreadable(
+                    f"{name}: unpacked it has more than {MOST_UNPACKED} bytes: unpack it, and give"
+                    " a part"
+                )
     return b"".join(pieces)
 
 
@@ -75,7 +81,10 @@ class Text:
         place = 0
         while place < len(self.lines):
             place += self.take(place)
-        self.gaps += [Gap(processor, self.lasts.get(processor, 0), NEVER, count) for processor, count in self.lost.items()]
+        self.gaps += [
+            Gap(processor, self.lasts.get(processor, 0), NEVER, count)
+            for processor, count in self.lost.items()
+        ]
 
     def line_at(self, place: int) -> bytes:
         """A line without its ending."""
@@ -155,11 +164,17 @@ def ordered(text: Text, source: Source) -> list[Event]:
     rest is a loss.
     """
     parts = parts_of(text.events)
-    longest = max(parts, key=lambda part: max(it.moment for it in part) - min(it.moment for it in part))
+    longest = max(
+        parts, key=lambda part: max(it.moment for it in part) - min(it.moment for it in part)
+    )
     if len(parts) > 1:
-        source.losses.append(f"{len(parts)} recordings, one after the other: the longest alone can be had")
+        source.losses.append(
+            f"{len(parts)} recordings, one after the other: the longest alone can be had"
+        )
         first, last = min(it.moment for it in longest), max(it.moment for it in longest)
-        text.gaps = [gap for gap in text.gaps if first <= gap.start and (gap.end <= last or gap.end == NEVER)]
+        text.gaps = [
+            gap for gap in text.gaps if first <= gap.start and (gap.end <= last or gap.end == NEVER)
+        ]
     back = sum(after.moment < before.moment for before, after in zip(longest, longest[1:]))
     if back:
         text.mended["times that went back, and were put in order"] += back
@@ -174,7 +189,8 @@ def begin(text: Text, source: Source) -> None:
         whole_from = max(first_moments(source.events).values())
         source.events = [event for event in source.events if event.moment >= whole_from]
         source.notes.append(
-            f"{text.overwritten} events were overwritten before the first: the trace begins where all processors have events"
+            f"{text.overwritten} events were overwritten before the first: the trace begins where"
+            " all processors have events"
         )
     marked = first_moment(source.events, START)
     source.start = source.events[0].moment if marked is None else marked
@@ -187,15 +203,24 @@ def tell_missing(source: Source) -> None:
     """Adds what a complete recording of a machine can't contain."""
     kinds = {type(event) for event in source.events}
     if not {Wakeup, FirstWakeup} & kinds:
-        source.losses.append("there is no wakeup at all: was sched_wakeup on? Each sleep seems to last until the task runs")
-    if not any(isinstance(event, Switch) and not (event.previous and event.next) for event in source.events):
-        source.losses.append("there is no switch from or to the idle task: no processor ever seems idle")
+        source.losses.append(
+            "there is no wakeup at all: was sched_wakeup on? Each sleep seems to last until the"
+            " task runs"
+        )
+    if not any(
+        isinstance(event, Switch) and not (event.previous and event.next) for event in source.events
+    ):
+        source.losses.append(
+            "there is no switch from or to the idle task: no processor ever seems idle"
+        )
 
 
 def processors_of(text: Text, given: int | None, greatest: int) -> int:
     """The number of processors: the given one, or what follows from the text."""
     if given is not None and greatest >= given:
-        raise Faulty(f"--cpus {given}: there are events of processor {greatest}, and they count from 0")
+        raise Fault(
+            f"--cpus {given}: there are events of processor {greatest}, and they count from 0"
+        )
     return given or max(text.processors, greatest + 1)
 
 
@@ -204,12 +229,18 @@ def read_text(name: str, processors: int | None) -> Source:
     data = bytes_of(name)
     text = Text(data)
     if not any(isinstance(event, Switch) for event in text.events):
-        kind = "it is a trace already" if TRACE_HEADER.match(data) else None if data.startswith(b"#") else kind_of(data[:HEAD])
+        kind = (
+            "it is a trace already"
+            if TRACE_HEADER.match(data)
+            else None if data.startswith(b"#") else kind_of(data[:HEAD])
+        )
         advice = kind or "is it text of ftrace with a clock in seconds?"
         raise Unreadable(f"{name}: no sched_switch can be read in it; {advice}")
     source = Source([], 0, 0, 0)
     source.events = ordered(text, source)
-    source.processors = processors_of(text, processors, max(event.processor for event in source.events))
+    source.processors = processors_of(
+        text, processors, max(event.processor for event in source.events)
+    )
     source.gaps = text.gaps
     begin(text, source)
     stop = first_moment(source.events, STOP)

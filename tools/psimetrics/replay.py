@@ -11,10 +11,10 @@ from __future__ import annotations
 from array import array
 from typing import Iterable, Optional
 
-from psireplay.command import Fault
+from psicli.fault import Fault
+from psicli.times import seconds
 from psireplay.lines import Event, Kill, Report, read
 from psireplay.rules import Rules
-from psireplay.times import seconds
 
 from .text import Counter, Families, Labels, Points
 
@@ -72,7 +72,14 @@ class Metrics:
         times = [seconds(it * 1000) for it in (event.threshold, event.window)]
         what = (("resource", event.resource), ("level", event.level))
         limits = (("threshold_seconds", times[0]), ("window_seconds", times[1]))
-        self.count(EVENTS, event.moment, ("id", event.path), ("trigger", str(event.trigger)), *what, *limits)
+        self.count(
+            EVENTS,
+            event.moment,
+            ("id", event.path),
+            ("trigger", str(event.trigger)),
+            *what,
+            *limits,
+        )
 
     def close(self) -> Families:
         """All families. Counts are 0 at the start, and have a point at the time of each event and
@@ -108,5 +115,8 @@ def metrics_of(printed: Iterable[bytes], rules: Optional[Rules], labels: Labels)
         elif isinstance(line, Event):
             metrics.take_event(line)
     if not metrics.rounds:
-        raise Fault("no report, so there is no metric: ask replay for ticks shorter than the trace by --tick-ms")
+        raise Fault(
+            "no report, so there is no metric: ask replay for ticks shorter than the trace by"
+            " --tick-ms"
+        )
     return metrics.close()

@@ -1,14 +1,15 @@
 """Families of metrics, and the two texts in which monitoring systems read them.
 
-OpenMetrics 1.0 (https://prometheus.io/docs/specs/om/open_metrics_spec/) has timestamps in seconds; the older text of Prometheus
-(https://prometheus.io/docs/instrumenting/exposition_formats/) has them in whole ms.
+OpenMetrics 1.0 (https://prometheus.io/docs/specs/om/open_metrics_spec/) has timestamps in seconds;
+the older text of Prometheus (https://prometheus.io/docs/instrumenting/exposition_formats/) has them
+in whole ms.
 """
 from __future__ import annotations
 
 from array import array
 from typing import Callable, Iterator, NamedTuple
 
-from psireplay.times import SECOND, WallTime, seconds
+from psicli.times import SECOND, WallTime, seconds
 
 MILLISECOND = SECOND // 1000
 # Prometheus truncates times to whole ms, which may bring two of them closer by one ms. It rejects
@@ -55,15 +56,24 @@ def escaped(value: str) -> str:
 
 
 def braced(labels: Labels) -> str:
-    return "{" + ",".join(f'{name}="{escaped(value)}"' for name, value in labels) + "}" if labels else ""
+    return (
+        "{" + ",".join(f'{name}="{escaped(value)}"' for name, value in labels) + "}"
+        if labels
+        else ""
+    )
 
 
-def lines_of(family: Counter, metrics: dict[Labels, Points], when: Callable[[int], str]) -> Iterator[str]:
+def lines_of(
+    family: Counter, metrics: dict[Labels, Points], when: Callable[[int], str]
+) -> Iterator[str]:
     """The points of a family: one metric after the other, each in order of time."""
     for labels in sorted(metrics):
         points = metrics[labels]
         head = f"{family.name}_total{braced(labels)}"
-        yield from (f"{head} {family.text(value)} {when(at)}" for at, value in zip(points.moments, points.values))
+        yield from (
+            f"{head} {family.text(value)} {when(at)}"
+            for at, value in zip(points.moments, points.values)
+        )
 
 
 def openmetrics(families: Families, start: WallTime) -> Iterator[str]:
@@ -82,4 +92,6 @@ def prometheus(families: Families, start: WallTime) -> Iterator[str]:
     for family in sorted(families):
         yield f"# HELP {family.name}_total {family.help}"
         yield f"# TYPE {family.name}_total counter"
-        yield from lines_of(family, families[family], lambda at: str((start.epoch + at) // MILLISECOND))
+        yield from lines_of(
+            family, families[family], lambda at: str((start.epoch + at) // MILLISECOND)
+        )

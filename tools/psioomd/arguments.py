@@ -5,11 +5,11 @@ from collections.abc import Callable
 from dataclasses import dataclass
 from typing import Any
 
+from psicli.wording import quoted
 from psioomd.configuration import PluginUse
 from psioomd.faults import Refused
 from psioomd.numbers import BadNumber, signed32, size, stof, stoi, unsigned
 from psioomd.patterns import Patterns
-from psirules.wording import quoted
 from psisystemd.world import Host
 
 KIB = 1 << 10

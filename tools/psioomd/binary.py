@@ -19,7 +19,6 @@ from psioomd.files import MOUNT, Files
 from psioomd.log import LogReader, Restart, reason
 from psioomd.machine import Machine
 from psioomd.emulation import (
-    SECOND,
     Run,
     first_host,
     first_samples,
@@ -28,10 +27,12 @@ from psioomd.emulation import (
     replay_words,
     ticks_of,
 )
+from psicli.fault import Fault
+from psicli.times import SECOND, seconds
+from psicli.wording import quoted
 from psioomd.sandbox import PATIENCE, SANDBOXES, Sandbox, sandbox
 from psirules.program import Kill, Program, processors
 from psirules.rules_file import bytes_of
-from psirules.wording import Fault, quoted, seconds
 
 __all__ = ["SANDBOXES", "BinaryRun", "run_binary"]
 IS_OOMD = "List of plugins"
@@ -83,7 +84,9 @@ class BinaryRun:
 def room() -> Iterator[str]:
     """A temporary folder, in memory if there is room for one."""
     where = MEMORY if os.access(MEMORY, os.W_OK) else None
-    with tempfile.TemporaryDirectory(prefix="psioomd-", dir=where, ignore_cleanup_errors=True) as it:
+    with tempfile.TemporaryDirectory(
+        prefix="psioomd-", dir=where, ignore_cleanup_errors=True
+    ) as it:
         yield os.path.realpath(it)
 
 
@@ -103,7 +106,9 @@ def version_of(kind: str, path: str) -> str:
         shut = Sandbox(kind, folder, path)
         status, plugins = answer(shut, [path, "--list-plugins"])
         if status or IS_OOMD not in plugins:
-            what = f"`--list-plugins` ended with status {status} and {quoted(plugins.strip()[:200])}"
+            what = (
+                f"`--list-plugins` ended with status {status} and {quoted(plugins.strip()[:200])}"
+            )
             raise Fault(f"{quoted(path)} isn't oomd: {what}")
         _, said = answer(shut, [path, "--version"])
     return said.strip().splitlines()[0].removeprefix("v") if said.strip() else "of no version"
@@ -125,7 +130,9 @@ def check_config(shut: Sandbox, path: str, name: str) -> None:
         raise Fault(f"{name}: {shut.binary} refuses this: {reason(said)}")
 
 
-def prepare_words(shut: Sandbox, run: Run, base: Configuration, parts: list[Configuration]) -> list[str]:
+def prepare_words(
+    shut: Sandbox, run: Run, base: Configuration, parts: list[Configuration]
+) -> list[str]:
     """Stores the dry copies, and returns the words that run oomd on them."""
     check_config(shut, store(shut.folder, "given.json", bytes_of(run.config)), run.config)
     copy = store(shut.folder, "oomd.json", dry.copy(base))
@@ -201,7 +208,9 @@ class Follower:
         shift = looks.warm * looks.run.interval * SECOND
         if not self.daemon.is_preloaded():
             advice = "give one that is linked dynamically"
-            raise Fault(f"{quoted(self.found.path)} ended at once, or is linked statically: {advice}")
+            raise Fault(
+                f"{quoted(self.found.path)} ended at once, or is linked statically: {advice}"
+            )
         if not self.has_looked(None):
             return
         for moment in looks.times():
@@ -227,7 +236,9 @@ def run_binary(
     with room() as folder, contextlib.ExitStack() as stack:
         shut = sandbox(kind, folder, path)
         files = Files(folder, machine)
-        found = BinaryRun(name, version_of(shut.kind, path), shut.text(), [it.name for it in base.rulesets])
+        found = BinaryRun(
+            name, version_of(shut.kind, path), shut.text(), [it.name for it in base.rulesets]
+        )
         words = prepare_words(shut, run, base, parts)
         counts = [len(it.actions) for it in base.rulesets]
         reader = LogReader(counts)

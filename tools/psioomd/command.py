@@ -8,82 +8,86 @@ import re
 import sys
 from dataclasses import dataclass
 
+from psicli.fault import Fault, Malformed
+from psicli.options import add_json
+from psicli.parser import Parser
+from psicli.running import complain, run
+from psicli.status import Status
+from psicli.times import SECOND, seconds
+from psicli.values import whole_number
+from psicli.wording import counted
+from psinames.known import add_names
+from psinames.shown import show_containers
 from psioomd import binary
+from psioomd.emulation import TICK_MS, UPTIME, Run, emulate
 from psioomd.engine import Engine
 from psioomd.faults import Refused
 from psioomd.machine import Extras
 from psioomd.outcome import Decision
-from psioomd.emulation import SECOND, TICK_MS, UPTIME, Run, emulate
 from psirules.program import Kill, Pace, Program, processors
 from psirules.replays import accepted
 from psirules.rules_file import RulesFile
-from psirules.wording import Fault, counted, seconds
-from psisystemd.command import Words, interval
 from psisystemd.replayed import kept_trace
 
-OK = 0
 DEFAULT_INTERVAL = 5
 VERSION = "0.5.0"
 FILES = ("memory.low", "memory.min", "memory.oom.group", "nr_dying_descendants")
-ABOUT = """Prints which groups oomd 0.5.0 would have killed in TRACE, when and why, with its own configuration.
+ABOUT = """\
+Prints which groups oomd 0.5.0 would have killed in TRACE, when and why, with its own configuration.
 
   tools/oomd incident.trace --config oomd.json
 
 oomd reads FILE here as it does on a machine, and looks at N, 2N, 3N s. With --binary the program
 oomd itself looks at the trace, in a sandbox in which it can kill nobody."""
-STATUS = """A kill changes nothing, as in `psi_oomd replay`: what follows the first supposes that it freed
+STATUS = """\
+A kill changes nothing, as in `psi_oomd replay`: what follows the first supposes that it freed
 nothing.
 
 Statuses: 0 all was printed, 2 something couldn't be run: a wrong option, a configuration that oomd
 refuses, a trace that psi_oomd refuses, a program that isn't oomd."""
 
 
-def warm(word: str) -> int:
-    """The seconds of looks before the trace."""
-    if not (word.isascii() and word.isdigit() and int(word) <= 100000):
-        raise argparse.ArgumentTypeError(f"{word} is no whole number from 0 to 100000")
-    return int(word)
-
-
 def given_number(word: str) -> tuple[tuple[str, str], int]:
     """The value of a group's file: /batch/memory.low=1073741824."""
     found = re.fullmatch(r"(/(?:\S*/)?)([a-z_.]+)=([0-9]{1,18}|max)", word)
     if not found or found[2] not in FILES:
-        raise argparse.ArgumentTypeError(f"{word}: write /GROUP/FILE=NUMBER, FILE one of {', '.join(FILES)}")
+        raise Malformed(f"{word}: write /GROUP/FILE=NUMBER, FILE one of {', '.join(FILES)}")
     number = (1 << 63) - 1 if found[3] == "max" else int(found[3])
     return (found[1].rstrip("/") or "/", found[2]), number
 
 
-def parser() -> Words:
-    form = argparse.RawDescriptionHelpFormatter
-    words = Words(
-        prog="oomd", description=ABOUT, epilog=STATUS, formatter_class=form, allow_abbrev=False
-    )
+def parser() -> Parser:
+    """The parser of the command line."""
+    words = Parser(ABOUT, STATUS)
     add = words.add_argument
     add("trace", metavar="TRACE", help="a trace, or - for the standard input")
     add("--config", metavar="FILE", required=True, help="oomd's configuration")
-    add("--interval-s", metavar="N", type=interval, help="seconds between looks: 5 if left out")
+    add("--interval-s", metavar="N", type=whole_number(1, 3600),
+        help="seconds between looks: 5 if left out")  # fmt: skip
     add("--drop-in", metavar="FILE", action="append", default=[],
-        help="a drop-in file, present from the start; several are added in the order of their names")  # fmt: skip
+        help="a drop-in file, present from the start; several are added in the order of "
+             "their names")  # fmt: skip
     add("--given", metavar="FILE=N", action="append", type=given_number, default=[],
-        help=f"a number that no trace has, such as /batch/memory.low=1073741824: {', '.join(FILES)}")  # fmt: skip
-    add("--warm", metavar="S", type=warm, default=0,
+        help=f"a number that no trace has, such as /batch/memory.low=1073741824: "
+             f"{', '.join(FILES)}")  # fmt: skip
+    add("--warm", metavar="S", type=whole_number(0, 100_000), default=0,
         help="begin S seconds before the trace, at a machine with its first samples")  # fmt: skip
-    add("--uptime-s", metavar="S", type=warm,
-        help="how long the machine was up when the trace began: long enough if left out")  # fmt: skip
+    add("--uptime-s", metavar="S", type=whole_number(0, 100_000),
+        help="how long the machine was up when the trace began: long enough if "
+             "left out")  # fmt: skip
     add("--binary", metavar="FILE", nargs="?", const="oomd",
-        help="after TRACE: run this oomd on it too; that of the PATH if FILE is left out")  # fmt: skip
+        help="after TRACE: run this oomd on it too; that of the PATH if FILE is "
+             "left out")  # fmt: skip
     add("--sandbox", choices=binary.SANDBOXES,
-        help="with --binary: its sandbox; if left out, bwrap or unshare, the first that works")  # fmt: skip
-    add("--log", metavar="FILE", help="with --binary: write oomd's log there, with the trace's times")
+        help="with --binary: its sandbox; if left out, bwrap or unshare, the first "
+             "that works")  # fmt: skip
+    add("--log", metavar="FILE",
+        help="with --binary: write oomd's log there, with the trace's times")  # fmt: skip
     add("--compare", metavar="FILE", help="print the kills by these rules of psi_oomd too")
     add("--all", dest="is_all", action="store_true", help="print each candidate that isn't chosen")
-    add("--json", dest="is_json", action="store_true", help="print it as JSON")
+    add_names(words)
+    add_json(words)
     return words
-
-
-def complain(text: str) -> None:
-    print(f"oomd: {text}", file=sys.stderr)
 
 
 class Comparison:
@@ -144,7 +148,11 @@ def agreement(own: Engine, ran: binary.BinaryRun) -> str:
     """
     for decision, other in zip(own.decisions, ran.kills):
         found = decision.kill()
-        is_same = (found.moment, found.ruleset, found.action) == (other.moment, other.ruleset, other.action)
+        is_same = (found.moment, found.ruleset, found.action) == (
+            other.moment,
+            other.ruleset,
+            other.action,
+        )
         if not is_same or not decision.may_kill(other.path):
             where = f"{seconds(found.moment)} s {found.path}"
             other_kill = f"{seconds(other.moment)} s {other.path}"
@@ -190,7 +198,9 @@ def print_lines(answers: Answers, is_all: bool) -> None:
         lines += binary_lines(answers, ran)
     if own:
         lines += [f"{it.place}: {it.text}" for it in own.courses()]
-        lines.append(f"oomd {VERSION}: {counted(own.looks, 'look')}, one each {answers.run.interval} s")
+        lines.append(
+            f"oomd {VERSION}: {counted(own.looks, 'look')}, one each {answers.run.interval} s"
+        )
     print("\n".join(lines))
 
 
@@ -207,7 +217,10 @@ def print_json(answers: Answers, name: str) -> None:
         "crash": own.crash or None if own else None,
         "notes": own.notes.texts if own else [],
         "binary": {**ran.record(), **{"agreement": answers.agreement()}} if ran else None,
-        "compared": other and {"rules": other.name, "kills": [other.rules.record(it) for it in other.kills]},
+        "compared": other and {
+            "rules": other.name,
+            "kills": [other.rules.record(it) for it in other.kills],
+        },
     }
     json.dump(record, sys.stdout, indent=1)
     print()
@@ -243,12 +256,19 @@ def collect_answers(given: argparse.Namespace) -> Answers:
     with kept_trace(given.trace) as trace:
         run = run_of(given, trace)
         own = try_emulation(program, run, bool(given.binary))
-        ran = binary.run_binary(program, run, given.binary, given.sandbox, given.log) if given.binary else None
+        ran = (
+            binary.run_binary(program, run, given.binary, given.sandbox, given.log)
+            if given.binary
+            else None
+        )
         other = compare(program, given.compare, trace, run.interval) if given.compare else None
     return Answers(run, own, ran, other)
 
 
-def run(given: argparse.Namespace) -> int:
+def work(given: argparse.Namespace) -> int:
+    """Prints what oomd would have done."""
+    if not given.is_json:
+        show_containers([given.trace], vars(given))
     if not given.binary and (given.sandbox or given.log):
         raise Fault("--sandbox and --log are for --binary")
     answers = collect_answers(given)
@@ -261,4 +281,9 @@ def run(given: argparse.Namespace) -> int:
         print_json(answers, given.trace)
     else:
         print_lines(answers, given.is_all)
-    return OK
+    return Status.DONE
+
+
+def main() -> int:
+    """Runs the command; returns the exit status."""
+    return run(lambda: work(parser().parse_args()))

@@ -7,9 +7,10 @@ from collections.abc import Iterable, Iterator
 from dataclasses import dataclass, field
 from typing import Any
 
+from psicli.fault import Fault
+from psicli.wording import quoted
 from psioomd.faults import Refused
 from psirules.relaxed import Reading
-from psirules.wording import Fault, quoted
 
 
 @dataclass

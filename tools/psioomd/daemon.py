@@ -10,8 +10,9 @@ import subprocess
 import tempfile
 import time
 
+from psicli.fault import Fault
+from psicli.wording import quoted
 from psioomd.sandbox import PATIENCE, Sandbox
-from psirules.wording import Fault, quoted
 
 SOURCE = os.path.join(os.path.dirname(os.path.abspath(__file__)), "clock.c")
 LIBRARY = "clock.so"
@@ -32,10 +33,14 @@ def clock_library() -> bytes:
             done = subprocess.run(words, capture_output=True, cwd=folder)
         except OSError as fault:
             advice = "install a C compiler (package gcc), or leave out --binary"
-            raise Fault(f"cc, which compiles {SOURCE}, doesn't run: {fault.strerror}: {advice}") from fault
+            raise Fault(
+                f"cc, which compiles {SOURCE}, doesn't run: {fault.strerror}: {advice}"
+            ) from fault
         if done.returncode:
             said = done.stderr.decode(errors="replace").strip()
-            raise Fault(f"cc doesn't compile {SOURCE}: install libc6-dev, or leave out --binary: {said}")
+            raise Fault(
+                f"cc doesn't compile {SOURCE}: install libc6-dev, or leave out --binary: {said}"
+            )
         with open(made, "rb") as file:
             return file.read()
 
@@ -83,7 +88,9 @@ class Daemon:
             if not ready:
                 name = quoted(self.sandbox.binary)
                 limit = f"{self.patience:g} s"
-                raise Fault(f"{name} neither sleeps nor ends in {limit}, and was terminated: is it oomd?")
+                raise Fault(
+                    f"{name} neither sleeps nor ends in {limit}, and was terminated: is it oomd?"
+                )
             more = os.read(self.of, MESSAGE.size - len(data))
             if not more:
                 return None
@@ -161,10 +168,10 @@ def answer(sandbox: Sandbox, words: list[str], patience: float = PATIENCE) -> tu
         ended = True
         return daemon.process.returncode, text
     except subprocess.TimeoutExpired:
-        raise Fault(f"{quoted(sandbox.binary)} doesn't end, and was terminated: is it oomd?") from None
+        raise Fault(
+            f"{quoted(sandbox.binary)} doesn't end, and was terminated: is it oomd?"
+        ) from None
     finally:
         if not ended and daemon.process.poll() is None:
             os.killpg(daemon.process.pid, signal.SIGKILL)
         daemon.end()
-
-

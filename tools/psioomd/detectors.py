@@ -3,11 +3,11 @@ from __future__ import annotations
 
 from typing import Any
 
+from psicli.times import SECOND, seconds
 from psioomd.configuration import PluginUse
 from psioomd.machine import NO_PRESSURE, Averages
 from psioomd.numbers import float32
-from psioomd.plugin import SECOND, Duration, Look, Plugin, Result, result
-from psirules.wording import seconds
+from psioomd.plugin import Duration, Look, Plugin, Result, result
 from psisystemd.told import size
 from psisystemd.values import percent
 
@@ -190,7 +190,9 @@ class Exists(Plugin):
     """`exists`: some group matches, or none with `negate`."""
 
     def run(self, look: Look) -> Result:
-        return result(bool(look.machine.among(self.args["cgroup"])) != self.args.get("negate", False))
+        return result(
+            bool(look.machine.among(self.args["cgroup"])) != self.args.get("negate", False)
+        )
 
     def why(self) -> str:
         found = "no group matches" if self.args.get("negate", False) else "a group matches"
@@ -221,5 +223,3 @@ class Constant(Plugin):
 
     def run(self, look: Look) -> Result:
         return self.always
-
-

@@ -8,18 +8,17 @@ from collections.abc import Iterable, Iterator
 from dataclasses import dataclass
 from typing import IO
 
+from psicli.fault import Fault
+from psicli.times import SECOND
 from psioomd.configuration import Configuration, configuration
 from psioomd.engine import Engine, engine
 from psioomd.machine import NO_HOST, Averages, Extras, Machine, Pressure
-from psireplay.command import Fault as ReplayFault
 from psireplay.lines import Report, read
 from psirules.program import Program, Refusal
 from psirules.rules_file import bytes_of
 from psirules.sampling import must_have_scans
-from psirules.wording import Fault
 from psisystemd.world import Host, World, lines_of
 
-SECOND = 10**9
 TICK_MS = 1000
 """A tick that divides every interval, so that oomd's looks are ticks."""
 RESOURCES = {b"io\n", b"memory\n"}
@@ -174,10 +173,7 @@ def emulate(program: Program, run: Run, threads: int) -> Engine:
             assert child.stdout is not None
             first = child.stdout.readline()
             if first:
-                try:
-                    decide(it, run, ticks_of(itertools.chain([first], child.stdout), run.interval))
-                except ReplayFault as fault:
-                    raise Fault(str(fault)) from fault
+                decide(it, run, ticks_of(itertools.chain([first], child.stdout), run.interval))
         raise_refusal(child.returncode, run.trace, said)
         if not first:
             raise Fault(f"{program.path} printed no replay: let the variable PSI_OOMD name it")

@@ -16,13 +16,14 @@ from psioomd.detectors import (
     Rising,
     SwapFree,
 )
+from psicli.times import SECOND, seconds
+from psicli.wording import quoted
 from psioomd.faults import Crash, Refused
-from psioomd.killers import ByPressure, ByScans, BySize, BySwap
+from psioomd.killers import ByPressure, ByScans, BySize, BySwap, Killer
 from psioomd.machine import Machine
 from psioomd.numbers import BadNumber, stoi
-from psioomd.outcome import Decision, Source
-from psioomd.plugin import SECOND, Look, Pauses, Plugin, Result
-from psirules.wording import quoted, seconds
+from psioomd.outcome import Act, Decision, Fired, Source
+from psioomd.plugin import Look, Pauses, Plugin, Result
 from psisystemd.world import Group, Host
 
 DEFAULT_DELAY = 15
@@ -119,6 +120,18 @@ def check_head(use: RulesetUse, is_drop_in: bool) -> None:
         raise Refused(use.place, "Ruleset is missing DetectorGroups or missing Actions")
 
 
+def act_of(it: Plugin, number: int, result: Result, decisions: list[Decision]) -> Act:
+    """What an action did, with the kill that it decided on."""
+    victim = decisions[0].victim if decisions else None
+    if victim:
+        return Act(number, it.name, victim, "", victim.candidates)
+    if result is Result.PAUSED:
+        return Act(number, it.name, None, "it waits for the next look", [])
+    if isinstance(it, Killer):
+        return Act(number, it.name, None, it.nobody(), it.seen)
+    return Act(number, it.name, None, "it kills nobody", [])
+
+
 class Ruleset(Pauses):
     """A ruleset, and the drop-in file that contains it."""
 
@@ -143,6 +156,7 @@ class Ruleset(Pauses):
         self.is_paused_by_action = False
         self.resumed: tuple[int, list[str]] | None = None
         self.decisions: list[Decision] = []
+        self.fired: list[Fired] = []
 
     def pause(self, seconds: int) -> None:
         self.rests_until = self.now + seconds * SECOND
@@ -161,6 +175,8 @@ class Ruleset(Pauses):
                 fired = [f"{group}: {it.why()}" for it in detectors]
                 look.ruleset = self
         if self.rests_until is not None and look.now < self.rests_until:
+            if fired is not None:
+                self.fired.append(Fired(look.now, fired, self.rests_until))
             return
         if self.resumed:
             (first, why), self.resumed = self.resumed, None
@@ -178,8 +194,12 @@ class Ruleset(Pauses):
 
     def chain(self, first: int, why: list[str], look: Look) -> None:
         """Runs the actions from this index, until one stops or waits for the next look."""
+        acts: list[Act] = []
+        self.fired.append(Fired(look.now, why, None, acts))
         for number in range(first, len(self.actions)):
+            before = len(self.decisions)
             result = self.step(self.actions[number], number, why, look)
+            acts.append(act_of(self.actions[number], number, result, self.decisions[before:]))
             if result is Result.PAUSED:
                 self.resumed = (number, why)
                 return
@@ -305,4 +325,6 @@ def engine(
             before[it.number].insert(0, it)
             own = rulesets[it.number]
             own.is_enabled = own.is_enabled and not base.rulesets[it.number].is_disabled_by_drop_in
-    return Engine(machine, [it for more, own in zip(before, rulesets) for it in (*more, own)], notes)
+    return Engine(
+        machine, [it for more, own in zip(before, rulesets) for it in (*more, own)], notes
+    )

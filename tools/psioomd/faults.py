@@ -1,7 +1,7 @@
 """Why oomd rejects a configuration."""
 from __future__ import annotations
 
-from psirules.wording import Fault
+from psicli.fault import Fault
 
 
 class Refused(Fault):

@@ -31,14 +31,18 @@ class Killer(Plugin):
         super().__init__(use, args)
         self.is_recursive = args.get("recursive", False)
         self.delay = args.get("post_action_delay")
+        self.paths: list[str] = []
+        self.seen: list[Candidate] = []
 
     @abstractmethod
     def ranks(self, look: Look, paths: list[str]) -> Ranked:
         """Ranks sibling candidates."""
 
     def run(self, look: Look) -> Result:
-        found = self.victims(look, look.machine.among(self.args["cgroup"]))
+        self.paths = look.machine.among(self.args["cgroup"])
+        found = self.victims(look, self.paths)
         if not found:
+            self.seen = self.ranked(look, self.paths)[1]
             return Result.CONTINUE
         (path, candidates), *others = found
         is_dry = self.args.get("dry", False)
@@ -53,15 +57,28 @@ class Killer(Plugin):
         """The groups that may be killed, which are equal in rank, each with its sibling candidates.
         It is undefined which of them oomd takes.
         """
-        ranked = self.ranks(look, paths)
-        order = {path: (look.machine.rank(path), *ranked[path][0]) for path in sorted(ranked)}
-        best = sorted(order, key=lambda it: order[it], reverse=True)
-        candidates = [self.candidate(look.machine, it, ranked[it][1]) for it in best]
+        order, candidates = self.ranked(look, paths)
+        best = [it.path for it in candidates]
         for _, equals in itertools.groupby(best, key=lambda it: order[it]):
             found = [it for path in sorted(equals) for it in self.at(look, path, candidates)]
             if found:
                 return found
         return []
+
+    def ranked(self, look: Look, paths: list[str]) -> tuple[dict[str, Key], list[Candidate]]:
+        """The keys of sibling candidates, and the candidates by rank."""
+        ranked = self.ranks(look, paths)
+        order = {path: (look.machine.rank(path), *ranked[path][0]) for path in sorted(ranked)}
+        best = sorted(order, key=lambda it: order[it], reverse=True)
+        return order, [self.candidate(look.machine, it, ranked[it][1]) for it in best]
+
+    def nobody(self) -> str:
+        """Why it found no victim at its last look."""
+        if not self.paths:
+            return f"no live group matches {self.args['cgroup'].text}"
+        if self.seen and all(it.passed_over for it in self.seen):
+            return "no candidate has a live task"
+        return "no candidate is enough"
 
     def at(
         self, look: Look, path: str, candidates: list[Candidate]
@@ -161,7 +178,13 @@ class BySize(Killer):
         return ranked
 
     def words(
-        self, machine: Machine, path: str, total: int, growth: float, is_large: bool, is_growing: bool
+        self,
+        machine: Machine,
+        path: str,
+        total: int,
+        growth: float,
+        is_large: bool,
+        is_growing: bool,
     ) -> str:
         used, protected = machine.current(path), machine.protection(path)
         share = f", {used * WHOLE // total} % of all" if total else ""

@@ -8,7 +8,8 @@ from psirules.program import Kill
 
 PLACE = re.compile(r"^(?:\(inl\) )?\[[A-Za-z]+\.(?:cpp|h):\d+\] ?")
 KILL = re.compile(
-    r"\] \S+ \S+ \S+ (\S*) -?\d+ ruleset:\[(?:#(\d+) .*)?\] detectorgroup:\[.*\] killer:(\(dry\))?(\S+) v2"
+    r"\] \S+ \S+ \S+ (\S*) -?\d+ ruleset:\[(?:#(\d+) .*)?\] detectorgroup:\[.*\]"
+    r" killer:(\(dry\))?(\S+) v2"
 )
 RESTART = re.compile(r"\] restarted systemd service=(\S+)")
 FIRED = re.compile(r"\] DetectorGroup=.* has fired for Ruleset=#(\d+) ")

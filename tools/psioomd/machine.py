@@ -1,4 +1,6 @@
-"""The machine as oomd sees it at a look: the trace's last samples, and the pressure of the last tick."""
+"""The machine as oomd sees it at a look: the trace's last samples, and the pressure of the last
+tick.
+"""
 from __future__ import annotations
 
 from dataclasses import dataclass, field

@@ -13,7 +13,9 @@ SPACES = " \t\n\v\f\r"
 WHOLE = re.compile(rf"[{SPACES}]*([+-]?[0-9]+)")
 DECIMAL = r"(?:[0-9]+\.?[0-9]*|\.[0-9]+)(?:[eE][+-]?[0-9]+)?"
 HEXADECIMAL = r"0[xX](?:[0-9a-fA-F]+\.?[0-9a-fA-F]*|\.[0-9a-fA-F]+)(?:[pP][+-]?[0-9]+)?"
-FLOAT = re.compile(rf"[{SPACES}]*([+-]?(?:{HEXADECIMAL}|{DECIMAL}|inf(?:inity)?|nan))", re.IGNORECASE)
+FLOAT = re.compile(
+    rf"[{SPACES}]*([+-]?(?:{HEXADECIMAL}|{DECIMAL}|inf(?:inity)?|nan))", re.IGNORECASE
+)
 UNITS = {"": 1, "k": 1 << 10, "m": 1 << 20, "g": 1 << 30, "t": 1 << 40}
 
 

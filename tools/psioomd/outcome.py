@@ -3,8 +3,9 @@ from __future__ import annotations
 
 from dataclasses import dataclass, field
 
+from psicli.times import seconds
+from psicli.wording import listed, quoted
 from psirules.program import Kill
-from psirules.wording import listed, quoted, seconds
 
 MOST_CANDIDATES = 4
 
@@ -33,6 +34,31 @@ class Victim:
     equals: list[str]
     candidates: list[Candidate]
     is_dry: bool
+
+
+@dataclass(frozen=True)
+class Act:
+    """What an action did at a look: its number and plugin, its victim, or why there is none, and
+    its candidates.
+    """
+
+    action: int
+    plugin: str
+    victim: Victim | None
+    nobody: str
+    candidates: list[Candidate]
+
+
+@dataclass(frozen=True)
+class Fired:
+    """A look (ns) at which a ruleset fired: what the detectors of the group that fired found, and
+    what its actions did; or until when (ns) the ruleset was paused.
+    """
+
+    moment: int
+    why: list[str]
+    paused_until: int | None = None
+    acts: list[Act] = field(default_factory=list)
 
 
 @dataclass(frozen=True)
@@ -86,7 +112,10 @@ class Decision:
         if chosen:
             lines.append(f"{gap}chosen: {chosen.text()}")
         if self.victim.equals:
-            lines.append(f"{gap}equal in rank, so oomd may kill it instead: {listed(self.victim.equals, 'or')}")
+            lines.append(
+                f"{gap}equal in rank, so oomd may kill it instead: "
+                f"{listed(self.victim.equals, 'or')}"
+            )
         others = [it for it in self.victim.candidates if it.path != path]
         shown = others if is_all else others[:MOST_CANDIDATES]
         lines += [f"{gap}not {it.path}: {it.text()}" for it in shown]

@@ -88,16 +88,13 @@ class Patterns:
     def __init__(self, text: str) -> None:
         self.text = text
         joined = ["/".join(split(it, "/")) for it in split(text, ",")]
-        self.ways = [
-            [component(part) for part in split(without_braces(it), "/")] for it in joined
-        ]
+        self.ways = [[component(part) for part in split(without_braces(it), "/")] for it in joined]
 
     def matches(self, path: str) -> bool:
         """Whether one of the patterns matches a group's path."""
         names = split(path, "/")
         return any(
-            len(way) == len(names)
-            and all(part.fullmatch(name) for part, name in zip(way, names))
+            len(way) == len(names) and all(part.fullmatch(name) for part, name in zip(way, names))
             for way in self.ways
         )
 

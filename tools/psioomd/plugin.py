@@ -6,14 +6,13 @@ from dataclasses import dataclass, field
 from enum import Enum
 from typing import TYPE_CHECKING, Any
 
+from psicli.times import SECOND
 from psioomd.configuration import PluginUse
 from psioomd.machine import Machine
 from psisystemd.world import Group
 
 if TYPE_CHECKING:
     from psioomd.outcome import Victim
-
-SECOND = 10**9
 
 
 class Result(Enum):
@@ -80,6 +79,8 @@ class Duration:
     def __init__(self, seconds: int) -> None:
         self.seconds = seconds
         self.since: int | None = None
+        # The longest time (ns) for which it held.
+        self.longest = 0
 
     def holds(self, now: int, is_true: bool) -> bool:
         """Takes the condition at a time (ns), and returns whether it has held long enough."""
@@ -87,4 +88,5 @@ class Duration:
             self.since = None
             return False
         self.since = now if self.since is None else self.since
+        self.longest = max(self.longest, now - self.since)
         return (now - self.since) // SECOND >= self.seconds

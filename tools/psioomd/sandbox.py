@@ -8,7 +8,8 @@ import subprocess
 import tempfile
 from dataclasses import dataclass
 
-from psirules.wording import Fault, quoted
+from psicli.fault import Fault
+from psicli.wording import quoted
 
 SANDBOXES = ("bwrap", "unshare", "none")
 PATIENCE = 20
@@ -27,7 +28,9 @@ cd "$new"
 mkdir -p usr proc dev old ".$folder" ".$(dirname "$binary")"
 for name in lib lib64 lib32 bin sbin; do
     if [ -L "/$name" ]; then ln -s "usr/$name" "$name"
-    elif [ -d "/$name" ]; then mkdir "$name"; mount --bind "/$name" "$name"; mount -o remount,bind,ro "$name"; fi
+    elif [ -d "/$name" ]; then
+        mkdir "$name"; mount --bind "/$name" "$name"; mount -o remount,bind,ro "$name"
+    fi
 done
 mount --bind /usr usr
 mount -o remount,bind,ro usr
@@ -68,7 +71,14 @@ class Sandbox:
         return inside
 
     def bwrap(self) -> list[str]:
-        words = ["bwrap", "--unshare-all", "--die-with-parent", "--new-session", "--cap-drop", "ALL"]
+        words = [
+            "bwrap",
+            "--unshare-all",
+            "--die-with-parent",
+            "--new-session",
+            "--cap-drop",
+            "ALL",
+        ]
         words += ["--ro-bind", "/usr", "/usr", "--proc", "/proc", "--dev", "/dev"]
         for name in SYSTEM:
             if os.path.islink(f"/{name}"):

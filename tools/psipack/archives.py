@@ -47,7 +47,9 @@ def tar_of(members: list[Member], top: str, seconds: int) -> bytes:
 def gzipped(data: bytes, seconds: int) -> bytes:
     """The bytes compressed by gzip, with this time and no name."""
     output = io.BytesIO()
-    with gzip.GzipFile(filename="", mode="wb", compresslevel=9, fileobj=output, mtime=seconds) as stream:
+    with gzip.GzipFile(
+        filename="", mode="wb", compresslevel=9, fileobj=output, mtime=seconds
+    ) as stream:
         stream.write(data)
     return output.getvalue()
 
@@ -61,6 +63,8 @@ def ar_of(members: dict[str, bytes], seconds: int) -> bytes:
     """An ar archive, the format of a Debian package (deb(5))."""
     parts = [b"!<arch>\n"]
     for name, data in members.items():
-        head = AR_HEAD.format(name=name, time=seconds, owner=0, group=0, mode="100644", size=len(data))
+        head = AR_HEAD.format(
+            name=name, time=seconds, owner=0, group=0, mode="100644", size=len(data)
+        )
         parts += [head.encode(), data, b"\n" * (len(data) % 2)]
     return b"".join(parts)

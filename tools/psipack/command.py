@@ -6,11 +6,13 @@ import hashlib
 import os
 import re
 import subprocess
-import sys
 import tempfile
 import time
 
-from psireplay.command import INTERRUPTED, Fault, Words
+from psicli.fault import Fault
+from psicli.parser import Parser
+from psicli.running import run
+from psicli.status import Status
 from psireplay.program import TOP, built_program
 
 from .archives import gzipped, tar_of
@@ -19,44 +21,67 @@ from .completions import BASH, ZSH, Words as Offered, script_of
 from .debian import ARCHITECTURE, NAME, UNITS, Facts, own_documents, package_of
 from .elf import least_libc
 from .pages import page_of
-from .tree import LIBRARY, PAGES, Member, bytes_of, documents_of, pages_of_programs, programs_of, tools_of
+from .tree import (
+    LIBRARY,
+    PAGES,
+    Member,
+    bytes_of,
+    documents_of,
+    pages_of_programs,
+    programs_of,
+    tools_of,
+)
 from .usage import Help, commands_in, help_of, options_in, said_by
 
-ABOUT = "Builds the packages of the programs and the tools: a Debian package (.deb) and a .tar.gz of the same files."
+ABOUT = (
+    "Builds the packages of the programs and the tools: a Debian package (.deb) and a .tar.gz of"
+    " the same files."
+)
 STATUS = (
-    "Programs that aren't given are built with ./psi_oomd --build and ./psi_observe --build, which proves them if necessary. "
-    "The last lines are the checksums of both files, as printed by sha256sum. The status is 1 if nothing was built. "
-    "Times in the files are those of the commit, or SOURCE_DATE_EPOCH."
+    "Programs that aren't given are built with ./psi_oomd --build and ./psi_observe --build, which"
+    " proves them if necessary. The last lines are the checksums of both files, as printed by"
+    " sha256sum. The status is 2 if nothing was built. Times in the files are those of the commit,"
+    " or SOURCE_DATE_EPOCH."
 )
 ORIGIN = """\
-{commit}
-version {version}
+{version}, commit {commit}
 {kit}
-the proof can be run again in a checkout of this commit: by ./psi_oomd --build, and by .ci/run with all tests
+the proof can be run again in a checkout of this commit: by ./psi_oomd --build, and by .ci/run \
+with all tests
 """
 # By default Debian's systemd enables each service on the first boot of a machine.
 PRESET = "".join(f"disable {it}\n" for it in UNITS)
 UNPROVED = "unproved: these programs were handed to tools/package, and the gate didn't build them"
 PATIENCE_SECONDS = 10
-TAG = re.compile(r"v([0-9][0-9A-Za-z.+-]*)")
+NUMBER = re.compile(r"[0-9][0-9A-Za-z.+-]*")
 
 
 def git(*words: str) -> str:
     """The output of git in the repository."""
     done = subprocess.run(["git", "-C", TOP, *words], capture_output=True, encoding="utf-8")
     if done.returncode:
-        raise Fault(f"git {' '.join(words)}: {done.stderr.strip()}: a package is made in a checkout with its history")
+        raise Fault(
+            f"git {' '.join(words)}: {done.stderr.strip()}: a package is made in a checkout with"
+            " its history"
+        )
     return done.stdout.strip()
 
 
 def version_of(commit: str, is_changed: bool) -> str:
-    """The version of a package: that of a tag of this commit, as v1.0, or a version below each
-    release, with the commit's day. The part after a hyphen gets a tilde, which sorts before the
-    release in Debian's order: v1.0-rc1 is 1.0~rc1.
+    """The version of a package: that of CHANGELOG's top heading, as in `## 1.0 (2026-12-01)`. If
+    the heading has no number, or its tag is at another commit, the version is above the last
+    release and has the commit's day. The part after a hyphen gets a tilde, which sorts before the
+    release in Debian's order: 1.0-rc1 is 1.0~rc1.
     """
-    tags = filter(None, map(TAG.fullmatch, git("tag", "--points-at", "HEAD").split("\n")))
-    day = time.strftime("%Y%m%d", time.gmtime(int(git("log", "-1", "--format=%ct"))))
-    version = next((tag[1].replace("-", "~") for tag in tags), f"0~git{day}.{commit[:12]}")
+    headings = re.findall(r"^## (.*)$", bytes_of(TOP, "CHANGELOG.md").decode(), re.MULTILINE)
+    numbers = [found[0] if (found := NUMBER.match(it)) else "" for it in headings]
+    release = next(filter(None, numbers), "0")
+    is_tagged = git("tag", "--list", f"v{release}") != ""
+    is_elsewhere = is_tagged and git("rev-parse", f"v{release}^{{commit}}") != commit
+    version = release.replace("-", "~")
+    if numbers[:1] != [release] or is_elsewhere:
+        day = time.strftime("%Y%m%d", time.gmtime(int(git("log", "-1", "--format=%ct"))))
+        version += f"+git{day}.{commit[:12]}"
     return version + ("+changes" if is_changed else "")
 
 
@@ -70,7 +95,9 @@ def kit_of(given: argparse.Namespace) -> str:
     try:
         return f"proved by {said_by(['rt', 'version']).strip()}"
     except OSError as fault:
-        raise Fault(f"rt version: {fault.strerror}: let --kit say what proved the programs") from None
+        raise Fault(
+            f"rt version: {fault.strerror}: let --kit say what proved the programs"
+        ) from None
 
 
 def programs_named(given: argparse.Namespace) -> dict[str, bytes]:
@@ -78,15 +105,19 @@ def programs_named(given: argparse.Namespace) -> dict[str, bytes]:
     identical to the one that the gate built.
     """
     paths = dict(zip(PROGRAMS, (given.program, given.observer)))
-    found = {name: bytes_of(path or built_program(os.path.join(TOP, name))) for name, path in paths.items()}
+    found = {
+        name: bytes_of(path or built_program(os.path.join(TOP, name)))
+        for name, path in paths.items()
+    }
     for name, path in paths.items():
         least_libc(name, found[name])
         if path:
             check_name(name, path)
         if path and not given.unproved and found[name] != built_bytes(name):
             raise Fault(
-                f"{path} isn't the {name} that was proved here, {built_path(name)}: ./{name} --build makes that; "
-                "with --unproved the package says that nobody proved its programs"
+                f"{path} isn't the {name} that was proved here, {built_path(name)}:"
+                f" ./{name} --build makes that; with --unproved the package says that nobody proved"
+                " its programs"
             )
     return found
 
@@ -105,7 +136,12 @@ def built_bytes(name: str) -> bytes:
 def check_name(name: str, path: str) -> None:
     """Without words each program prints its own usage: another one isn't packed by its name."""
     try:
-        done = subprocess.run([os.path.abspath(path)], stdin=subprocess.DEVNULL, capture_output=True, timeout=PATIENCE_SECONDS)
+        done = subprocess.run(
+            [os.path.abspath(path)],
+            stdin=subprocess.DEVNULL,
+            capture_output=True,
+            timeout=PATIENCE_SECONDS,
+        )
     except (OSError, subprocess.SubprocessError) as fault:
         raise Fault(f"{path} doesn't run as {name}: {fault}") from None
     if not done.stderr.startswith(b"usage: %s " % name.encode()):
@@ -113,7 +149,7 @@ def check_name(name: str, path: str) -> None:
         raise Fault(f"{path} isn't {name}: without words it says {said!r}")
 
 
-# ---------------------------------------------------------------- files generated from the help of the tools
+# ------------------------------------------------------ files generated from the help of the tools
 
 
 def write(members: list[Member], folder: str) -> None:
@@ -145,9 +181,14 @@ def completions(folder: str, helps: dict[str, tuple[Help, dict[str, Help]]]) -> 
     """
     offered = []
     for name in PROGRAMS:
-        offered.append(Offered(name, commands_in(said_by([os.path.join(folder, "bin", name), "--help"]), name)))
+        offered.append(
+            Offered(name, commands_in(said_by([os.path.join(folder, "bin", name), "--help"]), name))
+        )
     for name, (about, commands) in helps.items():
-        found = {"": options_in(about.options), **{it: options_in(about.options) for it, about in commands.items()}}
+        found = {
+            "": options_in(about.options),
+            **{it: options_in(about.options) for it, about in commands.items()},
+        }
         offered.append(Offered(name, found))
     bash, first = "share/bash-completion/completions", offered[0].name
     members = [Member(f"{bash}/{first}", script_of(BASH, offered))]
@@ -158,10 +199,14 @@ def completions(folder: str, helps: dict[str, tuple[Help, dict[str, Help]]]) -> 
 def pages(helps: dict[str, tuple[Help, dict[str, Help]]], facts: Facts) -> list[Member]:
     """The manual pages, compressed as in Debian."""
     date = time.strftime("%Y-%m-%d", time.gmtime(facts.seconds))
-    found = pages_of_programs(TOP)
+    source = f"{NAME} {facts.version}, commit {facts.commit[:12]}"
+    found = pages_of_programs(TOP, source)
     for tool in TOOLS:
-        found[f"{tool.command}.1"] = page_of(tool, *helps[tool.command], date, f"{NAME} {facts.version}")
-    return [Member(f"{PAGES}/{name}.gz", gzipped(page, facts.seconds)) for name, page in sorted(found.items())]
+        found[f"{tool.command}.1"] = page_of(tool, *helps[tool.command], date, source)
+    return [
+        Member(f"{PAGES}/{name}.gz", gzipped(page, facts.seconds))
+        for name, page in sorted(found.items())
+    ]
 
 
 # ---------------------------------------------------------------- the command
@@ -170,8 +215,15 @@ def pages(helps: dict[str, tuple[Help, dict[str, Help]]], facts: Facts) -> list[
 def files_of(programs: dict[str, bytes], facts: Facts, kit: str) -> list[Member]:
     """All files that are installed."""
     origin = ORIGIN.format(commit=facts.commit, version=facts.version, kit=kit)
-    members = [*programs_of(TOP, programs, origin), *tools_of(TOP), *documents_of(TOP), *own_documents(facts)]
-    members += [Member(f"lib/systemd/system/{it}", bytes_of(TOP, "tools", "psipack", it)) for it in UNITS]
+    members = [
+        *programs_of(TOP, programs, origin),
+        *tools_of(TOP),
+        *documents_of(TOP),
+        *own_documents(facts),
+    ]
+    members += [
+        Member(f"lib/systemd/system/{it}", bytes_of(TOP, "tools", "psipack", it)) for it in UNITS
+    ]
     members.append(Member(f"lib/systemd/system-preset/50-{NAME}.preset", PRESET.encode()))
     with tempfile.TemporaryDirectory() as folder:
         write(members, folder)
@@ -181,9 +233,14 @@ def files_of(programs: dict[str, bytes], facts: Facts, kit: str) -> list[Member]
 
 def facts_of(programs: dict[str, bytes]) -> Facts:
     """The metadata of the package."""
-    commit, is_changed = git("rev-parse", "HEAD"), bool(git("status", "--porcelain", "--untracked-files=no"))
+    commit, is_changed = git("rev-parse", "HEAD"), bool(
+        git("status", "--porcelain", "--untracked-files=no")
+    )
     told = f"{commit}, with changes" if is_changed else commit
-    libc = max((least_libc(name, data) for name, data in programs.items()), key=lambda it: [*map(int, it.split("."))])
+    libc = max(
+        (least_libc(name, data) for name, data in programs.items()),
+        key=lambda it: [*map(int, it.split("."))],
+    )
     said = os.environ.get("SOURCE_DATE_EPOCH") or git("log", "-1", "--format=%ct")
     if not said.isdecimal():
         raise Fault(f"SOURCE_DATE_EPOCH is {said!r}, which is no number of seconds")
@@ -191,18 +248,23 @@ def facts_of(programs: dict[str, bytes]) -> Facts:
     return Facts(version_of(commit, is_changed), told, libc, maintainer, int(said))
 
 
-def parser() -> Words:
+def parser() -> Parser:
     """The parser of the command line."""
-    words = Words("package", ABOUT, STATUS)
+    words = Parser(ABOUT, STATUS)
     words.add_argument("--program", metavar="FILE", help="the built psi_oomd")
     words.add_argument("--observer", metavar="FILE", help="the built psi_observe")
-    words.add_argument("--kit", metavar="LINE", help="what proved the programs that are given, as `rt version` has it")
-    words.add_argument("--unproved", action="store_true", help="packs programs that weren't proved here; the package says so")
-    words.add_argument("--into", metavar="FOLDER", default=".", help="where the files are written; here if left out")
+    words.add_argument("--kit", metavar="LINE",
+                       help="what proved the programs that are given, as `rt "
+                            "version` has it")  # fmt: skip
+    words.add_argument("--unproved", action="store_true",
+                       help="packs programs that weren't proved here; the package "
+                            "says so")  # fmt: skip
+    words.add_argument("--into", metavar="FOLDER", default=".",
+                       help="where the files are written; here if left out")  # fmt: skip
     return words
 
 
-def make() -> None:
+def make() -> int:
     """Builds both files, and prints their checksums."""
     given = parser().parse_args()
     if given.unproved and given.kit:
@@ -213,29 +275,18 @@ def make() -> None:
     name = f"{NAME}_{facts.version}_{ARCHITECTURE}"
     made = {
         f"{name}.deb": package_of(members, facts),
-        f"{name}.tar.gz": gzipped(tar_of(members, f"{NAME}-{facts.version}", facts.seconds), facts.seconds),
+        f"{name}.tar.gz": gzipped(
+            tar_of(members, f"{NAME}-{facts.version}", facts.seconds), facts.seconds
+        ),
     }
     os.makedirs(given.into, exist_ok=True)
     for file, data in made.items():
         with open(os.path.join(given.into, file), "wb") as stream:
             stream.write(data)
         print(f"{hashlib.sha256(data).hexdigest()}  {file}")
+    return Status.DONE
 
 
 def main() -> int:
-    """Runs the command; returns its status."""
-    try:
-        make()
-        sys.stdout.flush()
-    except Fault as fault:
-        print(f"package: {fault}", file=sys.stderr)
-        return 1
-    except OSError as fault:
-        # The rest of the buffer can't be written either.
-        os.dup2(os.open(os.devnull, os.O_WRONLY), 1)
-        if not isinstance(fault, BrokenPipeError):
-            print(f"package: {fault.filename or 'the output'}: {fault.strerror}", file=sys.stderr)
-        return 1
-    except KeyboardInterrupt:
-        return INTERRUPTED
-    return 0
+    """Runs the command; returns the exit status."""
+    return run(make)

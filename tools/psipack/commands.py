@@ -18,22 +18,38 @@ class Tool:
 # A tool that is added to `tools` gets a line here. Its manual page and its completions are
 # generated from its --help.
 TOOLS = (
-    Tool("record", "psi-record", "record what the scheduler, the groups and the memory of a machine do"),
-    Tool("psitrace", "psi-trace", "make a trace of a recording, or of a text of ftrace"),
-    Tool("chart", "psi-chart", "draw what psi_oomd printed"),
-    Tool("top", "psi-top", "list the groups that stalled most in what psi_oomd printed"),
-    Tool("openmetrics", "psi-openmetrics", "write what psi_oomd printed as metrics with timestamps"),
-    Tool("compare", "psi-compare", "hold a trace against the machine's own pressure files"),
-    Tool("rules", "psi-rules", "test, compare and mend rules files on recorded traces"),
-    Tool("fleet", "psi-fleet", "replay many traces by one rules file, on many machines"),
-    Tool("ftrace-check", "psi-ftrace-check", "say what in a text of ftrace makes a trace of it wrong"),
-    Tool("fold", "psi-fold", "make a trace of the same pressure with fewer lines"),
-    Tool("blame", "psi-blame", "say who ran while a group waited"),
+    Tool(
+        "record",
+        "psi-record",
+        "record the scheduler, the groups and the memory of a machine",
+    ),
+    Tool("psitrace", "psi-trace", "make a trace from a recording, or from ftrace text"),
+    Tool("chart", "psi-chart", "draw a trace, or what psi_oomd printed"),
+    Tool(
+        "top",
+        "psi-top",
+        "list the groups that stalled most in a trace, or in what psi_oomd printed",
+    ),
+    Tool(
+        "export",
+        "psi-export",
+        "print the reports, signals and kills of a replay as JSON lines or CSV",
+    ),
+    Tool(
+        "openmetrics", "psi-openmetrics", "write what psi_oomd printed as metrics with timestamps"
+    ),
+    Tool("compare", "psi-compare", "compare a trace with the machine's own pressure files"),
+    Tool("rules", "psi-rules", "test, compare, explain and correct rules files"),
+    Tool("fleet", "psi-fleet", "replay many traces with one rules file, on many machines"),
+    Tool("ftrace-check", "psi-ftrace-check", "find what makes a trace of an ftrace text wrong"),
+    Tool("fold", "psi-fold", "make a trace with the same pressure in fewer lines"),
+    Tool("blame", "psi-blame", "show who ran while a group waited"),
+    Tool("incident", "psi-incident", "record a machine and write the page of the incident"),
     Tool("report", "psi-report", "write an incident on one page"),
-    Tool("systemd-oomd", "psi-systemd-oomd", "say whom systemd-oomd would have killed"),
-    Tool("oomd", "psi-meta-oomd", "say whom oomd would have killed by its own configuration"),
+    Tool("systemd-oomd", "psi-systemd-oomd", "show whom systemd-oomd would have killed"),
+    Tool("oomd", "psi-meta-oomd", "show whom oomd would have killed with its own configuration"),
     Tool("sample", "psi-sample", "sample the pressure and the memory of all groups"),
-    Tool("samples", "psi-samples", "make a trace of sampled totals of pressure"),
+    Tool("samples", "psi-samples", "make a trace from sampled totals of pressure"),
 )
 # The programs, each with a manual page in `docs`.
 PROGRAMS = ("psi_oomd", "psi_observe")

@@ -22,7 +22,7 @@ class Words:
 BASH = """\
 # Completion of psi_oomd and its tools for bash: made by tools/package of what they say by --help.
 
-# What can be typed after a name: its commands; after one of these, or where there is none, its options.
+# What can be typed after a name: its commands; after one of these, or without any, its options.
 _psi_oomd_words()
 {{
     case $1 in
@@ -40,10 +40,12 @@ _psi_oomd_value()
 
 _psi_oomd()
 {{
-    local name=${{1##*/}} word=${{COMP_WORDS[COMP_CWORD]}} before=${{COMP_WORDS[COMP_CWORD-1]}} command= words value
+    local name=${{1##*/}} word=${{COMP_WORDS[COMP_CWORD]}} before=${{COMP_WORDS[COMP_CWORD-1]}}
+    local command= words value
     COMPREPLY=()
     words=$(_psi_oomd_words "$name")
-    if [[ $COMP_CWORD -gt 1 && " $words " == *" ${{COMP_WORDS[1]}} "* && ${{COMP_WORDS[1]}} != -* ]]; then
+    if [[ $COMP_CWORD -gt 1 && " $words " == *" ${{COMP_WORDS[1]}} "* &&
+          ${{COMP_WORDS[1]}} != -* ]]; then
         command=${{COMP_WORDS[1]}}
         words=$(_psi_oomd_words "$name $command")
     fi
@@ -70,7 +72,7 @@ ZSH = """\
 #compdef {names}
 # Completion of psi_oomd and its tools for zsh: made by tools/package of what they say by --help.
 
-# What can be typed after a name: its commands; after one of these, or where there is none, its options.
+# What can be typed after a name: its commands; after one of these, or without any, its options.
 _psi_oomd_words() {{
     case $1 in
 {words}
@@ -96,7 +98,8 @@ _psi_oomd() {{
         before=${{words[CURRENT]%%=*}}
         compset -P '*='
     fi
-    (( CURRENT > 2 )) || [[ $words[CURRENT] == --*=* ]] && value=$(_psi_oomd_value "$name${{command:+ $command}} $before")
+    (( CURRENT > 2 )) || [[ $words[CURRENT] == --*=* ]] &&
+        value=$(_psi_oomd_value "$name${{command:+ $command}} $before")
     case $value in
     (FILE) _files ;;
     (?*) compadd -- ${{=value}} ;;
@@ -112,7 +115,10 @@ def offered(program: Words) -> dict[str, list[str]]:
     """The words offered after each name, and after each name with a command."""
     named = [command for command in program.commands if command]
     found = {program.name: [*named, *program.commands.get("", {})]}
-    return {**found, **{f"{program.name} {command}": list(program.commands[command]) for command in named}}
+    return {
+        **found,
+        **{f"{program.name} {command}": list(program.commands[command]) for command in named},
+    }
 
 
 def valued(program: Words) -> dict[str, str]:
@@ -134,12 +140,16 @@ def cases(rows: dict[str, str]) -> str:
     alike: dict[str, list[str]] = {}
     for key, text in rows.items():
         alike.setdefault(text, []).append(f'"{key}"')
-    return "\n".join(f"    {' | '.join(keys)}) printf '%s\\n' '{text}' ;;" for text, keys in alike.items())
+    return "\n".join(
+        f"    {' | '.join(keys)}) printf '%s\\n' '{text}' ;;" for text, keys in alike.items()
+    )
 
 
 def script_of(template: str, programs: list[Words]) -> bytes:
     """The completions of the programs, from the template for one of the shells."""
-    words = {key: " ".join(found) for program in programs for key, found in offered(program).items()}
+    words = {
+        key: " ".join(found) for program in programs for key, found in offered(program).items()
+    }
     values = {key: value for program in programs for key, value in valued(program).items()}
     names = " ".join(program.name for program in programs)
     return template.format(names=names, words=cases(words), values=cases(values)).encode()

@@ -8,7 +8,7 @@ import time
 from dataclasses import dataclass
 
 from .archives import ar_of, folders_of, gzipped, tar_of, xz_of
-from .tree import DOCUMENTS, LIBRARY, Member
+from .tree import DOCUMENTS, Member
 
 NAME = "psi-oomd"
 ARCHITECTURE = "amd64"
@@ -98,9 +98,10 @@ if [ "$1" = remove ] || [ "$1" = purge ]; then
 fi
 {RELOADS}"""
 OVERRIDES = f"""\
-# The bytes of the programs are those that the proofs' own toolchain linked and that every test ran: they aren't changed afterwards.
+# The bytes of the programs are those that the proofs' own toolchain linked and that every test ran:
+# they aren't changed afterwards.
 {NAME}: unstripped-binary-or-object *
-# The licence asks that whoever gets the files gets its text, also where they come as a plain archive.
+# The licence requires its text beside the files, also in a plain archive.
 {NAME}: extra-license-file *
 """
 
@@ -129,7 +130,11 @@ def own_documents(facts: Facts) -> list[Member]:
     owner = facts.maintainer.partition(" <")[0]
     said = COPYRIGHT.format(maintainer=facts.maintainer, owner=owner, year=facts.year())
     changes = CHANGES.format(
-        name=NAME, version=facts.version, commit=facts.commit, maintainer=facts.maintainer, date=facts.date()
+        name=NAME,
+        version=facts.version,
+        commit=facts.commit,
+        maintainer=facts.maintainer,
+        date=facts.date(),
     )
     return [
         Member(f"{DOCUMENTS}/copyright", said.encode()),
@@ -140,12 +145,19 @@ def own_documents(facts: Facts) -> list[Member]:
 
 def control_of(members: list[Member], facts: Facts) -> list[Member]:
     """The control files: the description of the package, and the scripts."""
-    sums = [f"{hashlib.md5(it.data).hexdigest()}  usr/{it.path}\n" for it in members if not it.target]
+    sums = [
+        f"{hashlib.md5(it.data).hexdigest()}  usr/{it.path}\n" for it in members if not it.target
+    ]
     # In KiB: each file rounded up, plus one for each folder and link (Debian's policy, 5.6.20).
     folders = folders_of([f"usr/{member.path}" for member in members])
     size = len(folders) + sum(-(-len(it.data) // 1024) or 1 for it in members)
     said = CONTROL.format(
-        name=NAME, version=facts.version, architecture=ARCHITECTURE, maintainer=facts.maintainer, size=size, libc=facts.libc
+        name=NAME,
+        version=facts.version,
+        architecture=ARCHITECTURE,
+        maintainer=facts.maintainer,
+        size=size,
+        libc=facts.libc,
     )
     return [
         Member("control", said.encode()),

@@ -5,7 +5,7 @@ from __future__ import annotations
 
 import struct
 
-from psireplay.command import Fault
+from psicli.fault import Fault
 
 MAGIC = b"\x7fELF\x02\x01"  # 64 bits, the least byte first
 X86_64 = 62
@@ -19,10 +19,21 @@ def least_libc(name: str, data: bytes) -> str:
     """The lowest version of the C library that has all symbols of this program, as 2.34."""
     if not data:
         raise Fault(f"{name} is no program: the file is empty")
-    if data[:6] != MAGIC or len(data) < HEADER_BYTES or struct.unpack_from("<H", data, 18)[0] != X86_64:
+    if (
+        data[:6] != MAGIC
+        or len(data) < HEADER_BYTES
+        or struct.unpack_from("<H", data, 18)[0] != X86_64
+    ):
         raise Fault(f"{name} is no program for x86-64: the file isn't ELF for it")
-    found = [needed for library, needed in needed_versions(data) if library == LIBRARY]
-    versions = [tuple(map(int, needed.removeprefix(PREFIX).split("."))) for needed in found if needed.startswith(PREFIX)]
+    try:
+        found = [needed for library, needed in needed_versions(data) if library == LIBRARY]
+    except (struct.error, ValueError, IndexError):
+        raise Fault(f"{name} isn't a whole program: its tables of symbols end early") from None
+    versions = [
+        tuple(map(int, needed.removeprefix(PREFIX).split(".")))
+        for needed in found
+        if needed.startswith(PREFIX)
+    ]
     if not versions:
         raise Fault(f"{name} asks for no version of the C library")
     return ".".join(map(str, max(versions)))
@@ -30,8 +41,12 @@ def least_libc(name: str, data: bytes) -> str:
 
 def needed_versions(data: bytes) -> list[tuple[str, str]]:
     """Each library for which the program requires a version of its symbols, and that version."""
-    offset, size, count = struct.unpack_from("<Q", data, 40)[0], *struct.unpack_from("<HH", data, 58)
-    sections = [struct.unpack_from("<IIQQQQIIQQ", data, offset + size * number) for number in range(count)]
+    offset, size, count = struct.unpack_from("<Q", data, 40)[0], *struct.unpack_from(
+        "<HH", data, 58
+    )
+    sections = [
+        struct.unpack_from("<IIQQQQIIQQ", data, offset + size * number) for number in range(count)
+    ]
     found: list[tuple[str, str]] = []
     for section in sections:
         if section[1] == NEEDED_VERSIONS:

@@ -20,34 +20,64 @@ CALL = """.SY {name}
 """
 SEE_ALSO = """.SH SEE ALSO
 .BR psi_oomd (1),
-which has the forms of traces and rules. The documents of the package lie in
+which has the forms of traces and rules;
+.IR {page} ;
+all documents are in
 .IR /usr/share/doc/psi-oomd .
 """
+# How the blocks of --help begin that have places of their own in a page.
+EXAMPLES, READ_ON = "examples:\n", "Read on: "
+FIRST_PAGE = "/usr/share/doc/psi-oomd/docs/README.md"
 STATUS = re.compile(r"(?:The )?status\b")
 
 
 def page_of(tool: Tool, about: Help, commands: dict[str, Help], date: str, source: str) -> bytes:
     """The page of a tool, with a section for each of its commands."""
     name = escaped(tool.command)
-    lines = [HEAD.format(title=tool.command.upper(), date=date, source=source, name=name, about=escaped(tool.about))]
+    lines = [
+        HEAD.format(
+            title=tool.command.upper(),
+            date=date,
+            source=source,
+            name=name,
+            about=escaped(tool.about),
+        )
+    ]
     calls = [f"{command} {found.usage}" for command, found in commands.items()] or [about.usage]
     lines += [CALL.format(name=name, words=escaped(words)) for words in calls]
-    said, statuses = parted(about.before)
-    notes, more = parted(about.behind)
+    examples = [it.partition("\n")[2] for it in about.before if it.startswith(EXAMPLES)]
+    said, statuses = parted(without_places(about.before))
+    notes, more = parted(without_places(about.behind))
+    lines += [".SH EXAMPLES\n", *map(paragraph, examples)] if examples else []
     lines += [".SH DESCRIPTION\n", *map(paragraph, said)]
     lines += items_of(about.arguments) if not commands else []
     for command, found in commands.items():
         lines.append(f".SH {escaped(command.upper())}\n")
-        lines += [*map(paragraph, found.before), *items_of(found.arguments + found.options), *map(paragraph, found.behind)]
+        behind = without_places(found.behind)
+        lines += [
+            *map(paragraph, found.before),
+            *items_of(found.arguments + found.options),
+            *map(paragraph, behind),
+        ]
     lines += [".SH OPTIONS\n", *items_of(about.options)] if not commands else []
     for title, paragraphs in (("NOTES", notes), ("EXIT STATUS", statuses + more)):
         lines += [f".SH {title}\n", *map(paragraph, paragraphs)] if paragraphs else []
-    return "".join([*lines, SEE_ALSO]).encode()
+    page = next(
+        (it.removeprefix(READ_ON) for it in about.behind if it.startswith(READ_ON)), FIRST_PAGE
+    )
+    return "".join([*lines, SEE_ALSO.format(page=page)]).encode()
+
+
+def without_places(paragraphs: list[str]) -> list[str]:
+    """The paragraphs without those that have places of their own in a page."""
+    return [it for it in paragraphs if not it.startswith((EXAMPLES, READ_ON))]
 
 
 def parted(paragraphs: list[str]) -> tuple[list[str], list[str]]:
     """The paragraphs that don't concern the exit status, and those that do."""
-    return [it for it in paragraphs if not STATUS.match(it)], [it for it in paragraphs if STATUS.match(it)]
+    return [it for it in paragraphs if not STATUS.match(it)], [
+        it for it in paragraphs if STATUS.match(it)
+    ]
 
 
 def paragraph(text: str) -> str:

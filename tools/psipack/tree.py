@@ -8,7 +8,7 @@ import re
 import subprocess
 from dataclasses import dataclass
 
-from psireplay.command import Fault
+from psicli.fault import Fault
 
 from .commands import OF_CHECKOUTS, PROGRAMS, TOOLS
 
@@ -18,17 +18,18 @@ PAGES = "share/man/man1"
 PYTHON = b"#!/usr/bin/env python3\n"
 # Debian's own Python, which leaves no compiled files in folders that no package owns.
 INSTALLED_PYTHON = b"#!/usr/bin/python3 -B\n"
-# Some tools begin with lines of shell, which report a folder as standard input and then start Python.
-BY_SHELL = b'#!/bin/sh\n'
-STARTED = re.compile(rb'^exec python3 -B ', re.MULTILINE)
+# Some tools begin with lines of shell, which report a folder as standard input and then start
+# Python.
+BY_SHELL = b"#!/bin/sh\n"
+STARTED = re.compile(rb"^exec python3 -B ", re.MULTILINE)
 COMMANDS = {tool.file: tool.command for tool in TOOLS}
 NAMED_TOOL = re.compile(rf"(?<![\w./-])tools/({'|'.join(map(re.escape, COMMANDS))})(?![\w/-]|\.\w)")
-# The beginning of a message, and a tool's name in its usage. What psitrace prints about a recording
-# is parsed by others, by its name.
+# The beginning of a message, and a tool's name in its usage, in the tools that stand alone. What
+# psitrace prints about a recording is parsed by others, by its name.
 TOOL_NAME = "|".join(map(re.escape, COMMANDS))
 MESSAGE = re.compile(rf'(\bf")({TOOL_NAME.replace("psitrace|", "")})(?=: )')
 ECHOED = re.compile(rf'(?<=echo ")({TOOL_NAME})(?=: )')
-PROGRAM_NAME = re.compile(rf'(\b(?:Words|Parser|run_tool|ended)\("|\bprog=")({TOOL_NAME})(?=")')
+PROGRAM_NAME = re.compile(rf'(\bprog=")({TOOL_NAME})(?=")')
 # Parts of documents for readers who have the sources.
 OF_SOURCES = re.compile(r"<!-- in a checkout -->\n.*?<!-- end -->\n+", re.DOTALL)
 LINK = re.compile(r"(!?)\[([^\]]*)\]\(([^):#]+)(#[^)]*)?\)")
@@ -74,9 +75,9 @@ def renamed(text: str) -> str:
 
 def renamed_code(text: str) -> str:
     """The source of a tool, whose messages and usage begin with its installed name."""
-    text = MESSAGE.sub(lambda found: f'{found[1]}{COMMANDS[found[2]]}', text)
+    text = MESSAGE.sub(lambda found: f"{found[1]}{COMMANDS[found[2]]}", text)
     text = ECHOED.sub(lambda found: COMMANDS[found[1]], text)
-    return PROGRAM_NAME.sub(lambda found: f'{found[1]}{COMMANDS[found[2]]}', text)
+    return PROGRAM_NAME.sub(lambda found: f"{found[1]}{COMMANDS[found[2]]}", text)
 
 
 def with_whole_paths(text: str) -> str:
@@ -131,7 +132,9 @@ def documents_of(top: str) -> list[Member]:
     for path in sorted(paths):
         data = bytes_of(top, path)
         if path.endswith(".md"):
-            data = without_dead_links(renamed(OF_SOURCES.sub("", data.decode())), path, paths).encode()
+            data = without_dead_links(
+                renamed(OF_SOURCES.sub("", data.decode())), path, paths
+            ).encode()
         members.append(Member(f"{DOCUMENTS}/{path}", data))
     return members
 
@@ -147,6 +150,12 @@ def without_dead_links(text: str, path: str, paths: set[str]) -> str:
     return LINK.sub(link, text)
 
 
-def pages_of_programs(top: str) -> dict[str, bytes]:
-    """The manual pages that `docs` has, by their names."""
-    return {f"{name}.1": with_whole_paths(renamed(bytes_of(top, "docs", f"{name}.1").decode())).encode() for name in PROGRAMS}
+def pages_of_programs(top: str, source: str) -> dict[str, bytes]:
+    """The manual pages that `docs` has, by their names; the foot of each has `source`."""
+    found = {}
+    for name in PROGRAMS:
+        text = (
+            bytes_of(top, "docs", f"{name}.1").decode().replace("\n.Os\n", f"\n.Os {source}\n", 1)
+        )
+        found[f"{name}.1"] = with_whole_paths(renamed(text)).encode()
+    return found

@@ -9,10 +9,16 @@ import subprocess
 import sys
 from dataclasses import dataclass, field
 
-from psireplay.command import Fault
+from psicli.fault import Fault
 
 # Wide, so that few lines are broken, and without colours: the output is the same everywhere.
-ENVIRONMENT = {"COLUMNS": "100", "NO_COLOR": "1", "TERM": "dumb", "LC_ALL": "C.UTF-8", "PYTHONDONTWRITEBYTECODE": "1"}
+ENVIRONMENT = {
+    "COLUMNS": "100",
+    "NO_COLOR": "1",
+    "TERM": "dumb",
+    "LC_ALL": "C.UTF-8",
+    "PYTHONDONTWRITEBYTECODE": "1",
+}
 SECTION = re.compile(r"(positional arguments|options|optional arguments):")
 ITEM = re.compile(r" {2}(\S.*?)(?: {2,}(\S.*))?")
 # A command; if its name is long, its description begins in the next line.
@@ -46,7 +52,9 @@ class Help:
 
 def said_by(words: list[str]) -> str:
     """The standard output of this command; its failure is an error."""
-    done = subprocess.run(words, capture_output=True, encoding="utf-8", env={**os.environ, **ENVIRONMENT})
+    done = subprocess.run(
+        words, capture_output=True, encoding="utf-8", env={**os.environ, **ENVIRONMENT}
+    )
     if done.returncode:
         raise Fault(f"{' '.join(words)}: status {done.returncode}: {done.stderr.strip()}")
     return done.stdout

@@ -11,7 +11,9 @@ from typing import NamedTuple, Union
 
 
 class Switch(NamedTuple):
-    """`sched_switch`: `previous` leaves in `state`, the letter of the kernel's print format (`R`: it stays ready)."""
+    """`sched_switch`: `previous` leaves in `state`, the letter of the kernel's print format (`R`:
+    it stays ready).
+    """
 
     moment: int
     processor: int
@@ -87,8 +89,9 @@ class WaitEnds(NamedTuple):
 
 
 class SwitchProbe(NamedTuple):
-    """A probe on `psi_task_switch`, right before the `sched_switch` of the same processor: whether psi takes the task that
-    leaves as waiting for IO."""
+    """A probe on `psi_task_switch`, right before the `sched_switch` of the same processor: whether
+    psi takes the task that leaves as waiting for IO.
+    """
 
     moment: int
     processor: int
@@ -223,18 +226,37 @@ class Marker(NamedTuple):
     text: bytes
 
 
+class Named(NamedTuple):
+    """The task has this name, which is another than the processor's events showed before. It was
+    read in a switch, right before that, or in `sched_process_exec`.
+    """
+
+    moment: int
+    processor: int
+    current: int
+    task: int
+    name: bytes
+
+
 Event = Union[
-    Switch, Wakeup, FirstWakeup, Migration, NewTask, Exec, WaitEnds, SwitchProbe, StallBegins, StallEnds, Attach, AttachProbe,
+    Switch, Wakeup, FirstWakeup, Migration, NewTask, Exec, WaitEnds, SwitchProbe, StallBegins,
+    StallEnds, Attach, AttachProbe,
     GroupMade, GroupRemoved, Victim, Interrupts, ShowProbe, AverageProbe, ReadyProbe, Marker,
+    Named,
 ]  # fmt: skip
 
 # The name of each kind in counts and messages: the kernel's name, or the probe's.
 NAMES: dict[type, str] = {
-    Switch: "sched_switch", Wakeup: "sched_wakeup", FirstWakeup: "sched_wakeup_new", Migration: "sched_migrate_task",
-    NewTask: "task_newtask", Exec: "sched_process_exec", WaitEnds: "sched_stat_iowait", SwitchProbe: "psi_task_switch",
-    StallBegins: "psi_memstall_enter", StallEnds: "psi_memstall_leave", Attach: "cgroup_attach_task",
-    AttachProbe: "cgroup_attach_task (probe)", GroupMade: "cgroup_mkdir", GroupRemoved: "cgroup_rmdir", Victim: "mark_victim",
-    Interrupts: "psi_account_irqtime", ShowProbe: "psi_show", AverageProbe: "psi_avgs_work", ReadyProbe: "psi_task_change",
+    Switch: "sched_switch", Wakeup: "sched_wakeup", FirstWakeup: "sched_wakeup_new",
+    Migration: "sched_migrate_task",
+    NewTask: "task_newtask", Exec: "sched_process_exec", WaitEnds: "sched_stat_iowait",
+    SwitchProbe: "psi_task_switch",
+    StallBegins: "psi_memstall_enter", StallEnds: "psi_memstall_leave",
+    Attach: "cgroup_attach_task",
+    AttachProbe: "cgroup_attach_task (probe)", GroupMade: "cgroup_mkdir",
+    GroupRemoved: "cgroup_rmdir", Victim: "mark_victim",
+    Interrupts: "psi_account_irqtime", ShowProbe: "psi_show", AverageProbe: "psi_avgs_work",
+    ReadyProbe: "psi_task_change",
     Marker: "trace_marker",
 }  # fmt: skip
 

@@ -70,7 +70,10 @@ class Raw:
             raise Unreadable(f"{self.name}: {getattr(fault, 'strerror', None) or fault}") from None
         self.count += len(data)
         if self.count > self.most and self.names[0].endswith(PACKED):
-            raise Unreadable(f"{self.name}: unpacked it has more than {self.most} bytes, which is more than the recorder wrote")
+            raise Unreadable(
+                f"{self.name}: unpacked it has more than {self.most} bytes, which is more than the"
+                " recorder wrote"
+            )
         return bytes(data)
 
     def read_all(self) -> bytes:
@@ -85,7 +88,10 @@ def parts_of(folder: str, processor: int) -> list[str]:
     """The paths of a processor's parts. If a part exists twice, the recorder was compressing it."""
     names = set(os.listdir(folder))
     parts: list[str] = []
-    while found := {part_name(processor, len(parts)), part_name(processor, len(parts)) + PACKED} & names:
+    while (
+        found := {part_name(processor, len(parts)), part_name(processor, len(parts)) + PACKED}
+        & names
+    ):
         parts.append(os.path.join(folder, min(found)))
     return parts
 
@@ -93,4 +99,6 @@ def parts_of(folder: str, processor: int) -> list[str]:
 def open_part(name: str) -> IO[bytes]:
     """A part, which may be compressed."""
     file = open_regular(name)
-    return gzip.GzipFile(fileobj=file) if name.endswith(PACKED) else file  # type: ignore[return-value]
+    if name.endswith(PACKED):
+        return gzip.GzipFile(fileobj=file)  # type: ignore[return-value]
+    return file

@@ -12,7 +12,10 @@ import struct
 from collections.abc import Callable, Sequence
 from typing import NamedTuple
 
-FIELD = re.compile(r"\s+field:(.*?)([A-Za-z0-9_]+)(\[[^\]]*\])?;\s*offset:([0-9]{1,7});\s*size:([0-9]{1,7});\s*signed:([01]);")
+FIELD = re.compile(
+    r"\s+field:(.*?)([A-Za-z0-9_]+)(\[[^\]]*\])?;\s*offset:([0-9]{1,7});\s*size:([0-9]{1,7});"
+    r"\s*signed:([01]);"
+)
 INTEGERS = {(1, True): "b", (1, False): "B", (2, True): "h", (2, False): "H",
             (4, True): "i", (4, False): "I", (8, True): "q", (8, False): "Q"}  # fmt: skip
 # The largest pages of ring buffers have 1 MB.
@@ -26,7 +29,9 @@ class FormatFault(Exception):
 
 
 class Field(NamedTuple):
-    """A field of a record; `offset` and `size` are bytes, and `size` is 0 for a text that ends the record."""
+    """A field of a record; `offset` and `size` are bytes, and `size` is 0 for a text that ends the
+    record.
+    """
 
     type: str
     offset: int
@@ -48,7 +53,9 @@ def field_of(line: str) -> tuple[str, Field] | None:
     found = FIELD.match(line)
     if not found:
         return None
-    return found[2], Field(found[1].strip() + (found[3] or ""), int(found[4]), int(found[5]), found[6] == "1")
+    return found[2], Field(
+        found[1].strip() + (found[3] or ""), int(found[4]), int(found[5]), found[6] == "1"
+    )
 
 
 def sections_of(text: str) -> dict[str, list[str]]:
@@ -72,7 +79,9 @@ def formats_of(sections: dict[str, list[str]]) -> dict[str, Format]:
     """The formats of all events, by the event's name without its system's."""
     formats = {}
     for path, lines in sections.items():
-        number = next((int(line[4:]) for line in lines if re.fullmatch("ID: [0-9]{1,9}", line)), None)
+        number = next(
+            (int(line[4:]) for line in lines if re.fullmatch("ID: [0-9]{1,9}", line)), None
+        )
         if number is not None:
             name = path.rpartition("/")[2]
             texts = [line for line in lines if line.startswith("print fmt:")]
@@ -109,7 +118,10 @@ def state_letters(print_format: str) -> tuple[dict[int, str], int]:
     `R+`, which is the one above those: a task that was preempted while it was about to sleep, and
     stays ready.
     """
-    letters = {int(bit, 16): letter for bit, letter in re.findall(r"\{\s*(0x[0-9a-fA-F]{1,16}),\s*\"(\w)\"", print_format)}
+    letters = {
+        int(bit, 16): letter
+        for bit, letter in re.findall(r"\{\s*(0x[0-9a-fA-F]{1,16}),\s*\"(\w)\"", print_format)
+    }
     if not letters:
         raise FormatFault("the format of sched_switch has no letters of states")
     return letters, 2 * max(letters)

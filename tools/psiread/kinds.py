@@ -20,8 +20,8 @@ KINDS = (
     (b"event ", "it is what psi_oomd replay printed, not a trace"),
     (b"stall cpu=", "it is what psi_oomd stall printed, not a trace"),
     (b"# tracer:", "it is text of ftrace: tools/psitrace makes a trace of it"),
-    (b"{", "it seems to be a rules file"),
 )  # fmt: skip
+RULES = "it seems to be a rules file"
 
 
 def kind_of(head: bytes) -> str | None:
@@ -30,7 +30,13 @@ def kind_of(head: bytes) -> str | None:
         return "it is empty"
     if TRACE_HEADER.match(head):
         line = head.split(b"\n")[0]
-        return "its lines end as on Windows: remove the carriage returns" if line.endswith(b"\r") else None
+        return (
+            "its lines end as on Windows: remove the carriage returns"
+            if line.endswith(b"\r")
+            else None
+        )
+    if head.startswith(b"{") and b"\0" not in head:
+        return RULES
     return next((text for start, text in KINDS if head.startswith(start)), None)
 
 
@@ -39,7 +45,11 @@ def kind_of_file(name: str) -> str | None:
     input.
     """
     if os.path.isdir(name):
-        return "it is a recording: tools/psitrace makes a trace of it" if has_meta(name) else "it is a folder"
+        return (
+            "it is a recording: tools/psitrace makes a trace of it"
+            if has_meta(name)
+            else "it is a folder"
+        )
     try:
         if not os.path.isfile(name):
             return None
@@ -67,5 +77,10 @@ def has_meta(folder: str) -> bool:
 
 def recording_below(folder: str) -> str | None:
     """A folder with `meta` one or two levels below this one, if there is exactly one."""
-    found = [path for pattern in ("*", "*/*") for path in glob.glob(os.path.join(glob.escape(folder), pattern)) if has_meta(path)]
+    found = [
+        path
+        for pattern in ("*", "*/*")
+        for path in glob.glob(os.path.join(glob.escape(folder), pattern))
+        if has_meta(path)
+    ]
     return found[0] if len(found) == 1 else None

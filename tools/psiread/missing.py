@@ -12,10 +12,10 @@ from psirec.layout import MARK, escaped_path
 
 from .events import NEVER, Event, Gap, GroupMade, GroupRemoved, Marker
 from .source import Source
-from .window import seconds
-from .words import SECOND
+from psicli.times import SECOND, seconds_to_ms
 
-# If pages are missing, a processor whose first or last event is this far (ns) from the recording's start or end lost some there.
+# If pages are missing, a processor whose first or last event is this far (ns) from the recording's
+# start or end lost some there.
 FAR = SECOND // 10
 # A trace has at most a million ticks; at ticks of 2 s this is its greatest length (ns).
 MOST_LENGTH = 10**6 * 2 * SECOND
@@ -39,7 +39,10 @@ def tell_missing(source: Source, folder: str, expected: Expected) -> None:
     if expected.byte_count is not None and source.bytes != expected.byte_count:
         tell_bytes(source, expected.byte_count, expected.has_stop)
     for processor in unread_processors(folder, source.processors):
-        source.losses.append(f"cpu {processor}: its pages aren't read, since meta says that there are {source.processors} processors")
+        source.losses.append(
+            f"cpu {processor}: its pages aren't read, since meta says that there are"
+            f" {source.processors} processors"
+        )
     if expected.has_end:
         if not source.snapshot.has_end:
             source.losses.append("the snapshot has no end: groups and tasks are missing in it")
@@ -48,7 +51,10 @@ def tell_missing(source: Source, folder: str, expected: Expected) -> None:
     if missing:
         source.losses.append(f"the snapshot is cut: {missing}")
     else:
-        source.notes.append("the snapshot has no end mark, since the recorder is older; it lists what it must, so it seems whole")
+        source.notes.append(
+            "the snapshot has no end mark, since the recorder is older; it lists what it must, so"
+            " it seems whole"
+        )
 
 
 def tell_bytes(source: Source, count: int, has_stop: bool) -> None:
@@ -57,14 +63,23 @@ def tell_bytes(source: Source, count: int, has_stop: bool) -> None:
     is no loss.
     """
     if source.bytes > count:
-        source.losses.append(f"the pages have {source.bytes} bytes, and meta counts {count}: some aren't of this recording")
+        source.losses.append(
+            f"the pages have {source.bytes} bytes, and meta counts {count}: some aren't of this"
+            " recording"
+        )
         return
-    what, found = f"{count - source.bytes} of {count} bytes of pages that meta counts are missing", list(missing_ends(source))
+    what, found = (
+        f"{count - source.bytes} of {count} bytes of pages that meta counts are missing",
+        list(missing_ends(source)),
+    )
     source.gaps += [gap for gap, _ in found]
     if found or has_stop:
         source.losses += [what, *(text for _, text in found)]
     else:
-        source.notes.append(f"{what}: all processors' events end at {seconds(source.stop - source.start)} s, and so does what is known")
+        source.notes.append(
+            f"{what}: all processors' events end at {seconds_to_ms(source.stop - source.start)} s,"
+            " and so does what is known"
+        )
 
 
 def missing_ends(source: Source) -> Iterator[tuple[Gap, str]]:
@@ -72,14 +87,16 @@ def missing_ends(source: Source) -> Iterator[tuple[Gap, str]]:
     length, (firsts, lasts) = source.stop - source.start, ends_of(source)
     for processor in range(source.processors):
         if processor not in firsts:
-            yield Gap(processor, 0, NEVER, 0), f"cpu {processor}: there are no events in {seconds(length)} s"
+            yield Gap(
+                processor, 0, NEVER, 0
+            ), f"cpu {processor}: there are no events in {seconds_to_ms(length)} s"
             continue
         first, last = firsts[processor], lasts[processor]
         if first > source.start + FAR and not source.whole_from:
-            when = f"{seconds(first - source.start)} s of {seconds(length)} s"
+            when = f"{seconds_to_ms(first - source.start)} s of {seconds_to_ms(length)} s"
             yield Gap(processor, 0, first, 0), f"cpu {processor}: events begin at {when}"
         if last < source.stop - FAR:
-            when = f"{seconds(max(last - source.start, 0))} s of {seconds(length)} s"
+            when = f"{seconds_to_ms(max(last - source.start, 0))} s of {seconds_to_ms(length)} s"
             yield Gap(processor, last, NEVER, 0), f"cpu {processor}: events end at {when}"
 
 
@@ -111,7 +128,11 @@ def missing_in_snapshot(source: Source) -> str | None:
         return "its last line has no newline"
     if not snapshot.tasks:
         return "it lists no task"
-    made = {escaped_path(event.path) for event in source.events if isinstance(event, (GroupMade, GroupRemoved))}
+    made = {
+        escaped_path(event.path)
+        for event in source.events
+        if isinstance(event, (GroupMade, GroupRemoved))
+    }
     for event in source.events:
         if isinstance(event, Marker) and event.text.startswith(MARK.encode()):
             if event.current not in snapshot.tasks:
@@ -144,6 +165,9 @@ def bound_times(source: Source) -> None:
     latest = source.start + MOST_LENGTH
     if source.stop > latest:
         source.losses.append(
-            f"events reach to {seconds(source.stop - source.start)} s, and a trace to {seconds(MOST_LENGTH)} s: their times are damaged"
+            f"events reach to {seconds_to_ms(source.stop - source.start)} s, and a trace to"
+            f" {seconds_to_ms(MOST_LENGTH)} s: their times are damaged"
         )
-        source.stop = max((event[0] for event in source.events if event[0] <= latest), default=source.start)
+        source.stop = max(
+            (event[0] for event in source.events if event[0] <= latest), default=source.start
+        )

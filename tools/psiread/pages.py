@@ -14,6 +14,7 @@ from typing import NamedTuple
 
 from .events import Event, Gap
 from .formats import PageFormat
+from .names import Names
 from .records import Decoder
 
 MISSED = 1 << 31
@@ -87,7 +88,11 @@ def records_of(data: bytes, page: Page) -> Iterator[tuple[int, int, int]]:
             at += more
         else:
             value = time + (more << TIME_BITS)
-            moment = moment + value if kind == TIME_EXTENDS else moment >> MOMENT_BITS << MOMENT_BITS | value
+            moment = (
+                moment + value
+                if kind == TIME_EXTENDS
+                else moment >> MOMENT_BITS << MOMENT_BITS | value
+            )
             at += 4
 
 
@@ -101,12 +106,20 @@ class Pages(NamedTuple):
     rest: int
 
 
-def read_pages(data: bytes, processor: int, form: PageFormat, decoders: dict[int, Decoder], is_ring: bool) -> Pages:
+def read_pages(
+    data: bytes,
+    processor: int,
+    form: PageFormat,
+    decoders: dict[int, Decoder],
+    names: Names,
+    is_ring: bool,
+) -> Pages:
     """Reads all pages of a processor. In a flight recorder's ring a loss before the first page is
     no gap: it was overwritten on purpose.
     """
     events: list[Event] = []
     gaps: list[Gap] = []
+    named = names.switch, names.exec
     before = 0
     pages = len(data) // form.size
     for at in range(0, pages * form.size, form.size):
@@ -114,8 +127,13 @@ def read_pages(data: bytes, processor: int, form: PageFormat, decoders: dict[int
         if page.lost and not (is_ring and at == 0):
             gaps.append(Gap(processor, before, page.moment, max(page.lost, 0)))
         for moment, start, end in records_of(data, page):
-            decoder = decoders.get(data[start] | data[start + 1] << 8)
+            number = data[start] | data[start + 1] << 8
+            decoder = decoders.get(number)
             if decoder:
-                events.append(decoder(moment, processor, data, start, end))
+                event = decoder(moment, processor, data, start, end)
+                name = names.of(number, event, data, start, end) if number in named else None
+                if name:
+                    events.append(name)
+                events.append(event)
             before = moment
     return Pages(events, gaps, len(data) % form.size)

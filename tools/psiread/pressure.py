@@ -1,4 +1,6 @@
-"""The pressure files of a recording, and those that a replay prints: totals of stall time in us, over time."""
+"""The pressure files of a recording, and those that a replay prints: totals of stall time in us,
+over time.
+"""
 from __future__ import annotations
 
 import re
@@ -12,8 +14,14 @@ from .events import GroupMade, Marker
 from .files import text_of
 from .source import Source
 
-SAMPLE = re.compile(r"sample ([0-9]{1,18}) (\S+) (io|memory|cpu)\nsome [^\n]*total=([0-9]{1,20})\nfull [^\n]*total=([0-9]{1,20})\n")
-REPORT = re.compile(r"report ([0-9]{1,20}) (\S+) (io|memory|cpu)\nsome [^\n]*total=([0-9]{1,20})\nfull [^\n]*total=([0-9]{1,20})\n")
+SAMPLE = re.compile(
+    r"sample ([0-9]{1,18}) (\S+) (io|memory|cpu)\nsome [^\n]*total=([0-9]{1,20})\nfull"
+    r" [^\n]*total=([0-9]{1,20})\n"
+)
+REPORT = re.compile(
+    r"report ([0-9]{1,20}) (\S+) (io|memory|cpu)\nsome [^\n]*total=([0-9]{1,20})\nfull"
+    r" [^\n]*total=([0-9]{1,20})\n"
+)
 READING = re.compile(rb"pressure ([0-9]{1,18}) (begin|end)\s*")
 
 
@@ -89,7 +97,9 @@ def replay_series(printed: str) -> Series:
     """The totals that a replay printed; times are ns since the trace's start."""
     series: Series = {}
     for moment, path, resource, some, full in REPORT.findall(printed):
-        series.setdefault(File(path, resource), []).append(Totals(int(moment), int(some), int(full)))
+        series.setdefault(File(path, resource), []).append(
+            Totals(int(moment), int(some), int(full))
+        )
     return series
 
 
@@ -100,8 +110,14 @@ def totals_at(totals: list[Totals], moment: int) -> Totals:
         return totals[-1]
     after = totals[place]
     before = totals[place - 1] if place else Totals(0, 0, 0)
-    part = (moment - before.moment) / (after.moment - before.moment) if after.moment > before.moment else 1.0
-    return Totals(moment, *(round(one + (other - one) * part) for one, other in zip(before[1:], after[1:])))
+    part = (
+        (moment - before.moment) / (after.moment - before.moment)
+        if after.moment > before.moment
+        else 1.0
+    )
+    return Totals(
+        moment, *(round(one + (other - one) * part) for one, other in zip(before[1:], after[1:]))
+    )
 
 
 class Pair(NamedTuple):
@@ -134,12 +150,16 @@ def made_in(source: Source) -> dict[str, int]:
     return {escaped_path(it.path): it.moment for it in made}
 
 
-def first_totals(file: File, readings: list[dict[File, Totals]], made: dict[str, int]) -> Totals | None:
+def first_totals(
+    file: File, readings: list[dict[File, Totals]], made: dict[str, int]
+) -> Totals | None:
     """The totals from which a file's growth is counted: those of the first reading; if its group
     wasn't accounted then and had no files, those of the first reading that has some. None if the
     group was created later: it began at 0.
     """
-    is_new = file not in readings[0] and made.get(file.path, 0) > max(it.moment for it in readings[0].values())
+    is_new = file not in readings[0] and made.get(file.path, 0) > max(
+        it.moment for it in readings[0].values()
+    )
     return None if is_new else next(files[file] for files in readings if file in files)
 
 
@@ -147,10 +167,16 @@ def readings_within(readings: Readings, start: int, end: int) -> list[int]:
     """The numbers of the readings that took place entirely from `start` to `end`, ns of the
     recording's clock.
     """
-    return [number for number, files in readings.items() if all(start <= it.moment <= end for it in files.values())]
+    return [
+        number
+        for number, files in readings.items()
+        if all(start <= it.moment <= end for it in files.values())
+    ]
 
 
-def compared(readings: Readings, series: Series, made: dict[str, int], start: int, end: int) -> Compared | None:
+def compared(
+    readings: Readings, series: Series, made: dict[str, int], start: int, end: int
+) -> Compared | None:
     """All files that both have at the last reading of a trace from `start` to `end`, in ns of the
     recording's clock; `made` has the times at which groups were created. None if the trace has
     fewer than two readings.
@@ -161,10 +187,23 @@ def compared(readings: Readings, series: Series, made: dict[str, int], start: in
     first, last = readings[inside[0]], readings[inside[-1]]
     pairs = []
     for file, after in sorted(last.items()):
-        reports, before = series.get(file), first_totals(file, [readings[it] for it in inside], made)
+        reports, before = series.get(file), first_totals(
+            file, [readings[it] for it in inside], made
+        )
         if reports:
             ours = totals_at(reports, before.moment - start) if before else Totals(0, 0, 0)
             theirs = before or Totals(start, 0, 0)
-            pairs.append(Pair(file, growth(theirs, after), growth(ours, totals_at(reports, after.moment - start))))
+            pairs.append(
+                Pair(
+                    file,
+                    growth(theirs, after),
+                    growth(ours, totals_at(reports, after.moment - start)),
+                )
+            )
     root = File("/", "cpu")
-    return Compared(inside[0], inside[-1], last[root].moment - first[root].moment if root in last and root in first else 0, pairs)
+    return Compared(
+        inside[0],
+        inside[-1],
+        last[root].moment - first[root].moment if root in last and root in first else 0,
+        pairs,
+    )

@@ -8,20 +8,25 @@ from collections.abc import Callable
 from operator import itemgetter
 from typing import NamedTuple
 
+from psinames.text import escaped
+from psirec import containers
+
 from psirec.layout import (
-    FORMATS, LOST_STATS, MARK, META, PREFERENCES, SKETCH_END, SNAPSHOT, SNAPSHOT_BEGINS, SNAPSHOT_END, START, STOP, VERSION, VERSIONS,
+    FORMATS, LOST_STATS, MARK, META, PREFERENCES, SKETCH_END, SNAPSHOT, SNAPSHOT_BEGINS,
+    SNAPSHOT_END, START, STOP, VERSION, VERSIONS,
     WITHOUT_END, Key, Probe, Reason, escaped_path, raw_name,
 )  # fmt: skip
 
 from .events import NEVER, Event, Gap, Marker
 from .files import Raw, text_of
-from .formats import FormatFault, PageFormat, formats_of, page_format_of, sections_of
+from .formats import Format, FormatFault, PageFormat, formats_of, page_format_of, sections_of
 from .kinds import recording_below
 from .missing import Expected, bound_times, tell_missing
+from .names import NameFields, Names, name_fields
 from .pages import PageFault, read_pages
 from .records import Decoder, decoders_of
 from .source import ListedTask, Snapshot, Source, Unreadable
-from .words import ns_of
+from psicli.times import ns_of
 
 # The first word after MARK of the markers of a reading of the pressure files.
 READING = "pressure"
@@ -87,8 +92,17 @@ class Meta:
 
     def realtime(self) -> int | None:
         """The number of ns that CLOCK_REALTIME was ahead of CLOCK_MONOTONIC."""
-        found = re.fullmatch(r"realtime ([0-9]{1,12}\.[0-9]{1,9}) monotonic ([0-9]{1,12}\.[0-9]{1,9})", self.one(Key.MOMENT) or "")
+        found = re.fullmatch(
+            r"realtime ([0-9]{1,12}\.[0-9]{1,9}) monotonic ([0-9]{1,12}\.[0-9]{1,9})",
+            self.one(Key.MOMENT) or "",
+        )
         return ns_of(found[1]) - ns_of(found[2]) if found else None
+
+    def ahead(self) -> int:
+        """The number of ns by which local time was ahead of UTC; 0 if that wasn't recorded."""
+        found = re.fullmatch("([+-])([0-9]{2}):([0-9]{2})", self.one(Key.ZONE) or "")
+        minutes = 60 * int(found[2]) + int(found[3]) if found else 0
+        return minutes * 60 * 10**9 * (-1 if found and found[1] == "-" else 1)
 
     def had_event(self, name: str) -> bool:
         """Whether an event of this name was on."""
@@ -96,7 +110,10 @@ class Meta:
 
     def lost(self, line: str) -> dict[int, int]:
         """The number of events that each processor lost, by this line of its `stats`."""
-        found = (re.fullmatch(rf"cpu([0-9]{{1,5}}) {line}: ([0-9]{{1,19}})", it) for it in self.values.get(Key.STATS, ()))
+        found = (
+            re.fullmatch(rf"cpu([0-9]{{1,5}}) {line}: ([0-9]{{1,19}})", it)
+            for it in self.values.get(Key.STATS, ())
+        )
         return {int(it[1]): int(it[2]) for it in found if it and int(it[2])}
 
 
@@ -119,8 +136,14 @@ def snapshot_of(text: str) -> Snapshot:
             snapshot.types[path_of(words[1])] = words[2]
         elif words[0] == "unaccounted" and len(words) == 2:
             snapshot.unaccounted.append(path_of(words[1]))
-        elif words[0] == "task" and len(words) >= 6 and all(NUMBER.fullmatch(words[place]) for place in (1, 2, 4)):
-            snapshot.tasks[int(words[1])] = ListedTask(int(words[2]), words[3], int(words[4]), path_of(words[5]))
+        elif (
+            words[0] == "task"
+            and len(words) >= 6
+            and all(NUMBER.fullmatch(words[place]) for place in (1, 2, 4))
+        ):
+            snapshot.tasks[int(words[1])] = ListedTask(
+                int(words[2]), words[3], int(words[4]), path_of(words[5]), *words[6:7]
+            )
     snapshot.tasks.pop(0, None)
     snapshot.is_cut = not text.endswith("\n")
     return snapshot
@@ -135,17 +158,20 @@ def path_of(text: str) -> str:
 
 
 class Kernel(NamedTuple):
-    """How this recording's kernel writes its pages and records."""
+    """How this recording's kernel writes its pages and records, and names in these."""
 
     page: PageFormat
     decoders: dict[int, Decoder]
+    names: NameFields
+    forms: dict[str, Format]
 
 
 def kernel_of(folder: str) -> Kernel:
     """The formats in the recording's folder."""
     sections = sections_of(text_of(folder, FORMATS))
     try:
-        return Kernel(page_format_of(sections), decoders_of(formats_of(sections)))
+        forms = formats_of(sections)
+        return Kernel(page_format_of(sections), decoders_of(forms), name_fields(forms), forms)
     except FormatFault as fault:
         raise Unreadable(f"{FORMATS}: {fault}") from None
 
@@ -155,7 +181,11 @@ def gaps_behind(processor: int, lost: int, gaps: list[Gap], last: Event | None) 
     count all lost events. `gaps` are the known gaps, and `last` is the last event.
     """
     behind = lost - sum(gap.lost for gap in gaps)
-    return [Gap(processor, last.moment if last else 0, NEVER, behind)] if behind > 0 and all(gap.lost for gap in gaps) else []
+    return (
+        [Gap(processor, last.moment if last else 0, NEVER, behind)]
+        if behind > 0 and all(gap.lost for gap in gaps)
+        else []
+    )
 
 
 def read_processors(folder: str, meta: Meta, source: Source) -> None:
@@ -168,11 +198,18 @@ def read_processors(folder: str, meta: Meta, source: Source) -> None:
         name = raw_name(processor)
         try:
             data = Raw(folder, processor, meta.bytes()).read_all()
-            read = read_pages(data, processor, kernel.page, kernel.decoders, meta.is_ring())
+            read = read_pages(
+                data, processor, kernel.page, kernel.decoders, Names(kernel.names), meta.is_ring()
+            )
         except (PageFault, struct.error, IndexError) as fault:
             raise Unreadable(f"{name}: {fault}") from None
         source.gaps += read.gaps
-        source.gaps += gaps_behind(processor, overrun.get(processor, 0), read.gaps, read.events[-1] if read.events else None)
+        source.gaps += gaps_behind(
+            processor,
+            overrun.get(processor, 0),
+            read.gaps,
+            read.events[-1] if read.events else None,
+        )
         if read.rest:
             source.mended[f"bytes at the end of {name} that are no whole page"] += read.rest
         source.bytes += len(data)
@@ -223,21 +260,30 @@ def tell_losses(source: Source, meta: Meta) -> None:
     reason = meta.end()
     if reason is None or reason.split(" ")[0] in (Reason.DISK_FULL, Reason.FAILED):
         lasts: dict[int, int] = {event.processor: event.moment for event in source.events}
-        source.gaps += [Gap(processor, moment, NEVER, 0) for processor, moment in sorted(lasts.items())]
+        source.gaps += [
+            Gap(processor, moment, NEVER, 0) for processor, moment in sorted(lasts.items())
+        ]
     if reason is not None and reason.split(" ")[0] in (Reason.DISK_FULL, Reason.FAILED):
         source.notes.append(f"the recording ended early: {reason}")
 
 
-def read_recording(folder: str, is_forced: bool, read: Callable[[str, Meta, Source], None] = read_processors) -> Source:
+def read_recording(
+    folder: str, is_forced: bool, read: Callable[[str, Meta, Source], None] = read_processors
+) -> Source:
     """Reads a folder. If its recorder was killed, `is_forced` is required. `read` reads its events.
     """
     meta = meta_of(folder)
     fault = meta.version_fault()
     if fault is None and meta.end() is None and not is_forced:
-        fault = f"{META}: the recording has no end: its recorder was killed, or still runs; --force reads what is there"
+        fault = (
+            f"{META}: the recording has no end: its recorder was killed, or still runs; --force"
+            " reads what is there"
+        )
     if fault:
         raise Unreadable(fault)
-    source = Source([], meta.processors(), 0, 0, realtime=meta.realtime(), has_switch_probe=meta.had_event(Probe.SWITCH))
+    source = Source([], meta.processors(), 0, 0, realtime=meta.realtime())
+    source.has_switch_probe = meta.had_event(Probe.SWITCH)
+    source.ahead, source.containers = meta.ahead(), containers_of(folder)
     source.has_moments = meta.had_event(Probe.SHOW) and meta.had_event(Probe.AVERAGE)
     source.has_ready_probe = meta.had_event(Probe.READY)
     source.snapshot = snapshot_of(text_of(folder, SNAPSHOT))
@@ -250,12 +296,27 @@ def read_recording(folder: str, is_forced: bool, read: Callable[[str, Meta, Sour
         begin_ring(source, meta.ring_start())
     stop = first_moment(source.events, STOP)
     source.stop = source.events[-1].moment if stop is None else stop
-    source.snapshot.moment = source.snapshot.moment or first_moment(source.events, SNAPSHOT_BEGINS) or source.start
+    source.snapshot.moment = (
+        source.snapshot.moment or first_moment(source.events, SNAPSHOT_BEGINS) or source.start
+    )
     tell_losses(source, meta)
     count = meta.bytes() if has_all_bytes(meta) else None
     tell_missing(source, folder, Expected(count, stop is not None, meta.has_snapshot_end()))
     bound_times(source)
     return source
+
+
+def containers_of(folder: str) -> dict[str, str]:
+    """The names of containers and pods, by their numbers. A damaged file has none."""
+    if not os.path.isfile(os.path.join(folder, containers.FILE)):
+        return {}
+    try:
+        found = containers.names_in(text_of(folder, containers.FILE))
+    except ValueError:
+        return {}
+    return {
+        number: escaped(name.encode("utf-8", "surrogateescape")) for number, name in found.items()
+    }
 
 
 def meta_of(folder: str) -> Meta:
@@ -273,4 +334,7 @@ def has_all_bytes(meta: Meta) -> bool:
     """Whether all pages that `meta` counts must be there: if the disk was full, some couldn't be
     written.
     """
-    return meta.end() is not None and (meta.end() or "").split(" ")[0] not in (Reason.DISK_FULL, Reason.FAILED)
+    return meta.end() is not None and (meta.end() or "").split(" ")[0] not in (
+        Reason.DISK_FULL,
+        Reason.FAILED,
+    )

@@ -7,7 +7,8 @@ from typing import Any, Union
 from psirec.layout import Probe
 
 from .events import (
-    Attach, AttachProbe, AverageProbe, Event, Exec, FirstWakeup, GroupMade, GroupRemoved, Interrupts, Marker, Migration, NewTask,
+    Attach, AttachProbe, AverageProbe, Event, Exec, FirstWakeup, GroupMade, GroupRemoved,
+    Interrupts, Marker, Migration, NewTask,
     ReadyProbe, ShowProbe, StallBegins, StallEnds, Switch, SwitchProbe, Victim, WaitEnds, Wakeup,
 )  # fmt: skip
 from .formats import Format, FormatFault, integers_of, state_letters, text_at
@@ -67,7 +68,10 @@ def switch_decoder(form: Format) -> Decoder:
 
     def decode(moment: int, processor: int, data: bytes, start: int, end: int) -> Event:
         current, previous, state, following = read(data, start)
-        event: Event = made(Switch, (moment, processor, current, previous, known.get(state) or letter_of(state), following))
+        event: Event = made(
+            Switch,
+            (moment, processor, current, previous, known.get(state) or letter_of(state), following),
+        )
         return event
 
     return decode

@@ -14,22 +14,25 @@ import signal
 import struct
 from bisect import bisect_left
 from collections.abc import Iterator
+from typing import Any
 from multiprocessing.connection import Connection
 from operator import itemgetter
 from threading import Thread
 
-from psirec.layout import FORMATS, MARK, Probe, raw_name
+from psirec.layout import MARK, Probe, raw_name
 
 from .events import NEVER, Event, Gap, Marker, Switch
-from .files import Raw, text_of
-from .formats import Format, IntegerReader, formats_of, integers_of, sections_of
+from .files import Raw
+from .formats import Format, IntegerReader, integers_of
+from .names import Names
 from .pages import Page, PageFault, page_at, records_of
 from .recording import Meta, gaps_behind, kernel_of
 from .source import Source, Unreadable
 
 # Events that a machine writes thousands of times a second; so are markers of memory samples.
 OFTEN = (
-    "sched_switch", "sched_wakeup", "sched_migrate_task", "sched_stat_iowait", Probe.SWITCH, Probe.STALL_BEGINS, Probe.STALL_ENDS,
+    "sched_switch", "sched_wakeup", "sched_migrate_task", "sched_stat_iowait", Probe.SWITCH,
+    Probe.STALL_BEGINS, Probe.STALL_ENDS,
     Probe.INTERRUPT, Probe.READY, Probe.SHOW, Probe.AVERAGE,
 )  # fmt: skip
 SAMPLES = (MARK + "mem ").encode(), (MARK + "host ").encode()
@@ -57,7 +60,7 @@ class Records:
 
     def __init__(self, folder: str) -> None:
         self.kernel = kernel_of(folder)
-        forms = formats_of(sections_of(text_of(folder, FORMATS)))
+        forms = self.kernel.forms
         # For a switch the task that leaves and the next one; for its probe the task, and whether it
         # waits.
         self.switch, self.ends_of = reader_of(forms, "sched_switch", ("prev_pid", "next_pid"))
@@ -66,12 +69,18 @@ class Records:
         self.often = {forms[name].number for name in OFTEN if name in forms}
 
 
-def reader_of(forms: dict[str, Format], name: str, fields: tuple[str, ...]) -> tuple[int, IntegerReader]:
-    """An event's number, and a reader for these fields of its records; -1 and a reader of nothing if
-    the recording doesn't have it.
+def reader_of(
+    forms: dict[str, Format], name: str, fields: tuple[str, ...]
+) -> tuple[int, IntegerReader]:
+    """An event's number, and a reader for these fields of its records; -1 and a reader of nothing
+    if the recording doesn't have it.
     """
     form = forms.get(name)
-    return (form.number, integers_of(form, fields)) if form else (-1, integers_of(Format(name, -1, {}, ""), ()))
+    return (
+        (form.number, integers_of(form, fields))
+        if form
+        else (-1, integers_of(Format(name, -1, {}, ""), ()))
+    )
 
 
 class Reader:
@@ -79,14 +88,28 @@ class Reader:
     the number of bytes after the last whole page.
     """
 
-    def __init__(self, folder: str, processor: int, records: Records, is_ring: bool, size: int, most: int | None) -> None:
-        self.name, self.processor, self.records, self.is_ring = raw_name(processor), processor, records, is_ring
+    def __init__(
+        self,
+        folder: str,
+        processor: int,
+        records: Records,
+        is_ring: bool,
+        size: int,
+        most: int | None,
+    ) -> None:
+        self.name, self.processor, self.records, self.is_ring = (
+            raw_name(processor),
+            processor,
+            records,
+            is_ring,
+        )
         self.form = records.kernel.page
         self.size = max(size // self.form.size, 1) * self.form.size
         self.rest, self.before, self.gaps = 0, 0, list[Gap]()
         # The last probe whose switch hasn't come yet: the task, and whether it waits.
         self.told: tuple[int, ...] | None = None
         self.file = Raw(folder, processor, most)
+        self.names = Names(records.kernel.names)
 
     def data(self) -> bytes:
         """The next whole pages; nothing at the end."""
@@ -115,20 +138,38 @@ class Reader:
     def decoded(self, data: bytes) -> list[Event]:
         """The events in these pages except probes of switches."""
         events: list[Event] = []
-        add, processor, records, told, moment = events.append, self.processor, self.records, self.told, self.before
-        decoders, switch, probe, told_by = records.kernel.decoders, records.switch, records.probe, records.told_by
+        add, processor, records, told, moment = (
+            events.append,
+            self.processor,
+            self.records,
+            self.told,
+            self.before,
+        )
+        decoders, switch, probe, told_by = (
+            records.kernel.decoders,
+            records.switch,
+            records.probe,
+            records.told_by,
+        )
+        names, has_name = self.names, self.names.exec
         for page in self.pages(data):
             for moment, start, end in records_of(data, page):
                 number = data[start] | data[start + 1] << 8
                 if number == probe:
                     told = told_by(data, start)
                 elif number == switch:
-                    event = decoders[number](moment, processor, data, start, end)
+                    event: Any = decoders[number](moment, processor, data, start, end)
+                    name = names.of_switch(event, data, start)
+                    if name:
+                        add(name)
                     is_wait = told is not None and told[1] and told[0] == event[3]
                     add(WaitingSwitch._make(event) if is_wait else event)
                     told = None
                 elif number in decoders:
-                    add(decoders[number](moment, processor, data, start, end))
+                    event = decoders[number](moment, processor, data, start, end)
+                    if number == has_name and (name := names.of(number, event, data, start, end)):
+                        add(name)
+                    add(event)
             self.before = moment
         self.told = told
         return events
@@ -159,8 +200,19 @@ class Surveyed:
 
     def take(self, reader: Reader, data: bytes) -> None:
         """Takes the next pages. The first of each frequent kind is kept."""
-        records, processor, seen, leave, come = reader.records, reader.processor, self.seen, self.leaving.add, self.coming.add
-        decoders, switch, often, ends_of = records.kernel.decoders, records.switch, records.often, records.ends_of
+        records, processor, seen, leave, come = (
+            reader.records,
+            reader.processor,
+            self.seen,
+            self.leaving.add,
+            self.coming.add,
+        )
+        decoders, switch, often, ends_of = (
+            records.kernel.decoders,
+            records.switch,
+            records.often,
+            records.ends_of,
+        )
         last, moment = None, reader.before
         for page in reader.pages(data):
             for moment, start, end in records_of(data, page):
@@ -214,12 +266,16 @@ def end_with(line: Connection) -> None:
 
 def surveyed_at_once(readers: list[Reader]) -> list[Surveyed]:
     """Surveys all processors, in as many processes as this machine has processors."""
-    context, count = multiprocessing.get_context("fork"), min(len(readers), len(os.sched_getaffinity(0)))
+    context, count = multiprocessing.get_context("fork"), min(
+        len(readers), len(os.sched_getaffinity(0))
+    )
     pairs = [context.Pipe() for _ in range(count)]
     every = [end for pair in pairs for end in pair]
     for start, (_, there) in enumerate(pairs):
         others = [end for end in every if end is not there]
-        context.Process(target=survey_share, args=(readers[start::count], there, others), daemon=True).start()
+        context.Process(
+            target=survey_share, args=(readers[start::count], there, others), daemon=True
+        ).start()
     for _, there in pairs:
         there.close()
     shares = [share_from(here) for here, _ in pairs]
@@ -251,7 +307,10 @@ class Survey:
     def readers(self) -> list[Reader]:
         """A reader for each processor, at its first page."""
         size, most = READ_BYTES // self.processors, self.most
-        return [Reader(self.folder, processor, self.records, self.is_ring, size, most) for processor in range(self.processors)]
+        return [
+            Reader(self.folder, processor, self.records, self.is_ring, size, most)
+            for processor in range(self.processors)
+        ]
 
     def read(self, _: str, meta: Meta, source: Source) -> None:
         """Reads the whole recording: the source gets the rare events, and what was lost."""
@@ -264,9 +323,13 @@ class Survey:
             coming |= found.coming
             leaving |= found.leaving
             source.gaps += found.gaps
-            source.gaps += gaps_behind(reader.processor, overrun.get(reader.processor, 0), found.gaps, found.last)
+            source.gaps += gaps_behind(
+                reader.processor, overrun.get(reader.processor, 0), found.gaps, found.last
+            )
             if found.rest:
-                source.mended[f"bytes at the end of {reader.name} that are no whole page"] += found.rest
+                source.mended[
+                    f"bytes at the end of {reader.name} that are no whole page"
+                ] += found.rest
             source.bytes += found.bytes
             source.events += found.rare
         source.events.sort(key=MOMENT)
@@ -275,7 +338,11 @@ class Survey:
     def slices(self, whole_from: int) -> Iterator[list[Event]]:
         """The events in slices, from the time (ns) at which they are complete."""
         for events in slices_of(self.readers()):
-            yield events if not events or events[0].moment >= whole_from else [it for it in events if it.moment >= whole_from]
+            yield (
+                events
+                if not events or events[0].moment >= whole_from
+                else [it for it in events if it.moment >= whole_from]
+            )
 
 
 # ---------------------------------------------------------------- slices
@@ -309,7 +376,10 @@ def parts_of(readers: list[Reader]) -> Iterator[list[Event]]:
                     ended.add(place)
                 else:
                     events += part
-        boundary = min((events[-1].moment for place, events in waiting.items() if place not in ended), default=NEVER)
+        boundary = min(
+            (events[-1].moment for place, events in waiting.items() if place not in ended),
+            default=NEVER,
+        )
         found: list[Event] = []
         for events in waiting.values():
             end = bisect_left(events, boundary, key=MOMENT)

@@ -7,26 +7,25 @@ from collections import Counter
 from dataclasses import dataclass, field
 from typing import NamedTuple
 
+from psicli.fault import Fault
+
 from .events import Event, Gap
 
 
-class Faulty(Exception):
-    """The command line is wrong, or doesn't fit this recording."""
-
-
-class Unreadable(Exception):
+class Unreadable(Fault):
     """The input can't be used; the text says why."""
 
 
 class ListedTask(NamedTuple):
-    """A thread of a snapshot: its process, its state's letter, its processor, and its group as in a
-    trace.
+    """A thread of a snapshot: its process, its state's letter, its processor, its group as in a
+    trace, and its name.
     """
 
     process: int
     state: str
     processor: int
     path: str
+    name: str = ""
 
 
 @dataclass
@@ -66,6 +65,10 @@ class Source:
     # Whether the events include the time at which psi counts a wakeup.
     has_ready_probe: bool = False
     realtime: int | None = None
+    # The ns by which the recorded machine's clocks were ahead of UTC.
+    ahead: int = 0
+    # Names of containers and pods, by their numbers.
+    containers: dict[str, str] = field(default_factory=dict)
     # The number of bytes of pages that were read.
     bytes: int = 0
     # In a flight recorder's ring the time (ns) from which the events are complete.

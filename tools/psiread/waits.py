@@ -3,7 +3,7 @@ rather than all in state D: on a journaling file system a third to a half of the
 """
 from __future__ import annotations
 
-from collections.abc import Sequence
+from collections.abc import Callable, Sequence
 from enum import Enum
 
 from .events import Event, Switch, SwitchProbe, WaitEnds
@@ -67,9 +67,16 @@ def by_state(events: Sequence[Event]) -> set[int]:
     """The places of the switches that begin a wait for IO, if each sleep in state D is taken for
     one.
     """
-    return {place for place, event in enumerate(events) if isinstance(event, Switch) and event.state == UNINTERRUPTIBLE}
+    return {
+        place
+        for place, event in enumerate(events)
+        if isinstance(event, Switch) and event.state == UNINTERRUPTIBLE
+    }
 
 
 def waits_for_io(events: Sequence[Event], method: Method) -> set[int]:
     """The places of the switches that begin a wait for IO."""
-    return {Method.PROBE: by_probe, Method.STATISTICS: by_statistics, Method.STATE: by_state}[method](events)
+    ways: dict[Method, Callable[[Sequence[Event]], set[int]]] = {
+        Method.PROBE: by_probe, Method.STATISTICS: by_statistics, Method.STATE: by_state,
+    }  # fmt: skip
+    return ways[method](events)

@@ -8,7 +8,7 @@ from collections.abc import Iterable
 from typing import NamedTuple
 
 from .events import NEVER, Gap
-from .words import SECOND
+from psicli.times import seconds_to_ms
 
 
 class Window(NamedTuple):
@@ -42,11 +42,6 @@ def longest_stretch(gaps: Iterable[Gap], window: Window) -> Window:
     return last if last.length() > best.length() else best
 
 
-def seconds(moment: int) -> str:
-    """A length of time in seconds, with three decimals."""
-    return f"{moment // SECOND}.{moment % SECOND // 10**6:03}"
-
-
 def loss_text(gaps: Iterable[Gap], whole: Window) -> str:
     """The number of events that each processor lost, and the times in the recording between which
     that was.
@@ -55,7 +50,12 @@ def loss_text(gaps: Iterable[Gap], whole: Window) -> str:
     lost = Counter({gap.processor: 0 for gap in gaps})
     for gap in gaps:
         lost[gap.processor] += gap.lost
-    counts = ", ".join(f"cpu {processor}: {lost[processor] or 'unknown'}" for processor in sorted(lost))
+    counts = ", ".join(
+        f"cpu {processor}: {lost[processor] or 'unknown'}" for processor in sorted(lost)
+    )
     first = max(min(gap.start for gap in gaps), whole.start) - whole.start
-    last = max(whole.end if gap.end == NEVER else min(gap.end, whole.end) for gap in gaps) - whole.start
-    return f"{counts} events, between {seconds(first)} s and {seconds(last)} s"
+    last = (
+        max(whole.end if gap.end == NEVER else min(gap.end, whole.end) for gap in gaps)
+        - whole.start
+    )
+    return f"{counts} events, between {seconds_to_ms(first)} s and {seconds_to_ms(last)} s"

@@ -1,21 +1,27 @@
-"""The names in a recording: the files of its folder, their lines, the markers among its events, and its probes.
+"""The names in a recording: the files of its folder, their lines, the markers among its events, and
+its probes.
 
-`tools/record` writes these names and `tools/psitrace` and `tools/compare` read them, so each is defined once, here. All
-files are bytes; bytes that aren't UTF-8 are kept by the error handler `surrogateescape`. Paths of control groups are written
-as `escaped_path` returns them, from the root of the hierarchy, which is `/`; so no path has a blank.
+`tools/record` writes these names and `tools/psitrace` and `tools/compare` read them, so each is
+defined once, here. All files are bytes; bytes that aren't UTF-8 are kept by the error handler
+`surrogateescape`. Paths of control groups are written as `escaped_path` returns them, from the root
+of the hierarchy, which is `/`; so no path has a blank.
 
-meta        lines `KEY VALUE`, a key as often as it is needed. The last line is `end REASON`: if it is missing, the
-            recorder was killed.
-formats     for each event a line `== SYSTEM/EVENT` and the text of the kernel's own file `events/SYSTEM/EVENT/format`;
-            also `== header_page`, which has the size of a page of a ring buffer.
-cpuN.raw    the pages of the ring buffer of processor N, in the order in which they arrived; in a compressed recording
-            parts of them, cpuN.K.raw with K from 0, uncompressed or as cpuN.K.raw.gz.
-snapshot    the state after the recording had begun: lines `at NS`, `group PATH PREFERENCE`, `type PATH TYPE` (its
-            `cgroup.type`), `unaccounted PATH` (its `cgroup.pressure` is 0) and `task TID TGID STATE CPU PATH NAME`; the last
-            line is `end`.
+meta        lines `KEY VALUE`, a key as often as it is needed. The last line is `end REASON`: if
+            it is missing, the recorder was killed.
+formats     for each event a line `== SYSTEM/EVENT` and the text of the kernel's own file
+            `events/SYSTEM/EVENT/format`; also `== header_page`, which has the size of a page of a
+            ring buffer.
+cpuN.raw    the pages of the ring buffer of processor N, in the order in which they arrived; in a
+            compressed recording parts of them, cpuN.K.raw with K from 0, uncompressed or as
+            cpuN.K.raw.gz.
+containers  names of containers and pods, if any run: lines `NUMBER NAME` (`psirec.containers`).
+snapshot    the state after the recording had begun: lines `at NS`, `group PATH PREFERENCE`, `type
+            PATH TYPE` (its `cgroup.type`), `unaccounted PATH` (its `cgroup.pressure` is 0) and
+            `task TID TGID STATE CPU PATH NAME`; the last line is `end`.
 pressure    for each reading `sample NUMBER PATH RESOURCE` and the two lines of that pressure file.
 
-NS is CLOCK_MONOTONIC in ns, as all times of events are (`trace_clock` is `mono`). Sizes of memory are bytes.
+NS is CLOCK_MONOTONIC in ns, as all times of events are (`trace_clock` is `mono`). Sizes of memory
+are bytes.
 """
 from __future__ import annotations
 
@@ -61,11 +67,15 @@ class Key:
     RECORDING = "recording"  # VERSION; the first line
     UNAME = "uname"  # the words of uname(2)
     PROCESSORS = "cpus"  # how many are configured (_NPROCESSORS_CONF): so many raw files there are
-    MOMENT = "moment"  # `realtime S monotonic S`, read together at the start: seconds with six decimals
+    ZONE = "zone"  # `+HH:MM`: local time is ahead of UTC by this at the start
+    MOMENT = (  # `realtime S monotonic S`, read together at the start: seconds with six decimals
+        "moment"
+    )
     EVENT = "event"  # `SYSTEM/EVENT`: it was on
     NO_EVENT = "no-event"  # `SYSTEM/EVENT: REASON`: it couldn't be had
     NO_PROBE = "no-probe"  # `DEFINITION: REASON`
     RING = "ring"  # the trigger of a flight recorder, whose buffers were overwritten on purpose
+    RING_GROUP = "ring-group"  # the escaped path of the group whose pressure the trigger is for
     RING_START = "ring-start"  # s: from here on all processors have events
     FIRED = "fired"  # s: when the trigger did
     STATS = "stats"  # `cpuN LINE`: a line of `per_cpu/cpuN/stats` at the end
@@ -92,12 +102,13 @@ class Reason:
     TRIGGER = "trigger"  # the flight recorder's trigger had fired
     DISK_FULL = "disk-full"  # not all pages could be written
     FAILED = "failed"  # something else, told after it
+    KILLED = "killed"  # no line says why: the recorder was killed, or the machine crashed
 
 
 # ---------------------------------------------------------------- probes
 
-# The instance of tracefs, and the group of the probes: PREFIX, the recorder's process number, "_", and when that process started,
-# in the clock ticks since boot of /proc/PID/stat.
+# The instance of tracefs, and the group of the probes: PREFIX, the recorder's process number, "_",
+# and when that process started, in the clock ticks since boot of /proc/PID/stat.
 PREFIX = "psirec"
 
 
@@ -106,11 +117,15 @@ class Probe:
 
     STALL_BEGINS = "ms_enter"  # psi_memstall_enter
     STALL_ENDS = "ms_leave"  # psi_memstall_leave; FLAGS is 0 where it is the outermost one
-    SWITCH = "psw"  # psi_task_switch: PID leaves, and IO says whether psi counts it as waiting for IO
+    # psi_task_switch: PID leaves, and IO says whether psi counts it as waiting for IO
+    SWITCH = "psw"
     INTERRUPT = "irq"  # psi_account_irqtime: DELTA ns
-    ATTACH = "cga"  # cgroup_attach_task: PID goes, and ALL says whether with all threads of its process
-    SHOW = "psh"  # psi_show: the file of the resource RES of the group whose accounts stand at GROUP is read
-    AVERAGE = "pav"  # psi_avgs_work: the kernel samples a group by itself, in whose accounts WORK stands
+    # cgroup_attach_task: PID moves; ALL says whether all threads of its process do
+    ATTACH = "cga"
+    # psi_show: the file of the resource RES of the group with the accounts GROUP is read
+    SHOW = "psh"
+    # psi_avgs_work: the kernel samples the group whose accounts contain WORK
+    AVERAGE = "pav"
     READY = "pch"  # psi_task_change, where SET has SET_READY: psi counts PID as ready
     FLAGS = "flags"
     PID = "pid"
@@ -148,7 +163,9 @@ def host_marker(memory_total: int, swap_total: int, swap_free: int) -> str:
 
 
 def memory_marker(path: str, current: int, swap: int, scanned: int) -> str:
-    """A group's memory and swap in bytes, and its count of scanned pages (`pgscan`); `path` is escaped."""
+    """A group's memory and swap in bytes, and its count of scanned pages (`pgscan`); `path` is
+    escaped.
+    """
     return f"{MARK}mem {path} {current} {swap} {scanned}"
 
 
@@ -193,7 +210,9 @@ PLAIN_TYPE = "domain"
 
 
 def type_line(path: str, kind: str) -> str:
-    """A group's `cgroup.type`, its words joined by a dash: PLAIN_TYPE, `domain-threaded`, `threaded` or `domain-invalid`."""
+    """A group's `cgroup.type`, its words joined by a dash: PLAIN_TYPE, `domain-threaded`,
+    `threaded` or `domain-invalid`.
+    """
     return f"type {path} {'-'.join(kind.split())}"
 
 
@@ -226,6 +245,7 @@ def _escaped_component(component: bytes) -> str:
 
 
 def escaped_path(path: bytes) -> str:
-    """A group's path with the bytes alone that a trace may have: each other one becomes `\\xHH`, which is how systemd
-    escapes names of units. An escaped path stays as it is."""
+    """A group's path with the bytes alone that a trace may have: each other one becomes `\\xHH`,
+    which is how systemd escapes names of units. An escaped path stays as it is.
+    """
     return "/" + "/".join(_escaped_component(it) for it in re.split(b"/+", path) if it)

@@ -6,7 +6,13 @@ file.
 FOLDER = "systemd"
 VERSION, UNITS, GROUPS = "version", "units", "groups"
 # The folders of oomd.conf and oomd.conf.d, in order of priority.
-CONFIGURATIONS = ("etc/systemd", "run/systemd", "usr/local/lib/systemd", "usr/lib/systemd", "lib/systemd")
+CONFIGURATIONS = (
+    "etc/systemd",
+    "run/systemd",
+    "usr/local/lib/systemd",
+    "usr/lib/systemd",
+    "lib/systemd",
+)
 # The folders of unit files, of the system's manager and of the users', in order of priority
 # (systemd.unit(5)).
 SYSTEM_UNITS = (

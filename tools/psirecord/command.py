@@ -1,22 +1,21 @@
-"""The command line of tools/record, and its steps from the first check to the last line."""
+"""The steps of tools/record from the first check to the last line."""
 from __future__ import annotations
 
-import argparse
 import contextlib
-import enum
 import os
-import re
 import resource
 import sys
 import time
-from typing import NoReturn
 
-from psirec.layout import RESOURCES, Key, Probe, Reason
+from psirec.layout import Key, Probe, Reason, escaped_path
 
+from .container_names import ContainerNames
 from .daily import wait_for_room
 from .folder import DiskFull, Folder
+from .hook import run_hook
 from .instance import STATISTICS_SUFFIX, Instance, NotRecorded, recorder_name, remove_left_behind
 from .machine import Machine
+from .options import STATUS_WORD, Service, Status, parser, service_of, status_parser, wanted_of
 from .plain_machine import plain_machine
 from .probing import (
     BY_PROBE,
@@ -33,64 +32,18 @@ from .probing import (
     statistics_of,
     switch_statistics_on,
 )
-from .recorder import FOREVER, Ending, Recorder, Wanted
+from .recorder import Ending, Recorder, Wanted
+from .status import lines as status_lines
+from .status import write_textfile
+from .stored import keep
 from .systemd_settings import store as store_settings
+from .trigger import Trigger
 from .undoing import Undoing
 from .waiting import Signals
 
-# More than a trace can have: 4,000,000 events have some 220 MB.
-MOST_MB = 400.0
-BUFFER_KB = 8192
 PRIORITY = -10
 # From <sys/mman.h>: MCL_CURRENT, MCL_FUTURE, MCL_ONFAULT.
 LOCK_CURRENT, LOCK_FUTURE, LOCK_ON_FAULT = 1, 2, 4
-TRIGGER = re.compile(rf"({'|'.join(RESOURCES)}) (some|full) ([1-9]\d*) ([1-9]\d*)")
-EXAMPLE = '"memory full 100000 1000000"'
-LEAST_WINDOW_US, MOST_WINDOW_US = 500_000, 10_000_000
-
-DESCRIPTION = """\
-Records, as root, the scheduler, the control groups and the memory of this machine, in the new folder OUT.
-tools/psitrace converts it to a trace, from which psi_oomd computes pressure and kills.
-
-  tools/record incident --seconds 60
-  tools/psitrace incident > incident.trace
-
-It ends after --seconds, at Ctrl-C (SIGINT, SIGTERM, SIGHUP) or at --max-mb, and leaves no changes on the machine.
-
-With --ring it is a flight recorder: it keeps the newest events in memory, waits for pressure, and writes them when
-it comes, or at Ctrl-C:
-
-  tools/record incident --ring --until "memory full 100000 1000000"
-"""
-EPILOG = """\
-It needs root, tracefs at /sys/kernel/tracing, control groups of version 2 and /proc/pressure; what is missing is reported before
-anything is changed. It records: switches, wakeups, creation, moves and exits of all tasks with their names, the file names
-of executed programs, paths, memory and pressure of all groups. No arguments, no environment, no contents.
-
-status  0 recorded
-        1 nothing was recorded: a usage error, or something is missing; the machine is unchanged
-        2 it failed during the recording; what was recorded by then was kept
-        3 recorded, but incomplete: events were lost (then a larger --buffer-kb helps), or the disk is full
-        4 something couldn't be removed from the machine: standard error says what
-"""
-
-
-class Status(enum.IntEnum):
-    """The exit status."""
-
-    RECORDED = 0
-    NOTHING = 1
-    FAILED = 2
-    NOT_WHOLE = 3
-    LEFT_BEHIND = 4
-
-
-class Words(argparse.ArgumentParser):
-    """A parser that exits with this tool's own status on a usage error."""
-
-    def error(self, message: str) -> NoReturn:
-        """Prints the error."""
-        self.exit(Status.NOTHING, f"record: {message}\nusage: {self.prog} OUT [OPTION ..]; {self.prog} --help has the options\n")
 
 
 def tell(line: str) -> None:
@@ -100,92 +53,6 @@ def tell(line: str) -> None:
     if sys.stderr is not None:
         with contextlib.suppress(OSError, ValueError):
             os.write(sys.stderr.fileno(), f"record: {line}\n".encode(errors="backslashreplace"))
-
-
-# ---------------------------------------------------------------- words
-
-
-def positive(word: str) -> float:
-    """A number above 0."""
-    try:
-        number = float(word)
-    except ValueError:
-        raise argparse.ArgumentTypeError(f"{word} is no number") from None
-    if not 0 < number < FOREVER:
-        raise argparse.ArgumentTypeError(f"{word} isn't above 0, or too large")
-    return number
-
-
-def whole(word: str) -> int:
-    """A whole number above 0."""
-    if not re.fullmatch("[1-9][0-9]*", word):
-        raise argparse.ArgumentTypeError(f"{word} isn't a whole number above 0")
-    return int(word)
-
-
-def trigger(word: str) -> str:
-    """A trigger as the kernel takes it (Documentation/accounting/psi.rst): its window is 0.5 to 10 s."""
-    found = TRIGGER.fullmatch(" ".join(word.split()))
-    if not found:
-        raise argparse.ArgumentTypeError(
-            f"{word!r} isn't `io|memory|cpu some|full THRESHOLD WINDOW`, with times in us: {EXAMPLE} is 100 ms in each second"
-        )
-    threshold, window = int(found[3]), int(found[4])
-    if not LEAST_WINDOW_US <= window <= MOST_WINDOW_US or threshold > window:
-        raise argparse.ArgumentTypeError(
-            f"the window is {LEAST_WINDOW_US} to {MOST_WINDOW_US} us, and the threshold at most the window, as in {EXAMPLE}"
-        )
-    return found[0]
-
-
-def parser() -> argparse.ArgumentParser:
-    """The parser of the command line."""
-    form = argparse.RawDescriptionHelpFormatter
-    words = Words(prog="tools/record", description=DESCRIPTION, epilog=EPILOG, formatter_class=form, allow_abbrev=False)
-    add = words.add_argument
-    add("out", metavar="OUT", help="a folder that doesn't exist yet")
-    add("--seconds", type=positive, metavar="N", help="the longest time in seconds; until it is stopped, if left out")
-    add("--buffer-kb", type=whole, default=BUFFER_KB, metavar="N", help="ring buffer of each processor in KiB; %(default)s")
-    add("--memory-s", type=positive, default=1.0, metavar="N", help="seconds between samples of memory; %(default)g")
-    add("--pressure-s", type=positive, default=2.0, metavar="N", help="seconds between readings of pressure; %(default)g")
-    add("--max-mb", type=positive, metavar="N", help=f"ends after N MB of events; {MOST_MB:g}")
-    add("--compress", action="store_true", help="compress pages as they arrive, in a process of its own with the lowest priority")
-    add("--no-probes", action="store_true", help="no kprobes: waits for IO by schedstats, no memory stalls")
-    add("--wakeups", action="store_true", help="record when psi counts each wakeup, by one more probe: some 30 %% more events")
-    add("--no-settings", action="store_true", help="doesn't store the settings of systemd-oomd, if systemd runs")
-    add("--ring", action="store_true", help="a flight recorder")
-    add("--until", type=trigger, metavar="TRIGGER", help="with --ring: `io|memory|cpu some|full THRESHOLD WINDOW`, in us")
-    add("--after-s", type=positive, metavar="N", help="with --until: seconds that are recorded after the signal; 10")
-    add("--daily-limit", type=whole, metavar="N", help="waits first, while there are N recordings of the last 24 hours next to OUT")
-    add("--root", metavar="DIR", help="for tests: a folder of plain files in place of the machine")
-    return words
-
-
-def wanted_of(arguments: argparse.Namespace, words: argparse.ArgumentParser) -> Wanted:
-    """The parsed command line, after checking that the options fit together."""
-    if arguments.until and not arguments.ring:
-        words.error("--until is for a flight recorder: --ring")
-    if arguments.wakeups and arguments.no_probes:
-        words.error("--wakeups takes a probe: not with --no-probes")
-    if arguments.after_s and not arguments.until:
-        words.error("--after-s is for seconds after the signal of --until")
-    if arguments.ring and arguments.max_mb:
-        words.error("a flight recorder writes no more than its buffers: --max-mb is not for --ring")
-    if arguments.ring and arguments.compress:
-        words.error("a flight recorder writes once, at its end: --compress is not for --ring")
-    return Wanted(
-        seconds=arguments.seconds or FOREVER,
-        buffer_kb=arguments.buffer_kb,
-        memory_seconds=arguments.memory_s,
-        pressure_seconds=arguments.pressure_s,
-        has_probes=not arguments.no_probes,
-        has_settings=not arguments.no_settings,
-        most_mb=arguments.max_mb or MOST_MB,
-        is_ring=arguments.ring,
-        until=arguments.until or "",
-        after_seconds=arguments.after_s or 10.0,
-        has_wakeups=arguments.wakeups,
-    )
 
 
 # ---------------------------------------------------------------- the recording
@@ -241,30 +108,47 @@ def say_machine(folder: Folder, machine: Machine, wanted: Wanted) -> None:
     before, realtime, behind = time.monotonic(), time.time(), time.monotonic()
     folder.say(Key.UNAME, " ".join(os.uname()))
     folder.say(Key.PROCESSORS, str(machine.processors()))
+    zone = time.strftime("%z", time.localtime(realtime))
+    folder.say(Key.ZONE, f"{zone[:3]}:{zone[3:5]}")
     folder.say(Key.MOMENT, f"realtime {realtime:.6f} monotonic {(before + behind) / 2:.6f}")
     if wanted.is_ring:
         folder.say(Key.RING, wanted.until or "none")
+    if wanted.group:
+        folder.say(Key.RING_GROUP, escaped_path(wanted.group.encode(errors="surrogateescape")))
 
 
-def record(machine: Machine, wanted: Wanted, folder: Folder, signals: Signals, waiting_for: tuple[int, int] | None) -> Status:
+def record(
+    machine: Machine, wanted: Wanted, service: Service, folder: Folder, signals: Signals, trigger: Trigger | None, condition: int | None
+) -> Status:
     """Records, and undoes all changes, whatever happens."""
     ending = None
     with Undoing() as undoing:
         try:
             say_machine(folder, machine, wanted)
             instance, sources = prepare(machine, wanted, folder, undoing)
-            recorder = Recorder(machine, wanted, instance, folder, signals)
+            recorder = Recorder(wanted, instance, folder, signals, trigger, tell)
             if wanted.has_settings:
                 store_settings(machine, folder, tell)
+            names = ContainerNames(machine, tell)
+            if wanted.has_containers:
+                names.look()
             recorder.begin()
         except (OSError, NotRecorded, DiskFull) as error:
             tell(f"nothing was recorded: {error}")
         else:
-            if waiting_for:
-                recorder.waiting.watch(*waiting_for)
+            if condition is not None:
+                recorder.watch(condition)
+            elif trigger:
+                tell(f"there is no group {trigger.group} yet: the trigger waits until it is created")
             tell(f"recording {machine.processors()} processors into {folder.path}; Ctrl-C ends it")
-            ending = recorder.record(tell)
+            ending = recorder.record()
+            if wanted.has_containers:
+                names.look()
+                names.store(folder)
             check_statistics(machine, sources, folder, ending)
+    if ending:
+        # Before it ends, so that there are never more recordings than wanted.
+        keep(os.path.dirname(os.path.abspath(folder.path)), service.limits, tell, os.path.basename(folder.path))
     return closed(folder, ending, undoing.left)
 
 
@@ -297,9 +181,7 @@ def closed(folder: Folder, ending: Ending | None, left: list[str]) -> Status:
         folder.discard()
     if left:
         return Status.LEFT_BEHIND
-    if not ending:
-        return Status.NOTHING
-    if ending.reason.startswith(Reason.FAILED):
+    if not ending or ending.reason.startswith(Reason.FAILED):
         return Status.FAILED
     is_whole = ending.is_whole and not ending.lost and ending.reason != Reason.DISK_FULL
     return Status.RECORDED if is_whole else Status.NOT_WHOLE
@@ -345,28 +227,67 @@ def make_ready() -> None:
         CDLL(None).mlockall(LOCK_CURRENT | LOCK_FUTURE | LOCK_ON_FAULT)
 
 
+def print_status(arguments: list[str]) -> Status:
+    """The command `record status`."""
+    given = status_parser().parse_args(arguments)
+    try:
+        if given.textfile:
+            write_textfile(given.textfile, given.folder)
+        else:
+            print("\n".join(status_lines(given.folder)))
+    except OSError as error:
+        tell(f"{error.filename or given.folder}: {error.strerror}")
+        return Status.FAILED
+    return Status.RECORDED
+
+
+def update_textfile(service: Service, above: str) -> None:
+    """Writes the metrics, if that is wanted."""
+    if service.textfile:
+        try:
+            write_textfile(service.textfile, above)
+        except OSError as error:
+            tell(f"{service.textfile} couldn't be written: {error.strerror}")
+
+
+def record_once(machine: Machine, out: str, wanted: Wanted, service: Service, signals: Signals, is_compressed: bool) -> Status:
+    """Records into a new folder, and then runs and reports what the service wants."""
+    above = os.path.dirname(os.path.abspath(out))
+    trigger = Trigger(machine, wanted.until, wanted.group) if wanted.until else None
+    try:
+        condition = trigger.open() if trigger else None
+        folder = Folder(out, is_compressed)
+    except (OSError, DiskFull) as error:
+        tell(f"nothing was recorded: {error}")
+        return Status.FAILED
+    remove_left_behind(machine, tell)
+    update_textfile(service, above)
+    status = record(machine, wanted, service, folder, signals, trigger, condition)
+    if service.hook and os.path.isdir(out):
+        run_hook(service.hook, out, signals, tell)
+    update_textfile(service, above)
+    return status
+
+
 def main(arguments: list[str] | None = None) -> int:
     """Runs the command; returns the status."""
+    arguments = sys.argv[1:] if arguments is None else arguments
+    if arguments[:1] == [STATUS_WORD]:
+        return print_status(arguments[1:])
     words = parser()
     given = words.parse_args(arguments)
-    wanted = wanted_of(given, words)
+    wanted, service = wanted_of(given, words), service_of(given)
     machine = plain_machine(given.root) if given.root else Machine()
     missing = list(machine.missing())
     for what in missing:
         tell(f"there must be {what}")
     if missing:
-        return Status.NOTHING
+        return Status.FAILED
     make_ready()
     signals = Signals()
-    if given.daily_limit and not wait_for_room(given.out, given.daily_limit, signals, tell):
+    keep(os.path.dirname(os.path.abspath(given.out)), service.limits, tell)
+    if service.daily_limit and not wait_for_room(given.out, service.daily_limit, signals, tell):
         signals.end_by_it()
-    try:
-        waiting_for = machine.open_trigger(*wanted.until.split(" ", 1)) if wanted.until else None
-        folder = Folder(given.out, given.compress)
-    except (OSError, DiskFull) as error:
-        tell(f"nothing was recorded: {error}")
-        return Status.NOTHING
-    remove_left_behind(machine, tell)
-    status = record(machine, wanted, folder, signals, waiting_for)
+    status = record_once(machine, given.out, wanted, service, signals, given.compress)
     signals.ignore()
     return status

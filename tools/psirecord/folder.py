@@ -9,6 +9,7 @@ from __future__ import annotations
 
 import contextlib
 import errno
+import fcntl
 import os
 
 from psirec import layout
@@ -92,6 +93,8 @@ class Folder:
                 self.compressor = Compressor(self.descriptor)
             self.reserve()
             self.meta, self.pressure = self.made(layout.META), self.made(layout.PRESSURE)
+            # As long as it is locked the recording is being written, and nobody deletes it.
+            fcntl.flock(self.meta, fcntl.LOCK_EX)
             self.say(layout.Key.RECORDING, layout.VERSION)
         except BaseException:
             self.discard()

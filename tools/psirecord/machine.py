@@ -92,12 +92,13 @@ class Machine:
         """Removes the probe GROUP/EVENT; EBUSY while its event is on in any instance."""
         write_file(f"{self.tracing}/kprobe_events", f"-:{name}\n", os.O_APPEND)
 
-    def open_trigger(self, resource: str, words: str) -> tuple[int, int]:
-        """Opens a file that signals pressure as long as it is open; returns it with the condition
-        of poll(2) that is the signal. `words` are those of Documentation/accounting/psi.rst:
-        `some|full THRESHOLD WINDOW`, in us.
+    def open_trigger(self, resource: str, words: str, group: str = "") -> tuple[int, int]:
+        """Opens a file that signals pressure as long as it is open, of a group if one is named;
+        returns it with the condition of poll(2) that is the signal. `words` are those of
+        Documentation/accounting/psi.rst: `some|full THRESHOLD WINDOW`, in us.
         """
-        file = os.open(f"{self.proc}/pressure/{resource}", os.O_RDWR | os.O_NONBLOCK)
+        path = f"{self.groups}{group}/{resource}.pressure" if group else f"{self.proc}/pressure/{resource}"
+        file = os.open(path, os.O_RDWR | os.O_NONBLOCK)
         try:
             os.write(file, words.encode() + b"\0")
         except OSError as error:

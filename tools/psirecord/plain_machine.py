@@ -96,6 +96,6 @@ class PlainMachine(Machine):
         if not os.listdir(os.path.dirname(f"{self.tracing}/events/{name}")):
             os.rmdir(os.path.dirname(f"{self.tracing}/events/{name}"))
 
-    def open_trigger(self, resource: str, words: str) -> tuple[int, int]:
-        """A plain file signals nothing, a FIFO does."""
+    def open_trigger(self, resource: str, words: str, group: str = "") -> tuple[int, int]:
+        """A plain file signals nothing, a FIFO does: the same one for the machine and all groups."""
         return os.open(f"{os.path.dirname(self.tracing)}/trigger", os.O_RDWR | os.O_NONBLOCK), select.POLLIN

@@ -37,7 +37,7 @@ STATISTICS_EVENT = "sched/sched_stat_iowait"
 NO_STALLS = "memory stalls aren't recorded, so memory pressure will be 0"
 NO_WAKEUPS = "no probe of wakeups: when psi counts them isn't recorded, only when their events are written"
 # What a recording lacks without a probe.
-PROBES = {
+PROBES: dict[str, str] = {
     Probe.STALL_BEGINS: NO_STALLS,
     Probe.STALL_ENDS: NO_STALLS,
     Probe.INTERRUPT: "times of interrupts aren't recorded",
@@ -49,9 +49,11 @@ PROBES = {
 BY_PROBE, BY_STATISTICS, BY_STATE = "the kernel's own flag", "sched_stat_iowait", "state D"
 STATE_ALONE = "waits for IO are told by state D alone: up to 3.5 times too many on journaling file systems"
 
+
 def without(event: str) -> str:
     """What a recording lacks without this event, which may be that of a probe."""
-    return EVENTS.get(event) or PROBES.get(event.rpartition("/")[2], "nothing is known of what it tells")
+    probe = PROBES.get(event.rpartition("/")[2], "nothing is known of what it tells")
+    return EVENTS.get(event, probe)
 
 
 # Writes a key of `meta` and its value.

@@ -17,9 +17,9 @@ from psirec.layout import Key, Reason
 
 from .folder import DiskFull, Folder
 from .instance import Instance, NotRecorded, lost_events, oldest_moment
-from .machine import Machine
 from .probing import Tell
 from .samples import MemorySampler, Reading, Snapshot, read_pressure, take_snapshot
+from .trigger import Trigger
 from .waiting import Job, Signals, Waiting
 
 DRAIN_SECONDS = 0.25
@@ -28,6 +28,8 @@ DRAIN_SECONDS = 0.25
 MOST_FULL = 0.25
 LEAST_DRAIN_SECONDS = 0.01
 SNAPSHOT_SECONDS = 60.0
+# Between two looks at whether a trigger's group is still the same.
+GROUP_SECONDS = 1.0
 # The end is this much later than the last reading of pressure files, which is due at the end.
 LAST_READING_SECONDS = 0.02
 FOREVER = float("inf")
@@ -38,7 +40,8 @@ MEGABYTE = 10**6
 class Wanted:
     """The operator's request: times in s, sizes in the named units. `is_ring` requests a flight
     recorder, and `until` has its trigger as `RESOURCE some|full THRESHOLD WINDOW`, or is empty.
-    `has_settings` requests the settings of systemd-oomd.
+    `has_settings` requests the settings of systemd-oomd, `has_containers` the names of containers, and
+    `group` is the path of the group whose pressure is meant, or empty.
     """
 
     seconds: float
@@ -47,11 +50,13 @@ class Wanted:
     pressure_seconds: float
     has_probes: bool
     has_settings: bool
+    has_containers: bool
     most_mb: float
     is_ring: bool
     until: str
     after_seconds: float
     has_wakeups: bool = False
+    group: str = ""
 
 
 @dataclass
@@ -69,18 +74,21 @@ class Ending:
 class Recorder:
     """One recording, with its instance switched on."""
 
-    def __init__(self, machine: Machine, wanted: Wanted, instance: Instance, folder: Folder, signals: Signals) -> None:
-        self.machine, self.wanted, self.instance, self.folder = machine, wanted, instance, folder
+    def __init__(
+        self, wanted: Wanted, instance: Instance, folder: Folder, signals: Signals, trigger: Trigger | None, tell: Tell
+    ) -> None:
+        self.machine, self.wanted, self.instance, self.folder = instance.machine, wanted, instance, folder
         self.signals, self.waiting = signals, Waiting(signals)
+        self.trigger, self.tell = trigger, tell
         self.start = self.end = self.fired = self.drained = 0.0
         self.usage = resource.getrusage(resource.RUSAGE_SELF)
         self.reading_count = 0
         self.snapshots: collections.deque[Snapshot] = collections.deque(maxlen=2)
         self.readings: collections.deque[Reading] = collections.deque()
-        self.memory = MemorySampler(machine, instance.mark)
+        self.memory = MemorySampler(self.machine, instance.mark)
         self.draining = Job(self.drain, 0.0, DRAIN_SECONDS)
 
-    def record(self, tell: Tell) -> Ending:
+    def record(self) -> Ending:
         """Records from `begin` until the recording ends; what was recorded by then is written in
         any case.
         """
@@ -91,7 +99,7 @@ class Recorder:
         except OSError as error:
             reason = f"{Reason.FAILED} {error}"
         try:
-            return self.finish(reason, tell)
+            return self.finish(reason)
         except (OSError, DiskFull) as error:
             return Ending(f"{Reason.FAILED} {error}", {}, time.monotonic() - self.start)
 
@@ -116,6 +124,8 @@ class Recorder:
             Job(self.read_pressure, start + wanted.pressure_seconds, wanted.pressure_seconds, is_each_due=True),
             Job(self.memory.sample, start, wanted.memory_seconds),
         ]
+        if self.trigger and self.trigger.group:
+            jobs.append(Job(self.follow_group, start, GROUP_SECONDS))
         if wanted.is_ring:
             return [*jobs, Job(self.take_snapshot, start + SNAPSHOT_SECONDS, SNAPSHOT_SECONDS)]
         return [*jobs, self.draining]
@@ -135,10 +145,37 @@ class Recorder:
                 return reason
             if not self.wanted.is_ring and self.folder.bytes >= self.wanted.most_mb * MEGABYTE:
                 return Reason.SIZE
-            if self.waiting.until(min([self.end, *(it.due for it in jobs)])):
+            if self.waiting.until(min([self.end, *(it.due for it in jobs)])) and self.is_signal():
                 reason = Reason.TRIGGER
                 self.fire(jobs)
         return Reason.SIGNAL
+
+    def watch(self, condition: int) -> None:
+        """Waits for the trigger, which is open."""
+        assert self.trigger
+        self.waiting.watch(self.trigger.file, condition)
+
+    def is_signal(self) -> bool:
+        """Whether pressure was signalled: a file of a group that is removed is ready too."""
+        if self.trigger and self.trigger.is_current():
+            return True
+        self.follow_group()
+        return False
+
+    def follow_group(self) -> None:
+        """Waits for the group again if it was removed and created again, as a service's is."""
+        trigger = self.trigger
+        if not trigger or trigger.is_current() or self.fired:
+            return
+        if trigger.file >= 0:
+            self.tell(f"the group {trigger.group} was removed: the trigger waits until it is created again")
+            self.waiting.unwatch()
+            trigger.close()
+        with contextlib.suppress(OSError):
+            condition = trigger.open()
+            if condition is not None:
+                self.watch(condition)
+                self.tell(f"the trigger watches the group {trigger.group} now")
 
     def fire(self, jobs: list[Job]) -> None:
         """The trigger fired: records some seconds more. The snapshots from before are kept."""
@@ -147,7 +184,7 @@ class Recorder:
         self.end = self.fired + self.wanted.after_seconds
         self.instance.note_mark(layout.TRIGGERED)
         self.folder.say(Key.FIRED, f"{self.fired:.3f}")
-        jobs[:] = [it for it in jobs if it.run != self.take_snapshot]
+        jobs[:] = [it for it in jobs if it.run not in (self.take_snapshot, self.follow_group)]
 
     # ---------------------------------------------------------------- jobs
 
@@ -197,7 +234,7 @@ class Recorder:
 
     # ---------------------------------------------------------------- the end
 
-    def finish(self, reason: str, tell: Tell) -> Ending:
+    def finish(self, reason: str) -> Ending:
         """After tracing was switched off: writes the rest, and what was lost."""
         with contextlib.suppress(OSError):
             if self.wanted.is_ring and not self.has_snapshot_inside():
@@ -208,7 +245,7 @@ class Recorder:
         is_whole = True
         try:
             if self.wanted.is_ring:
-                is_whole = self.write_ring(self.buffers_begin(), tell)
+                is_whole = self.write_ring(self.buffers_begin())
             if reason != Reason.DISK_FULL:
                 self.take_pages(FOREVER)
         except DiskFull:
@@ -217,7 +254,7 @@ class Recorder:
         lost = self.write_statistics()
         self.write_cost(seconds)
         if self.memory.too_long:
-            tell(f"{self.memory.too_long} samples of groups whose paths are too long for a marker were left out")
+            self.tell(f"{self.memory.too_long} samples of groups whose paths are too long for a marker were left out")
         return Ending(reason, lost, seconds, is_whole)
 
     def has_snapshot_inside(self) -> bool:
@@ -230,7 +267,7 @@ class Recorder:
         """The time (s) from which the buffers have all events of all processors."""
         return max([self.start, *(oldest_moment(self.instance.statistics(it)) for it in self.instance.buffers)])
 
-    def write_ring(self, begin: float, tell: Tell) -> bool:
+    def write_ring(self, begin: float) -> bool:
         """Writes the snapshot with which a flight recorder's trace can begin, and the readings of
         pressure. False if the buffers were too small to keep the time of the signal.
         """
@@ -240,10 +277,10 @@ class Recorder:
             self.folder.write_whole(layout.SNAPSHOT, snapshot.text())
         for reading in self.readings:
             self.folder.append_pressure(reading.text)
-        tell(f"the buffers hold the last {time.monotonic() - begin:.1f} s")
+        self.tell(f"the buffers hold the last {time.monotonic() - begin:.1f} s")
         has_signal = not self.fired or begin < self.fired
         if not has_signal:
-            tell(f"the moment of the signal, {begin - self.fired:.1f} s before, was overwritten: a larger --buffer-kb helps")
+            self.tell(f"the moment of the signal, {begin - self.fired:.1f} s before, was overwritten: a larger --buffer-kb helps")
         return has_signal
 
     def write_statistics(self) -> dict[int, int]:

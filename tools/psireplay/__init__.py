@@ -1,1 +1,3 @@
-"""What the tools share: the program that they run, the lines that `replay` prints, times, rules files and memory samples."""
+"""What the tools share: the program that they run, the lines that `replay` prints, times, rules
+files and memory samples.
+"""

@@ -1,4 +1,5 @@
-"""Recognises files of an unexpected kind, so that a message can say what a file is and what to do."""
+"""Recognises files of an unexpected kind, so that a message can say what a file is and what to do.
+"""
 from __future__ import annotations
 
 import os
@@ -7,7 +8,12 @@ from typing import Callable, NamedTuple, Optional
 
 # A file is recognised by its first bytes.
 HEAD = 4096
-TRACE, RULES, REPLAY, JSON = "a trace", "a rules file", "the output of replay", "JSON, like a rules file"
+TRACE, RULES, REPLAY, JSON = (
+    "a trace",
+    "a rules file",
+    "the output of replay",
+    "JSON, like a rules file",
+)
 
 
 class Kind(NamedTuple):
@@ -30,12 +36,15 @@ KINDS: tuple[tuple[Callable[[bytes], bool], Kind], ...] = (
     (lambda head: not head, Kind("empty")),
     (starts(b"\x1f\x8b"), Kind("compressed by gzip", "`gunzip -c {name}` prints its content")),
     (starts(b"\xfd7zXZ\0"), Kind("compressed by xz", "`xz -dc {name}` prints its content")),
-    (starts(b"\x28\xb5\x2f\xfd"), Kind("compressed by zstd", "`zstd -dc {name}` prints its content")),
+    (starts(b"\x28\xb5\x2f\xfd"), Kind("compressed by zstd",
+    "`zstd -dc {name}` prints its content")),
     (starts(b"BZh"), Kind("compressed by bzip2", "`bzip2 -dc {name}` prints its content")),
     (starts(b"\x17\x08\x44tracing"), Kind(
-        "trace-cmd's binary format", "`trace-cmd report -N {name}` prints text that `psi_oomd import` reads")),
+        "trace-cmd's binary format",
+        "`trace-cmd report -N {name}` prints text that `psi_oomd import` reads")),
     (has(rb"\s*[\[{]"), Kind(JSON)),
-    (has(rb"[^\n]*\r\n"), Kind("a text whose lines end in CR LF", "`tr -d '\\r' < {name}` removes each CR")),
+    (has(rb"[^\n]*\r\n"), Kind("a text whose lines end in CR LF",
+    "`tr -d '\\r' < {name}` removes each CR")),
     (has(rb"psitrace [0-9]"), Kind(TRACE)),
     (has(rb"(report|event|kill|live|end) [0-9]"), Kind(REPLAY, "give the trace that was replayed")),
     (has(rb"# tracer:|cpus=[0-9]+\n|version = [0-9]+\n"), Kind(
@@ -49,7 +58,9 @@ def kind_of(head: bytes) -> Optional[Kind]:
 
 
 def file_kind(path: str) -> Optional[Kind]:
-    """The kind of a regular file, if it is known. No other file is opened: a pipe can't be read twice."""
+    """The kind of a regular file, if it is known. No other file is opened: a pipe can't be read
+    twice.
+    """
     if not os.path.isfile(path):
         return None
     try:
@@ -60,7 +71,8 @@ def file_kind(path: str) -> Optional[Kind]:
 
 
 def told_kind(kind: Optional[Kind], expected: str, name: str) -> str:
-    """What a file is in place of what was expected, to follow its name; empty if that isn't known."""
+    """What a file is in place of what was expected, to follow its name; empty if that isn't known.
+    """
     if not kind or (kind.what, expected) in ((expected, expected), (JSON, RULES)):
         return ""
     advice = kind.advice.format(name=name)
@@ -70,13 +82,19 @@ def told_kind(kind: Optional[Kind], expected: str, name: str) -> str:
 
 
 def what_it_is(path: str, expected: str, name: Optional[str] = None) -> str:
-    """What a file is in place of what was expected; empty if that isn't known. Messages call it by its name."""
+    """What a file is in place of what was expected; empty if that isn't known. Messages call it by
+    its name.
+    """
     return told_kind(file_kind(path), expected, path if name is None else name)
 
 
 def why_refused(said: str, path: str, name: Optional[str] = None) -> str:
-    """What the program said of a trace or of rules, with what the file is instead, if its very beginning was refused."""
-    expected = TRACE if said.startswith("trace line 1: ") else RULES if said.endswith("BadJson") else ""
+    """What the program said of a trace or of rules, with what the file is instead, if its very
+    beginning was refused.
+    """
+    expected = (
+        TRACE if said.startswith("trace line 1: ") else RULES if said.endswith("BadJson") else ""
+    )
     found = what_it_is(path, expected, name) if expected else ""
     return f"{said}: {found}" if found else said
 

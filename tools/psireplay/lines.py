@@ -4,7 +4,8 @@ from __future__ import annotations
 import re
 from typing import Iterable, Iterator, NamedTuple, Optional, Union
 
-from .command import Fault
+from psicli.fault import Fault
+
 from .kinds import REPLAY, kind_of, told_kind
 
 RESOURCES = ("io", "memory", "cpu", "irq")
@@ -74,7 +75,8 @@ FORMS = {
     "live": re.compile(rf"live {NUMBER} cpu={NUMBER} count={NUMBER}(?: {NUMBER}){{7}}\n"),
     "report": re.compile(rf"report ({NUMBER}) ({PATH}) ({'|'.join(RESOURCES)})\n"),
     "event": re.compile(
-        rf"event ({NUMBER}) trigger=({NUMBER}) ({PATH}) (io|memory|cpu) (some|full) ({NUMBER}) ({NUMBER})\n"
+        rf"event ({NUMBER}) trigger=({NUMBER}) ({PATH}) (io|memory|cpu) (some|full) ({NUMBER})"
+        rf" ({NUMBER})\n"
     ),
     "kill": re.compile(rf"kill ({NUMBER}) ruleset=({NUMBER}) action=({NUMBER}) ({PATH})\n"),
     "end": re.compile(rf"end ({NUMBER}) ticks=({NUMBER}) events=({NUMBER}) kills=({NUMBER})\n"),
@@ -84,11 +86,15 @@ FORMS = {
 
 def pressure_of(fields: tuple[str, ...]) -> Pressure:
     whole10, part10, whole60, part60, whole300, part300, total = fields
-    return Pressure(int(whole10 + part10), int(whole60 + part60), int(whole300 + part300), int(total))
+    return Pressure(
+        int(whole10 + part10), int(whole60 + part60), int(whole300 + part300), int(total)
+    )
 
 
 class Reader:
-    """Takes line after line. Of a report it holds the head, and the line `some`, until the file is whole."""
+    """Takes line after line. Of a report it holds the head, and the line `some`, until the file is
+    whole.
+    """
 
     def __init__(self) -> None:
         self.head: Optional[tuple[str, str, str]] = None
@@ -106,7 +112,9 @@ class Reader:
         return not self.is_ended and (verb == due if due else verb not in LEVELS)
 
     def take(self, line: str) -> Optional[Line]:
-        """What the line completes, if anything. A line that replay doesn't print there is a ValueError."""
+        """What the line completes, if anything. A line that replay doesn't print there is a
+        ValueError.
+        """
         verb = line.partition(" ")[0]
         found = FORMS[verb].fullmatch(line) if verb in FORMS and self.is_in_place(verb) else None
         if not found:
@@ -120,7 +128,9 @@ class Reader:
             return self.whole_report(pressure_of(fields))
         elif verb == "event":
             moment, trigger, path, resource, level, threshold, window = fields
-            return Event(int(moment), int(trigger), path, resource, level, int(threshold), int(window))
+            return Event(
+                int(moment), int(trigger), path, resource, level, int(threshold), int(window)
+            )
         elif verb == "kill":
             return Kill(int(fields[0]), int(fields[1]), int(fields[2]), fields[3])
         elif verb == "end":
@@ -146,7 +156,9 @@ def refused(number: int, text: bytes) -> Fault:
 
 
 def read(printed: Iterable[bytes]) -> Iterator[Line]:
-    """The lines, without those of live clocks. A line that replay doesn't print there is a fault, or no last one."""
+    """The lines, without those of live clocks. A line that replay doesn't print there is a fault,
+    or no last one.
+    """
     reader = Reader()
     number = 0
     for number, text in enumerate(printed, 1):
@@ -159,4 +171,6 @@ def read(printed: Iterable[bytes]) -> Iterator[Line]:
     if not number:
         raise Fault(f"the input is empty{ADVICE}")
     if not reader.is_ended:
-        raise Fault(f"the input stops before the last line of a replay, which begins with `end`{ADVICE}")
+        raise Fault(
+            f"the input stops before the last line of a replay, which begins with `end`{ADVICE}"
+        )

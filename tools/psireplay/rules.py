@@ -1,6 +1,8 @@
-"""What a rules file says: the names of rulesets and plugins, and the thresholds that a chart can show.
+"""What a rules file says: the names of rulesets and plugins, and the thresholds that a chart can
+show.
 
-The program decides whether a file is one, so what is read here has the form that docs/RULES.md describes.
+The program decides whether a file is one, so what is read here has the form that docs/RULES.md
+describes.
 """
 from __future__ import annotations
 
@@ -8,7 +10,8 @@ import fnmatch
 import json
 from typing import Any, NamedTuple, Optional
 
-from .command import Fault
+from psicli.fault import Fault
+
 from .lines import Kill
 from .program import accepted_rules
 
@@ -27,7 +30,9 @@ class Plugin(NamedTuple):
         return any(does_match(pattern, path) for pattern in self.args["cgroup"].split(","))
 
     def may_kill(self, path: str) -> bool:
-        """Whether an action of this kind can choose the path: it matches, or a group above it does and the action goes down."""
+        """Whether an action of this kind can choose the path: it matches, or a group above it does
+        and the action goes down.
+        """
         above = [path[:place] for place, letter in enumerate(path) if letter == "/" and place]
         goes_down = self.args.get("recursive", "false") in TRUTHS
         return self.covers(path) or goes_down and any(self.covers(it) for it in ["/", *above])
@@ -54,9 +59,11 @@ def printable(text: str) -> str:
 
 
 def does_match(pattern: str, path: str) -> bool:
-    """Whether a pattern matches a path: as many components, in each of which `*` is any run of bytes.
+    """Whether a pattern matches a path: as many components, in each of which `*` is any run of
+    bytes.
 
-    `?` and `[`, which would mean something here, stand in no pattern that the program takes."""
+    `?` and `[`, which would mean something here, stand in no pattern that the program takes.
+    """
     if pattern == "/" or path == "/":
         return pattern == path
     parts, names = pattern.lstrip("/").split("/"), path[1:].split("/")
@@ -79,10 +86,17 @@ def ruleset_of(value: Any) -> Ruleset:
 
 
 def unmatched(rulesets: list[Ruleset], paths: set[str]) -> list[str]:
-    """The patterns of these rulesets that match none of these groups, each with its ruleset: such a rule does nothing there."""
+    """The patterns of these rulesets that match none of these groups, each with its ruleset: such a
+    rule does nothing there.
+    """
     found = []
     for ruleset in rulesets:
-        patterns = [it for plugin in [*ruleset.detectors, *ruleset.actions] for it in plugin.args.get("cgroup", "").split(",") if it]
+        patterns = [
+            it
+            for plugin in [*ruleset.detectors, *ruleset.actions]
+            for it in plugin.args.get("cgroup", "").split(",")
+            if it
+        ]
         for pattern in dict.fromkeys(patterns):
             if not any(does_match(pattern, path) for path in paths):
                 found.append(f"'{pattern}' of ruleset '{ruleset.name}'")
@@ -98,22 +112,30 @@ class Rules:
         self.rulesets = [ruleset_of(it) for it in json.loads(accepted_rules(name))["rulesets"]]
 
     def killer(self, kill: Kill) -> Killer:
-        """Who kills here. A kill that none of these rules can do is a fault: the replay was by other rules."""
+        """Who kills here. A kill that none of these rules can do is a fault: the replay was by
+        other rules.
+        """
         ruleset = self.rulesets[kill.ruleset] if kill.ruleset < len(self.rulesets) else None
         which = f"ruleset {kill.ruleset}, action {kill.action}"
         if not ruleset or kill.action >= len(ruleset.actions):
-            raise Fault(f"{self.name} has no {which}, which kills {kill.path}: give the rules file of this replay")
+            raise Fault(
+                f"{self.name} has no {which}, which kills {kill.path}: give the rules file of this"
+                " replay"
+            )
         action = ruleset.actions[kill.action]
         if not action.may_kill(kill.path):
             cgroup = action.args.get("cgroup", "")
             raise Fault(
-                f"{self.name}: {which} is of '{cgroup}', and the replay's kills {kill.path}: give the rules file of this replay"
+                f"{self.name}: {which} is of '{cgroup}', and the replay's kills {kill.path}: give"
+                " the rules file of this replay"
             )
         return Killer(ruleset.name, action.name)
 
 
 def size(text: str, host: Optional[int]) -> Optional[int]:
-    """The bytes that a size says, of which a percentage is one of the host's memory. None where that isn't known."""
+    """The bytes that a size says, of which a percentage is one of the host's memory. None where
+    that isn't known.
+    """
     if text.endswith("%"):
         return None if host is None else host * int(text[:-1]) // 100
     power = POWERS.get(text[-1].upper(), 0)

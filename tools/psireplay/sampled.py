@@ -1,7 +1,8 @@
-"""The mark of a trace that was made of samples: its first event makes a group whose name says so, and its second removes it.
+"""The mark of a trace that was made of samples: its first event makes a group whose name says so,
+and its second removes it.
 
-Such a trace has the pressure of groups, but its tasks, its processors and who ran when are made up. Every tool that needs these asks
-here, and refuses such a trace.
+Such a trace has the pressure of groups, but its tasks, its processors and who ran when are made up.
+Every tool that needs these asks here, and refuses such a trace.
 """
 from __future__ import annotations
 
@@ -9,21 +10,25 @@ import os
 import re
 from typing import NamedTuple, Optional
 
-from .command import Fault
-from .times import SECOND, seconds
+from psicli.fault import Fault
+from psicli.times import SECOND, seconds
 
 MS = SECOND // 1000
 NAME = "psi-samples"
 FIELDS = ("every-ms", "gap-ms", "scans", "set", "part", "start-ms", "skip-ms")
-MARK = re.compile(rb"psitrace [12] cpus=\d+\n0 group (/psi-samples(?::[a-z-]+:[0-9a-f]+){7})\n0 rmgroup \1\n")
+MARK = re.compile(
+    rb"psitrace [12] cpus=\d+\n0 group (/psi-samples(?::[a-z-]+:[0-9a-f]+){7})\n0 rmgroup \1\n"
+)
 # As many bytes of a trace have its mark.
 MOST_BYTES = 512
 
 
 class Sampled(NamedTuple):
-    """What a mark says: the interval between samples and the longest one (ns), and whether scanned pages were sampled; and of traces
-    that were made together the set's number, the part's from 1 on, when the part begins in the set, and until when (ns of the part)
-    the part before has its kills."""
+    """What a mark says: the interval between samples and the longest one (ns), and whether scanned
+    pages were sampled; and of traces that were made together the set's number, the part's from 1
+    on, when the part begins in the set, and until when (ns of the part) the part before has its
+    kills.
+    """
 
     every: int
     gap: int
@@ -35,8 +40,24 @@ class Sampled(NamedTuple):
 
     def lines(self) -> list[str]:
         """The lines of a trace after its first one."""
-        values = (self.every // MS, self.gap // MS, int(self.has_scans), self.whole, self.part, self.start // MS, self.skip // MS)
-        name = "/" + ":".join([NAME, *(f"{key}:{value:x}" if key == "set" else f"{key}:{value}" for key, value in zip(FIELDS, values))])
+        values = (
+            self.every // MS,
+            self.gap // MS,
+            int(self.has_scans),
+            self.whole,
+            self.part,
+            self.start // MS,
+            self.skip // MS,
+        )
+        name = "/" + ":".join(
+            [
+                NAME,
+                *(
+                    f"{key}:{value:x}" if key == "set" else f"{key}:{value}"
+                    for key, value in zip(FIELDS, values)
+                ),
+            ]
+        )
         return [f"0 group {name}\n", f"0 rmgroup {name}\n"]
 
     def interval(self) -> str:
@@ -60,13 +81,16 @@ def sampled_in(data: bytes) -> Optional[Sampled]:
     values = dict(zip(words[::2], words[1::2]))
     if tuple(values) != FIELDS:
         return None
-    every, gap, scans, whole, part, start, skip = (int(values[key], 16 if key == "set" else 10) for key in FIELDS)
+    every, gap, scans, whole, part, start, skip = (
+        int(values[key], 16 if key == "set" else 10) for key in FIELDS
+    )
     return Sampled(every * MS, gap * MS, bool(scans), whole, part, start * MS, skip * MS)
 
 
 def sampled(name: str) -> Optional[Sampled]:
-    """What the mark of a trace says; none if it has no mark, or can't be read: whatever reads it next says why. - is the standard
-    input, if that is a file."""
+    """What the mark of a trace says; none if it has no mark, or can't be read: whatever reads it
+    next says why. - is the standard input, if that is a file.
+    """
     try:
         if name == "-":
             return sampled_in(os.pread(0, MOST_BYTES, 0))
@@ -82,14 +106,18 @@ def refusal(name: str, found: Sampled, what: str) -> str:
 
 
 def refuse_sampled(file: str, name: str, what: str) -> None:
-    """A trace in this file that was made of samples is a fault for a tool that needs what such a trace doesn't have."""
+    """A trace in this file that was made of samples is a fault for a tool that needs what such a
+    trace doesn't have.
+    """
     found = sampled(file)
     if found:
         raise Fault(refusal(name, found, what))
 
 
 class Whole(NamedTuple):
-    """A trace, or the traces that were made together of longer samples, by the name of the first of them."""
+    """A trace, or the traces that were made together of longer samples, by the name of the first of
+    them.
+    """
 
     name: str
     parts: list[tuple[str, Optional[Sampled]]]
@@ -102,12 +130,15 @@ def wholes(names: list[str]) -> list[Whole]:
         mark = sampled(name)
         key = f"set {mark.whole}" if mark else f"trace {place}"
         found.setdefault(key, Whole(name, [])).parts.append((name, mark))
-    ordered = [sorted(it.parts, key=lambda part: part[1].part if part[1] else 0) for it in found.values()]
+    ordered = [
+        sorted(it.parts, key=lambda part: part[1].part if part[1] else 0) for it in found.values()
+    ]
     return [Whole(parts[0][0], parts) for parts in ordered]
 
 
 def time_in_whole(time: int, mark: Optional[Sampled]) -> Optional[int]:
-    """The time (ns) in the whole of what a part has at a time; none if the part before has it too."""
+    """The time (ns) in the whole of what a part has at a time; none if the part before has it too.
+    """
     if mark is None:
         return time
     return mark.start + time if time >= mark.skip else None

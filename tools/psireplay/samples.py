@@ -3,7 +3,8 @@ from __future__ import annotations
 
 from typing import NamedTuple, Optional
 
-from .command import Fault
+from psicli.fault import Fault
+
 from .program import CheckedTrace
 
 
@@ -16,7 +17,8 @@ class Sample(NamedTuple):
 
 
 class Life:
-    """The samples of a group from when it was made until it was removed, at `end` in ns, or never."""
+    """The samples of a group from when it was made until it was removed, at `end` in ns, or never.
+    """
 
     def __init__(self) -> None:
         self.samples: list[Sample] = []
@@ -24,7 +26,9 @@ class Life:
 
 
 class Samples:
-    """The samples of these groups, by path and by life, and the machine's memory in bytes as it was last reported."""
+    """The samples of these groups, by path and by life, and the machine's memory in bytes as it was
+    last reported.
+    """
 
     def __init__(self, name: str, groups: list[str], end: int) -> None:
         """Reads a trace, which must end at this time (ns)."""
@@ -34,7 +38,10 @@ class Samples:
         for line in trace.lines():
             self.take(line)
         if trace.end != end:
-            raise Fault(f"{name} ends at {trace.end} ns, and the replay at {end} ns: give the trace of this replay")
+            raise Fault(
+                f"{name} ends at {trace.end} ns, and the replay at {end} ns: give the trace of this"
+                " replay"
+            )
 
     def take(self, line: bytes) -> None:
         """Takes a line. What isn't one of a trace is passed over: the program refuses it."""
@@ -48,7 +55,9 @@ class Samples:
             elif words[0] not in self.lives:
                 return
             elif verb == b"mem":
-                self.lives[words[0]][-1].samples.append(Sample(int(moment), int(words[1]), int(words[2])))
+                self.lives[words[0]][-1].samples.append(
+                    Sample(int(moment), int(words[1]), int(words[2]))
+                )
             else:
                 self.lives[words[0]][-1].end = int(moment)
                 self.lives[words[0]].append(Life())

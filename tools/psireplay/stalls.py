@@ -1,5 +1,7 @@
-"""Which groups stalled most, by the totals that a replay printed. Tasks are in groups without groups below (but for the root's), so
-what a group above shows comes from these, and they alone are ranked."""
+"""Which groups stalled most, by the totals that a replay printed. Tasks are in groups without
+groups below (but for the root's), so what a group above shows comes from these, and they alone are
+ranked.
+"""
 from __future__ import annotations
 
 from typing import Iterable, NamedTuple, Optional
@@ -12,23 +14,31 @@ RANKED = ("io", "memory", "cpu")
 
 
 class Stalls(NamedTuple):
-    """A group, and for how long (us) some of its tasks were stalled and all were, by (resource, level)."""
+    """A group, and for how long (us) some of its tasks were stalled and all were, by (resource,
+    level).
+    """
 
     path: str
     totals: dict[tuple[str, str], int]
 
     def rank(self) -> tuple[int, int]:
-        """The longest time in which all waited for one resource, and the longest in which some did."""
-        full, some = (max(self.totals.get((it, level), 0) for it in RANKED) for level in ("full", "some"))
+        """The longest time in which all waited for one resource, and the longest in which some did.
+        """
+        full, some = (
+            max(self.totals.get((it, level), 0) for it in RANKED) for level in ("full", "some")
+        )
         return full, some
 
 
 class Lives:
-    """The totals of all groups, where one of a path that was made again counts with the one before."""
+    """By how much the totals of all groups grew between two times (ns): the reports after `start`
+    and up to `end`. A group that is created again counts with the earlier one of its path.
+    """
 
-    def __init__(self) -> None:
-        self.before: dict[tuple[str, str, str], int] = {}
+    def __init__(self, start: int, end: float) -> None:
+        self.start, self.end = start, end
         self.last: dict[tuple[str, str, str], int] = {}
+        self.found: dict[str, Stalls] = {}
 
     def take(self, report: Report) -> None:
         """Takes a report."""
@@ -37,27 +47,28 @@ class Lives:
             if pressure:
                 key = report.path, report.resource, level
                 last = self.last.get(key, 0)
-                if pressure.total < last:
-                    self.before[key] = self.before.get(key, 0) + last
+                grown = pressure.total - (last if pressure.total >= last else 0)
                 self.last[key] = pressure.total
-
-    def totals(self) -> dict[str, Stalls]:
-        """The totals of each group, by its path."""
-        found: dict[str, Stalls] = {}
-        for (path, resource, level), total in self.last.items():
-            whole = total + self.before.get((path, resource, level), 0)
-            found.setdefault(path, Stalls(path, {})).totals[resource, level] = whole
-        return found
+                if self.start < report.moment <= self.end:
+                    totals = self.found.setdefault(report.path, Stalls(report.path, {})).totals
+                    totals[key[1:]] = totals.get(key[1:], 0) + grown
 
 
-def ranked(printed: Iterable[bytes]) -> list[Stalls]:
-    """The groups without groups below of what a replay printed, those that stalled most first; the root alone where there are no
-    others."""
-    lives = Lives()
+def ranked(printed: Iterable[bytes], start: int = -1, end: float = float("inf")) -> list[Stalls]:
+    """The groups without child groups in the output of a replay, those that stalled most between
+    two times (ns) first; only the root if there are no others.
+    """
+    lives = Lives(start, end)
     for line in read(printed):
         if isinstance(line, Report):
             lives.take(line)
-    found = lives.totals()
-    above = {path[:place] or ROOT for path in found if path != ROOT for place, letter in enumerate(path) if letter == "/"}
+    found = lives.found
+    above = {
+        path[:place] or ROOT
+        for path in found
+        if path != ROOT
+        for place, letter in enumerate(path)
+        if letter == "/"
+    }
     lowest = [it for path, it in found.items() if path not in above]
     return sorted(lowest, key=lambda it: (*(-time for time in it.rank()), it.path))

@@ -1,58 +1,102 @@
-"""The command tools/top: its words, and the table that it prints."""
+"""The command tools/top: its arguments, and the table that it prints."""
 from __future__ import annotations
 
-import argparse
 import os
 import re
+from typing import Any, Optional
 
-from .command import Fault, Words, run_tool
+from psicli.fault import Fault
+from psicli.options import add_tick
+from psicli.parser import Parser
+from psicli.running import run, write
+from psicli.status import Status
+from psicli.times import SECOND
+from psinames.known import Known, Span, add_names, add_times, known_of, span_in
+from psinames.tasks import busiest, shares_text
+
 from .lines import LEVELS
+from .replaying import replayed
 from .stalls import RANKED, Stalls, ranked
-from .times import SECOND
+from .trace_end import end_of
 
-ABOUT = (
-    "Lists which groups stalled most in what `psi_oomd replay` or `whatif` printed, from standard input: of each group without groups"
-    " below, in which tasks are, for how many seconds some of it waited for each resource, and all that had work did. The one that"
-    " all waited in for longest comes first."
-)
+ABOUT = """\
+Lists which groups stalled most in a trace, or in the output of `psi_oomd replay` or `whatif`.
+
+For each group without child groups: for how many seconds some of its tasks waited for each
+resource, and for how many all that had work did. The group in which all waited for longest comes
+first. If the trace has a companion file, the processes that ran most in the group follow it."""
 DEFAULT = 10
+REPORT_S = 2
 MICROSECONDS = SECOND // 1000
+STANDARD_INPUT = "-"
+COUNT = re.compile("[1-9][0-9]{0,5}")
 
 
-def count(word: str) -> int:
-    """How many groups are listed."""
-    if not re.fullmatch("[1-9][0-9]{0,5}", word):
-        file = f": the input is standard input: top < {word}" if os.path.isfile(word) else ""
-        raise argparse.ArgumentTypeError(f"{word} isn't a number from 1 to 999999{file}")
-    return int(word)
-
-
-def row_of(stalls: Stalls) -> list[str]:
-    """What stands in a group's row."""
+def row_of(stalls: Stalls, known: Known, span: Span) -> list[str]:
+    """The cells of a group's row."""
     times = (stalls.totals.get((resource, level), 0) for resource in RANKED for level in LEVELS)
-    return [*(f"{time // MICROSECONDS}.{time % MICROSECONDS // 1000:03}" for time in times), stalls.path]
+    cells = [f"{time // MICROSECONDS}.{time % MICROSECONDS // 1000:03}" for time in times]
+    return [*cells, known.groups.shown(stalls.path), processes_of(stalls.path, known, span)]
+
+
+def processes_of(path: str, known: Known, span: Span) -> str:
+    """The processes that ran most in a group, if they have names."""
+    if not known.companion or not known.companion.busy:
+        return ""
+    shares, others = busiest(known.companion, path, *span)
+    return shares_text(shares, others)
 
 
 def table(rows: list[list[str]]) -> str:
-    """The rows, numbers to the right and paths to the left."""
-    widths = [max(len(row[place]) for row in rows) for place in range(len(rows[0]) - 1)]
-    return "".join("  ".join([*(cell.rjust(width) for cell, width in zip(row, widths)), row[-1]]) + "\n" for row in rows)
+    """The rows: numbers to the right, and the texts after them to the left."""
+    count = len(RANKED) * len(LEVELS)
+    widths = [max(len(row[place]) for row in rows) for place in range(count + 1)]
+    lines = []
+    for row in rows:
+        numbers = [cell.rjust(width) for cell, width in zip(row[:count], widths)]
+        lines.append("  ".join([*numbers, row[count].ljust(widths[count]), row[-1]]).rstrip())
+    return "".join(f"{line}\n" for line in lines)
 
 
-def top() -> bytes:
-    """The table."""
-    words = Words("top", ABOUT)
-    words.reads_input = True
-    words.add_argument("count", nargs="?", type=count, default=DEFAULT, metavar="N", help="how many groups are listed: %(default)s")
-    given = words.parse_args()
-    with open(0, "rb", closefd=False) as printed:
-        found = ranked(printed)
+def parser() -> Parser:
+    """The parser of the command line."""
+    words = Parser(ABOUT, reads_input=True)
+    words.add_argument("words", nargs="*", metavar="TRACE|N",
+                       help="a trace, which is replayed (without it standard input is read), and"
+                       f" the number of groups that are listed ({DEFAULT})")  # fmt: skip
+    add_times(words)
+    add_tick(words)
+    add_names(words)
+    return words
+
+
+def words_in(words: list[str]) -> tuple[Optional[str], int]:
+    """The trace and the number of groups among the arguments, in any order."""
+    traces = [it for it in words if not COUNT.fullmatch(it) or os.path.exists(it)]
+    counts = [int(it) for it in words if it not in traces]
+    if len(traces) > 1 or len(counts) > 1:
+        raise Fault(f"{words[-1]} is one too many: give a trace, and how many groups are listed")
+    return (traces[0] if traces else None), (counts[0] if counts else DEFAULT)
+
+
+def top() -> int:
+    """Prints the table."""
+    values: dict[str, Any] = parser().values()
+    trace, count = words_in(values["words"])
+    known = known_of(trace or STANDARD_INPUT, values, is_whole=True)
+    span = span_in(values, known.wall, end_of(trace or STANDARD_INPUT))
+    with replayed(trace, values, REPORT_S) as printed:
+        found = ranked(printed, *span)
     if not found:
-        raise Fault("no report is in it: ask replay for some by --report-s and --tick-ms")
-    head = [f"{resource} {level}" for resource in RANKED for level in LEVELS]
-    return table([[*head, "group"], *(row_of(it) for it in found[: given.count])]).encode("ascii")
+        advice = "ask replay for some by --report-s and --tick-ms, or look at a longer time"
+        raise Fault(f"no report is in it: {advice}")
+    heads = [f"{resource} {level}" for resource in RANKED for level in LEVELS]
+    rows = [row_of(it, known, span) for it in found[:count]]
+    processes = "processes that ran most" if any(row[-1] for row in rows) else ""
+    write(table([[*heads, "group", processes], *rows]).encode())
+    return Status.DONE
 
 
 def main() -> int:
-    """Runs the command; the status."""
-    return run_tool("top", top)
+    """Runs the command; returns the exit status."""
+    return run(top)

@@ -5,11 +5,11 @@ import json
 from typing import Any
 
 from psichart.svg import add
-from psireplay.times import seconds
+from psicli.times import seconds
+from psireplay.runs import Runs
 
 from .facts import Facts
 from .html import Element, say, table
-from .runs import Runs
 from .sections import rest, source
 
 SHOWN = 8

@@ -5,25 +5,30 @@ import hashlib
 import json
 import os
 import re
-import tempfile
 from collections.abc import Iterator
 from datetime import datetime, timezone
 from typing import Any, NamedTuple, Optional
 
 from psichart.replay import Replay, read_replay
-from psireplay.command import groups_told
+from psicli.fault import Fault
+from psicli.status import ProgramStatus
+from psicli.times import SECOND, WallTime, seconds
+from psinames.clock import in_zone
+from psinames.groups import GroupNames
+from psinames.known import known_of
 from psireplay.kinds import folder_told
 from psireplay.lines import RESOURCES, Kill
-from psireplay.rules import Rules, unmatched
+from psireplay.rules import unmatched
+from psireplay.runs import Done, Runs
 from psireplay.sampled import Sampled, sampled
 from psireplay.samples import Samples
-from psireplay.times import SECOND, WallTime, seconds
+from psiwhy.by_rules import parts
+from psiwhy.explanation import Part
+from psiwhy.judged import Asked, Judged
+from psiwhy.judged import judge as judged_of
 
-from .nearness import Watch, watch
 from .reading import Peaks, read_peaks, thin
-from .runs import NO_FILE, NO_GROUP, READ, Done, Runs, Stop
 from .story import After, Stretch, Subject, after, greater_than, stretch_of, subject_of
-from .truths import ALWAYS, Truths, truths
 
 BEGAN = re.compile(r"psitrace: 0 is (\d{4}-\d\d-\d\d \d\d:\d\d:\d\d)\.(\d{3}) UTC")
 # compare's status where a total is beyond its limit, and psitrace's where something was lost.
@@ -43,11 +48,21 @@ class Given(NamedTuple):
     tick_ms: Optional[int]
     interval_s: Optional[int]
     output: Optional[str]
-    oomd: Optional[str] = None
+    oomd: Optional[str]
+    values: dict[str, Any]
 
     def rules_words(self) -> list[str]:
         words = [f"--rules={self.rules}"] if self.rules is not None else []
         return words + ([f"--drop-in={self.drop_in}"] if self.drop_in is not None else [])
+
+    def names_words(self) -> list[str]:
+        """The options about names, for blame."""
+        words = (
+            [f"--containers={self.values['containers']}"]
+            if self.values["containers"] is not None
+            else []
+        )
+        return words + ["--no-names"] * self.values["no_names"]
 
     def pace(self) -> list[str]:
         options = (("--tick-ms", self.tick_ms), ("--interval-s", self.interval_s))
@@ -55,28 +70,13 @@ class Given(NamedTuple):
 
 
 class Recorded(NamedTuple):
-    """What is known about the recording that the trace was made from. `is_same` says whether psitrace makes exactly this trace."""
+    """What is known about the recording that the trace was made from. `is_same` says whether
+    psitrace makes exactly this trace.
+    """
 
     compared: Done
     summary: Done
     is_same: bool
-
-
-class Judged(NamedTuple):
-    """What the rules did: `json` has them as the program understood them, `asked` the runs that say when detectors were true, and
-    `watches` how near each came, by ruleset, group and detector; `host` is the machine's memory in bytes."""
-
-    run: Done
-    json: list[dict[str, Any]]
-    rules: Rules
-    asked: list[Done]
-    truths: Truths
-    watches: dict[tuple[int, int, int], Watch]
-    host: Optional[int]
-
-    @property
-    def evaluations(self) -> list[int]:
-        return self.truths[ALWAYS]
 
 
 class Supposed(NamedTuple):
@@ -99,8 +99,9 @@ class Blamed(NamedTuple):
 
 
 class Facts(NamedTuple):
-    """All that the page has. The replay has series of the drawn groups; `greatest` is what stalled more than the subject, which the
-    rules watch. `unmatched` are patterns that match no group."""
+    """All that the page has. The replay has series of the drawn groups; `greatest` is what stalled
+    more than the subject, which the rules watch. `unmatched` are patterns that match no group.
+    """
 
     given: Given
     replay_run: Done
@@ -116,9 +117,12 @@ class Facts(NamedTuple):
     # None of a trace that was made of samples, which doesn't say who ran when.
     blamed: Optional[Blamed]
     judged: Optional[Judged]
+    # Why each ruleset fired or didn't.
+    parts: list[Part]
     supposed: Optional[Supposed]
     recorded: Optional[Recorded]
     sampled: Optional[Sampled]
+    names: GroupNames
 
 
 def sum_of(path: str) -> str:
@@ -165,71 +169,64 @@ def recorded(runs: Runs, given: Given) -> Optional[Recorded]:
     return Recorded(compared, summary, found.hexdigest() == sum_of(given.trace))
 
 
-def read_rules(runs: Runs, given: Given) -> tuple[list[dict[str, Any]], Rules]:
-    """The rules as the program understood them, with their drop-in file."""
-    assert given.rules is not None
-    words = [f"--drop-in={given.drop_in}"] if given.drop_in is not None else []
-    text = runs.program("rules", *words, "--", given.rules).text()
-    with tempfile.NamedTemporaryFile("w", suffix=".json", encoding="utf-8") as file:
-        file.write(text)
-        file.flush()
-        rules = Rules(file.name)
-    rules.name = given.rules
-    return json.loads(text)["rulesets"], rules
-
-
 def judge(runs: Runs, given: Given, run: Done) -> Optional[Judged]:
+    """What the rules did, if rules are given."""
     if given.rules is None:
         return None
-    values, rules = read_rules(runs, given)
-    before = len(runs.done)
-    found = truths(runs, values, given.trace, given.pace())
-    watches = {
-        (number, place, which): Watch(detector)
-        for number, ruleset in enumerate(values)
-        for place, group in enumerate(ruleset["detectors"])
-        for which, detector in enumerate(group[1:])
-    }
-    host = watch(run.lines(), given.trace, found[ALWAYS], list(watches.values()))
-    return Judged(run, values, rules, runs.done[before:], found, watches, host)
+    return judged_of(
+        runs, Asked(given.trace, given.rules, given.drop_in, given.tick_ms, given.interval_s), run
+    )
 
 
 def suppose(runs: Runs, given: Given, replay: Replay, subject: Subject) -> Optional[Supposed]:
     """What would have been, where somebody would have been killed."""
     if not replay.kills:
         return None
-    run = runs.program("whatif", "--report-s=1", *given.rules_words(), *given.pace(), "--", given.trace)
+    run = runs.program(
+        "whatif", "--report-s=1", *given.rules_words(), *given.pace(), "--", given.trace
+    )
     supposed = read_replay(run.lines(), replay.groups)
     kills = [(kill, after(subject, kill, replay, supposed)) for kill in supposed.kills]
     first = replay.kills[0]
     words = [f"--from={seconds(first.moment)}"] if first.moment < replay.end.moment else []
-    blamed = runs.tool("blame", *words, f"--victim={first.path}", "--json", "--", given.trace)
+    blamed = runs.tool(
+        "blame", *words, f"--victim={first.path}", *given.names_words(), "--json", "--", given.trace
+    )
     groups = [it for it in json.loads(blamed.text())["groups"] if it["while_victim_ran_ns"]]
     return Supposed(run, supposed, kills, blamed, groups)
 
 
-def drawn_of(peaks: Peaks, subject: Subject, greatest: Optional[Subject], given: Given) -> list[tuple[str, str]]:
-    """Which groups and resources are drawn, the subject's first: of each resource the subject's group, and those that stalled most, or
-    those that the words name."""
+def drawn_of(
+    peaks: Peaks, subject: Subject, greatest: Optional[Subject], given: Given
+) -> list[tuple[str, str]]:
+    """Which groups and resources are drawn, the subject's first: of each resource the subject's
+    group, and those that stalled most, or those that the words name.
+    """
     resources = [it for it in RESOURCES if it in peaks.resources]
     resources.sort(key=lambda it: it != subject.resource)
-    paths = {path for path, _, _ in peaks.found}
-    for path in given.groups:
-        if path not in paths:
-            raise Stop(NO_GROUP, f"no group {path} in the replay, which has {groups_told(path, sorted(paths))}")
     named = given.groups
-    found = [(path, resource) for resource in resources for path in (subject.path, *(named or peaks.worst(resource)))]
+    found = [
+        (path, resource)
+        for resource in resources
+        for path in (subject.path, *(named or peaks.worst(resource)))
+    ]
     first = [(subject.path, subject.resource)] if subject.resource in resources else []
-    return list(dict.fromkeys([*first, *([(greatest.path, greatest.resource)] if greatest else []), *found]))
+    return list(
+        dict.fromkeys([*first, *([(greatest.path, greatest.resource)] if greatest else []), *found])
+    )
 
 
 def stretch_in(replay: Replay, subject: Subject) -> Stretch:
     """The worst stretch of a group that is drawn."""
-    return stretch_of(replay.series[subject], subject.level) if subject in replay.series else Stretch(0, 0, 0, 0)
+    return (
+        stretch_of(replay.series[subject], subject.level)
+        if subject in replay.series
+        else Stretch(0, 0, 0, 0)
+    )
 
 
 def blamed(runs: Runs, given: Given, *words: str) -> tuple[Done, dict[str, Any]]:
-    done = runs.tool("blame", *words, "--json", "--", given.trace)
+    done = runs.tool("blame", *words, *given.names_words(), "--json", "--", given.trace)
     return done, json.loads(done.text())
 
 
@@ -245,28 +242,50 @@ def blamed_of(runs: Runs, given: Given, subject: Subject, stretch: Stretch) -> B
 def samples_of(given: Given, groups: list[str], end: int) -> Optional[Samples]:
     """The samples of memory of drawn groups, where the trace has some."""
     samples = Samples(given.trace, groups, end)
-    return samples if any(life.samples for lives in samples.lives.values() for life in lives) else None
+    return (
+        samples if any(life.samples for lives in samples.lives.values() for life in lives) else None
+    )
 
 
 def must_be_files(given: Given) -> None:
     """Each file is there and is no folder; else the fault says which one."""
-    for what, name in (("trace", given.trace), ("rules file", given.rules), ("drop-in file", given.drop_in)):
+    for what, name in (
+        ("trace", given.trace),
+        ("rules file", given.rules),
+        ("drop-in file", given.drop_in),
+    ):
         if name is None:
             continue
         if not os.path.exists(name):
-            raise Stop(NO_FILE, f"there is no {what} {name}")
+            raise Fault(f"there is no {what} {name}", ProgramStatus.NO_FILE)
         if os.path.isdir(name):
-            raise Stop(READ, folder_told(name) if name == given.trace else f"the {what} {name} is a folder")
+            said = folder_told(name) if name == given.trace else f"the {what} {name} is a folder"
+            raise Fault(said, ProgramStatus.READ_FAULT)
     if given.recording is not None and not os.path.isdir(given.recording):
-        raise Stop(NO_FILE, f"the recording {given.recording} isn't a folder")
+        raise Fault(f"the recording {given.recording} isn't a folder", ProgramStatus.NO_FILE)
+
+
+def zoned(wall: Optional[WallTime], given: Given) -> Optional[WallTime]:
+    """The same time in the zone that was asked for."""
+    return in_zone(wall, given.values["tz"]) if wall else None
+
+
+def with_paths(words: list[str], peaks: Peaks, names: GroupNames) -> list[str]:
+    """The paths of the groups that the words name."""
+    paths = sorted({path for path, _, _ in peaks.found})
+    return list(dict.fromkeys(names.find(word, paths, "in the replay") for word in words))
 
 
 def collect(runs: Runs, given: Given) -> Facts:
     """Runs all commands."""
     must_be_files(given)
     known = recorded(runs, given)
-    run = runs.program("replay", "--report-s=1", *given.rules_words(), *given.pace(), "--", given.trace)
+    run = runs.program(
+        "replay", "--report-s=1", *given.rules_words(), *given.pace(), "--", given.trace
+    )
     peaks = read_peaks(run.lines())
+    around = known_of(given.trace, given.values)
+    given = given._replace(groups=with_paths(given.groups, peaks, around.groups))
     judged = judge(runs, given, run)
     subject = subject_of(peaks, judged.rules if judged else None, peaks.kills)
     greatest = greater_than(subject, peaks)
@@ -282,8 +301,11 @@ def collect(runs: Runs, given: Given) -> Facts:
     if supposed:
         thin(supposed.replay)
     found = blamed_of(runs, given, subject, stretch) if mark is None else None
-    wall = given.wall or (began(known.summary.said) if known else None)
+    wall = around.wall or (zoned(began(known.summary.said), given) if known else None)
     samples = samples_of(given, groups, replay.end.moment)
+    why = parts(judged, peaks.kills) if judged else []
     return Facts(
-        given, run, replay, peaks, subject, stretch, more, missing, drawn, samples, wall, found, judged, supposed, known, mark
-    )
+        given, run, replay, peaks, subject, stretch, more, missing, drawn, samples, wall, found,
+        judged, why, supposed, known, mark,
+        around.groups,
+    )  # fmt: skip

@@ -7,6 +7,7 @@ from typing import Any, Iterable, Union
 from xml.etree import ElementTree
 
 from psichart.svg import add
+from psinames.groups import GroupNames
 
 Element = ElementTree.Element
 Words = Union[str, Element]
@@ -27,13 +28,23 @@ def say(parent: Element, tag: str, *words: Words, **attributes: str) -> Element:
 
 def word(tag: str, text: str, **attributes: str) -> Element:
     """An element of a line."""
-    element = ElementTree.Element(tag, {name.rstrip("_").replace("_", "-"): value for name, value in attributes.items()})
+    element = ElementTree.Element(
+        tag, {name.rstrip("_").replace("_", "-"): value for name, value in attributes.items()}
+    )
     element.text = text
     return element
 
 
-def table(parent: Element, caption: str, heads: Iterable[str], rows: Iterable[Iterable[str]], named: int = 1) -> Element:
-    """A table whose first cells are texts, and the others numbers; in a box of its own, which can be moved where it is too wide."""
+def table(
+    parent: Element,
+    caption: str,
+    heads: Iterable[str],
+    rows: Iterable[Iterable[str]],
+    named: int = 1,
+) -> Element:
+    """A table whose first cells are texts, and the others numbers; in a box of its own, which can
+    be moved where it is too wide.
+    """
     box = add(parent, "div", class_="wide", tabindex="0", role="region", aria_label=caption)
     found = add(box, "table")
     say(found, "caption", caption)
@@ -57,11 +68,23 @@ def folded(parent: Element, summary: str) -> Element:
     return found
 
 
+def name_groups(page: Element, names: GroupNames) -> None:
+    """Shows containers by their names, except in commands."""
+    for element in page.iter():
+        if element.tag != "code":
+            element.text = element.text and names.in_text(element.text)
+            for name, value in element.attrib.items():
+                element.set(name, names.in_text(value))
+        element.tail = element.tail and names.in_text(element.tail)
+
+
 CONTROLS = re.compile(r"[\x00-\x08\x0b-\x1f\x7f-\x9f]")
 
 
 def escape_controls(page: Element) -> None:
-    """Writes each control character of a name as its escape, as `\\x1b`: no browser shows it, and HTML has none."""
+    """Writes each control character of a name as its escape, as `\\x1b`: no browser shows it, and
+    HTML has none.
+    """
 
     def escaped(text: str) -> str:
         return CONTROLS.sub(lambda found: f"\\x{ord(found[0]):02x}", text)

@@ -5,15 +5,17 @@ from typing import Any, Optional
 
 from psichart.axes import time_axis
 from psichart.svg import add
+from psicli.times import seconds
 from psireplay.lines import Kill
-from psireplay.times import seconds
+from psiwhy.explanation import MOST_FIRINGS, firing_lines
+from psiwhy.judged import Judged
+from psiwhy.truths import Place, longest, spans
 
-from .facts import Facts, Judged
-from .html import Element, say, table, word
+from .facts import Facts
+from .html import Element, Words, folded, say, table, word
 from .pictures import Album, Picture, strip, told_spans
 from .sections import RESOURCES, SHOWN, in_seconds, killer, nearness, rest, source
 from .story import percent
-from .truths import Place, longest, spans
 
 
 def rules(page: Element, facts: Facts) -> Optional[Picture]:
@@ -22,7 +24,9 @@ def rules(page: Element, facts: Facts) -> Optional[Picture]:
         return None
     section = add(page, "section", id="rules")
     say(section, "h2", "What the rules would have done")
-    asked = [it for run in judged.asked for it in (" ", source(run))]
+    asked: list[Words] = []
+    for run in judged.asked:
+        asked += [" ", source(run)]
     say(section, "p", f"At {len(judged.evaluations)} evaluations", *asked, "; kills ", source(judged.run), ".", class_="soft")
     key = add(section, "p", class_="soft key")
     for look, text in (("held", "its condition held"), ("true", "true, for its duration"), ("killed", "kill")):
@@ -43,6 +47,9 @@ def ruleset(section: Element, facts: Facts, judged: Judged, number_: int) -> Non
     say(section, "h3", f"Ruleset {number_} ‘{name}’")
     say(section, "p", fired_text(judged, number_, fired, kills))
     section.append(strip("it fires", axis, judged.evaluations, {"true": fired}, [it.moment for it in kills]))
+    if facts.parts[number_].firings:
+        lines = firing_lines(facts.parts[number_].firings, is_all=False)[:MOST_FIRINGS]
+        say(folded(section, "Why it killed, and whom not"), "pre", "\n".join(lines))
     for place, (group, *detectors) in enumerate(judged.json[number_]["detectors"]):
         for which, detector in enumerate(detectors):
             one = Place(number_, place, which)

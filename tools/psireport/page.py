@@ -8,13 +8,13 @@ from datetime import datetime, timezone
 from xml.etree import ElementTree
 
 from psichart.svg import STYLE, STYLE_BESIDE, add
-from psireplay.times import SECOND, rounded, shown, zone
+from psicli.times import SECOND, clock_time, rounded, zone
+from psireplay.runs import Runs
 
 from . import by_oomd, judgement, sections, trust
 from .facts import Facts, sum_of, sums
-from .html import Element, data_of, escape_controls, folded, say, table, word
+from .html import Element, data_of, escape_controls, folded, name_groups, say, table, word
 from .pictures import MS, Picture
-from .runs import Runs
 
 FOLDER = os.path.dirname(os.path.abspath(__file__))
 
@@ -30,7 +30,7 @@ def when(facts: Facts) -> str:
     length = f"{os.path.basename(facts.given.trace)}, {rounded(facts.replay.end.moment)}"
     if not facts.wall:
         return length
-    at = shown((facts.wall.epoch + facts.wall.ahead) // SECOND * SECOND)
+    at = clock_time((facts.wall.epoch + facts.wall.ahead) // SECOND * SECOND)
     return f"{length} from {at.clock} on {at.day} {at.date.tm_year} ({zone(facts.wall.ahead)})"
 
 
@@ -40,7 +40,14 @@ def made(page: Element, facts: Facts, runs: Runs) -> None:
     say(section, "h2", "How it was made")
     words = shlex.join(["tools/report", *sys.argv[1:]])
     now = f"{datetime.now(timezone.utc):%Y-%m-%d %H:%M:%S} UTC"
-    say(section, "p", word("code", words), " ran these commands at ", word("time", now, class_="made"), ":")
+    say(
+        section,
+        "p",
+        word("code", words),
+        " ran these commands at ",
+        word("time", now, class_="made"),
+        ":",
+    )
     commands = add(section, "ol")
     for run in runs.done:
         status = f" (status {run.status})" if run.status else ""
@@ -49,10 +56,21 @@ def made(page: Element, facts: Facts, runs: Runs) -> None:
         if run.given:
             say(folded(line, "DETECTORS.json"), "pre", run.given)
     if facts.judged:
-        what = "DETECTORS.json has a ruleset for each detector, which kills whenever it is true: so its kills are when it was."
+        what = (
+            "DETECTORS.json has a ruleset for each detector, which kills whenever it is true: so"
+            " its kills are when it was."
+        )
         say(section, "p", what, class_="soft")
-    say(section, "p", "A share at a moment is the line of its report: ", word("code", report_line(facts)), ".", class_="soft")
-    say(section, "p", "Sources: commit ", word("code", runs.commit(), class_="commit"), "; the program’s SHA-256: ",
+    say(
+        section,
+        "p",
+        "A share at a moment is the line of its report: ",
+        word("code", report_line(facts)),
+        ".",
+        class_="soft",
+    )
+    say(section, "p", "Sources: commit ", word("code", runs.commit(), class_="commit"),
+        "; the program’s SHA-256: ",
         word("code", sum_of(runs.path), class_="program"))  # fmt: skip
     table(section, "SHA-256 of the files", ["file", "sum"], sums(facts.given), 2)
 
@@ -65,7 +83,14 @@ def report_line(facts: Facts) -> str:
 
 def data(facts: Facts, pictures: list[Picture]) -> str:
     wall = facts.wall and (facts.wall.epoch + facts.wall.ahead) // MS
-    return data_of({"start": 0, "end": facts.replay.end.moment // MS, "wall": wall, "panels": [it.data for it in pictures]})
+    return data_of(
+        {
+            "start": 0,
+            "end": facts.replay.end.moment // MS,
+            "wall": wall,
+            "panels": [it.data for it in pictures],
+        }
+    )
 
 
 def body(page: Element, facts: Facts, runs: Runs) -> None:
@@ -95,5 +120,7 @@ def html(facts: Facts, runs: Runs) -> bytes:
     beside = STYLE_BESIDE.replace(".series", ".whatif .series")
     add(head, "style", file_of("page.css") + STYLE + beside)
     body(add(page, "body"), facts, runs)
+    name_groups(page, facts.names)
     escape_controls(page)
-    return b"<!DOCTYPE html>\n" + ElementTree.tostring(page, "utf-8", method="html") + b"\n"
+    text: bytes = ElementTree.tostring(page, "utf-8", method="html")
+    return b"<!DOCTYPE html>\n" + text + b"\n"

@@ -1,25 +1,28 @@
-"""The pictures of the page, drawn by the charts' own modules: a time line for each group and resource, and a strip for each detector."""
+"""The pictures of the page, drawn by the charts' own modules: a time line for each group and
+resource, and a strip for each detector.
+"""
 from __future__ import annotations
 
 from typing import Any, NamedTuple, Optional
 from xml.etree import ElementTree
 
 from psichart.axes import TimeAxis
-from psichart.chart import NAME_ROOM, Chart, Place, Wanted
+from psichart.chart import FLAT_HEIGHT, NAME_ROOM, Chart, Place, Wanted
 from psichart.marks import ROW
-from psichart.panels import MemoryPanel, PressurePanel
+from psichart.panels import MemoryPanel, Panel, PressurePanel
 from psichart.replay import Replay
-from psichart.svg import WIDTH, Element, add
+from psichart.svg import WIDTH, Element, add, decimal
+from psicli.times import seconds
 from psireplay.lines import AVERAGES, LEVELS
 from psireplay.rules import Rules
 from psireplay.samples import Samples
-from psireplay.times import seconds
-
-from .truths import spans
+from psiwhy.truths import spans
 
 MS = 10**6
 USE = "use"
 HEIGHT = 132
+# All of the time, in hundredths of a percent.
+WHOLE = 10_000
 # Room above a picture's name for texts of kills, and below it for the numbers of the time.
 TOP, BOTTOM = 8, 22
 # Below a picture's values stand the ticks of events.
@@ -51,22 +54,42 @@ class Figure(Chart):
         self.marks_top = TOP
         self.marks_bottom = self.marks_top + ROW * rows
         self.top = self.marks_bottom + 12 + NAME_ROOM
-        self.places = [Place(self.top, HEIGHT)]
-        self.bottom = self.top + HEIGHT + EVENTS
+        self.height = FLAT_HEIGHT if self.panels[0].is_flat() else HEIGHT
+        self.places = [Place(self.top, self.height)]
+        self.bottom = self.top + self.height + EVENTS
+
+    def most(self) -> int:
+        """The value at the upper edge of its panel."""
+        panel = self.panels[0]
+        most = panel.most()
+        step = panel.apart(most)
+        return -(-most // step) * step
 
     def drawn(self) -> Element:
         """Its picture, which a reader of the screen knows by its name."""
         height = self.bottom + BOTTOM
-        self.svg = ElementTree.Element("svg", {"viewBox": f"0 0 {WIDTH} {height}", "role": "img", "aria-label": self.panels[0].name})
+        self.svg = ElementTree.Element(
+            "svg",
+            {"viewBox": f"0 0 {WIDTH} {height}", "role": "img", "aria-label": self.panels[0].name},
+        )
         self.draw_time()
         if self.wanted.recorded:
             self.draw_supposed()
         panel = self.panels[0]
-        panel.draw(self.svg, self.top, HEIGHT, panel.most())
+        panel.draw(self.svg, self.top, self.height, panel.most())
         self.draw_marks()
         for caption in [it for it in self.svg if it.get("class") == "small"]:
             self.svg.remove(caption)
+        self.mark_scale(panel)
         return self.svg
+
+    def mark_scale(self, panel: Panel) -> None:
+        """Says that the scale ends below 100 percent, since the picture beside it may end
+        elsewhere.
+        """
+        name = self.svg.find("g/text[@class='name']")
+        if name is not None and panel.kind != USE and not panel.is_flat() and self.most() < WHOLE:
+            add(name, "tspan", f"scale to {decimal(self.most() / 100)} %", class_="small", dx=12)
 
     def has_events(self) -> bool:
         """Whether any picture has some: the legend is that of all."""
@@ -74,7 +97,9 @@ class Figure(Chart):
 
     def legend(self) -> Element:
         """What the lines of all pictures mean."""
-        self.svg = ElementTree.Element("svg", {"viewBox": f"0 38 {WIDTH} {46 if self.wanted.recorded else 26}", "role": "img"})
+        self.svg = ElementTree.Element(
+            "svg", {"viewBox": f"0 38 {WIDTH} {46 if self.wanted.recorded else 26}", "role": "img"}
+        )
         self.svg.attrib.update({"aria-label": "what the lines mean", "class": "meaning"})
         self.draw_legend()
         if self.wanted.recorded:
@@ -83,9 +108,15 @@ class Figure(Chart):
 
 
 def pressure_data(replay: Replay, path: str, resource: str) -> dict[str, Any]:
-    """The values of a group's reports: moments in ms, shares in hundredths of a percent, and nothing where it wasn't there."""
+    """The values of a group's reports: moments in ms, shares in hundredths of a percent, and
+    nothing where it wasn't there.
+    """
     series = replay.series[path, resource]
-    shares = {f"{level} {average}": series.shares[level, average] for level in LEVELS for average in AVERAGES}
+    shares = {
+        f"{level} {average}": series.shares[level, average]
+        for level in LEVELS
+        for average in AVERAGES
+    }
     shares = {look: values for look, values in shares.items() if values}
     moments: list[Optional[int]] = []
     lines: dict[str, list[Optional[int]]] = {look: [] for look in shares}
@@ -97,7 +128,10 @@ def pressure_data(replay: Replay, path: str, resource: str) -> dict[str, Any]:
         moments.append(moment // MS)
         for look, values in lines.items():
             values.append(shares[look][place])
-    events = {level: [it // MS for it in replay.events.get((path, resource, level), [])] for level in LEVELS}
+    events = {
+        level: [it // MS for it in replay.events.get((path, resource, level), [])]
+        for level in LEVELS
+    }
     return {"t": moments, "s": lines, "e": {level: at for level, at in events.items() if at}}
 
 
@@ -108,7 +142,11 @@ def memory_data(panel: MemoryPanel) -> dict[str, Any]:
         rows += [(None, None, None)] if rows else []
         rows += [(it.moment // MS, it.memory, it.swap) for it in life]
     moments, memory, swap = (list(column) for column in zip(*rows)) if rows else ([], [], [])
-    return {"t": moments, "s": {"memory-use": memory, **({"swap-use": swap} if panel.has_swap else {})}, "e": {}}
+    return {
+        "t": moments,
+        "s": {"memory-use": memory, **({"swap-use": swap} if panel.has_swap else {})},
+        "e": {},
+    }
 
 
 def picture(wanted: Wanted, has_labels: bool) -> Picture:
@@ -120,10 +158,9 @@ def picture(wanted: Wanted, has_labels: bool) -> Picture:
     else:
         assert isinstance(panel, MemoryPanel)
         data = memory_data(panel)
-    most = panel.most()
-    step = panel.apart(most)
     data.update(
-        top=figure.top, bottom=figure.top + HEIGHT, below=figure.bottom, most=-(-most // step) * step, step=panel.kind == USE,
+        top=figure.top, bottom=figure.top + figure.height, below=figure.bottom, most=figure.most(),
+        step=panel.kind == USE,
         marks=[mark.moments[0].moment // MS for mark in figure.marks],
     )  # fmt: skip
     panel.name = f"{panel.name} of {path}"
@@ -140,9 +177,13 @@ def of_group(replay: Replay, path: str) -> Replay:
 
 
 class Album:
-    """Draws pictures of one replay on one axis. The first one has labels beside upright lines, which go through all."""
+    """Draws pictures of one replay on one axis. The first one has labels beside upright lines,
+    which go through all.
+    """
 
-    def __init__(self, replay: Replay, axis: TimeAxis, rules: Optional[Rules], samples: Optional[Samples]) -> None:
+    def __init__(
+        self, replay: Replay, axis: TimeAxis, rules: Optional[Rules], samples: Optional[Samples]
+    ) -> None:
         self.replay, self.axis, self.rules, self.samples = replay, axis, rules, samples
         self.is_first = True
 
@@ -153,38 +194,57 @@ class Album:
 
     def pressure(self, path: str, resource: str, recorded: Optional[Replay] = None) -> Picture:
         beside = of_group(recorded, path) if recorded else None
-        return self.picture(Wanted(of_group(self.replay, path), [resource], self.axis, self.rules, None, beside))
+        return self.picture(
+            Wanted(of_group(self.replay, path), [resource], self.axis, self.rules, None, beside)
+        )
 
     def memory(self, path: str) -> Picture:
-        return self.picture(Wanted(of_group(self.replay, path), [], self.axis, self.rules, self.samples, None))
+        return self.picture(
+            Wanted(of_group(self.replay, path), [], self.axis, self.rules, self.samples, None)
+        )
 
     def legend(self, path: str, recorded: Optional[Replay] = None) -> Element:
-        return Figure(Wanted(of_group(self.replay, path), ["io"], self.axis, self.rules, None, recorded)).legend()
+        return Figure(
+            Wanted(of_group(self.replay, path), ["io"], self.axis, self.rules, None, recorded)
+        ).legend()
 
 
 # ---------------------------------------------------------------- strips
 
 
-def strip(what: str, axis: TimeAxis, evaluations: list[int], kinds: dict[str, list[int]], marks: list[int]) -> Element:
-    """When something was true: a rectangle of each kind's look from its first evaluation to the one after its last, and upright lines."""
-    said = "; ".join(told_spans(spans(moments, evaluations)) for moments in list(kinds.values())[-1:])
+def strip(
+    what: str, axis: TimeAxis, evaluations: list[int], kinds: dict[str, list[int]], marks: list[int]
+) -> Element:
+    """When something was true: a rectangle of each kind's look from its first evaluation to the one
+    after its last, and upright lines.
+    """
+    said = "; ".join(
+        told_spans(spans(moments, evaluations)) for moments in list(kinds.values())[-1:]
+    )
     view = f"0 0 {STRIP} {STRIP_HEIGHT}"
-    svg = ElementTree.Element("svg", {"class": "strip", "viewBox": view, "preserveAspectRatio": "none", "role": "img"})
+    svg = ElementTree.Element(
+        "svg", {"class": "strip", "viewBox": view, "preserveAspectRatio": "none", "role": "img"}
+    )
     svg.set("aria-label", f"{what}: {said or 'never'}")
     add(svg, "rect", class_="never", width=STRIP, height=STRIP_HEIGHT)
     after = dict(zip(evaluations, [*evaluations[1:], axis.end]))
     for look, moments in kinds.items():
         for start, end in spans(moments, evaluations):
-            left, right = (STRIP * (it - axis.start) / (axis.end - axis.start) for it in (start, after[end]))
+            left, right = (
+                STRIP * (it - axis.start) / (axis.end - axis.start) for it in (start, after[end])
+            )
             add(svg, "rect", class_=look, x=left, width=max(right - left, 2), height=STRIP_HEIGHT)
     for moment in marks:
-        add(svg, "rect", class_="killed", x=STRIP * (moment - axis.start) / (axis.end - axis.start) - 1.5, width=3, height=STRIP_HEIGHT)
+        add(svg, "rect", class_="killed",
+        x=STRIP * (moment - axis.start) / (axis.end - axis.start) - 1.5, width=3,
+        height=STRIP_HEIGHT)  # fmt: skip
     return svg
 
 
 def told_spans(found: list[tuple[int, int]]) -> str:
     """From when to when, in words; of many the first ones."""
-    texts = [f"from {seconds(start)} to {seconds(end)} s" if end > start else f"at {seconds(start)} s" for start, end in found]
+    texts = [
+        f"from {seconds(start)} to {seconds(end)} s" if end > start else f"at {seconds(start)} s"
+        for start, end in found
+    ]
     return ", ".join(texts[:6]) + (f" and {len(texts) - 6} times more" if len(texts) > 6 else "")
-
-

@@ -15,7 +15,9 @@ STRETCHES = 300
 
 
 class Peak(NamedTuple):
-    """The highest share over 10 s, in hundredths of a percent, and the moment (ns) when it was reached first."""
+    """The highest share over 10 s, in hundredths of a percent, and the moment (ns) when it was
+    reached first.
+    """
 
     share: int
     moment: int
@@ -40,9 +42,15 @@ class Peaks:
         return self.found.get((path, resource, level), Peak(0, 0))
 
     def worst(self, resource: str) -> list[str]:
-        """The groups that stalled most for a resource, the worst first; some that stalled next to nothing only if all did."""
+        """The groups that stalled most for a resource, the worst first; some that stalled next to
+        nothing only if all did.
+        """
         level = "full" if resource == "irq" else "some"
-        peaks = {path: peak.share for (path, kind, it), peak in self.found.items() if (kind, it) == (resource, level)}
+        peaks = {
+            path: peak.share
+            for (path, kind, it), peak in self.found.items()
+            if (kind, it) == (resource, level)
+        }
         order = sorted(peaks, key=lambda path: (-peaks[path], path.count("/"), path))
         return [path for path in order if peaks[path] >= LEAST][:DRAWN] or order[:1]
 
@@ -58,7 +66,9 @@ def read_peaks(printed: Iterable[bytes]) -> Peaks:
 
 
 def kept_rows(series: Series, start: int, end: int) -> list[int]:
-    """Of each stretch of the time the first report and, of each average, that with the highest value: no peak vanishes."""
+    """Of each stretch of the time the first report and, of each average, that with the highest
+    value: no peak vanishes.
+    """
     stretches: dict[int, list[int]] = collections.defaultdict(list)
     for place, moment in enumerate(series.moments):
         stretches[(moment - start) * STRETCHES // max(1, end - start)].append(place)
@@ -71,7 +81,9 @@ def kept_rows(series: Series, start: int, end: int) -> list[int]:
 
 
 def thinned(series: Series, start: int, end: int) -> Series:
-    """The series of those rows. Its rounds go on by one from row to row, and by more where the group wasn't there between."""
+    """The series of those rows. Its rounds go on by one from row to row, and by more where the
+    group wasn't there between.
+    """
     found, last, number = Series(), -1, 0
     for place in kept_rows(series, start, end):
         is_broken = series.rounds[place] - series.rounds[max(last, 0)] > place - max(last, 0)

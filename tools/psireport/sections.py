@@ -1,22 +1,25 @@
 """The parts of the page, each from the facts that its commands gave."""
 from __future__ import annotations
 
+from operator import itemgetter
 from typing import Any, NamedTuple, Optional
 
 from psichart.axes import time_axis
 from psichart.svg import add
+from psicli.times import seconds
+from psinames.tasks import Share, shares_text
 from psireplay.lines import Kill
+from psireplay.runs import Done
 from psireplay.sampled import Sampled
-from psireplay.times import seconds
+from psiwhy.by_rules import verdict
+from psiwhy.judged import Judged
+from psiwhy.nearness import share
+from psiwhy.truths import Place
 
-from .facts import Blamed, Facts, Judged
+from .facts import Blamed, Facts
 from .html import Element, Words, folded, say, table, word
-from .nearness import share
 from .pictures import Album, Picture
-from .runs import Done
 from .story import After, caveat, early, machine_sentence, percent
-from .truths import Place
-from .verdict import nearest_ruleset
 
 SHOWN = 8
 # So many figures of each resource are printed.
@@ -28,7 +31,8 @@ NO_TASK = (
     "“No task” is the time in which a task was ready on a processor and none ran there: the processor was just waking up, or ran what "
     "a trace doesn’t have, as interrupts and a hypervisor’s other guests."
 )
-# What is shown of a group's times: the parts and the whole, by their names in blame's JSON, and what it is.
+# What is shown of a group's times: the parts and the whole, by their names in blame's JSON, and
+# what it is.
 MEANWHILE = (
     ("while_ran", "waited_ns", "{group} waited {time} s for a processor: while there ran"),
     ("io_at_the_same_time", "io_ns", "{group} waited {time} s for IO: tasks of these groups did at the same time"),
@@ -58,7 +62,8 @@ def killer(facts: Facts, kill: Kill) -> str:
 
 
 def sampling(mark: Sampled) -> str:
-    """How the first sentence begins if the trace was made of samples: what such a trace can't say."""
+    """How the first sentence begins if the trace was made of samples: what such a trace can't say.
+    """
     return f"By {mark.interval()}, so that short stalls may be missed and nobody knows who ran when: "
 
 
@@ -76,7 +81,7 @@ def lead(facts: Facts) -> list[Words]:
         return found
     if not kills:
         nobody = f" The rules would have killed nobody{early(end)} "
-        return [*found, nobody, source(facts.judged.run), "; " + nearest_ruleset(facts.judged) + "."]
+        return [*found, nobody, source(facts.judged.run), "; " + verdict(facts.judged, facts.parts) + "."]
     first = kills[0]
     more = f" (the first of {len(kills)} kills)" if len(kills) > 1 else ""
     at = f"{seconds(first.moment)} s{more}{early(first.moment)}"
@@ -113,7 +118,9 @@ def notes(page: Element, facts: Facts) -> None:
 
 
 class Near(NamedTuple):
-    """How near a ruleset came to firing: at most so many of a group's detectors were true at once, of how many, and when (ns) first."""
+    """How near a ruleset came to firing: at most so many of a group's detectors were true at once,
+    of how many, and when (ns) first.
+    """
 
     true: int
     many: int
@@ -125,7 +132,9 @@ class Near(NamedTuple):
 
 
 def nearness(judged: Judged, number_: int) -> Near:
-    """How near a ruleset came. A group without detectors always holds, so of a ruleset that never fired each has some."""
+    """How near a ruleset came. A group without detectors always holds, so of a ruleset that never
+    fired each has some.
+    """
     best = Near(0, 0, 0)
     for place, (_, *detectors) in enumerate(judged.json[number_]["detectors"]):
         true = [set(judged.truths[Place(number_, place, which)]) for which in range(len(detectors))]
@@ -170,7 +179,8 @@ def figure(parent: Element, picture: Picture, number_: int, is_printed: bool) ->
 
 
 def controls(parent: Element, pictures: list[Picture], first: set[str]) -> None:
-    """What is shown of the pictures: at first these groups. The script makes it work, and shows it."""
+    """What is shown of the pictures: at first these groups. The script makes it work, and shows it.
+    """
     box = add(parent, "div", class_="controls")
     for legend, name, values in (
         ("Groups", "group", {it.path: it.path for it in pictures}),
@@ -219,12 +229,15 @@ def time_lines(page: Element, facts: Facts) -> list[Picture]:
 # ---------------------------------------------------------------- 3. blame
 
 
-# What blame says of a group in all of the trace; a group whose only child has the same is the same row.
+# What blame says of a group in all of the trace; a group whose only child has the same is the same
+# row.
 MEASURED = ("ran_ns", "waited_ns", "io_ns", "memory_ns", "memory_grown_bytes", "scanned_pages", "while_ran")
 
 
 def without_same(rows: list[dict[str, Any]], keys: tuple[str, ...]) -> list[dict[str, Any]]:
-    """The rows without those of groups that have what a group right below them has: all that they have is of that one."""
+    """The rows without those of groups that have what a group right below them has: all that they
+    have is of that one.
+    """
     found = []
     for it in rows:
         below = [other for other in rows if other is not it and (other["path"].rpartition("/")[0] or "/") == it["path"]]
@@ -233,12 +246,18 @@ def without_same(rows: list[dict[str, Any]], keys: tuple[str, ...]) -> list[dict
     return found
 
 
+def longest_wait(group: dict[str, Any]) -> int:
+    """The longest of a group's times of waiting (ns)."""
+    return max(int(group[key]) for key in ("waited_ns", "io_ns", "memory_ns"))
+
+
 def groups_table(section: Element, blamed: Blamed) -> None:
-    rows = sorted(without_same(blamed.all["groups"], MEASURED), key=lambda it: -max(it["waited_ns"], it["io_ns"], it["memory_ns"]))
+    rows = sorted(without_same(blamed.all["groups"], MEASURED), key=longest_wait, reverse=True)
     heads = ["group", "ran", "waited for a processor", "for IO", "in memory stalls", "memory grown, MiB", "pages scanned"]
     cells = [
         [
-            it["group"], in_seconds(it["ran_ns"]), in_seconds(it["waited_ns"]), in_seconds(it["io_ns"]), in_seconds(it["memory_ns"]),
+            with_processes(it["group"], it), in_seconds(it["ran_ns"]), in_seconds(it["waited_ns"]),
+            in_seconds(it["io_ns"]), in_seconds(it["memory_ns"]),
             "-" if it["memory_grown_bytes"] is None else f"{it['memory_grown_bytes'] / 2**20:.1f}",
             "-" if it["scanned_pages"] is None else str(it["scanned_pages"]),
         ]
@@ -257,10 +276,17 @@ def part_name(group: Optional[str], of: str) -> str:
     return NOBODY if group is None else f"{group} itself" if group == of else group
 
 
+def with_processes(name: str, it: dict[str, Any]) -> str:
+    """A group's name, and the processes of it that ran, if they have names."""
+    shares = [Share(part["name"], tuple(part["pids"]), part["ns"]) for part in it.get("processes", [])]
+    return f"{name}: {shares_text(shares)}" if shares else name
+
+
 def parts_table(section: Element, it: dict[str, Any], parts: list[dict[str, Any]], whole: int, caption: str) -> None:
     """Parts of a group's time, where it has some."""
     rows = [
-        [part_name(part["group"], it["group"]), in_seconds(part["ns"]), f"{100 * part['ns'] / whole:.1f} %"] for part in parts[:SHOWN]
+        [with_processes(part_name(part["group"], it["group"]), part), in_seconds(part["ns"]), f"{100 * part['ns'] / whole:.1f} %"]
+        for part in parts[:SHOWN]
     ]
     if rows:
         table(section, caption.format(group=it["group"], time=in_seconds(whole)), ["group", "s", "of it"], rows)
@@ -268,7 +294,8 @@ def parts_table(section: Element, it: dict[str, Any], parts: list[dict[str, Any]
 
 def matrix(section: Element, blamed: Blamed) -> None:
     """Who waited for whom."""
-    waiting = sorted((it for it in without_same(blamed.all["groups"], ("while_ran",)) if it["waited_ns"]), key=lambda it: -it["waited_ns"])
+    waiting = [it for it in without_same(blamed.all["groups"], ("while_ran",)) if it["waited_ns"]]
+    waiting.sort(key=itemgetter("waited_ns"), reverse=True)
     totals: dict[Optional[str], int] = {}
     for it in waiting:
         for part in it["while_ran"]:

@@ -4,11 +4,11 @@ from __future__ import annotations
 from typing import NamedTuple, Optional
 
 from psichart.replay import Replay, Series
+from psicli.times import SECOND, seconds
 from psireplay.lines import Kill
 from psireplay.rules import Rules
-from psireplay.times import SECOND, seconds
+from psiwhy.nearness import share
 
-from .nearness import share
 from .reading import LEAST, Peaks
 
 # So long (ns) after a kill the page looks at what became of others.
@@ -31,7 +31,9 @@ class Subject(NamedTuple):
 
 
 class Stretch(NamedTuple):
-    """The worst stretch, in ns: the longest in which the share over 10 s was at least half of the highest one."""
+    """The worst stretch, in ns: the longest in which the share over 10 s was at least half of the
+    highest one.
+    """
 
     start: int
     end: int
@@ -40,8 +42,9 @@ class Stretch(NamedTuple):
 
 
 class After(NamedTuple):
-    """What the subject had some time after a kill (ns), and would have had at most, in hundredths of a percent; and whether its
-    share only fell from the kill on, so that the stall was over."""
+    """What the subject had some time after a kill (ns), and would have had at most, in hundredths
+    of a percent; and whether its share only fell from the kill on, so that the stall was over.
+    """
 
     moment: int
     was: int
@@ -50,10 +53,16 @@ class After(NamedTuple):
 
 
 def watched(rules: Rules, kill: Kill, peaks: Peaks) -> Optional[Subject]:
-    """What the ruleset that kills looks at: of the groups and resources of its detectors of pressure the group that stalled most. Where
-    that is the victim, or below it, nothing of it would be left: then it is the group above the victim."""
+    """What the ruleset that kills looks at: of the groups and resources of its detectors of
+    pressure the group that stalled most. Where that is the victim, or below it, nothing of it would
+    be left: then it is the group above the victim.
+    """
     found = [
-        (peaks.highest(path, detector.args["resource"], "full").share, path, detector.args["resource"])
+        (
+            peaks.highest(path, detector.args["resource"], "full").share,
+            path,
+            detector.args["resource"],
+        )
         for detector in rules.rulesets[kill.ruleset].detectors
         if "resource" in detector.args
         for path in {path for path, _, _ in peaks.found}
@@ -72,8 +81,10 @@ def subject_of(peaks: Peaks, rules: Optional[Rules], kills: list[Kill]) -> Subje
 
 
 def worst_of(peaks: Peaks) -> Subject:
-    """The group all of whose work stood still most. If next to nothing of any group did, it is the root, for what some of its work
-    waited for, since its `full` of cpu says nothing; or else who was held up by interrupts."""
+    """The group all of whose work stood still most. If next to nothing of any group did, it is the
+    root, for what some of its work waited for, since its `full` of cpu says nothing; or else who
+    was held up by interrupts.
+    """
     best: Optional[tuple[int, Subject]] = None
     for found in (ranked(peaks, False), ranked(peaks, True), interrupted(peaks)):
         if found and found[0] >= LEAST:
@@ -84,7 +95,9 @@ def worst_of(peaks: Peaks) -> Subject:
 
 
 def ranked(peaks: Peaks, is_root: bool) -> Optional[tuple[int, Subject]]:
-    """The worst of the groups below the root, or the root: its highest share, in hundredths of a percent, and what it is."""
+    """The worst of the groups below the root, or the root: its highest share, in hundredths of a
+    percent, and what it is.
+    """
     levels = ("some", "full") if is_root else ("full", "some")
     order = [
         ([peaks.highest(path, resource, it).share for it in levels], path, resource)
@@ -97,19 +110,27 @@ def ranked(peaks: Peaks, is_root: bool) -> Optional[tuple[int, Subject]]:
 
 def interrupted(peaks: Peaks) -> Optional[tuple[int, Subject]]:
     """Who was held up by interrupts for the greatest share, the root first."""
-    order = [(peaks.highest(path, "irq", "full").share, path == "/", path) for path, resource, _ in peaks.found if resource == "irq"]
+    order = [
+        (peaks.highest(path, "irq", "full").share, path == "/", path)
+        for path, resource, _ in peaks.found
+        if resource == "irq"
+    ]
     share_, _, path = max(order, default=(0, False, ""))
     return (share_, Subject(path, "irq")) if path else None
 
 
 def greater_than(subject: Subject, peaks: Peaks) -> Optional[Subject]:
-    """What stalled most, if that is another stall than the subject's: of another resource, or of a group neither above nor below."""
+    """What stalled most, if that is another stall than the subject's: of another resource, or of a
+    group neither above nor below.
+    """
     worst = worst_of(peaks)
     paths = [f"{it.path.rstrip('/')}/" for it in (worst, subject)]
-    is_same = worst.resource == subject.resource and (paths[0].startswith(paths[1]) or paths[1].startswith(paths[0]))
-    is_more = max(peaks.highest(worst.path, worst.resource, it).share for it in ("some", "full")) > max(
-        peaks.highest(subject.path, subject.resource, it).share for it in ("some", "full")
+    is_same = worst.resource == subject.resource and (
+        paths[0].startswith(paths[1]) or paths[1].startswith(paths[0])
     )
+    is_more = max(
+        peaks.highest(worst.path, worst.resource, it).share for it in ("some", "full")
+    ) > max(peaks.highest(subject.path, subject.resource, it).share for it in ("some", "full"))
     return worst if is_more and not is_same else None
 
 
@@ -129,7 +150,9 @@ def stretch_of(series: Series, level: str) -> Stretch:
 
 def value_at(series: Series, level: str, moment: int) -> tuple[int, int]:
     """The first report from a moment on, or the last one: its moment, and its share over 10 s."""
-    place = next((place for place, it in enumerate(series.moments) if it >= moment), len(series.moments) - 1)
+    place = next(
+        (place for place, it in enumerate(series.moments) if it >= moment), len(series.moments) - 1
+    )
     return series.moments[place], series.shares[level, "avg10"][place]
 
 
@@ -140,7 +163,11 @@ def after(subject: Subject, kill: Kill, recorded: Replay, supposed: Replay) -> O
         return None
     moment, was = value_at(one, subject.level, kill.moment + LATER)
     same, most = value_at(other, subject.level, moment)
-    shares = [share_ for at, share_ in zip(one.moments, one.shares[subject.level, "avg10"]) if kill.moment <= at <= moment]
+    shares = [
+        share_
+        for at, share_ in zip(one.moments, one.shares[subject.level, "avg10"])
+        if kill.moment <= at <= moment
+    ]
     was_over = all(later <= before for before, later in zip(shares, shares[1:]))
     return After(moment, was, most, was_over) if same == moment else None
 
@@ -162,15 +189,21 @@ def early(moment: int) -> str:
     return ", which says little before 30 s" if moment < SETTLED else ""
 
 
-def machine_sentence(subject: Subject, stretch: Stretch, end: int, caveat_: str = "", aside: str = "") -> str:
+def machine_sentence(
+    subject: Subject, stretch: Stretch, end: int, caveat_: str = "", aside: str = ""
+) -> str:
     """What the machine went through; times in ns. What is said aside follows the group's name."""
     if not stretch.highest:
         return f"No group stalled in the {seconds(end)} s of this trace{caveat_}."
     who = "The machine" if subject.path == "/" else subject.path
-    what = f"waited for {NAMES[subject.resource]}" if subject.resource in ("io", "cpu") else f"stalled for {NAMES[subject.resource]}"
+    what = (
+        f"waited for {NAMES[subject.resource]}"
+        if subject.resource in ("io", "cpu")
+        else f"stalled for {NAMES[subject.resource]}"
+    )
     what = "was held up by interrupts" if subject.resource == "irq" else what
     when = f"from {seconds(stretch.start)} s to {seconds(stretch.end)} s"
     return (
-        f"{who}{aside} {what}, at its worst {when}: up to {share(stretch.highest)} percent of the time over 10 s "
-        f"(at {seconds(stretch.at)} s){caveat_}."
+        f"{who}{aside} {what}, at its worst {when}: up to {share(stretch.highest)} percent of the"
+        f" time over 10 s (at {seconds(stretch.at)} s){caveat_}."
     )

@@ -1,1 +1,3 @@
-"""What tools/rules and tools/fleet are made of: each module has one part, and none computes pressure or kills of its own."""
+"""What tools/rules and tools/fleet are made of: each module has one part, and none computes
+pressure or kills of its own.
+"""

@@ -2,13 +2,13 @@
 import functools
 import json
 
+from psicli.fault import Fault
+from psicli.running import complain
 from psioomd.configuration import Configuration
 from psioomd.emulation import Run, emulate, read_configuration
-from psirules import telling
 from psirules.program import Kill, Program
 from psirules.replays import Traces
 from psirules.rules_file import RulesFile
-from psirules.wording import Fault
 from psisystemd.replayed import kept_trace
 
 NAME = "oomd"
@@ -18,7 +18,11 @@ INTERVAL = 5
 def names_of(read: Configuration) -> bytes:
     """The names of a configuration's rulesets and actions, as rules."""
     rulesets = [
-        {"name": it.name, "detectors": [], "actions": [{"name": action.name} for action in it.actions]}
+        {
+            "name": it.name,
+            "detectors": [],
+            "actions": [{"name": action.name} for action in it.actions],
+        }
         for it in read.rulesets
     ]
     return json.dumps({"rulesets": rulesets}).encode()
@@ -36,11 +40,13 @@ def replay(program: Program, run: Run, trace: str, threads: int) -> list[Kill]:
     with kept_trace(trace) as file:
         found = emulate(program, Run(file, run.config, interval=run.interval), threads)
     for text in found.notes.texts:
-        telling.complain(f"{trace}: {text}")
+        complain(f"{trace}: {text}")
     return [it.kill() for it in found.decisions]
 
 
-def replays(program: Program, name: str, interval: int | None, traces: Traces) -> list[list[Kill] | Fault]:
+def replays(
+    program: Program, name: str, interval: int | None, traces: Traces
+) -> list[list[Kill] | Fault]:
     """The kills of each trace."""
     run = Run("", name, interval=interval or INTERVAL)
     return traces.each(functools.partial(replay, program, run))

@@ -2,11 +2,11 @@
 import functools
 import json
 
-from psirules import telling
+from psicli.fault import Fault
+from psicli.running import complain
 from psirules.program import Kill, Program
 from psirules.replays import Traces
 from psirules.rules_file import RulesFile
-from psirules.wording import Fault
 from psisystemd.replayed import BY, kept_trace, kills_of, replayed, warnings
 from psisystemd.settings import Settings
 
@@ -24,18 +24,22 @@ class BySystemd(RulesFile):
         return f"{NAME} for {self.ruleset_name(kill.ruleset)}"
 
 
-def replay(program: Program, folder: str, version: int | None, trace: str, threads: int) -> list[Kill]:
+def replay(
+    program: Program, folder: str, version: int | None, trace: str, threads: int
+) -> list[Kill]:
     """The kills of a trace by the settings of a folder."""
     settings = Settings(folder, version)
     with kept_trace(trace) as file:
         engine = replayed(program, file, settings, threads)
     for text in warnings(engine, settings):
-        telling.complain(f"{trace}: {text}")
+        complain(f"{trace}: {text}")
     return kills_of(engine.decisions)
 
 
-def replays(program: Program, folder: str, version: int | None, traces: Traces) -> list[list[Kill] | Fault]:
+def replays(
+    program: Program, folder: str, version: int | None, traces: Traces
+) -> list[list[Kill] | Fault]:
     """The kills of each trace. A bad setting is a fault of all."""
     for note in Settings(folder, version).notes:
-        telling.complain(note)
+        complain(note)
     return traces.each(functools.partial(replay, program, folder, version))

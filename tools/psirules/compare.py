@@ -4,6 +4,9 @@ import contextlib
 import itertools
 from dataclasses import dataclass
 
+from psicli.fault import Fault
+from psicli.running import complain
+from psicli.times import seconds
 from psirules import telling
 from psirules.expectations import victims
 from psirules.program import Kill, Program
@@ -11,9 +14,9 @@ from psirules.replays import Traces, accepted, no_input, note_samples, note_unma
 from psirules.rules_file import RulesFile
 from psirules.sampling import note
 from psirules.telling import Outcome
-from psirules.wording import Fault, seconds
 
-ABOUT = """Replays each trace by the rules of OLD and by those of NEW, and says of each, by the first kill that differs:
+ABOUT = """Replays each trace by the rules of OLD and by those of NEW, and says of each, by the
+first kill that differs:
 
   same           the same groups are killed at the same moments
   earlier by S   the same group is killed, so many seconds earlier by NEW
@@ -21,12 +24,17 @@ ABOUT = """Replays each trace by the rules of OLD and by those of NEW, and says 
   other victim   another group is killed
   only in FILE   there is such a kill by these rules alone"""
 ORDER = "OLD NEW TRACE, with rules files for OLD and NEW"
-STATUS = "The status is 0 where all traces are the same, 1 where some aren't, and 2 where something couldn't be run."
+STATUS = (
+    "The status is 0 where all traces are the same, 1 where some aren't, and 2 where something"
+    " couldn't be run."
+)
 
 
 @dataclass(frozen=True)
 class Difference:
-    """What became of one trace: the word for it, the kills that differ first, by OLD and by NEW, and all of it in words."""
+    """What became of one trace: the word for it, the kills that differ first, by OLD and by NEW,
+    and all of it in words.
+    """
 
     word: str
     old: Kill | None
@@ -34,23 +42,33 @@ class Difference:
     told: str
 
 
-def difference(old: list[Kill], new: list[Kill], old_rules: RulesFile, new_rules: RulesFile) -> Difference:
+def difference(
+    old: list[Kill], new: list[Kill], old_rules: RulesFile, new_rules: RulesFile
+) -> Difference:
     """What the first kill that differs says, number by number."""
     for number, (one, other) in enumerate(itertools.zip_longest(old, new)):
         earlier = f", after {victims(new[:number])} by both" if number else ""
         if one is None:
             word = f"only in {new_rules.name}"
-            return Difference(word, one, other, f"{word}: {other.path} {new_rules.killed(other)}{earlier}")
+            return Difference(
+                word, one, other, f"{word}: {other.path} {new_rules.killed(other)}{earlier}"
+            )
         if other is None:
             word = f"only in {old_rules.name}"
-            return Difference(word, one, other, f"{word}: {one.path} {old_rules.killed(one)}{earlier}")
+            return Difference(
+                word, one, other, f"{word}: {one.path} {old_rules.killed(one)}{earlier}"
+            )
         both = (
-            f"{other.path} {new_rules.killed(other)}; by {old_rules.name} {told_old(one, other, old_rules, new_rules)}{earlier}"
+            f"{other.path} {new_rules.killed(other)}; by"
+            f" {old_rules.name} {told_old(one, other, old_rules, new_rules)}{earlier}"
         )
         if one.path != other.path:
             return Difference("other victim", one, other, f"other victim: {both}")
         if one.moment != other.moment:
-            word = f"{'earlier' if other.moment < one.moment else 'later'} by {seconds(abs(other.moment - one.moment))} s"
+            word = (
+                f"{'earlier' if other.moment < one.moment else 'later'} by"
+                f" {seconds(abs(other.moment - one.moment))} s"
+            )
             return Difference(word, one, other, f"{word}: {both}")
     return Difference("same", None, None, f"same: {victims(new)}")
 
@@ -77,8 +95,17 @@ class Compared:
     def record(self, old: RulesFile, new: RulesFile) -> dict[str, object]:
         if isinstance(self.found, Fault):
             return {"trace": self.trace, "fault": str(self.found)}
-        kills = {"old": self.found.old and old.record(self.found.old), "new": self.found.new and new.record(self.found.new)}
-        return {"trace": self.trace, "fault": None, "word": self.found.word, "told": self.found.told, **kills}
+        kills = {
+            "old": self.found.old and old.record(self.found.old),
+            "new": self.found.new and new.record(self.found.new),
+        }
+        return {
+            "trace": self.trace,
+            "fault": None,
+            "word": self.found.word,
+            "told": self.found.told,
+            **kills,
+        }
 
 
 def run(given: argparse.Namespace) -> int:
@@ -90,7 +117,11 @@ def run(given: argparse.Namespace) -> int:
         new, new_file = accepted(program, given.new, files, ORDER)
         traces = Traces.of(given.traces, given.pace, given.jobs)
         replays = traces.replays(program, [old_file, new_file])
-    whole = [trace for trace, *found in zip(traces.names, *replays) if not any(isinstance(it, Fault) for it in found)]
+    whole = [
+        trace
+        for trace, *found in zip(traces.names, *replays)
+        if not any(isinstance(it, Fault) for it in found)
+    ]
     note_unmatched(traces, whole, [old, new])
     note_samples(whole, [old, new])
     compared = []
@@ -110,6 +141,6 @@ def tell_lines(outcomes: list[Outcome]) -> None:
     """A line for each trace; what couldn't be run is reported on standard error."""
     for outcome in outcomes:
         if outcome.is_ok is None:
-            telling.complain(outcome.told)
+            complain(outcome.told)
         else:
             print(f"{outcome.name}: {outcome.told}")

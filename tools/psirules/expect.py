@@ -3,35 +3,58 @@ import argparse
 import contextlib
 from collections.abc import Iterable
 
+from psicli.fault import Fault
+from psicli.running import complain
 from psirules import by_oomd, by_systemd, expectations, telling
 from psirules.expectations import Expectation
 from psirules.program import Kill, Program
-from psirules.replays import STANDARD_INPUT, Traces, accepted, note_samples, note_unmatched, read_again
+from psirules.replays import (
+    STANDARD_INPUT,
+    Traces,
+    accepted,
+    note_samples,
+    note_unmatched,
+    read_again,
+)
 from psirules.rules_file import RulesFile, bytes_of
 from psirules.sampling import note
 from psirules.telling import Outcome
-from psirules.wording import Fault
 
-ABOUT = """Replays each trace by the rules of FILE, and holds its kills against the lines of WANT, all against each trace:
+ABOUT = """Replays each trace by the rules of FILE, and holds its kills against the lines of WANT,
+all against each trace:
 
   first PATH from S to S   the first kill is of PATH, at a moment between these, in seconds
-  kill PATH by RULESET     some kill of PATH is by a ruleset of this name (or, where none has it, of this number)
+  kill PATH by RULESET     some kill of PATH is by a ruleset of this name, or number
   no kill of PATTERN       no kill is of a group that the pattern matches
   at most N kills          there are no more
   no kill before S         the first kill, if there is one, isn't earlier
 
-What follows a # is a comment. PATH and PATTERN are written as in rules files: in a component, * is any run of bytes.
-Each has to match a group of each trace; `no kill of PATTERN if present` may match none. TRACE may be - for the standard input, once.
+What follows a # is a comment. PATH and PATTERN are written as in rules files: in a
+component, * is any run of bytes. Each has to match a group of each trace; `no kill of
+PATTERN if present` may match none. TRACE may be - for the standard input, once.
 
-With --by oomd the kills are those of tools/oomd, by oomd's algorithm; FILE is its configuration then.
-With --by systemd-oomd the kills are those of tools/systemd-oomd by the settings of FOLDER; RULESET is `memory pressure` or `swap`."""
-STATUS = "The status is 0 where all holds, 1 where something doesn't, and 2 where something couldn't be run."
+With --by oomd the kills are those of tools/oomd, by oomd's algorithm; FILE is its
+configuration then. With --by systemd-oomd the kills are those of tools/systemd-oomd by
+the settings of FOLDER; RULESET is `memory pressure` or `swap`."""
+STATUS = (
+    "The status is 0 where all holds, 1 where something doesn't, and 2 where something couldn't be"
+    " run."
+)
 
 
 class Judged:
-    """A trace with its kills, or the fault for which there are none, and what became of each expectation."""
+    """A trace with its kills, or the fault for which there are none, and what became of each
+    expectation.
+    """
 
-    def __init__(self, traces: Traces, trace: str, found: list[Kill] | Fault, wanted: list[Expectation], rules: RulesFile) -> None:
+    def __init__(
+        self,
+        traces: Traces,
+        trace: str,
+        found: list[Kill] | Fault,
+        wanted: list[Expectation],
+        rules: RulesFile,
+    ) -> None:
         self.trace, self.found, self.wanted, self.rules = trace, found, wanted, rules
         self.groups = None if isinstance(found, Fault) else traces.groups(trace)
         self.outcomes = [self.outcome(it) for it in wanted]
@@ -47,7 +70,11 @@ class Judged:
 
     def record(self) -> dict[str, object]:
         is_fault = isinstance(self.found, Fault)
-        kills = [] if isinstance(self.found, Fault) else [self.rules.record(kill) for kill in self.found]
+        kills = (
+            []
+            if isinstance(self.found, Fault)
+            else [self.rules.record(kill) for kill in self.found]
+        )
         judged = [
             {"line": wanted.line, "text": wanted.text, "ok": outcome.is_ok, "told": outcome.told}
             for wanted, outcome in zip(self.wanted, self.outcomes)
@@ -60,12 +87,12 @@ def tell_lines(judged: Iterable[Judged], is_named: bool) -> None:
     """A line for each expectation; with the trace's name where there are several traces."""
     for trace in judged:
         if isinstance(trace.found, Fault):
-            telling.complain(str(trace.found))
+            complain(str(trace.found))
             continue
         for outcome in trace.outcomes:
             name = f"{trace.trace}: {outcome.name}" if is_named else outcome.name
             if outcome.is_ok is None:
-                telling.complain(f"{trace.trace}: {outcome.name}: {outcome.told}")
+                complain(f"{trace.trace}: {outcome.name}: {outcome.told}")
                 continue
             print(f"{'ok' if outcome.is_ok else 'FAIL':<6}{name}: {outcome.told}")
 
@@ -78,13 +105,21 @@ def check_words(given: argparse.Namespace) -> None:
         if given.settings is None:
             raise Fault(f"--by {given.by} wants the settings of a machine: give --settings FOLDER")
         if given.rules or given.tick_ms or given.interval_s:
-            raise Fault(f"--rules, --tick-ms and --interval-s aren't for --by {given.by}, which looks each second by its settings")
+            raise Fault(
+                f"--rules, --tick-ms and --interval-s aren't for --by {given.by}, which looks each"
+                " second by its settings"
+            )
     elif given.settings is not None or given.systemd:
         raise Fault(f"--settings and --systemd are for --by {by_systemd.NAME}")
     elif given.by == by_oomd.NAME and given.tick_ms:
-        raise Fault(f"--tick-ms isn't for --by {given.by}, which looks at multiples of --interval-s")
+        raise Fault(
+            f"--tick-ms isn't for --by {given.by}, which looks at multiples of --interval-s"
+        )
     elif given.rules is None:
-        raise Fault(f"the following arguments are required: --rules, or --by {by_systemd.NAME} and --settings")
+        raise Fault(
+            f"the following arguments are required: --rules, or --by {by_systemd.NAME} and"
+            " --settings"
+        )
 
 
 def check(wanted: list[Expectation], name: str, rules: RulesFile) -> None:
@@ -117,17 +152,30 @@ def judge(given: argparse.Namespace, program: Program) -> list[Judged]:
             check(wanted, given.want, rules)
             (replays,) = traces.replays(program, [file])
     if given.by not in (by_oomd.NAME, by_systemd.NAME):
-        judged = [trace for trace, found in zip(traces.names, replays) if not isinstance(found, Fault)]
+        judged = [
+            trace for trace, found in zip(traces.names, replays) if not isinstance(found, Fault)
+        ]
         note_unmatched(traces, judged, [rules])
         note_samples(judged, [rules])
-    return [Judged(traces, trace, found, wanted, rules) for trace, found in zip(traces.names, replays)]
+    return [
+        Judged(traces, trace, found, wanted, rules) for trace, found in zip(traces.names, replays)
+    ]
 
 
 def run(given: argparse.Namespace) -> int:
     judged = judge(given, Program())
-    named = [Outcome(f"{it.trace}: {outcome.name}", outcome.is_ok, outcome.told) for it in judged for outcome in it.outcomes]
+    named = [
+        Outcome(f"{it.trace}: {outcome.name}", outcome.is_ok, outcome.told)
+        for it in judged
+        for outcome in it.outcomes
+    ]
 
     def record(status: int) -> object:
-        return {"rules": given.rules or given.settings, "want": given.want, "status": status, "traces": [it.record() for it in judged]}
+        return {
+            "rules": given.rules or given.settings,
+            "want": given.want,
+            "status": status,
+            "traces": [it.record() for it in judged],
+        }
 
     return telling.tell(given.form, named, record, lambda: tell_lines(judged, len(judged) > 1))

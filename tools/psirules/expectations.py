@@ -4,13 +4,21 @@ import re
 from abc import ABC, abstractmethod
 from dataclasses import dataclass
 
-from psireplay.command import groups_told
+from psicli.fault import Fault
+from psicli.times import seconds
+from psicli.values import nanoseconds
+from psicli.wording import counted, listed, quoted, suggested
 from psirules.patterns import is_pattern, matches
 from psirules.program import Kill
 from psirules.rules_file import RulesFile
-from psirules.wording import Fault, counted, listed, moment, quoted, seconds
 
-FORMS = ("first PATH from S to S", "kill PATH by RULESET", "no kill of PATTERN", "at most N kills", "no kill before S")
+FORMS = (
+    "first PATH from S to S",
+    "kill PATH by RULESET",
+    "no kill of PATTERN",
+    "at most N kills",
+    "no kill before S",
+)
 ABSENT = " if present"
 """At the end of `no kill of PATTERN`: a trace may have no group that the pattern matches."""
 MOST_MOMENTS = 10
@@ -31,7 +39,10 @@ def victims(kills: list[Kill]) -> str:
     moments: dict[str, list[str]] = {}
     for kill in kills:
         moments.setdefault(kill.path, []).append(f"{seconds(kill.moment)} s")
-    told = [f"{path} at {', '.join(it[:MOST_MOMENTS])}{' and later' * bool(it[MOST_MOMENTS:])}" for path, it in moments.items()]
+    told = [
+        f"{path} at {', '.join(it[:MOST_MOMENTS])}{' and later' * bool(it[MOST_MOMENTS:])}"
+        for path, it in moments.items()
+    ]
     return "; ".join([", ".join([counted(len(kills), "kill"), *told[:1]]), *told[1:]])
 
 
@@ -55,20 +66,25 @@ class Expectation(ABC):
         """Raises a fault where it can't be judged by these rules."""
 
     def pattern_needed(self) -> str | None:
-        """The path or pattern that some group of each trace has to match: without one the line says nothing of the trace."""
+        """The path or pattern that some group of each trace has to match: without one the line says
+        nothing of the trace.
+        """
         return None
 
     def missing(self, groups: set[str]) -> str | None:
-        """What is wrong if no group of a trace matches, with the groups that were probably meant."""
+        """What is wrong if no group of a trace matches, with the groups that were probably meant.
+        """
         pattern = self.pattern_needed()
         if pattern is None or any(matches(pattern, path) for path in groups):
             return None
-        return f"no group of it matches {pattern}: it has {groups_told(pattern, sorted(groups))}"
+        return f"no group of it matches {pattern}: it has {suggested(pattern, sorted(groups))}"
 
 
 @dataclass(frozen=True)
 class First(Expectation):
-    """The first kill, or one at the same moment, is of this path, and between these moments (ns), both inclusive."""
+    """The first kill, or one at the same moment, is of this path, and between these moments (ns),
+    both inclusive.
+    """
 
     path: str
     start: int
@@ -80,7 +96,11 @@ class First(Expectation):
     def verdict(self, kills: list[Kill], rules: RulesFile) -> Verdict:
         if not kills:
             return Verdict(False, "no kill")
-        found = [kill for kill in kills if kill.moment == kills[0].moment and matches(self.path, kill.path)]
+        found = [
+            kill
+            for kill in kills
+            if kill.moment == kills[0].moment and matches(self.path, kill.path)
+        ]
         if not found:
             return Verdict(False, f"the first is {kills[0].path}, {rules.killed(kills[0])}")
         when = found[0].moment
@@ -101,7 +121,10 @@ class KilledBy(Expectation):
 
     def check(self, rules: RulesFile) -> None:
         if not rules.numbers_of(self.ruleset):
-            raise Fault(f"{rules.name} has no ruleset {quoted(self.ruleset)}{nearest(self.ruleset, rules.ruleset_names())}")
+            raise Fault(
+                f"{rules.name} has no ruleset"
+                f" {quoted(self.ruleset)}{nearest(self.ruleset, rules.ruleset_names())}"
+            )
 
     def verdict(self, kills: list[Kill], rules: RulesFile) -> Verdict:
         of_path = [kill for kill in kills if matches(self.path, kill.path)]
@@ -109,12 +132,15 @@ class KilledBy(Expectation):
         by_ruleset = [kill for kill in of_path if kill.ruleset in numbers]
         if by_ruleset:
             return Verdict(True, killed(by_ruleset, rules))
-        return Verdict(False, killed(of_path, rules) if of_path else f"not killed: {victims(kills)}")
+        return Verdict(
+            False, killed(of_path, rules) if of_path else f"not killed: {victims(kills)}"
+        )
 
 
 @dataclass(frozen=True)
 class NoKillOf(Expectation):
-    """No kill is of a group that the pattern matches. It may be absent only where the line says so."""
+    """No kill is of a group that the pattern matches. It may be absent only where the line says so.
+    """
 
     pattern: str
     may_be_absent: bool
@@ -124,7 +150,11 @@ class NoKillOf(Expectation):
 
     def missing(self, groups: set[str]) -> str | None:
         found = super().missing(groups)
-        return f"{found}; `no kill of {self.pattern}{ABSENT}` says that this is intended" if found else None
+        return (
+            f"{found}; `no kill of {self.pattern}{ABSENT}` says that this is intended"
+            if found
+            else None
+        )
 
     def verdict(self, kills: list[Kill], rules: RulesFile) -> Verdict:
         found = [kill for kill in kills if matches(self.pattern, kill.path)]
@@ -173,7 +203,7 @@ def pattern(word: str) -> str:
 def read_line(line: int, text: str) -> Expectation:
     """The expectation of a line, which isn't empty and has no comment."""
     if found := re.fullmatch(r"first (\S+) from (\S+) to (\S+)", text):
-        start, end = moment(found[2]), moment(found[3])
+        start, end = nanoseconds(found[2]), nanoseconds(found[3])
         if start > end:
             raise Fault(f"{found[2]} is above {found[3]}: the earlier moment stands first")
         return First(line, text, pattern(found[1]), start, end)
@@ -184,12 +214,16 @@ def read_line(line: int, text: str) -> Expectation:
     if found := re.fullmatch(r"at most ([0-9]{1,9}) kills?", text):
         return AtMost(line, text, int(found[1]))
     if found := re.fullmatch(r"no kill before (\S+)", text):
-        return NoKillBefore(line, text, moment(found[1]))
-    raise Fault(f"{quoted(text)} is no expectation: write {listed([f'`{it}`' for it in FORMS], 'or')}")
+        return NoKillBefore(line, text, nanoseconds(found[1]))
+    raise Fault(
+        f"{quoted(text)} is no expectation: write {listed([f'`{it}`' for it in FORMS], 'or')}"
+    )
 
 
 def read(name: str, data: bytes) -> list[Expectation]:
-    """The expectations of a WANT file. A comment goes from a `#`, at the line's start or after a space, to the line's end."""
+    """The expectations of a WANT file. A comment goes from a `#`, at the line's start or after a
+    space, to the line's end.
+    """
     wanted = []
     for number, line in enumerate(data.decode("utf-8", "replace").splitlines(), 1):
         text = " ".join(re.sub(r"(^|\s)#.*", "", line).split())

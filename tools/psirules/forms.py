@@ -3,9 +3,9 @@ import re
 from dataclasses import dataclass
 from decimal import Decimal
 
+from psicli.wording import quoted
 from psirules.patterns import is_pattern
 from psirules.plugins import Form
-from psirules.wording import quoted
 
 WHOLE = r"(0|[1-9][0-9]{0,19})"
 UNITS = {"": 1, "K": 1 << 10, "M": 1 << 20, "G": 1 << 30, "T": 1 << 40}
@@ -19,7 +19,9 @@ LEADING = re.compile(r"\s*\+?([0-9]+)")
 
 @dataclass(frozen=True)
 class Repair:
-    """A text that psi_oomd accepts, in place of a text that only oomd accepts; the reason; and whether the meaning changes."""
+    """A text that psi_oomd accepts, in place of a text that only oomd accepts; the reason; and
+    whether the meaning changes.
+    """
 
     text: str
     why: str
@@ -30,7 +32,9 @@ def spelled(value: object) -> str | None:
     """The text of an argument's value, as both programs take it; none where it isn't one."""
     if isinstance(value, bool):
         return "true" if value else "false"
-    return value if isinstance(value, str) else str(value) if isinstance(value, (int, float)) else None
+    return (
+        value if isinstance(value, str) else str(value) if isinstance(value, (int, float)) else None
+    )
 
 
 def is_text(value: object) -> bool:
@@ -46,7 +50,11 @@ def is_valid(form: Form, text: str) -> bool:
         found = re.fullmatch(WHOLE + r"(?:\.[0-9]{1,3})?", text)
         return bool(found) and int(found[1]) <= 1000 if found else False
     if form is Form.SIZE:
-        return size(text) is not None or bool(re.fullmatch(WHOLE + "%", text)) and int(text[:-1]) <= 100
+        return (
+            size(text) is not None
+            or bool(re.fullmatch(WHOLE + "%", text))
+            and int(text[:-1]) <= 100
+        )
     if form is Form.TRUTH:
         return text in ("true", "True", "1", "false", "False", "0")
     if form is Form.RESOURCE:
@@ -65,7 +73,9 @@ def size(text: str) -> int | None:
 
 
 def size_text(count: int) -> str:
-    """So many bytes with a letter, since oomd takes a number without one as megabytes. It is at most a byte too much."""
+    """So many bytes with a letter, since oomd takes a number without one as megabytes. It is at
+    most a byte too much.
+    """
     for letter, unit in reversed(UNITS.items()):
         if letter and count % unit == 0:
             return f"{count // unit}{letter}" if count else "0"
@@ -74,7 +84,9 @@ def size_text(count: int) -> str:
 
 
 def oomd_size(text: str) -> int | None:
-    """The bytes that oomd reads in a size with several parts, spaces or more decimals, as in `1.5M 32K 512`."""
+    """The bytes that oomd reads in a size with several parts, spaces or more decimals, as in `1.5M
+    32K 512`.
+    """
     joined = "".join(text.split()).lower().removeprefix("+")
     parts = re.findall(r"([0-9]+\.?[0-9]*|\.[0-9]+)([kmgt]?)", joined)
     if not parts or "".join(number + letter for number, letter in parts) != joined:
@@ -85,14 +97,18 @@ def oomd_size(text: str) -> int | None:
 
 
 def repair(form: Form, text: str) -> Repair | None:
-    """What is to stand for a text that psi_oomd refuses, or takes otherwise than oomd; none where nothing has to or can."""
+    """What is to stand for a text that psi_oomd refuses, or takes otherwise than oomd; none where
+    nothing has to or can.
+    """
     if form is Form.SIZE:
         return repair_size(text)
     if is_valid(form, text):
         return None
     if form in MOST and (found := LEADING.match(text)) and int(found[1]) <= MOST[form]:
         return Repair(str(int(found[1])), f"oomd reads {quoted(text)} as {int(found[1])}")
-    if form is Form.RATIO and re.fullmatch(r"\s*\+?([0-9]+\.?[0-9]*|\.[0-9]+)(e-?[0-9]{1,2})?\s*", text):
+    if form is Form.RATIO and re.fullmatch(
+        r"\s*\+?([0-9]+\.?[0-9]*|\.[0-9]+)(e-?[0-9]{1,2})?\s*", text
+    ):
         return repair_ratio(text)
     return repair_patterns(text) if form is Form.PATTERNS else None
 
@@ -102,7 +118,11 @@ def repair_size(text: str) -> Repair | None:
     found = LEADING.match(text)
     if text.endswith("%"):
         is_known = is_valid(Form.SIZE, text) or not found or int(found[1]) > 100
-        return None if is_known or not found else Repair(f"{int(found[1])}%", f"oomd reads {quoted(text)} as {int(found[1])}%")
+        return (
+            None
+            if is_known or not found
+            else Repair(f"{int(found[1])}%", f"oomd reads {quoted(text)} as {int(found[1])}%")
+        )
     if found and found.end() == len(text):
         megabytes = int(found[1])
         why = f"{quoted(text)} has no letter: it counts bytes here, and megabytes in oomd"
@@ -117,7 +137,11 @@ def repair_ratio(text: str) -> Repair | None:
     """oomd takes any spelling of a float."""
     rounded = f"{Decimal(text.strip()):.3f}".rstrip("0").rstrip(".")
     is_lost = Decimal(rounded) != Decimal(text.strip())
-    return Repair(rounded, f"{quoted(text)} isn't {Form.RATIO.value}", is_lost) if is_valid(Form.RATIO, rounded) else None
+    return (
+        Repair(rounded, f"{quoted(text)} isn't {Form.RATIO.value}", is_lost)
+        if is_valid(Form.RATIO, rounded)
+        else None
+    )
 
 
 def repair_patterns(text: str) -> Repair | None:
@@ -130,7 +154,13 @@ def repair_patterns(text: str) -> Repair | None:
     plain = ",".join(patterns)
     wide = ",".join(re.sub(r"\[[^]/]+\]|\?", "*", pattern) for pattern in patterns)
     if is_valid(Form.PATTERNS, plain):
-        return Repair(plain, f"spaces, empty patterns and slashes too many don't stand in {quoted(text)} here")
+        return Repair(
+            plain, f"spaces, empty patterns and slashes too many don't stand in {quoted(text)} here"
+        )
     if is_valid(Form.PATTERNS, wide):
-        return Repair(wide, f"{quoted(text)} has ? or [], for which * is all that there is: more groups match", True)
+        return Repair(
+            wide,
+            f"{quoted(text)} has ? or [], for which * is all that there is: more groups match",
+            True,
+        )
     return None

@@ -5,26 +5,31 @@ from collections.abc import Callable
 from decimal import Decimal
 from typing import Any
 
+from psicli.wording import quoted
 from psioomd.arguments import ANON, known, values
 from psioomd.configuration import Configuration, GroupUse, PluginUse, RulesetUse
+from psioomd.emulation import read_configuration
 from psioomd.engine import engine
 from psioomd.machine import Extras, Machine
 from psioomd.numbers import stof, stoi
 from psioomd.patterns import split, without_braces
-from psioomd.emulation import read_configuration
 from psirules.forms import MOST_BYTES, MOST_PATTERNS, size_text
 from psirules.oomd_notes import AT_ZERO, SWAP, WAITS
 from psirules.patterns import is_pattern
 from psirules.plugins import ACTIONS, DETECTORS
 from psirules.to_oomd import RECURSES, print_made
-from psirules.wording import quoted
 from psisystemd.world import Host
 
-ABOUT = """Prints rules for psi_oomd that are nearest to what oomd 0.5.0 does by the configuration FILE. Each argument is read as oomd
-reads it (a size without a letter counts MiB, a ratio is a whole number) and written as psi_oomd reads it. For each thing that rules
-can't say a line is on standard error, which ends in LOST if somebody else may be killed, or at another time. Replay by
---tick-ms 1000, so that psi_oomd evaluates when oomd looks. tools/oomd itself needs no such rules, and loses nothing."""
-STATUS = "The status is 0 if the rules say all of it, 1 if some of that is lost, and 2 if oomd refuses FILE."
+ABOUT = """Prints rules for psi_oomd that are nearest to what oomd 0.5.0 does by the configuration
+FILE. Each argument is read as oomd reads it (a size without a letter counts MiB, a
+ratio is a whole number) and written as psi_oomd reads it. For each thing that rules
+can't say a line is on standard error, which ends in LOST if somebody else may be
+killed, or at another time. Replay by --tick-ms 1000, so that psi_oomd evaluates when
+oomd looks. tools/oomd itself needs no such rules, and loses nothing."""
+STATUS = (
+    "The status is 0 if the rules say all of it, 1 if some of that is lost, and 2 if oomd refuses"
+    " FILE."
+)
 MOST_SECONDS, MOST_PERCENT, MOST_RATIO = 1000000, 100, 1000
 # Totals with which a percentage is read; it is written as a percentage again.
 TOTALS = Host(0, 0, 0)
@@ -56,7 +61,11 @@ class Nearest:
         if use.delay:
             made["post_action_delay"] = str(min(stoi(use.delay), MOST_SECONDS))
         groups = [self.group(it) for it in use.groups]
-        return {**made, "detectors": [it for it in groups if it], "actions": self.actions(use.actions)}
+        return {
+            **made,
+            "detectors": [it for it in groups if it],
+            "actions": self.actions(use.actions),
+        }
 
     def group(self, use: GroupUse) -> list[Any] | None:
         """None if it can't be said, so that it never fires."""
@@ -80,7 +89,10 @@ class Nearest:
                 self.tell(it.place, "it does nothing: it is left out", False)
                 continue
             if it.name == "stop":
-                self.tell(it.place, "it is left out, with all actions after it and the pause that it begins")
+                self.tell(
+                    it.place,
+                    "it is left out, with all actions after it and the pause that it begins",
+                )
                 break
             try:
                 made.append(self.plugin(it, ACTIONS))
@@ -97,9 +109,18 @@ class Nearest:
         for name, text in args.items():
             at = f"{use.place}: {name}"
             if name == ANON:
-                self.tell(use.place, f"{ANON}: a trace has no anonymous memory: all memory is held against it")
+                self.tell(
+                    use.place,
+                    f"{ANON}: a trace has no anonymous memory: all memory is held against it",
+                )
                 name = "threshold"
-            found = self.argument(at, use.name, name, text, read[ANON if ANON in read and name == "threshold" else name])
+            found = self.argument(
+                at,
+                use.name,
+                name,
+                text,
+                read[ANON if ANON in read and name == "threshold" else name],
+            )
             if found is not None:
                 made[name] = found
         self.losses(use, made)
@@ -113,14 +134,19 @@ class Nearest:
                 return write(place, text, value)
         return None
 
-    def writers(self, name: str, is_size: bool) -> list[tuple[bool, Callable[[str, str, Any], str]]]:
+    def writers(
+        self, name: str, is_size: bool
+    ) -> list[tuple[bool, Callable[[str, str, Any], str]]]:
         return [
             (name == "cgroup", lambda place, text, _: self.patterns(place, text)),
             (name == "resource", lambda _, text, __: text),
             (is_size, self.size),
             (name in SECONDS, lambda place, _, value: self.whole(place, value, MOST_SECONDS)),
             (name in PERCENTS, lambda place, _, value: self.whole(place, value, MOST_PERCENT)),
-            (name == "min_growth_ratio", lambda place, _, value: self.whole(place, value, MOST_RATIO)),
+            (
+                name == "min_growth_ratio",
+                lambda place, _, value: self.whole(place, value, MOST_RATIO),
+            ),
             (name == "fast_fall_ratio", lambda place, text, _: self.ratio(place, text)),
             (name in TRUTHS, lambda _, __, value: "true" if value else "false"),
         ]
@@ -156,16 +182,28 @@ class Nearest:
         found = []
         for pattern in split(text, ","):
             plain = "/".join(split(without_braces("/".join(split(pattern, "/"))), "/")) or "/"
-            bare = re.sub(r"\\(.)", lambda it: "\0" if it[1] == "\\" else it[1], plain).replace("\0", "\\")
+            bare = re.sub(r"\\(.)", lambda it: "\0" if it[1] == "\\" else it[1], plain).replace(
+                "\0", "\\"
+            )
             wide = re.sub(r"\[[^]/]+\]|\?", "*", bare)
             if wide != bare:
-                self.tell(place, f"{quoted(pattern)} has ? or [], for which * is all that there is: more groups match")
+                self.tell(
+                    place,
+                    (
+                        f"{quoted(pattern)} has ? or [], for which * is all that there is: more"
+                        " groups match"
+                    ),
+                )
             if is_pattern(wide):
                 found.append(wide)
             else:
-                self.tell(place, f"{quoted(pattern)} matches no group of a trace: it is left out", False)
+                self.tell(
+                    place, f"{quoted(pattern)} matches no group of a trace: it is left out", False
+                )
         if len(found) > MOST_PATTERNS:
-            self.tell(place, f"there are more than {MOST_PATTERNS} patterns: the others are left out")
+            self.tell(
+                place, f"there are more than {MOST_PATTERNS} patterns: the others are left out"
+            )
         return ",".join(dict.fromkeys(found[:MOST_PATTERNS])) or "no-such-group"
 
     def losses(self, use: PluginUse, made: dict[str, str]) -> None:
@@ -177,7 +215,9 @@ class Nearest:
         if use.name == "kill_by_pressure":
             self.tell(use.place, f"rules kill by the exact sum above 0, but {AT_ZERO}")
         if made.get("recursive") == "true":
-            self.tell(use.place, f"recursive: rules kill the last group that is chosen, but {RECURSES}")
+            self.tell(
+                use.place, f"recursive: rules kill the last group that is chosen, but {RECURSES}"
+            )
         if use.args.get("dry") in ("true", "True", "1"):
             self.tell(use.place, "dry: oomd would log this kill and not do it", False)
 

@@ -6,13 +6,15 @@ from collections.abc import Iterator
 from dataclasses import dataclass
 from typing import Any
 
-from psirules import telling
+from psicli.running import complain
+from psicli.status import Status
+from psicli.times import SECOND
+from psicli.wording import quoted
 from psirules.lint import written
 from psirules.patterns import is_pattern
-from psirules.wording import quoted
 from psisystemd.settings import BELOW_MANAGER, Settings
 from psisystemd.units import DURATION_OF_UNIT, LIMIT, PREFERENCE, PRESSURE, SWAP, TYPES, Unit, UnitFiles, template_of
-from psisystemd.values import SECOND, percent
+from psisystemd.values import percent
 from psiworld.groups import ROOT
 
 ABOUT = """Prints rules for psi_oomd that are nearest to what systemd-oomd does by the settings of FOLDER, which is one as
@@ -216,10 +218,10 @@ def plugin(name: str, **args: str) -> dict[str, Any]:
 def run(given: argparse.Namespace) -> int:
     nearest = Nearest(Settings(given.folder, given.systemd))
     for what, is_lost in nearest.told:
-        telling.complain(f"{what}{' (LOST)' if is_lost else ''}")
+        complain(f"{what}{' (LOST)' if is_lost else ''}")
     if not nearest.rulesets:
-        telling.complain(f"{quoted(given.folder)} watches no group: the rules kill nobody")
+        complain(f"{quoted(given.folder)} watches no group: the rules kill nobody")
     sys.stdout.flush()
     sys.stdout.buffer.write(written({"rulesets": nearest.rulesets}))
     sys.stdout.buffer.flush()
-    return telling.FAILED if any(is_lost for _, is_lost in nearest.told) else telling.OK
+    return Status.FOUND if any(is_lost for _, is_lost in nearest.told) else Status.DONE

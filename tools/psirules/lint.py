@@ -6,6 +6,10 @@ import sys
 from dataclasses import asdict
 from typing import Any
 
+from psicli.fault import Fault
+from psicli.running import complain
+from psicli.status import Status
+from psicli.wording import quoted
 from psireplay.kinds import RULES, kind_of, told_kind
 from psirules import oomd_notes, telling
 from psirules.mending import Finding, Kind, Mender
@@ -14,15 +18,18 @@ from psirules.relaxed import Reading
 from psirules.rules_file import bytes_of, kept
 from psirules.shapes import first_fault
 from psirules.telling import Form
-from psirules.wording import Fault, quoted
 
-ABOUT = """Reports what psi_oomd refuses in FILE (comments, commas after the last item, plugins and values that only oomd has),
-what it passes over in silence (a misspelt argument does nothing; it names the one that was probably meant), and what it takes
-otherwise than oomd 0.5.0 (a size without a letter). Notes name what oomd does otherwise by the same words, such as a kill
-at pressure 0; with --tick-ms or --interval-s also ticks that don't divide the interval. With --fix a corrected file is printed, which psi_oomd takes, and each
-change is reported on standard error; LOST marks those by which the rules do other things than in oomd."""
-STATUS = """The status is 0 where nothing is wrong, 1 where something is, and 2 where FILE can't be read. With --fix it is 0
-where the printed file means what FILE does, 1 where some of that is lost, and 2 where nothing could be printed."""
+ABOUT = """Reports what psi_oomd refuses in FILE (comments, commas after the last item, plugins and
+values that only oomd has), what it passes over in silence (a misspelt argument does
+nothing; it names the one that was probably meant), and what it takes otherwise than
+oomd 0.5.0 (a size without a letter). Notes name what oomd does otherwise by the same
+words, such as a kill at pressure 0; with --tick-ms or --interval-s also ticks that
+don't divide the interval. With --fix a corrected file is printed, which psi_oomd takes,
+and each change is reported on standard error; LOST marks those by which the rules do
+other things than in oomd."""
+STATUS = """The status is 0 where nothing is wrong, 1 where something is, and 2 where FILE can't be
+read. With --fix it is 0 where the printed file means what FILE does, 1 where some of
+that is lost, and 2 where nothing could be printed."""
 WHOLE_FILE = "the file"
 MOST_BYTES = 1048576
 """The length of a rules file at most."""
@@ -84,7 +91,9 @@ class Linted:
         try:
             reading = Reading(data)
         except Fault as fault:
-            found = told_kind(kind_of(data), RULES, "FILE") or f"{fault}: oomd doesn't take this either"
+            found = (
+                told_kind(kind_of(data), RULES, "FILE") or f"{fault}: oomd doesn't take this either"
+            )
             self.findings.append(Finding(WHOLE_FILE, Kind.REFUSED, found))
             return
         self.findings += [Finding(WHOLE_FILE, Kind.REFUSED, *change) for change in reading.changes]
@@ -108,16 +117,17 @@ class Linted:
 def told_fix(linted: Linted, name: str) -> int:
     """Prints the corrected file, and reports what was changed."""
     for finding in linted.findings:
-        telling.complain(finding.told_change() if linted.fixed else finding.told())
+        complain(finding.told_change() if linted.fixed else finding.told())
     if linted.fixed is None:
-        telling.complain(
-            f"{name} can't be corrected: mend by hand what is reported above, and look at docs/RULES.md"
+        complain(
+            f"{name} can't be corrected: mend by hand what is reported above, and look at"
+            " docs/RULES.md"
         )
-        return telling.NOT_RUN
+        return Status.FAILED
     sys.stdout.flush()
     sys.stdout.buffer.write(linted.fixed)
     sys.stdout.buffer.flush()
-    return telling.FAILED if any(finding.is_lost for finding in linted.findings) else telling.OK
+    return Status.FOUND if any(finding.is_lost for finding in linted.findings) else Status.DONE
 
 
 def run(given: argparse.Namespace) -> int:
@@ -129,7 +139,9 @@ def run(given: argparse.Namespace) -> int:
     if given.fix:
         return told_fix(linted, given.file)
     linted.findings += [*linted.notes, *oomd_notes.of_pace(given.tick_ms, given.interval_s)]
-    status = telling.FAILED if any(it.kind is not Kind.NOTE for it in linted.findings) else telling.OK
+    status = (
+        Status.FOUND if any(it.kind is not Kind.NOTE for it in linted.findings) else Status.DONE
+    )
     if given.form is Form.JSON:
         records = [{**asdict(it), "kind": it.kind.value} for it in linted.findings]
         telling.tell_json({"file": given.file, "status": status, "findings": records})

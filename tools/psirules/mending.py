@@ -1,14 +1,15 @@
-"""Goes through a rules file's data, and finds what psi_oomd refuses, passes over or takes otherwise than oomd. Each finding may
-be a change of the data."""
+"""Goes through a rules file's data, and finds what psi_oomd refuses, passes over or takes otherwise
+than oomd. Each finding may be a change of the data.
+"""
 import difflib
 from dataclasses import dataclass
 from enum import Enum
 from typing import Any
 
+from psicli.wording import quoted
 from psirules import plugins
 from psirules.forms import is_text, is_valid, repair, spelled
 from psirules.plugins import ACTIONS, DETECTORS, OF_OOMD, Effect, Form, Plugin
-from psirules.wording import quoted
 
 
 class Kind(Enum):
@@ -22,8 +23,9 @@ class Kind(Enum):
 
 @dataclass(frozen=True)
 class Finding:
-    """Where, what becomes of it, what it is, how it is corrected (none where it can't be), and whether that loses some of what
-    oomd would do."""
+    """Where, what becomes of it, what it is, how it is corrected (none where it can't be), and
+    whether that loses some of what oomd would do.
+    """
 
     place: str
     kind: Kind
@@ -35,7 +37,10 @@ class Finding:
         return f"{self.place}: {self.kind.value}: {self.what}"
 
     def told_change(self) -> str:
-        return f"{self.place}: {self.what}: {self.change or 'nothing is changed'}{' (LOST)' if self.is_lost else ''}"
+        return (
+            f"{self.place}: {self.what}:"
+            f" {self.change or 'nothing is changed'}{' (LOST)' if self.is_lost else ''}"
+        )
 
 
 def alike(word: str, names: list[str]) -> str | None:
@@ -54,17 +59,28 @@ class Mender:
             self.keys("the file", data, plugins.TOP_KEYS, plugins.TOP_KEYS_OF_OOMD)
             for number, ruleset in enumerate(items(data, "rulesets")):
                 if isinstance(ruleset, dict):
-                    self.ruleset(f"ruleset {number} {quoted(str(ruleset.get('name', '')))}", ruleset)
+                    self.ruleset(
+                        f"ruleset {number} {quoted(str(ruleset.get('name', '')))}", ruleset
+                    )
 
-    def find(self, place: str, kind: Kind, what: str, change: str | None = None, is_lost: bool = False) -> None:
+    def find(
+        self, place: str, kind: Kind, what: str, change: str | None = None, is_lost: bool = False
+    ) -> None:
         self.findings.append(Finding(place, kind, what, change, is_lost))
 
-    def keys(self, place: str, at: dict[str, Any], known: tuple[str, ...], of_oomd: tuple[str, ...] = ()) -> None:
+    def keys(
+        self, place: str, at: dict[str, Any], known: tuple[str, ...], of_oomd: tuple[str, ...] = ()
+    ) -> None:
         """Unknown keys that resemble a missing key."""
         for key in [key for key in at if key not in known + of_oomd]:
             meant = alike(key, [it for it in known if it not in at])
             if meant:
-                self.find(place, Kind.IGNORED, f"no key {quoted(key)}; did you mean {quoted(meant)}?", "it gets this name")
+                self.find(
+                    place,
+                    Kind.IGNORED,
+                    f"no key {quoted(key)}; did you mean {quoted(meant)}?",
+                    "it gets this name",
+                )
                 rename(at, key, meant)
 
     def ruleset(self, place: str, ruleset: dict[str, Any]) -> None:
@@ -74,7 +90,9 @@ class Mender:
         kept = []
         for number, group in enumerate(items(ruleset, "detectors")):
             name = str(group[0]) if isinstance(group, list) and group else ""
-            if not isinstance(group, list) or self.group(f"{place}, group {number} {quoted(name)}", group):
+            if not isinstance(group, list) or self.group(
+                f"{place}, group {number} {quoted(name)}", group
+            ):
                 kept.append(group)
         if isinstance(ruleset.get("detectors"), list):
             ruleset["detectors"] = kept
@@ -95,7 +113,13 @@ class Mender:
             what = missing("detector", detector["name"], effect)
             if effect is not Effect.CONTINUES:
                 is_lost = effect is not Effect.STOPS
-                self.find(here, Kind.REFUSED, what, "its group is taken out, which here never fires", is_lost)
+                self.find(
+                    here,
+                    Kind.REFUSED,
+                    what,
+                    "its group is taken out, which here never fires",
+                    is_lost,
+                )
                 return False
             self.find(here, Kind.REFUSED, what, "it is taken out")
         group[:] = kept
@@ -112,15 +136,25 @@ class Mender:
                 continue
             what = missing("action", action["name"], effect)
             if effect is Effect.STOPS:
-                self.find(here, Kind.REFUSED, what, "it is taken out, with all after it and the rest that it begins", True)
+                self.find(
+                    here,
+                    Kind.REFUSED,
+                    what,
+                    "it is taken out, with all after it and the rest that it begins",
+                    True,
+                )
                 break
             self.find(here, Kind.REFUSED, what, "it is taken out", effect is not Effect.CONTINUES)
         if actions and not kept:
             self.find(place, Kind.NOTE, "no action of it is left", "it stays, and kills nobody")
         return kept
 
-    def plugin(self, place: str, plugin: Any, known: dict[str, Plugin], others: dict[str, Plugin]) -> Effect | None:
-        """What oomd's plugin does where psi_oomd has none of its name; the arguments of one that it has are corrected."""
+    def plugin(
+        self, place: str, plugin: Any, known: dict[str, Plugin], others: dict[str, Plugin]
+    ) -> Effect | None:
+        """What oomd's plugin does where psi_oomd has none of its name; the arguments of one that it
+        has are corrected.
+        """
         if not isinstance(plugin, dict) or not isinstance(plugin.get("name"), str):
             return None
         name = plugin["name"]
@@ -129,7 +163,12 @@ class Mender:
         if name not in known:
             meant = alike(name, list(known))
             guess = f"; did you mean {quoted(meant)}?" if meant else ""
-            self.find(place, Kind.REFUSED, f"no plugin {quoted(name)}{guess}", "it gets this name" if meant else None)
+            self.find(
+                place,
+                Kind.REFUSED,
+                f"no plugin {quoted(name)}{guess}",
+                "it gets this name" if meant else None,
+            )
             if not meant:
                 return None
             plugin["name"] = name = meant
@@ -164,27 +203,52 @@ class Mender:
     def of_oomd(self, place: str, args: dict[str, Any], plugin: Plugin) -> None:
         """What arguments mean in oomd that mean nothing here."""
         if spelled(args.get("dry")) in ("true", "True", "1") and "dry" in plugin.of_oomd:
-            self.find(place, Kind.NOTE, "oomd would log this kill and not do it; here each kill is only printed")
+            self.find(
+                place,
+                Kind.NOTE,
+                "oomd would log this kill and not do it; here each kill is only printed",
+            )
         if "threshold_anon" in args and "threshold_anon" in plugin.of_oomd:
             what = "no argument 'threshold_anon': a trace doesn't know anonymous memory"
-            self.find(place, Kind.DIFFERS, what, "it takes the place of 'threshold', which counts all memory", True)
+            self.find(
+                place,
+                Kind.DIFFERS,
+                what,
+                "it takes the place of 'threshold', which counts all memory",
+                True,
+            )
             args["threshold"] = args.pop("threshold_anon")
 
     def value(self, place: str, args: dict[str, Any], name: str, form: Form) -> None:
         """Corrects one argument's value."""
         text = spelled(args[name])
         if text is None:
-            self.find(place, Kind.REFUSED, f"{name} is {type_told(args[name])}, not a text: it has to be {form.value}")
+            self.find(
+                place,
+                Kind.REFUSED,
+                f"{name} is {type_told(args[name])}, not a text: it has to be {form.value}",
+            )
             return
         found = repair(form, text)
         if found:
             kind = Kind.DIFFERS if is_text(args[name]) and is_valid(form, text) else Kind.REFUSED
-            self.find(place, kind, f"{name}: {found.why}", f"it is written {quoted(found.text)}", found.is_lost)
+            self.find(
+                place,
+                kind,
+                f"{name}: {found.why}",
+                f"it is written {quoted(found.text)}",
+                found.is_lost,
+            )
             args[name] = found.text
         elif not is_valid(form, text):
             self.find(place, Kind.REFUSED, f"{name} is {quoted(text)}: it has to be {form.value}")
         elif not is_text(args[name]):
-            self.find(place, Kind.REFUSED, f"{name} is the number {text}, which isn't whole", f"it is written {quoted(text)}")
+            self.find(
+                place,
+                Kind.REFUSED,
+                f"{name} is the number {text}, which isn't whole",
+                f"it is written {quoted(text)}",
+            )
             args[name] = text
 
 
@@ -209,4 +273,6 @@ def rename(at: dict[str, Any], old: str, new: str) -> None:
 
 
 def type_told(value: object) -> str:
-    return "an object" if isinstance(value, dict) else "a list" if isinstance(value, list) else "null"
+    return (
+        "an object" if isinstance(value, dict) else "a list" if isinstance(value, list) else "null"
+    )

@@ -1,21 +1,29 @@
-"""What a rules file says that oomd 0.5.0 does otherwise, as far as the file shows it: notes for tools/rules lint."""
+"""What a rules file says that oomd 0.5.0 does otherwise, as far as the file shows it: notes for
+tools/rules lint.
+"""
 from __future__ import annotations
 
 import re
 from collections.abc import Iterator
 from typing import Any
 
+from psicli.wording import quoted
 from psirules.forms import spelled
 from psirules.mending import Finding, Kind, items
-from psirules.wording import quoted
 
 SECOND_MS = 1000
 DEFAULT_TICK_MS, DEFAULT_INTERVAL_S = 2000, 5
-WAITS = "in oomd it waits for a second look, then kills whether the detectors still hold or not, also without any scan"
+WAITS = (
+    "in oomd it waits for a second look, then kills whether the detectors still hold or not, also"
+    " without any scan"
+)
 LOSES = "; if they don't hold, its post_action_delay is lost"
 AT_ZERO = "oomd kills at pressure 0 too, and compares whole percents"
 CRASHES = "growing_size_percentile 100: oomd 0.5.0 crashes when it takes this action"
-SWAP = "oomd keeps SwapTotal in 32 bits: with 2 GiB of swap or more the percentage is of another number"
+SWAP = (
+    "oomd keeps SwapTotal in 32 bits: with 2 GiB of swap or more the percentage is of another"
+    " number"
+)
 
 
 def plugins_of(data: Any) -> Iterator[tuple[str, str, dict[str, Any]]]:
@@ -36,7 +44,9 @@ def plugins_of(data: Any) -> Iterator[tuple[str, str, dict[str, Any]]]:
 def named(place: str, plugin: Any) -> Iterator[tuple[str, str, dict[str, Any]]]:
     if isinstance(plugin, dict) and isinstance(plugin.get("name"), str):
         args = plugin.get("args")
-        yield f"{place} {quoted(plugin['name'])}", plugin["name"], args if isinstance(args, dict) else {}
+        yield f"{place} {quoted(plugin['name'])}", plugin["name"], (
+            args if isinstance(args, dict) else {}
+        )
 
 
 def texts_of(name: str, args: dict[str, Any]) -> Iterator[str]:
@@ -47,7 +57,10 @@ def texts_of(name: str, args: dict[str, Any]) -> Iterator[str]:
         whole = ratio.partition(".")[0]
         yield f"min_growth_ratio: oomd reads {quoted(ratio)} as {whole}; leave it out for 1.25"
     if "\\" in found.get("cgroup", ""):
-        yield rf"cgroup: oomd takes a \ in {quoted(found['cgroup'])} as an escape, so it matches nothing: write \\ or * for it"
+        yield (
+            rf"cgroup: oomd takes a \ in {quoted(found['cgroup'])} as an escape, so it matches"
+            r" nothing: write \\ or * for it"
+        )
     if name == "kill_by_pg_scan":
         yield WAITS + (LOSES if "post_action_delay" in found else "")
     if name == "kill_by_pressure":
@@ -67,12 +80,17 @@ def of_pace(tick_ms: int | None, interval_s: int | None) -> Iterator[Finding]:
         ticks = [-(-interval * it // tick) * tick for it in (1, 2, 3)]
         first, second, third = (f"{it / SECOND_MS:g}" for it in ticks)
         what = (
-            f"ticks of {tick} ms don't divide the interval of {interval // SECOND_MS} s: psi_oomd evaluates at "
-            f"{first}, {second}, {third} s, and oomd looks at {', '.join(f'{interval * it // SECOND_MS}' for it in (1, 2, 3))} s"
+            f"ticks of {tick} ms don't divide the interval of {interval // SECOND_MS} s: psi_oomd"
+            f" evaluates at {first}, {second}, {third} s, and oomd looks at"
+            f" {', '.join(f'{interval * it // SECOND_MS}' for it in (1, 2, 3))} s"
         )
         yield Finding("the pace", Kind.NOTE, what)
 
 
 def notes(data: Any) -> list[Finding]:
     """All that oomd does otherwise, in the order of the file."""
-    return [Finding(place, Kind.NOTE, text) for place, name, args in plugins_of(data) for text in texts_of(name, args)]
+    return [
+        Finding(place, Kind.NOTE, text)
+        for place, name, args in plugins_of(data)
+        for text in texts_of(name, args)
+    ]

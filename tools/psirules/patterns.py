@@ -1,4 +1,6 @@
-"""Patterns of groups' paths, as rules files have them: components with `/` between, in which `*` is any run of bytes."""
+"""Patterns of groups' paths, as rules files have them: components with `/` between, in which `*` is
+any run of bytes.
+"""
 import re
 
 COMPONENT = r"[A-Za-z0-9_.@:\\*-]+"
@@ -14,5 +16,6 @@ def matches(pattern: str, path: str) -> bool:
     """Whether the path has as many components as the pattern, and each is matched."""
     wanted, found = ([it for it in text.split("/") if it] for text in (pattern, path))
     return len(wanted) == len(found) and all(
-        re.fullmatch(".*".join(map(re.escape, one.split("*"))), other) for one, other in zip(wanted, found)
+        re.fullmatch(".*".join(map(re.escape, one.split("*"))), other)
+        for one, other in zip(wanted, found)
     )

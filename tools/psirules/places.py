@@ -1,4 +1,6 @@
-"""Places in a rules file: an argument of a plugin, by the names or the numbers of what it stands in."""
+"""Places in a rules file: an argument of a plugin, by the names or the numbers of what it stands
+in.
+"""
 import copy
 import json
 import re
@@ -6,9 +8,10 @@ from collections.abc import Iterator
 from dataclasses import dataclass
 from typing import Any
 
+from psicli.fault import Fault
+from psicli.wording import listed, quoted
 from psirules.plugins import ACTIONS, DETECTORS, Plugin
 from psirules.rules_file import RulesFile
-from psirules.wording import Fault, listed, quoted
 
 ACTIONS_WORD = "actions"
 DELAY = "post_action_delay"
@@ -16,7 +19,9 @@ DELAY = "post_action_delay"
 
 @dataclass(frozen=True)
 class Place:
-    """A plugin, or a ruleset alone: the way to it through lists and keys, and what it stands in, by numbers and by names."""
+    """A plugin, or a ruleset alone: the way to it through lists and keys, and what it stands in, by
+    numbers and by names.
+    """
 
     way: tuple[str | int, ...]
     numbers: tuple[str, ...]
@@ -30,10 +35,15 @@ class Place:
         return f"{self.spelled()} ({' / '.join(map(quoted, self.names))})"
 
     def is_meant(self, parts: list[str]) -> bool:
-        """Whether these parts name it: ruleset, the detector's group or `actions`, which may be left out, and plugin."""
+        """Whether these parts name it: ruleset, the detector's group or `actions`, which may be
+        left out, and plugin.
+        """
         own = list(zip(self.names, self.numbers))
         ways = [own] if len(own) != 3 else [own, [own[0], own[2]]]
-        return any(len(parts) == len(way) and all(part in it for part, it in zip(parts, way)) for way in ways)
+        return any(
+            len(parts) == len(way) and all(part in it for part, it in zip(parts, way))
+            for way in ways
+        )
 
     def arguments(self) -> list[str]:
         return self.plugin.arguments() if self.plugin else [DELAY]
@@ -55,7 +65,9 @@ def places(rules: RulesFile) -> Iterator[Place]:
             for item, plugin in enumerate(items):
                 numbers = (str(number), str(group), str(item))
                 names = (ruleset["name"], name, plugin["name"])
-                yield Place((*way, "detectors", group, item + 1), numbers, names, DETECTORS[plugin["name"]])
+                yield Place(
+                    (*way, "detectors", group, item + 1), numbers, names, DETECTORS[plugin["name"]]
+                )
         for item, plugin in enumerate(ruleset["actions"]):
             numbers = (str(number), ACTIONS_WORD, str(item))
             names = (ruleset["name"], ACTIONS_WORD, plugin["name"])

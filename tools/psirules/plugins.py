@@ -1,4 +1,6 @@
-"""The plugins that psi_oomd knows, as the tables of docs/RULES.md have them, and what oomd 0.5.0 knows beside them."""
+"""The plugins that psi_oomd knows, as the tables of docs/RULES.md have them, and what oomd 0.5.0
+knows beside them.
+"""
 from dataclasses import dataclass, field
 from enum import Enum
 
@@ -17,7 +19,9 @@ class Form(Enum):
 
 @dataclass(frozen=True)
 class Plugin:
-    """The arguments that a plugin knows, each with its form, and those that only oomd knows: they mean nothing here."""
+    """The arguments that a plugin knows, each with its form, and those that only oomd knows: they
+    mean nothing here.
+    """
 
     required: dict[str, Form]
     optional: dict[str, Form] = field(default_factory=dict)
@@ -30,13 +34,28 @@ class Plugin:
         return [*self.required, *self.optional]
 
 
-def _action(required: dict[str, Form], optional: dict[str, Form] | None = None, *of_oomd: str) -> Plugin:
+def _action(
+    required: dict[str, Form], optional: dict[str, Form] | None = None, *of_oomd: str
+) -> Plugin:
     """An action, with the arguments that every action knows."""
-    every = {"recursive": Form.TRUTH, "always_continue": Form.TRUTH, "post_action_delay": Form.SECONDS}
-    return Plugin({"cgroup": Form.PATTERNS, **required}, {**(optional or {}), **every}, ("dry", "debug", *of_oomd))
+    every = {
+        "recursive": Form.TRUTH,
+        "always_continue": Form.TRUTH,
+        "post_action_delay": Form.SECONDS,
+    }
+    return Plugin(
+        {"cgroup": Form.PATTERNS, **required},
+        {**(optional or {}), **every},
+        ("dry", "debug", *of_oomd),
+    )
 
 
-_PRESSURE = {"cgroup": Form.PATTERNS, "resource": Form.RESOURCE, "threshold": Form.PERCENT, "duration": Form.SECONDS}
+_PRESSURE = {
+    "cgroup": Form.PATTERNS,
+    "resource": Form.RESOURCE,
+    "threshold": Form.PERCENT,
+    "duration": Form.SECONDS,
+}
 _MEMORY = {"cgroup": Form.PATTERNS, "threshold": Form.SIZE, "duration": Form.SECONDS}
 
 DETECTORS = {
@@ -49,7 +68,12 @@ DETECTORS = {
 }
 ACTIONS = {
     "kill_by_memory_size_or_growth": _action(
-        {}, {"size_threshold": Form.PERCENT, "growing_size_percentile": Form.PERCENT, "min_growth_ratio": Form.RATIO}
+        {},
+        {
+            "size_threshold": Form.PERCENT,
+            "growing_size_percentile": Form.PERCENT,
+            "min_growth_ratio": Form.RATIO,
+        },
     ),
     "kill_by_swap_usage": _action({}, {"threshold": Form.SIZE}, "meminfo_location"),
     "kill_by_pressure": _action({"resource": Form.RESOURCE}),
@@ -76,7 +100,9 @@ OF_OOMD = {
     "senpai": Effect.ACTS,
     "systemd_restart": Effect.ACTS,
 }
-"""The plugins of oomd 0.5.0 that psi_oomd doesn't know, by the names under which that version registers them."""
+"""The plugins of oomd 0.5.0 that psi_oomd doesn't know, by the names under which that version
+registers them.
+"""
 
 TOP_KEYS = ("rulesets",)
 TOP_KEYS_OF_OOMD = ("prekill_hooks", "version")

@@ -9,24 +9,33 @@ from concurrent.futures import ThreadPoolExecutor
 from dataclasses import dataclass
 from typing import IO, TypeVar
 
+from psicli.fault import Fault
+from psicli.status import ProgramStatus
 from psireplay.kinds import folder_told, why_refused
 from psireplay.program import VARIABLE, named_program, program_path
-from psirules.wording import Fault
 
 EMPTY_TRACE = b"psitrace 1 cpus=1\n0 end\n"
 
 KILL = re.compile(r"kill ([0-9]+) ruleset=([0-9]+) action=([0-9]+) (/\S*)\n")
 END = re.compile(r"end ([0-9]+) ticks=[0-9]+ events=[0-9]+ kills=([0-9]+)\n")
 
-WRONG_WORDS, RULES_REFUSED, NO_FILE, READ_FAULT = 1, 3, 4, 5
-ADVICE = {
-    WRONG_WORDS: "the program doesn't take these words; docs/COMMANDS.md has those of `replay`",
-    2: "that line can't stand there; docs/TRACES.md has the cause under `Causes`, and `psi_oomd check {file}` looks again",
-    RULES_REFUSED: "`tools/rules lint {file}` says what is wrong, and with --fix gives a corrected file",
-    4: "look for a slip in its name",
-    5: "it can't be read: it is a folder, or it may not be opened",
-    7: "run fewer side by side, by --jobs 1",
-    70: "the program isn't built, and couldn't be: run `psi_oomd --build`, and read what it says",
+ADVICE: dict[int, str] = {
+    ProgramStatus.WRONG_WORDS: (
+        "the program doesn't take these words; docs/COMMANDS.md has those of `replay`"
+    ),
+    ProgramStatus.TRACE_REFUSED: (
+        "that line can't stand there; docs/TRACES.md has the cause under `Causes`, and `psi_oomd"
+        " check {file}` looks again"
+    ),
+    ProgramStatus.RULES_REFUSED: (
+        "`tools/rules lint {file}` says what is wrong, and with --fix gives a corrected file"
+    ),
+    ProgramStatus.NO_FILE: "look for a slip in its name",
+    ProgramStatus.READ_FAULT: "it can't be read: it is a folder, or it may not be opened",
+    ProgramStatus.NO_MEMORY: "run fewer side by side, by --jobs 1",
+    ProgramStatus.NOT_BUILT: (
+        "the program isn't built, and couldn't be: run `psi_oomd --build`, and read what it says"
+    ),
 }
 """What to do, by the status of the program."""
 
@@ -35,7 +44,9 @@ Answer = TypeVar("Answer")
 
 @dataclass(frozen=True)
 class Kill:
-    """A kill that a replay printed: its moment in ns, who did it, both by number from 0, and the victim's path."""
+    """A kill that a replay printed: its moment in ns, who did it, both by number from 0, and the
+    victim's path.
+    """
 
     moment: int
     ruleset: int
@@ -45,7 +56,9 @@ class Kill:
 
 @dataclass(frozen=True)
 class Pace:
-    """How often ticks and evaluations come, as words of replay; what isn't given is the program's own."""
+    """How often ticks and evaluations come, as words of replay; what isn't given is the program's
+    own.
+    """
 
     tick_ms: int | None = None
     interval_s: int | None = None
@@ -68,17 +81,19 @@ class Refusal(Fault):
 
     def __init__(self, file: str, said: str, status: int, path: str | None = None) -> None:
         """What the file is instead is looked up at its path."""
-        advice = ADVICE.get(status, f"the program ended by status {status}").format(file=shlex.quote(file))
+        advice = ADVICE.get(status, f"the program ended by status {status}").format(
+            file=shlex.quote(file)
+        )
         told = why_refused(said, file if path is None else path, file)
         name = file
-        if status == NO_FILE:
+        if status == ProgramStatus.NO_FILE:
             name = ""  # the program names it
-        elif status == READ_FAULT and os.path.isdir(file):
+        elif status == ProgramStatus.READ_FAULT and os.path.isdir(file):
             name, told, advice = "", "", folder_told(file)
         elif told != said:
             advice = ""
         super().__init__(": ".join(filter(None, [name, told, advice])))
-        self.said, self.status = said, status
+        self.said, self.program_status = said, status
 
 
 def processors() -> int:
@@ -97,23 +112,42 @@ class Program:
         return program_path()
 
     def replay(self, trace: str, rules: RulesAt, pace: Pace, threads: int) -> list[Kill]:
-        """The kills of this trace by these rules, or a fault. The reports, of which one is left, are passed over."""
-        words = ["replay", f"--rules={rules.path}", "--report-s=0", f"--workers={min(threads, 64)}", *pace.words(), "--", trace]
+        """The kills of this trace by these rules, or a fault. The reports, of which one is left,
+        are passed over.
+        """
+        words = [
+            "replay",
+            f"--rules={rules.path}",
+            "--report-s=0",
+            f"--workers={min(threads, 64)}",
+            *pace.words(),
+            "--",
+            trace,
+        ]
         with tempfile.TemporaryFile() as said:
             with self.started(words, said) as child:
                 assert child.stdout is not None
                 kills = read_kills(line.decode("latin-1") for line in child.stdout)
             if child.returncode:
                 said.seek(0)
-                file = {WRONG_WORDS: self.path, RULES_REFUSED: rules.name}.get(child.returncode, trace)
+                files: dict[int, str] = {
+                    ProgramStatus.WRONG_WORDS: self.path, ProgramStatus.RULES_REFUSED: rules.name,
+                }  # fmt: skip
+                file = files.get(child.returncode, trace)
                 path = rules.path if file == rules.name else file
-                raise Refusal(file, said.read(4096).decode("utf-8", "replace").strip(), child.returncode, path)
+                raise Refusal(
+                    file, said.read(4096).decode("utf-8", "replace").strip(), child.returncode, path
+                )
         if kills is None:
-            raise Fault(f"{self.path} printed no replay: let the variable {VARIABLE} name a psi_oomd")
+            raise Fault(
+                f"{self.path} printed no replay: let the variable {VARIABLE} name a psi_oomd"
+            )
         return kills
 
     def started(self, words: list[str], said: IO[bytes] | None) -> subprocess.Popen[bytes]:
-        """The program, running, with its notes in this file, or on standard error where there is none."""
+        """The program, running, with its notes in this file, or on standard error where there is
+        none.
+        """
         try:
             return subprocess.Popen([self.path, *words], stdout=subprocess.PIPE, stderr=said)
         except OSError as fault:
@@ -123,8 +157,10 @@ class Program:
             ) from fault
 
     def prepare(self) -> None:
-        """Builds the program beside the tools where it isn't built yet: once, and before many would do it side by side. It is run
-        without the launcher then, which looks for newer sources at each start."""
+        """Builds the program beside the tools where it isn't built yet: once, and before many would
+        do it side by side. It is run without the launcher then, which looks for newer sources at
+        each start.
+        """
         if not os.environ.get(VARIABLE):
             with self.started(["--build"], None) as child:
                 assert child.stdout is not None
@@ -153,8 +189,9 @@ def read_kills(lines: Iterable[str]) -> list[Kill] | None:
 
 
 def side_by_side(calls: Sequence[Callable[[int], Answer]], jobs: int) -> list[Answer | Fault]:
-    """The answer or the fault of each call, in their order. So many run at a time, and each is told how many threads are left
-    for it."""
+    """The answer or the fault of each call, in their order. So many run at a time, and each is told
+    how many threads are left for it.
+    """
     lanes = max(1, min(jobs, len(calls)))
     threads = max(1, processors() // lanes)
 

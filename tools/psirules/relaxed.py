@@ -3,7 +3,8 @@ import json
 import re
 from typing import Any
 
-from psirules.wording import Fault, quoted
+from psicli.fault import Fault
+from psicli.wording import quoted
 
 TOKEN = re.compile(r'"(?:[^"\\]|\\.)*"|//[^\n]*|/\*.*?\*/|[^"/,]+|.', re.DOTALL)
 BEHIND_A_COMMA = re.compile(r"(?:\s|//[^\n]*|/\*.*?\*/)*[\]}]", re.DOTALL)
@@ -12,7 +13,9 @@ TAKEN_OUT = "it is taken out"
 
 
 class Reading:
-    """A rules file's text as data; what of it is no JSON, with what becomes of that; and keys that stand twice."""
+    """A rules file's text as data; what of it is no JSON, with what becomes of that; and keys that
+    stand twice.
+    """
 
     def __init__(self, data: bytes) -> None:
         self.changes: list[tuple[str, str]] = []
@@ -31,7 +34,8 @@ class Reading:
         return text.removeprefix(BYTE_ORDER_MARK)
 
     def strict(self, text: str) -> str:
-        """The text without comments, and without commas after the last item of a list or an object."""
+        """The text without comments, and without commas after the last item of a list or an object.
+        """
         kept, line = [], 1
         for found in TOKEN.finditer(text):
             token = found[0]
@@ -62,9 +66,15 @@ class Reading:
         return data
 
     def decoded(self, text: str, is_strict: bool) -> tuple[Any, int]:
-        """The data at the text's front, and where it ends. Strict JSON has no control characters in texts."""
+        """The data at the text's front, and where it ends. Strict JSON has no control characters in
+        texts.
+        """
         self.doubles = []
-        words: dict[str, Any] = {"parse_int": whole, "parse_constant": refused, "object_pairs_hook": self.joined}
+        words: dict[str, Any] = {
+            "parse_int": whole,
+            "parse_constant": refused,
+            "object_pairs_hook": self.joined,
+        }
         try:
             return json.JSONDecoder(**words, strict=is_strict).raw_decode(text)
         except RecursionError as fault:

@@ -12,14 +12,15 @@ import sys
 import tempfile
 from dataclasses import dataclass, field, replace
 
+from psicli.fault import Fault
+from psicli.running import complain
+from psicli.wording import quoted
 from psireplay.kinds import TRACE, kind_of
 from psireplay.sampled import MOST_BYTES, Sampled, mark_in, time_in_whole, wholes
 from psirules.patterns import matches
 from psirules.program import Kill, Pace, Program, Refusal, RulesAt, processors, side_by_side
-from psirules.sampling import must_judge, promise
 from psirules.rules_file import RulesFile, bytes_of, kept
-from psirules.telling import complain
-from psirules.wording import Fault, quoted
+from psirules.sampling import must_judge, promise
 
 STANDARD_INPUT = "-"
 GROUP = re.compile(rb"^[0-9]+ group (\S+)$", re.MULTILINE)
@@ -27,8 +28,10 @@ GROUP = re.compile(rb"^[0-9]+ group (\S+)$", re.MULTILINE)
 
 @dataclass(frozen=True)
 class Traces:
-    """Traces by name, how they are replayed, and how many at a time (as many as there are processors, where it isn't said). Traces
-    that were made together of samples are one, by the name of the first; `parts` has all of them."""
+    """Traces by name, how they are replayed, and how many at a time (as many as there are
+    processors, where it isn't said). Traces that were made together of samples are one, by the name
+    of the first; `parts` has all of them.
+    """
 
     names: list[str]
     pace: Pace
@@ -39,10 +42,17 @@ class Traces:
     def of(names: list[str], pace: Pace, jobs: int | None) -> "Traces":
         """The traces of these names."""
         found = wholes(names)
-        return Traces([it.name for it in found], pace, jobs, {it.name: it.parts for it in found if len(it.parts) > 1})
+        return Traces(
+            [it.name for it in found],
+            pace,
+            jobs,
+            {it.name: it.parts for it in found if len(it.parts) > 1},
+        )
 
     def joined(self, trace: str, replay: Callable[[str], list[Kill]]) -> list[Kill]:
-        """The kills of a trace, or of all its parts: one in the time that two parts share counts once."""
+        """The kills of a trace, or of all its parts: one in the time that two parts share counts
+        once.
+        """
         if trace not in self.parts:
             return replay(trace)
         kills = []
@@ -52,7 +62,9 @@ class Traces:
         return kills
 
     def groups(self, trace: str) -> set[str] | None:
-        """The groups that a trace, or any of its parts, ever has; None if some part can't be read twice."""
+        """The groups that a trace, or any of its parts, ever has; None if some part can't be read
+        twice.
+        """
         found: set[str] = set()
         for name, _ in self.parts.get(trace, [(trace, None)]):
             groups = all_groups(name)
@@ -71,19 +83,27 @@ class Traces:
         pairs = [(file, trace) for file in rules for trace in self.names]
         calls = [functools.partial(self.replay, program, trace, file) for file, trace in pairs]
         found = side_by_side(calls, self.jobs or processors())
-        return [found[number * len(self.names) :][: len(self.names)] for number in range(len(rules))]
+        return [
+            found[number * len(self.names) :][: len(self.names)] for number in range(len(rules))
+        ]
 
     def each(self, replay: Callable[[str, int], list[Kill]]) -> list[list[Kill] | Fault]:
-        """The kills of each trace by another way to replay it, which is told how many threads are left for it."""
+        """The kills of each trace by another way to replay it, which is told how many threads are
+        left for it.
+        """
 
         def call(trace: str, threads: int) -> list[Kill]:
             return self.joined(trace, lambda name: replay(name, threads))
 
-        return side_by_side([functools.partial(call, trace) for trace in self.names], self.jobs or processors())
+        return side_by_side(
+            [functools.partial(call, trace) for trace in self.names], self.jobs or processors()
+        )
 
 
 def read_again() -> None:
-    """Keeps the standard input in a file, in whose place it is then: so its groups can be looked up after its replay."""
+    """Keeps the standard input in a file, in whose place it is then: so its groups can be looked up
+    after its replay.
+    """
     file = tempfile.TemporaryFile()
     shutil.copyfileobj(sys.stdin.buffer, file)
     file.seek(0)
@@ -91,12 +111,18 @@ def read_again() -> None:
 
 
 def all_groups(trace: str) -> set[str] | None:
-    """The groups that a trace ever has, with the root and without that of a mark; None if it can't be read twice, as a pipe can't."""
+    """The groups that a trace ever has, with the root and without that of a mark; None if it can't
+    be read twice, as a pipe can't.
+    """
     with contextlib.ExitStack() as files:
         number = 0 if trace == STANDARD_INPUT else None
         if number is None and os.path.isfile(trace):
             number = files.enter_context(open(trace, "rb")).fileno()
-        if number is None or not stat.S_ISREG(os.fstat(number).st_mode) or not os.fstat(number).st_size:
+        if (
+            number is None
+            or not stat.S_ISREG(os.fstat(number).st_mode)
+            or not os.fstat(number).st_size
+        ):
             return None
         with mmap.mmap(number, 0, access=mmap.ACCESS_READ) as data:
             found = GROUP.findall(data, len(mark_in(data[:MOST_BYTES])))
@@ -104,14 +130,18 @@ def all_groups(trace: str) -> set[str] | None:
 
 
 def note_unmatched(traces: Traces, names: list[str], rules: list[RulesFile]) -> None:
-    """Says which patterns of rules match no group of a trace: such a rule never does anything there. A trace that has the root alone
-    needs no such note."""
+    """Says which patterns of rules match no group of a trace: such a rule never does anything
+    there. A trace that has the root alone needs no such note.
+    """
     for trace in names:
         groups = traces.groups(trace) or set()
         for file in rules if len(groups) > 1 else ():
             for number, pattern in file.patterns():
                 if not any(matches(pattern, path) for path in groups):
-                    what = f"'{pattern}' of ruleset {number} {quoted(file.ruleset_name(number))} in {file.name}"
+                    what = (
+                        f"'{pattern}' of ruleset {number} {quoted(file.ruleset_name(number))} in"
+                        f" {file.name}"
+                    )
                     complain(f"note: no group of {trace} matches {what}")
 
 
@@ -128,9 +158,12 @@ def no_input(names: list[str]) -> None:
         raise Fault("- is no trace here, since it is read more than once: write it to a file first")
 
 
-def accepted(program: Program, name: str, files: contextlib.ExitStack, order: str = "") -> tuple[RulesFile, RulesAt]:
-    """A rules file that the program takes, and where it is kept until the stack is closed. If a trace is given in its place, the
-    fault says in which order the words are."""
+def accepted(
+    program: Program, name: str, files: contextlib.ExitStack, order: str = ""
+) -> tuple[RulesFile, RulesAt]:
+    """A rules file that the program takes, and where it is kept until the stack is closed. If a
+    trace is given in its place, the fault says in which order the words are.
+    """
     data = bytes_of(name)
     rules = files.enter_context(kept(data, name))
     try:

@@ -5,8 +5,10 @@ from collections.abc import Iterator
 from contextlib import contextmanager
 from typing import Any
 
+from psicli.fault import Fault
+from psicli.times import seconds
+from psicli.wording import quoted
 from psirules.program import Kill, RulesAt
-from psirules.wording import Fault, quoted, seconds
 
 
 def bytes_of(name: str) -> bytes:
@@ -15,13 +17,16 @@ def bytes_of(name: str) -> bytes:
         with open(name, "rb") as file:
             return file.read()
     except OSError as fault:
-        raise Fault(f"{name}: {fault.strerror}: look for a slip in its name, and whether it may be read") from fault
+        raise Fault(
+            f"{name}: {fault.strerror}: look for a slip in its name, and whether it may be read"
+        ) from fault
 
 
 @contextmanager
 def kept(data: bytes, name: str) -> Iterator[RulesAt]:
-    """A rules file with these bytes, as long as it is needed. So the rules that are run are those whose names are shown,
-    though the file changes meanwhile or is a pipe."""
+    """A rules file with these bytes, as long as it is needed. So the rules that are run are those
+    whose names are shown, though the file changes meanwhile or is a pipe.
+    """
     with tempfile.NamedTemporaryFile(prefix="psirules-", suffix=".json") as file:
         file.write(data)
         file.flush()
@@ -29,7 +34,9 @@ def kept(data: bytes, name: str) -> Iterator[RulesAt]:
 
 
 class RulesFile:
-    """The names of the rulesets and plugins of a file that the program accepted, which therefore has them all."""
+    """The names of the rulesets and plugins of a file that the program accepted, which therefore
+    has them all.
+    """
 
     def __init__(self, name: str, data: bytes) -> None:
         self.name = name
@@ -64,7 +71,12 @@ class RulesFile:
     def numbers_of(self, ruleset: str) -> list[int]:
         """The rulesets of this name, or the one of this number where none has such a name."""
         named = [number for number, it in enumerate(self.rulesets) if it["name"] == ruleset]
-        if not named and ruleset.isascii() and ruleset.isdigit() and int(ruleset) < len(self.rulesets):
+        if (
+            not named
+            and ruleset.isascii()
+            and ruleset.isdigit()
+            and int(ruleset) < len(self.rulesets)
+        ):
             return [int(ruleset)]
         return named
 
@@ -72,8 +84,15 @@ class RulesFile:
         """The patterns of groups that the rulesets have, each with its ruleset's number, once."""
         found = []
         for number, ruleset in enumerate(self.rulesets):
-            plugins = [it for group in ruleset["detectors"] for it in group[1:]] + ruleset["actions"]
-            named = [it for plugin in plugins for it in str(plugin.get("args", {}).get("cgroup", "")).split(",") if it]
+            plugins = [it for group in ruleset["detectors"] for it in group[1:]] + ruleset[
+                "actions"
+            ]
+            named = [
+                it
+                for plugin in plugins
+                for it in str(plugin.get("args", {}).get("cgroup", "")).split(",")
+                if it
+            ]
             found += [(number, it) for it in dict.fromkeys(named)]
         return found
 

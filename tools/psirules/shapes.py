@@ -1,11 +1,20 @@
-"""Which key of a rules file is missing, and which value has the wrong kind. psi_oomd names the place and the cause alone."""
+"""Which key of a rules file is missing, and which value has the wrong kind. psi_oomd names the
+place and the cause alone.
+"""
 from collections.abc import Iterator
 from typing import Any
 
+from psicli.wording import quoted
 from psirules.plugins import ACTIONS, DETECTORS
-from psirules.wording import quoted
 
-KINDS = {dict: "an object", list: "a list", str: "a text", bool: "true or false", int: "a number", float: "a number"}
+KINDS = {
+    dict: "an object",
+    list: "a list",
+    str: "a text",
+    bool: "true or false",
+    int: "a number",
+    float: "a number",
+}
 
 
 def kind_of(value: object) -> str:
@@ -14,7 +23,9 @@ def kind_of(value: object) -> str:
 
 
 def first_fault(data: Any) -> str | None:
-    """The first key that is missing, or value of a wrong kind, in the order in which psi_oomd looks; None if there is none."""
+    """The first key that is missing, or value of a wrong kind, in the order in which psi_oomd
+    looks; None if there is none.
+    """
     return next(faults(data), None)
 
 
@@ -67,7 +78,10 @@ def plugin_faults(place: str, plugin: Any) -> Iterator[str]:
             yield f"{place} {quoted(str(name))} has no argument {quoted(argument)}"
     for argument, value in args.items():
         if not isinstance(value, (str, int)):
-            yield f"the argument {quoted(argument)} of {place} is {kind_of(value)}, and has to be a text"
+            yield (
+                f"the argument {quoted(argument)} of {place} is {kind_of(value)}, and has to be a"
+                " text"
+            )
 
 
 def key_faults(place: str, at: dict[str, Any], wanted: dict[str, type]) -> Iterator[str]:
@@ -76,7 +90,10 @@ def key_faults(place: str, at: dict[str, Any], wanted: dict[str, type]) -> Itera
         if key not in at:
             yield f"{place} has no key {quoted(key)}"
         elif not isinstance(at[key], kind):
-            yield f"the value of {quoted(key)} in {place} is {kind_of(at[key])}, and has to be {KINDS[kind]}"
+            yield (
+                f"the value of {quoted(key)} in {place} is {kind_of(at[key])}, and has to be"
+                f" {KINDS[kind]}"
+            )
 
 
 def items(at: dict[str, Any], key: str) -> list[Any]:

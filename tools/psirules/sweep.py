@@ -1,4 +1,4 @@
-"""tools/rules sweep: the kills of one trace while an argument of the rules goes through its values."""
+"""tools/rules sweep: the kills of traces while an argument of the rules goes through its values."""
 import argparse
 import contextlib
 import functools
@@ -7,21 +7,28 @@ import re
 from dataclasses import dataclass
 from decimal import Decimal
 
+from psicli.fault import Fault
+from psicli.running import complain
+from psicli.status import ProgramStatus
+from psicli.times import seconds
+from psicli.wording import quoted
 from psirules import places, telling
 from psirules.places import Place
-from psirules.program import RULES_REFUSED, Kill, Pace, Program, Refusal, processors, side_by_side
+from psirules.program import Kill, Pace, Program, Refusal, processors, side_by_side
 from psirules.replays import accepted, no_input, note_samples
 from psirules.rules_file import RulesFile, kept
 from psirules.sampling import must_judge
 from psirules.telling import Outcome
-from psirules.wording import Fault, quoted, seconds
 
-ABOUT = """Replays TRACE by the rules of FILE once for each value of an argument, and prints a table of the kills.
+ABOUT = """Replays each TRACE by the rules of FILE once for each value of an argument, and prints a
+table of the kills.
 
-PLACE=VALUES says what goes through which values. PLACE is ruleset/plugin.argument: each by its name or its number from 0.
-Where several plugins are meant, the detector's group, or `actions`, stands between: ruleset/group/plugin.argument. A ruleset's
-own delay is ruleset.post_action_delay. VALUES is FROM:TO:STEP, as 20:90:10, 0.5:1.5:0.25 or 512M:2048M:512M, or values with
-commas between. With several --vary, all pairs of their values are tried."""
+PLACE=VALUES says what goes through which values. PLACE is ruleset/plugin.argument: each
+by its name or its number from 0. Where several plugins are meant, the detector's group,
+or `actions`, stands between: ruleset/group/plugin.argument. A ruleset's own delay is
+ruleset.post_action_delay. VALUES is FROM:TO:STEP, as 20:90:10, 0.5:1.5:0.25 or
+512M:2048M:512M, or values with commas between. With several --vary, all pairs of their
+values are tried."""
 STATUS = "The status is 0 where each value was tried, and 2 where something couldn't be run."
 MOST_RUNS = 10000
 
@@ -62,24 +69,26 @@ def axis(rules: RulesFile, text: str) -> Axis:
 
 @dataclass(frozen=True)
 class Row:
-    """A value of each argument, and the kills by the rules that have them."""
+    """A trace, a value of each argument, and the kills by the rules that have these."""
 
+    trace: str
     values: tuple[str, ...]
     found: list[Kill] | Fault
 
     def cells(self) -> list[str]:
         if isinstance(self.found, Fault):
-            return [*self.values, "not run", "-", "-"]
+            return [self.trace, *self.values, "not run", "-", "-"]
         first = self.found[0] if self.found else None
         return [
+            self.trace,
             *self.values,
             str(len(self.found)),
             f"{seconds(first.moment)} s" if first else "-",
             first.path if first else "-",
         ]
 
-    def outcome(self, axes: list[Axis]) -> Outcome:
-        name = named(axes, self.values)
+    def outcome(self, axes: list[Axis], has_trace: bool) -> Outcome:
+        name = f"{self.trace}: " * has_trace + named(axes, self.values)
         if isinstance(self.found, Fault):
             return Outcome(name, None, str(self.found))
         _, kills, first, victim = self.cells()[-4:]
@@ -89,18 +98,22 @@ class Row:
         fault = str(self.found) if isinstance(self.found, Fault) else None
         kills = [] if isinstance(self.found, Fault) else [rules.record(kill) for kill in self.found]
         values = {f"{one.place.spelled()}.{one.argument}": value for one, value in zip(axes, self.values)}
-        return {"values": values, "fault": fault, "kills": kills}
+        return {"trace": self.trace, "values": values, "fault": fault, "kills": kills}
 
 
-def replay(values: tuple[str, ...], axes: list[Axis], rules: RulesFile, given: argparse.Namespace, threads: int) -> list[Kill]:
-    """The kills with these values of the axes."""
+Choice = tuple[str, tuple[str, ...]]
+
+
+def replay(choice: Choice, axes: list[Axis], rules: RulesFile, given: argparse.Namespace, threads: int) -> list[Kill]:
+    """The kills of a trace with these values of the axes."""
+    trace, values = choice
     data = places.changed(rules, [(one.place, one.argument, value) for one, value in zip(axes, values)])
     pace: Pace = given.pace
     with kept(data, rules.name) as file:
         try:
-            return Program().replay(given.trace, file, pace, threads)
+            return Program().replay(trace, file, pace, threads)
         except Refusal as refusal:
-            if refusal.status != RULES_REFUSED:
+            if refusal.program_status != ProgramStatus.RULES_REFUSED:
                 raise
             advice = "docs/RULES.md has the argument's form and range under `Arguments`"
             raise Fault(f"{named(axes, values)}: {refusal.said}: {advice}") from refusal
@@ -114,36 +127,41 @@ def named(axes: list[Axis], values: tuple[str, ...]) -> str:
 def tell_table(axes: list[Axis], rows: list[Row]) -> None:
     """The rows under their heads, in columns."""
     heads = ["value"] if len(axes) == 1 else [one.argument for one in axes]
-    table = [[*heads, "kills", "first kill", "victim"], *(row.cells() for row in rows)]
+    table = [["trace", *heads, "kills", "first kill", "victim"], *(row.cells() for row in rows)]
+    if len({row.trace for row in rows}) == 1:
+        table = [cells[1:] for cells in table]
     widths = [max(map(len, column)) for column in zip(*table)]
     for cells in table:
         print("  ".join(f"{cell:<{width}}" for cell, width in zip(cells, widths)).rstrip())
     for fault in dict.fromkeys(str(row.found) for row in rows if isinstance(row.found, Fault)):
-        telling.complain(fault)
+        complain(fault)
 
 
 def rows_of(axes: list[Axis], rules: RulesFile, given: argparse.Namespace) -> list[Row]:
     """A row for each choice of values, replayed side by side."""
-    choices = list(itertools.islice(itertools.product(*(one.values for one in axes)), MOST_RUNS + 1))
+    pairs = itertools.product(given.traces, itertools.product(*(one.values for one in axes)))
+    choices = list(itertools.islice(pairs, MOST_RUNS + 1))
     if len(choices) > MOST_RUNS:
         raise Fault(f"more than {MOST_RUNS} replays are asked for: take greater steps")
-    calls = [functools.partial(replay, values, axes, rules, given) for values in choices]
-    return [Row(values, found) for values, found in zip(choices, side_by_side(calls, given.jobs or processors()))]
+    calls = [functools.partial(replay, choice, axes, rules, given) for choice in choices]
+    results = side_by_side(calls, given.jobs or processors())
+    return [Row(trace, values, found) for (trace, values), found in zip(choices, results)]
 
 
 def run(given: argparse.Namespace) -> int:
-    no_input([given.trace])
+    no_input(given.traces)
     program = Program()
     program.prepare()
     with contextlib.ExitStack() as files:
         rules, _ = accepted(program, given.file, files, "FILE TRACE, with a rules file for FILE")
     axes = [axis(rules, text) for text in given.vary]
-    must_judge(given.trace, rules.data, rules.name)
-    note_samples([given.trace], [rules])
+    for trace in given.traces:
+        must_judge(trace, rules.data, rules.name)
+    note_samples(given.traces, [rules])
     rows = rows_of(axes, rules, given)
 
     def record(status: int) -> object:
         records = [row.record(axes, rules) for row in rows]
-        return {"rules": given.file, "trace": given.trace, "status": status, "rows": records}
+        return {"rules": given.file, "traces": given.traces, "status": status, "rows": records}
 
-    return telling.tell(given.form, [row.outcome(axes) for row in rows], record, lambda: tell_table(axes, rows))
+    return telling.tell(given.form, [row.outcome(axes, len(given.traces) > 1) for row in rows], record, lambda: tell_table(axes, rows))

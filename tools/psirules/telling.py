@@ -1,12 +1,13 @@
-"""How outcomes are reported: as lines for people, as TAP (version 13) for harnesses of tests, or as JSON."""
+"""How outcomes are reported: as lines for people, as TAP (version 13) for harnesses of tests, or as
+JSON.
+"""
 import json
 import sys
 from collections.abc import Callable
 from dataclasses import dataclass
 from enum import Enum
 
-OK, FAILED, NOT_RUN = 0, 1, 2
-"""The statuses of the tools."""
+from psicli.status import Status
 
 
 class Form(Enum):
@@ -17,7 +18,9 @@ class Form(Enum):
 
 @dataclass(frozen=True)
 class Outcome:
-    """One thing that was looked at: what it is called, whether it is as wanted (None where it couldn't be run), and why."""
+    """One thing that was looked at: what it is called, whether it is as wanted (None where it
+    couldn't be run), and why.
+    """
 
     name: str
     is_ok: bool | None
@@ -25,14 +28,11 @@ class Outcome:
 
 
 def status_of(outcomes: list[Outcome]) -> int:
-    """What couldn't be run counts more than what failed: then nobody knows whether more had failed."""
+    """What couldn't be run counts more than what failed: then nobody knows whether more had failed.
+    """
     if any(outcome.is_ok is None for outcome in outcomes):
-        return NOT_RUN
-    return OK if all(outcome.is_ok for outcome in outcomes) else FAILED
-
-
-def complain(text: str) -> None:
-    print(f"rules: {text}", file=sys.stderr)
+        return Status.FAILED
+    return Status.DONE if all(outcome.is_ok for outcome in outcomes) else Status.FOUND
 
 
 def tell_json(value: object) -> None:
@@ -49,9 +49,15 @@ def tell_tap(outcomes: list[Outcome]) -> None:
         print(f"  ---\n  message: {json.dumps(outcome.told)}\n  ...")
 
 
-def tell(form: Form, outcomes: list[Outcome], record: Callable[[int], object], tell_lines: Callable[[], None]) -> int:
-    """Tells the outcomes in one of the forms: as JSON what is made of the status, and for people what the last one prints. Answers
-    the status."""
+def tell(
+    form: Form,
+    outcomes: list[Outcome],
+    record: Callable[[int], object],
+    tell_lines: Callable[[], None],
+) -> int:
+    """Tells the outcomes in one of the forms: as JSON what is made of the status, and for people
+    what the last one prints. Answers the status.
+    """
     status = status_of(outcomes)
     if form is Form.JSON:
         tell_json(record(status))

@@ -4,20 +4,28 @@ import json
 import sys
 from typing import Any
 
-from psirules import telling
+from psicli.running import complain
+from psicli.status import Status
+from psicli.wording import quoted
 from psirules.forms import UNITS
 from psirules.lint import written
 from psirules.oomd_notes import AT_ZERO, SWAP, WAITS
 from psirules.program import Program, Refusal
-from psirules.wording import quoted
 
-ABOUT = """Prints the rules of FILE, which psi_oomd takes, as a configuration of oomd 0.5.0: sizes with letters, names with their
-backslashes escaped, every argument as oomd reads it. For what oomd says otherwise a line is on standard error, which ends in
-LOST if somebody else may be killed, or at another time. docs/RULES.md has what differs for all rules."""
-STATUS = "The status is 0 if the configuration says all of it, 1 if some of that is lost, and 2 if FILE can't be read."
+ABOUT = """Prints the rules of FILE, which psi_oomd takes, as a configuration of oomd 0.5.0: sizes
+with letters, names with their backslashes escaped, every argument as oomd reads it. For
+what oomd says otherwise a line is on standard error, which ends in LOST if somebody
+else may be killed, or at another time. docs/RULES.md has what differs for all rules."""
+STATUS = (
+    "The status is 0 if the configuration says all of it, 1 if some of that is lost, and 2 if FILE"
+    " can't be read."
+)
 WHOLE_RATIO, DEFAULT_RATIO = ".000", "1.250"
 MOST_PERCENTILE = "99"
-RECURSES = "in oomd a group with children is never killed itself, and each level has to pass the thresholds"
+RECURSES = (
+    "in oomd a group with children is never killed itself, and each level has to pass the"
+    " thresholds"
+)
 CONTINUE = {"name": "continue", "args": {}}
 
 
@@ -50,8 +58,12 @@ class Converter:
             what = "detectors" if not ruleset["detectors"] else "actions"
             self.tell(place, f"it has no {what}, so it kills nobody: it is left out", False)
             return None
-        groups = [self.group(f"{place}, group {at}", at, it) for at, it in enumerate(ruleset["detectors"])]
-        actions = [self.plugin(f"{place}, action {at}", it) for at, it in enumerate(ruleset["actions"])]
+        groups = [
+            self.group(f"{place}, group {at}", at, it) for at, it in enumerate(ruleset["detectors"])
+        ]
+        actions = [
+            self.plugin(f"{place}, action {at}", it) for at, it in enumerate(ruleset["actions"])
+        ]
         return {"name": name, "detectors": groups, "actions": actions}
 
     def group(self, place: str, number: int, group: list[Any]) -> list[Any]:
@@ -79,13 +91,23 @@ class Converter:
         whole = text.partition(".")[0]
         args["min_growth_ratio"] = whole
         if not text.endswith(WHOLE_RATIO):
-            self.tell(place, f"min_growth_ratio {text}: oomd reads whole numbers alone: it is written {whole}")
+            self.tell(
+                place,
+                f"min_growth_ratio {text}: oomd reads whole numbers alone: it is written {whole}",
+            )
 
     def losses(self, place: str, name: str, args: dict[str, Any]) -> None:
         """What oomd does otherwise by the same words."""
         if args.get("growing_size_percentile") == "100":
             args["growing_size_percentile"] = MOST_PERCENTILE
-            self.tell(place, "growing_size_percentile 100 makes oomd crash: it is written 99, the same up to 100 candidates", False)
+            self.tell(
+                place,
+                (
+                    "growing_size_percentile 100 makes oomd crash: it is written 99, the same up to"
+                    " 100 candidates"
+                ),
+                False,
+            )
         if name == "kill_by_swap_usage" and args["threshold"].endswith("%"):
             self.tell(place, SWAP)
         if name == "kill_by_pg_scan":
@@ -109,11 +131,11 @@ def canonical(program: Program, name: str) -> Any:
 def print_made(data: Any, told: list[tuple[str, bool]]) -> int:
     """Prints what was made, and on standard error what is said of it. Answers the status."""
     for what, is_lost in told:
-        telling.complain(f"{what}{' (LOST)' if is_lost else ''}")
+        complain(f"{what}{' (LOST)' if is_lost else ''}")
     sys.stdout.flush()
     sys.stdout.buffer.write(written(data))
     sys.stdout.buffer.flush()
-    return telling.FAILED if any(is_lost for _, is_lost in told) else telling.OK
+    return Status.FOUND if any(is_lost for _, is_lost in told) else Status.DONE
 
 
 def run(given: argparse.Namespace) -> int:

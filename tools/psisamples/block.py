@@ -1,11 +1,12 @@
 """A block: a stretch of one processor in which tasks of one group produce six wanted times.
 
-The times (ns) are in the order of LEVELS. A block needs at most four tasks, by their kinds: `w` waits for IO, `s` sleeps in a
-memory stall, `o` is ready, and `r` runs. A block has three parts. In the first no task is ready. In the second `o` is ready and no
-task runs. In the third `r` runs, to the end of the block, so that the block has a whole number of ms of weight.
+The times (ns) are in the order of LEVELS. A block needs at most four tasks, by their kinds: `w`
+waits for IO, `s` sleeps in a memory stall, `o` is ready, and `r` runs. A block has three parts. In
+the first no task is ready. In the second `o` is ready and no task runs. In the third `r` runs, to
+the end of the block, so that the block has a whole number of ms of weight.
 
-A task's state is one letter: `w` waits for IO, `s` sleeps in a stall, `r` and `R` are ready, `x` and `X` run; those in capitals are
-in a stall. `z` sleeps.
+A task's state is one letter: `w` waits for IO, `s` sleeps in a stall, `r` and `R` are ready, `x`
+and `X` run; those in capitals are in a stall. `z` sleeps.
 """
 from __future__ import annotations
 
@@ -32,7 +33,9 @@ class Span(NamedTuple):
 
 def possible(times: Times) -> Times:
     """The nearest times that a group on one processor can have within a tick."""
-    io_some, io_full, mem_some, mem_full, cpu_some, cpu_full = (min(TICK, max(0, it)) for it in times)
+    io_some, io_full, mem_some, mem_full, cpu_some, cpu_full = (
+        min(TICK, max(0, it)) for it in times
+    )
     io_full, mem_full = min(io_full, io_some), min(mem_full, mem_some)
     cpu_some = min(cpu_some, TICK - io_full)
     mem_some = min(mem_some, TICK - io_full + mem_full)
@@ -41,7 +44,9 @@ def possible(times: Times) -> Times:
 
 def fitted(times: Times, room: int) -> Times:
     """The times as far as they fit into a block of `room` ns."""
-    io_some, io_full, mem_some, mem_full, cpu_some, cpu_full = (min(room, max(0, it)) for it in times)
+    io_some, io_full, mem_some, mem_full, cpu_some, cpu_full = (
+        min(room, max(0, it)) for it in times
+    )
     io_full, mem_full = min(io_full, io_some), min(mem_full, mem_some)
     cpu_some = min(cpu_some, room - io_full)
     mem_some = min(mem_some, room - io_full + mem_full)
@@ -56,7 +61,9 @@ def least_length(times: Times) -> int:
 
 
 def easy_length(times: Times) -> int:
-    """The length (ns) in which all of memory full is asleep, if a tick has that much room: fewer turns are needed then."""
+    """The length (ns) in which all of memory full is asleep, if a tick has that much room: fewer
+    turns are needed then.
+    """
     io_some, io_full, mem_some, mem_full, cpu_some, _ = times
     busy = max(cpu_some, io_some - io_full, mem_some - mem_full)
     easy = busy + max(io_full, mem_full)
@@ -69,10 +76,14 @@ def spans_of(times: Times, length: int) -> list[Span]:
     busy = max(cpu_some, io_some - io_full, mem_some - mem_full)
     idle = max(io_full, min(mem_full, length - busy))
     asleep = min(mem_full, idle)
-    # From `idle` on the task on the processor is itself in the stall until `stalled`; then `s` is, until `lacking`.
+    # From `idle` on the task on the processor is itself in the stall until `stalled`; then `s` is,
+    # until `lacking`.
     stalled = idle + mem_full - asleep
     lacking = stalled + mem_some - mem_full
-    found = [Span(idle - io_full, idle - io_full + io_some, "w", "w"), Span(idle - asleep, idle, "s", "s")]
+    found = [
+        Span(idle - io_full, idle - io_full + io_some, "w", "w"),
+        Span(idle - asleep, idle, "s", "s"),
+    ]
     found.append(Span(stalled, lacking, "s", "s"))
     marks = sorted({idle, idle + cpu_full, idle + cpu_some, stalled, length})
     for begin, end in zip(marks, marks[1:]):

@@ -2,20 +2,25 @@
 from __future__ import annotations
 
 import argparse
+import os
 import re
 import sys
 import time
 
-from psiread.words import length
-from psireplay.command import Fault, Words
-from psireplay.times import SECOND, WallTime, seconds, told, wall_time
+from psicli.fault import Fault, Malformed
+from psicli.options import add_span
+from psicli.parser import Parser
+from psicli.running import complain, run
+from psicli.status import Status
+from psicli.times import SECOND, WallTime, duration, seconds
+from psicli.values import length, whole_number
+from psiworld.limits import MOST_EVENTS
 
 from .block import LEVELS, TICK
 from .convert import Options, Trigger
 from .data import Data, counted
 from .inputs import LONG, Inputs, Naming
 from .parts import Made, Maker
-from .trace_file import MOST_EVENTS
 
 ABOUT = (
     "Makes a trace of sampled totals of pressure: rules, triggers, charts and reports then work on a time of which there is no recording. "
@@ -24,13 +29,11 @@ ABOUT = (
     "what such a trace can't answer."
 )
 STATUS = (
-    "Each trace is replayed and compared with the samples before it gets its name. Statuses: 1 wrong words, or a file that isn't "
-    "samples, 4 totals differ by more than was reported, 6 the output can't be written."
+    "Each trace is replayed and compared with the samples before it gets its name. Statuses: 2 a usage error, a file that isn't "
+    "samples, or an output that can't be written, 4 totals differ by more than was reported."
 )
 HELP = {
     "output": "the trace to write; a longer time becomes several, with numbers before the ending",
-    "from": "begin at this time: seconds after the first sample, or 2026-11-28T13:58:12Z",
-    "to": "end at this time",
     "groups": "leave out groups of more than N components",
     "rename": "give a group, with all below it, another path",
     "labels": "name groups by these labels of metrics, with commas between, in place of the label id",
@@ -39,68 +42,51 @@ HELP = {
     "trigger": "add a trigger, as '/web io some 500000 2000000': a group, a resource, a level, and the threshold and the window in us",
     "lines": "write at most N lines to a trace (4000000)",
 }
-WRONG, DIFFERS, WRITE = 1, 4, 6
 # How long a pretended past is, ns.
 LEAST_PAST, MOST_PAST = 120 * SECOND, 3600 * SECOND
 SHOWN = 8
 TRIGGER = re.compile(r"(/\S*) (io|memory|cpu) (some|full) ([1-9][0-9]*) ([1-9][0-9]*)")
 
 
-def words() -> Words:
-    parser = Words("samples", ABOUT, STATUS)
-    option = parser.add_argument
-    option("files", metavar="FILE", nargs="+", help="samples; several files may have several groups or times")
+def parser() -> Parser:
+    """The parser of the command line."""
+    words = Parser(ABOUT, STATUS)
+    option = words.add_argument
+    option("files", metavar="FILE", nargs="+",
+           help="samples; several files may have several groups or times")  # fmt: skip
     option("-o", "--output", metavar="TRACE", required=True, help=HELP["output"])
-    option("--from", dest="start", metavar="TIME", type=when, help=HELP["from"])
-    option("--to", metavar="TIME", type=when, help=HELP["to"])
-    option("--groups", metavar="DEPTH", type=depth, help=HELP["groups"])
-    option("--rename", metavar="OLD=PATH", action="append", default=[], type=renaming, help=HELP["rename"])
+    add_span(words, "samples", None)
+    option("--groups", metavar="DEPTH", type=whole_number(1, 32), help=HELP["groups"])
+    option("--rename", metavar="OLD=PATH", action="append", default=[], type=renaming,
+           help=HELP["rename"])  # fmt: skip
     option("--labels", metavar="NAMES", default="", help=HELP["labels"])
     option("--lead-in", dest="lead", metavar="LENGTH", type=past, help=HELP["lead-in"])
     option("--averages", choices=("yes", "no"), help=HELP["averages"])
-    option("--trigger", metavar="TEXT", action="append", default=[], type=trigger, help=HELP["trigger"])
-    option("--lines", metavar="N", type=line_count, default=MOST_EVENTS, help=HELP["lines"])
-    return parser
-
-
-def when(word: str) -> WallTime | int:
-    """A time of the world, or ns after the first sample."""
-    if re.fullmatch(r"[0-9]{1,9}(\.[0-9]{1,9})?", word):
-        whole, _, part = word.partition(".")
-        return int(whole) * SECOND + int(part.ljust(9, "0") or 0)
-    return wall_time(word)
-
-
-def depth(word: str) -> int:
-    if not re.fullmatch("[1-9][0-9]?", word) or int(word) > 32:
-        raise argparse.ArgumentTypeError(f"{word} is no number from 1 to 32")
-    return int(word)
+    option("--trigger", metavar="TEXT", action="append", default=[], type=trigger,
+           help=HELP["trigger"])  # fmt: skip
+    option("--lines", metavar="N", type=whole_number(1000, MOST_EVENTS), default=MOST_EVENTS,
+           help=HELP["lines"])  # fmt: skip
+    return words
 
 
 def past(word: str) -> int:
     found = length(word)
     if found % TICK or not LEAST_PAST <= found <= MOST_PAST:
-        raise argparse.ArgumentTypeError(f"{word} isn't 120 s to 1 h in whole ticks of 2 s")
+        raise Malformed(f"{word} isn't 120 s to 1 h in whole ticks of 2 s")
     return found
-
-
-def line_count(word: str) -> int:
-    if not re.fullmatch("[1-9][0-9]{3,6}", word) or int(word) > MOST_EVENTS:
-        raise argparse.ArgumentTypeError(f"{word} is no number from 1000 to {MOST_EVENTS}")
-    return int(word)
 
 
 def renaming(word: str) -> tuple[str, str]:
     old, _, new = word.rpartition("=")
     if not old or not new.startswith("/"):
-        raise argparse.ArgumentTypeError(f"{word} isn't OLD=/PATH")
+        raise Malformed(f"{word} isn't OLD=/PATH")
     return old, new
 
 
 def trigger(word: str) -> Trigger:
     found = TRIGGER.fullmatch(word)
     if not found or not 500_000 <= int(found[5]) <= 10_000_000 or int(found[4]) > int(found[5]):
-        raise argparse.ArgumentTypeError(f"{word!r} isn't '/GROUP io some THRESHOLD WINDOW', in us, of a window of 0.5 to 10 s")
+        raise Malformed(f"{word!r} isn't '/GROUP io some THRESHOLD WINDOW', in us, of a window of 0.5 to 10 s")
     return Trigger(found[1], word.partition(" ")[2])
 
 
@@ -120,7 +106,7 @@ def read(given: argparse.Namespace) -> Data:
 def span_of(given: argparse.Namespace, data: Data) -> tuple[int, int]:
     """From when to when the trace is, ns since 1970."""
     ends = []
-    for value, default in ((given.start, data.start), (given.to, data.end)):
+    for value, default in ((given.start, data.start), (given.end, data.end)):
         at = default if value is None else value.epoch if isinstance(value, WallTime) else data.start + value
         if not data.start <= at <= data.end:
             raise Fault(f"{seconds(max(0, at - data.start))} s is outside the samples, which last {seconds(data.end - data.start)} s")
@@ -159,7 +145,7 @@ def report(data: Data, made: Made, span: int) -> list[str]:
     longest = f", the longest {seconds(data.gap)} s" if data.gap > data.every else ""
     several = f", in {len(made.names)} traces that overlap by 15 min" if len(made.names) > 1 else ""
     lines = [
-        f"{told(span)} of {len(data.groups)} groups, sampled each {seconds(data.every)} s{longest}{several}",
+        f"{duration(span)} of {len(data.groups)} groups, sampled each {seconds(data.every)} s{longest}{several}",
         f"{sum(made.lines)} lines on {made.processors} processors; {made.compared} totals were compared with a replay",
         "tasks, processors and who ran when are made up: docs/SAMPLES.md says what this trace can't answer",
     ]
@@ -181,6 +167,8 @@ def report(data: Data, made: Made, span: int) -> list[str]:
 
 def work(given: argparse.Namespace) -> int:
     """Makes the traces; the status."""
+    if os.path.isdir(given.output):
+        raise Fault(f"{given.output} is a folder: name a file in it")
     data = read(given)
     must_see(given.trigger, data)
     start, end = span_of(given, data)
@@ -192,24 +180,15 @@ def work(given: argparse.Namespace) -> int:
     options = Options(tuple(given.trigger), (given.lead or 0) // TICK, is_shaped)
     made = Maker(data, start, end, options, given.lines, Progress(end - start).show).make(given.output)
     for line in report(data, made, end - start):
-        print(f"samples: {line}", file=sys.stderr)
+        complain(f"{line}")
     for at, path, level, total, found in made.wrong[:SHOWN]:
         said = "none" if found is None else f"{found} us"
-        print(f"samples: at {seconds(at)} s {path} {' '.join(LEVELS[level])} is {said}, by the samples {total} us", file=sys.stderr)
+        complain(f"at {seconds(at)} s {path} {' '.join(LEVELS[level])} is {said}, by the samples {total} us")
     if made.wrong:
-        print(f"samples: {len(made.wrong)} of {made.compared} totals differ: nothing is written", file=sys.stderr)
-    return DIFFERS if made.wrong else 0
+        complain(f"{len(made.wrong)} of {made.compared} totals differ: nothing is written")
+    return Status.DIFFERENT if made.wrong else Status.DONE
 
 
 def main() -> int:
-    """Runs the command; the status."""
-    try:
-        return work(words().parse_args())
-    except Fault as fault:
-        print(f"samples: {fault}", file=sys.stderr)
-        return WRONG
-    except OSError as fault:
-        print(f"samples: {fault.filename or 'the output'}: {fault.strerror}", file=sys.stderr)
-        return WRITE
-
-
+    """Runs the command; returns the exit status."""
+    return run(lambda: work(parser().parse_args()))

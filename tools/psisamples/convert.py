@@ -1,10 +1,12 @@
 """Rows of samples as a trace: tick after tick, each group gets what its totals grew by."""
 from __future__ import annotations
 
-from itertools import count, islice
+from collections import deque
+from itertools import count
+from operator import add, itemgetter
 from typing import NamedTuple, Optional
 
-from .block import LEVELS, NONE, TICK
+from .block import NONE, TICK
 from .lives import Life, Lives, Memory, between_samples
 from .past import Past, end_past
 from .plan import Plan, Tree
@@ -13,7 +15,7 @@ from .trace_file import FIRST, Tasks, TraceFile
 from .writer import Event, Key, Processor, Task
 
 US = 1000
-SIX = range(len(LEVELS))
+TIME = itemgetter(0)
 # Made-up tasks have numbers from here on, beyond those of kernels.
 FIRST_NUMBER = 4_000_000_000
 # Below this growth (ns) a group without others at work below it waits for its next sample: averages know whole percents only.
@@ -84,6 +86,8 @@ class Conversion:
         self.new: set[int] = set()
         self.ended: set[int] = set()
         self.seen: set[str] = set()
+        # The resources (by number) of groups that have a sample in the current tick.
+        self.sampled: list[tuple[Life, int]] = []
 
     # ---------------------------------------------------------------- groups
 
@@ -218,8 +222,7 @@ class Conversion:
         for life in self.order:
             shares = self.shares.get(life.number)
             if shares is not None:
-                for level in SIX:
-                    life.achieved[level] += shares[level]
+                life.achieved = list(map(add, life.achieved, shares))
         return self.lines
 
     def planned(self, wanted: list[tuple[int, tuple[int, ...]]]) -> Plan:
@@ -239,7 +242,7 @@ class Conversion:
         events: list[Event] = []
         for number, processor in enumerate(self.processors):
             processor.play(plan.blocks[number] if number < len(plan.blocks) else (), events)
-        events.sort(key=lambda it: it[0])
+        events.sort(key=TIME)
         return events
 
     def task_of(self, key: Key) -> Task:
@@ -287,28 +290,19 @@ class Conversion:
                 knots.popleft()
             if not knots:
                 continue
-            level, one = 2 * number, knots[0]
-            other = knots[1] if len(knots) > 1 else one
+            level, one, other = 2 * number, knots[0], knots[1] if len(knots) > 1 else knots[0]
             some_owed = life.target[level] - life.achieved[level]
             full_owed = life.target[level + 1] - life.achieved[level + 1]
-            is_within = one[0] <= start and end <= other[0]
-            is_sample = is_sample or start < one[0] <= end or other[3] == 1 and start < other[0] <= end
-            if is_within and one[1] == other[1] and one[2] == other[2]:
-                some = full = 0
-                is_flat = -SMALL < some_owed < SMALL and -SMALL < full_owed < SMALL
-            else:
-                some, full = life.totals_at(number, end)
-                some, full = some - life.base[level], full - life.base[level + 1]
-                before = life.target[level : level + 2]
-                life.target[level : level + 2] = some, full
-                some, full = some - before[0], full - before[1]
-                if is_within:
-                    whole = other[0] - one[0]
-                    some, full = (other[1] - one[1]) * TICK // whole, (other[2] - one[2]) * TICK // whole
-                is_flat = False
-            quiet = min(quiet, other[0] if is_flat else end)
+            some, full = life.grown(number, one, other, start, end)
+            is_flat = one[0] <= start and end <= other[0] and one[1:3] == other[1:3]
+            is_even = -SMALL < some_owed < SMALL and -SMALL < full_owed < SMALL
+            quiet = min(quiet, other[0] if is_flat and is_even else end)
             some = min(TICK, bounded(some, some_owed))
             found[level], found[level + 1] = some, min(some, bounded(full, full_owed))
+            if start < one[0] <= end or other[3] and start < other[0] <= end:
+                is_sample = True
+                if one[3] and start < one[0] or other[3] and other[0] <= end:
+                    self.sampled.append((life, number))
         life.quiet_until = quiet
         if not is_active and not is_sample and max(found) < LEAST:
             return NONE
@@ -327,41 +321,45 @@ class Conversion:
             if not host or host[0][0] > at:
                 out.append(f"{time} host {' '.join(map(str, last[1]))}\n")
         for life in self.order:
-            if life.memory:
+            if life.memory and life.memory_due <= at:
                 self.put_sample(life, at, time, out)
 
     def put_sample(self, life: Life, at: int, time: int, out: list[str]) -> None:
         """The sample of one group, if it is due."""
         found, is_reading = between_samples(life.memory, at)
         last = self.written.get(life.path)
-        if last is not None and (found.current, found.swap, found.scans) == (last.current, last.swap, last.scans):
-            return
+        is_same = last is not None and (found.current, found.swap, found.scans) == (last.current, last.swap, last.scans)
         is_due = last is None or is_reading or found.scans != last.scans
-        if last is None or is_due or abs(found.current - last.current) * PARTS > last.current:
+        if last is None or not is_same and (is_due or abs(found.current - last.current) * PARTS > last.current):
             out.append(f"{time} mem {life.path} {found.current} {found.swap} {max(0, found.scans)}\n")
-            self.written[life.path] = found
+            last = self.written[life.path] = found
+        life.memory_due = next_due(life.memory, last)
 
     # ---------------------------------------------------------------- comparing
 
     def compare(self) -> None:
         """Notes the totals that must come at this tick, at which samples are compared, and those that don't."""
         at = self.tick * TICK
-        start = at - TICK
-        if self.lead and self.tick <= self.lead:
-            return
-        for life in self.order:
-            for number, knots in enumerate(life.knots):
-                if not any(knot[3] and start < knot[0] <= at for knot in islice(knots, 2)):
+        for life, number in self.sampled:
+            for level in (2 * number, 2 * number + 1):
+                if level == 5 and life.path == ROOT:
                     continue
-                for level in (2 * number, 2 * number + 1):
-                    if level == 5 and life.path == ROOT:
-                        continue
-                    target = life.target[level] // US
-                    self.checks.append(f"{at} {life.path} {level} {target}\n")
-                    off = abs(life.achieved[level] // US - target)
-                    if off > NEAR:
-                        known = self.off.get((life.path, level), Off(0, 0))
-                        self.off[life.path, level] = Off(known.times + 1, max(known.most, off))
+                target = life.target[level] // US
+                self.checks.append(f"{at} {life.path} {level} {target}\n")
+                off = abs(life.achieved[level] // US - target)
+                if off > NEAR:
+                    known = self.off.get((life.path, level), Off(0, 0))
+                    self.off[life.path, level] = Off(known.times + 1, max(known.most, off))
+        self.sampled.clear()
+
+
+def next_due(samples: deque[Memory], last: Memory) -> int:
+    """Until when (ns) no sample of memory is due after the last one: until the next sample, if the sizes up to it hardly change and no
+    page is scanned."""
+    if len(samples) < 2:
+        return NEVER
+    is_near = all(it.scans == last.scans and abs(it.current - last.current) * PARTS <= last.current for it in (samples[0], samples[1]))
+    return samples[1].time if is_near else 0
 
 
 def bounded(growth: int, owed: int) -> int:
@@ -386,4 +384,3 @@ def goes_on(life: Life, tick: int) -> Life:
     again = Life(life.path, tick, life.is_sampled)
     again.knots, again.memory, again.last, again.shift, again.gone = life.knots, life.memory, life.last, life.shift, life.gone
     return again
-

@@ -1,12 +1,14 @@
-"""What all samples amount to: from when to when they are, how often they were taken, and which groups they have."""
+"""What all samples amount to: from when to when they are, how often they were taken, and which
+groups they have.
+"""
 from __future__ import annotations
 
 from collections import Counter
 from collections.abc import Iterator
 from dataclasses import dataclass, field
 
-from psireplay.command import Fault
-from psireplay.times import SECOND
+from psicli.fault import Fault
+from psicli.times import SECOND
 
 from .inputs import Inputs
 from .metrics import SECOND_ROOT
@@ -21,7 +23,9 @@ MOST_INTERVAL = 600 * SECOND
 
 @dataclass
 class Data:
-    """Times are ns since 1970; `every` is the usual interval of a group's samples, `gap` the longest, both ns."""
+    """Times are ns since 1970; `every` is the usual interval of a group's samples, `gap` the
+    longest, both ns.
+    """
 
     inputs: Inputs
     start: int = 0
@@ -51,7 +55,9 @@ class Data:
 def counted(inputs: Inputs) -> Data:
     """Sorts the samples, and looks at all of them once."""
     data = Data(inputs)
-    data.has_node_root = ROOT in inputs.paths.values() and any(it.group == ROOT and it.field < MEMORY for it in inputs.metrics.series)
+    data.has_node_root = ROOT in inputs.paths.values() and any(
+        it.group == ROOT and it.field < MEMORY for it in inputs.metrics.series
+    )
     last: dict[str, tuple[int, int]] = {}
     gaps: Counter[int] = Counter()
     for time, group, field_, values, _ in data.only(inputs.store.sort()):
@@ -93,6 +99,12 @@ def must_be_usable(data: Data) -> None:
         raise Fault(f"{names}: no group has two samples")
     if ROOT not in data.groups:
         first = min(data.groups)
-        raise Fault(f"{names}: groups such as {first} have samples, and the root / has none: add node_pressure_.., or /proc/pressure")
+        raise Fault(
+            f"{names}: groups such as {first} have samples, and the root / has none: add"
+            " node_pressure_.., or /proc/pressure"
+        )
     if data.every > MOST_INTERVAL:
-        raise Fault(f"{names}: samples are {data.every // SECOND} s apart: at most {MOST_INTERVAL // SECOND} s")
+        raise Fault(
+            f"{names}: samples are {data.every // SECOND} s apart: at most"
+            f" {MOST_INTERVAL // SECOND} s"
+        )

@@ -8,8 +8,8 @@ import zlib
 from collections.abc import Iterator
 from typing import NamedTuple, TextIO
 
-from psireplay.command import Fault
-from psireplay.times import SECOND
+from psicli.fault import Fault
+from psicli.times import SECOND
 
 from .metrics import SECOND_ROOT, Metrics, read_dump, read_json
 from .recording import read_folder
@@ -18,7 +18,8 @@ from .store import Store
 from .texts import read_csv, read_json_lines, read_loop
 
 BEGINNING = 4096
-# From this interval on (ns) avg10 says more of a total's growth than a line does; below, it is too old.
+# From this interval on (ns) avg10 says more of a total's growth than a line does; below, it is too
+# old.
 LONG = 14 * SECOND
 PRESSURE = "pressure"
 
@@ -33,8 +34,9 @@ def open_text(name: str) -> TextIO:
 
 
 class Naming(NamedTuple):
-    """How groups are named: paths that take the place of others, with all below them; of how many components a path may be; and the
-    labels whose values are a path if series have no label `id`."""
+    """How groups are named: paths that take the place of others, with all below them; of how many
+    components a path may be; and the labels whose values are a path if series have no label `id`.
+    """
 
     renamed: dict[str, str]
     depth: int | None
@@ -56,7 +58,8 @@ class Inputs:
     """Takes the samples of files. Faults name a file and a line."""
 
     def __init__(self, naming: Naming, averages: bool | None) -> None:
-        # Whether averages are kept; if that isn't said, they are once intervals are seen to be long.
+        # Whether averages are kept; if that isn't said, they are once intervals are seen to be
+        # long.
         self.naming, self.averages = naming, averages
         self.store = Store()
         self.files: list[str] = []
@@ -88,7 +91,9 @@ class Inputs:
             self.count += 1
             self.store.put((time, path, field, values, (len(self.files) - 1, line)))
 
-    def put_in_order(self, time: int, group: str, field: int, values: tuple[int, ...], line: int) -> None:
+    def put_in_order(
+        self, time: int, group: str, field: int, values: tuple[int, ...], line: int
+    ) -> None:
         """The same for a format whose lines are in the order of time."""
         if time < self.newest.get((group, field), time):
             self.line = line
@@ -100,7 +105,7 @@ class Inputs:
 
     def read(self, name: str) -> None:
         """Reads a file or a recording's folder."""
-        before, self.line = self.count, 0
+        before, self.line = self.count, 1
         self.newest.clear()
         self.files.append(name)
         folder = os.path.dirname(name) or "."
@@ -136,7 +141,9 @@ class Inputs:
             raise Fault(f"{self.here()}: this is no text: is it compressed?")
         if re.match(r'\{\s*__name__|\{[a-zA-Z_]+="', first):
             read_dump(self.numbered(file), self.metrics, self.put)
-        elif first.startswith("{") and re.search(r'"(status|data|metric|error|resultType)"', beginning):
+        elif first.startswith("{") and re.search(
+            r'"(status|data|metric|error|resultType)"', beginning
+        ):
             read_json(file, self.metrics, self.put, self)
         elif first.startswith("{"):
             read_json_lines(self.numbered(file), self.put_in_order)

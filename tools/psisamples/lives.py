@@ -1,7 +1,8 @@
-"""The lives of groups by their readings: from when to when each group was there, and its totals at any time between.
+"""The lives of groups by their readings: from when to when each group was there, and its totals at
+any time between.
 
-A total between two readings lies on the line between them. A group that has no reading in three rounds of the others is gone; one
-whose totals fall was removed and made again.
+A total between two readings lies on the line between them. A group that has no reading in three
+rounds of the others is gone; one whose totals fall was removed and made again.
 """
 from __future__ import annotations
 
@@ -10,7 +11,7 @@ from collections import deque
 from collections.abc import Callable, Iterator
 from typing import NamedTuple, Optional
 
-from psireplay.command import Fault
+from psicli.fault import Fault
 
 from .block import LEVELS, RESOURCES, TICK
 from .rows import AVERAGES, HOST, MEMORY, ROOT, SCANS, Place
@@ -20,13 +21,15 @@ from .store import Plain
 US = 1000
 # So many rounds of other groups without a reading of it say that a group is gone.
 MOST_MISSED = 2
-# How much faster than time a total may seem to grow, and how much (ns) is always possible: readings aren't taken at once.
+# How much faster than time a total may seem to grow, and how much (ns) is always possible: readings
+# aren't taken at once.
 FASTEST, SLACK = 1.5, 2 * 10**9
 # Times of rounds that are kept before old ones are dropped.
 MOST_ROUNDS = 4096
 
 
-# A time (ns since the trace's start), the totals (ns) of some and full of a resource then, and 1 if it is a sample.
+# A time (ns since the trace's start), the totals (ns) of some and full of a resource then, and 1 if
+# it is a sample.
 Knot = tuple[int, int, int, int]
 
 
@@ -57,10 +60,11 @@ class Reading:
         self.values: dict[int, int] = {}
 
     def totals(self) -> dict[int, tuple[int, int]]:
-        """The totals (ns) of some and full by resource. Without some there are none; without full it is 0."""
+        """The totals (ns) of some and full by resource. Without some there are none; without full
+        it is 0.
+        """
         get = self.values.get
         return {it // 2: (self.values[it] * US, get(it + 1, 0) * US) for it in (0, 2, 4) if it in self.values}
-
 
     def shares(self, number: int) -> Optional[tuple[float, float]]:
         """avg10 of some and full of a resource, percent, if they are to shape its total."""
@@ -71,8 +75,10 @@ class Reading:
 
 
 class Life:
-    """A group from when it was made until it was removed. `tick` is the tick after which it is made, and `gone` the one after which it
-    is removed. `base` has the totals (ns) that it began with: its trace begins at 0."""
+    """A group from when it was made until it was removed. `tick` is the tick after which it is
+    made, and `gone` the one after which it is removed. `base` has the totals (ns) that it began
+    with: its trace begins at 0.
+    """
 
     def __init__(self, path: str, tick: int, is_sampled: bool) -> None:
         self.path, self.tick, self.is_sampled = path, tick, is_sampled
@@ -80,20 +86,27 @@ class Life:
         self.gone: Optional[int] = None
         self.last = -1
         self.knots: list[deque[Knot]] = [deque() for _ in RESOURCES]
-        # The totals that it begins with; what it is to have at the last tick; and what it has (ns, by level).
+        # The totals that it begins with; what it is to have at the last tick; and what it has (ns,
+        # by level).
         self.base, self.target, self.achieved = [0] * 6, [0] * 6, [0] * 6
         self.memory: deque[Memory] = deque()
-        # What a root that began anew had before; whether the group was made between two rounds; until when no total grows.
+        # Before this time (ns) no sample of memory is written.
+        self.memory_due = 0
+        # What a root that began anew had before; whether the group was made between two rounds;
+        # until when no total grows.
         self.shift = [0] * 6
         self.is_new = False
         self.quiet_until = -1
         # The averages that its first reading had, hundredths of a percent: three for each level.
         self.averages: list[int] = []
-        # avg10 of some and full (percent) at the last reading, by resource, if a total is to grow as they say.
+        # avg10 of some and full (percent) at the last reading, by resource, if a total is to grow
+        # as they say.
         self.shares: dict[int, tuple[float, float]] = {}
 
     def add(self, reading: Reading) -> None:
-        """Takes a reading of this life. Totals that it is the first to have begin with it, or at 0 in a new group."""
+        """Takes a reading of this life. Totals that it is the first to have begin with it, or at 0
+        in a new group.
+        """
         totals = reading.totals()
         for number, (some, full) in totals.items():
             knots = self.knots[number]
@@ -113,7 +126,7 @@ class Life:
         if AVERAGES in reading.values and not self.averages:
             self.averages = [reading.values.get(AVERAGES + it, 0) for it in range(18)]
         if MEMORY in reading.values:
-            values = reading.values
+            values, self.memory_due = reading.values, 0
             self.memory.append(Memory(reading.time, values[MEMORY], values.get(MEMORY + 1, 0), values.get(SCANS, -1)))
         if totals or self.last < 0:
             self.last = reading.time
@@ -133,6 +146,22 @@ class Life:
                 return between(last, knot, time)
             last = knot
         return last[1], last[2]
+
+    def grown(self, number: int, one: Knot, other: Knot, start: int, end: int) -> tuple[int, int]:
+        """By how much (ns) a resource's totals grow in the tick from `start` to `end`, of which
+        both knots are the first that matter; `target` becomes what they are at its end.
+        """
+        target, base, level = self.target, self.base, 2 * number
+        if one[0] <= start and end <= other[0]:
+            part, whole, some, full = end - one[0], other[0] - one[0], other[1] - one[1], other[2] - one[2]
+            if some or full:
+                target[level] = one[1] + some * part // whole - base[level]
+                target[level + 1] = one[2] + full * part // whole - base[level + 1]
+            return some * TICK // whole, full * TICK // whole
+        before = target[level], target[level + 1]
+        some, full = self.totals_at(number, end)
+        target[level], target[level + 1] = some - base[level], full - base[level + 1]
+        return target[level] - before[0], target[level + 1] - before[1]
 
     def is_known_until(self, time: int) -> bool:
         """Whether there is a reading at this time or later."""
@@ -178,7 +207,9 @@ class Lives:
             raise Fault(f"{self.places(place)}: {reading.path} has another value at the same time at {self.places(reading.place)}")
 
     def read_until(self, time: int) -> None:
-        """Reads all readings up to a time (ns), and those after it by which it is known who is gone."""
+        """Reads all readings up to a time (ns), and those after it by which it is known who is
+        gone.
+        """
         while self.row is not None and (self.time < time + self.every or self.is_open(time)):
             self.read_round()
         if self.row is None:
@@ -200,14 +231,18 @@ class Lives:
             del self.rounds[1 : bisect.bisect_left(self.rounds, oldest) - 1]
 
     def is_open(self, time: int) -> bool:
-        """Whether some group has no reading at this time or later, and it isn't known whether it is gone."""
+        """Whether some group has no reading at this time or later, and it isn't known whether it is
+        gone.
+        """
         return any(
             not life.is_known_until(time) and life.gone is None and (life.path == ROOT or not self.is_absent(life, self.time))
             for life in self.tails.values() if life.is_sampled
-        )  # fmt: skip
+        )
 
     def is_absent(self, life: Life, time: int) -> bool:
-        """Whether more rounds than may be missed came between the life's last reading and this time."""
+        """Whether more rounds than may be missed came between the life's last reading and this
+        time.
+        """
         first = bisect.bisect_right(self.rounds, life.last + self.every // 2)
         return bisect.bisect_left(self.rounds, time - self.every // 2) - first > MOST_MISSED
 
@@ -232,8 +267,10 @@ class Lives:
         life.add(reading)
 
     def has_fallen(self, life: Life, reading: Reading) -> bool:
-        """Whether the group was made again since the life's last reading. Totals of which one falls, though another can't have begun
-        at 0 since then, are a fault, and so are those that grow faster than time."""
+        """Whether the group was made again since the life's last reading. Totals of which one
+        falls, though another can't have begun at 0 since then, are a fault, and so are those that
+        grow faster than time.
+        """
         has_fallen = False
         slower: tuple[int, int] | None = None
         for number, new in reading.totals().items():
@@ -278,14 +315,18 @@ class Lives:
         return bool(self.rounds) and self.rounds[-1] - self.rounds[0] > self.every // 2
 
     def end(self, life: Life) -> None:
-        """The life ends after the first tick that isn't before its last reading. One that ended before the trace begins was none."""
+        """The life ends after the first tick that isn't before its last reading. One that ended
+        before the trace begins was none.
+        """
         life.gone = max(life.tick + 1, -(-life.last // TICK))
         if life.last <= 0 and life in self.born:
             self.born.remove(life)
 
 
 def between_samples(samples: deque[Memory], time: int) -> tuple[Memory, bool]:
-    """The memory at a time, on the line between two samples; and whether a sample came since it was asked for the last time."""
+    """The memory at a time, on the line between two samples; and whether a sample came since it was
+    asked for the last time.
+    """
     is_new = False
     while len(samples) > 1 and samples[1].time <= time:
         samples.popleft()

@@ -1,7 +1,8 @@
-"""The command tools/sample: reads pressure and memory of all groups, again and again, into a file that tools/samples reads.
+"""The command tools/sample: reads pressure and memory of all groups, again and again, into a file
+that tools/samples reads.
 
-It needs no root: the files are readable by all. It needs no other module of the tools, so that this one file can be copied to a
-machine.
+It needs no root: the files are readable by all. It needs no other module of the tools, so that this
+one file can be copied to a machine.
 """
 from __future__ import annotations
 
@@ -17,14 +18,29 @@ from collections.abc import Callable, Iterator
 from types import FrameType
 from typing import NoReturn
 
-ABOUT = (
-    "Reads the pressure, the memory, the swap and the scanned pages of all control groups, and the machine's memory, each S seconds, and "
-    "writes them as CSV. It needs no root. tools/samples makes traces of what it wrote."
-)
-STATUS = "It runs until SIGINT or SIGTERM, or for --seconds. Statuses: 1 wrong words, or no pressure files, 6 the output can't be written."
+ABOUT = """\
+Reads the pressure, the memory, the swap and the scanned pages of all control groups, and the
+machine's memory, each S seconds, and writes them as CSV. It needs no root. tools/samples makes
+traces of what it wrote.
+
+examples:
+  # each 5 s, until it is stopped
+  tools/sample --into samples.csv
+  # each second, for an hour
+  tools/sample --every 1 --seconds 3600 --into samples.csv
+  # in files of 50 MB, with the newest fourteen
+  tools/sample --megabytes 50 --files 14 --into samples.csv
+"""
+STATUS = """\
+It runs until SIGINT or SIGTERM, or for --seconds. The status is 2 for a usage error, if there are
+no pressure files, or if the output can't be written.
+"""
 HELP = {
     "every": "the seconds between two rounds (5)",
-    "into": "the file to write, which is begun anew when it is full: FILE.1.gz is the newest of the older ones; standard output if left out",
+    "into": (
+        "the file to write, which is begun anew when it is full: FILE.1.gz is the newest of the"
+        " older ones; standard output if left out"
+    ),
     "megabytes": "when a file is full (100)",
     "files": "how many older files there are at most (7)",
     "seconds": "end after that time",
@@ -34,7 +50,7 @@ RESOURCES = ("io", "memory", "cpu")
 LINE = re.compile(r"(some|full) avg10=([0-9.]+) avg60=([0-9.]+) avg300=([0-9.]+) total=([0-9]+)")
 PLAIN = frozenset(b"ABCDEFGHIJKLMNOPQRSTUVWXYZabcdefghijklmnopqrstuvwxyz0123456789_.@:-\\")
 MB, KIB = 1_000_000, 1024
-WRONG, WRITE = 1, 6
+FAILED = 2
 
 
 class Stopped(Exception):
@@ -51,13 +67,19 @@ def text_of(path: str) -> str:
 
 
 def spelled(path: str) -> str:
-    """A group's path as traces have it: other bytes than theirs become \\xHH, as systemd writes them."""
+    """A group's path as traces have it: other bytes than theirs become \\xHH, as systemd writes
+    them.
+    """
     parts = [it for it in os.fsencode(path).split(b"/") if it]
-    return "/" + "/".join("".join(chr(byte) if byte in PLAIN else f"\\x{byte:02x}" for byte in it) for it in parts)
+    return "/" + "/".join(
+        "".join(chr(byte) if byte in PLAIN else f"\\x{byte:02x}" for byte in it) for it in parts
+    )
 
 
 def pressure_line(head: str, resource: str, text: str) -> str:
-    """The line of a pressure file: both totals (us) and six averages. An old kernel's file of cpu has no line `full`."""
+    """The line of a pressure file: both totals (us) and six averages. An old kernel's file of cpu
+    has no line `full`.
+    """
     found = {it[1]: it for it in LINE.finditer(text)}
     if "some" not in found:
         return ""
@@ -73,7 +95,9 @@ def memory_line(head: str, folder: str) -> str:
         return ""
     swap = text_of(f"{folder}/memory.swap.current").strip()
     scans = re.search(r"^pgscan ([0-9]+)$", text_of(f"{folder}/memory.stat"), re.MULTILINE)
-    return f"{head},mem,{current},{swap if swap.isdigit() else 0}{',' + scans[1] if scans else ''}\n"
+    return (
+        f"{head},mem,{current},{swap if swap.isdigit() else 0}{',' + scans[1] if scans else ''}\n"
+    )
 
 
 def folders(root: str) -> Iterator[str]:
@@ -84,7 +108,9 @@ def folders(root: str) -> Iterator[str]:
         yield folder
         try:
             with os.scandir(folder) as entries:
-                pending += sorted((it.path for it in entries if it.is_dir(follow_symlinks=False)), reverse=True)
+                pending += sorted(
+                    (it.path for it in entries if it.is_dir(follow_symlinks=False)), reverse=True
+                )
         except OSError:
             continue
 
@@ -94,23 +120,41 @@ class Machine:
 
     def __init__(self, top: str) -> None:
         self.proc, self.groups = f"{top}/proc", f"{top}/sys/fs/cgroup"
-        if os.path.isdir(f"{self.groups}/unified/cgroup.controllers") or not os.path.exists(f"{self.groups}/cgroup.controllers"):
+        if os.path.isdir(f"{self.groups}/unified/cgroup.controllers") or not os.path.exists(
+            f"{self.groups}/cgroup.controllers"
+        ):
             self.groups = f"{self.groups}/unified"
 
     def round(self, now: float) -> str:
         """All lines of one round, at this time (s since 1970)."""
         head = f"{now:.3f}"
-        lines = [pressure_line(f"{head},/", it, text_of(f"{self.proc}/pressure/{it}")) for it in RESOURCES]
-        known = dict(re.findall(r"^(\w+): +([0-9]+) kB$", text_of(f"{self.proc}/meminfo"), re.MULTILINE))
+        lines = [
+            pressure_line(f"{head},/", it, text_of(f"{self.proc}/pressure/{it}"))
+            for it in RESOURCES
+        ]
+        known = dict(
+            re.findall(r"^(\w+): +([0-9]+) kB$", text_of(f"{self.proc}/meminfo"), re.MULTILINE)
+        )
         if "MemTotal" in known:
-            sizes = {name: int(known.get(name, 0)) * KIB for name in ("MemTotal", "MemAvailable", "SwapTotal", "SwapFree")}
-            lines.append(f"{head},/,host,{sizes['MemTotal']},{sizes['SwapTotal']},{sizes['SwapFree']}\n")
-            used, swap = sizes["MemTotal"] - sizes["MemAvailable"], sizes["SwapTotal"] - sizes["SwapFree"]
+            sizes = {
+                name: int(known.get(name, 0)) * KIB
+                for name in ("MemTotal", "MemAvailable", "SwapTotal", "SwapFree")
+            }
+            lines.append(
+                f"{head},/,host,{sizes['MemTotal']},{sizes['SwapTotal']},{sizes['SwapFree']}\n"
+            )
+            used, swap = (
+                sizes["MemTotal"] - sizes["MemAvailable"],
+                sizes["SwapTotal"] - sizes["SwapFree"],
+            )
             lines.append(f"{head},/,mem,{used},{swap},0\n")
         for folder in folders(self.groups) if os.path.isdir(self.groups) else ():
             path = spelled(folder[len(self.groups) :])
             if path != "/":
-                lines += [pressure_line(f"{head},{path}", it, text_of(f"{folder}/{it}.pressure")) for it in RESOURCES]
+                lines += [
+                    pressure_line(f"{head},{path}", it, text_of(f"{folder}/{it}.pressure"))
+                    for it in RESOURCES
+                ]
                 lines.append(memory_line(f"{head},{path}", folder))
         return "".join(lines)
 
@@ -155,7 +199,7 @@ def number(least: float, most: float) -> Callable[[str], float]:
 
     def read(word: str) -> float:
         if not re.fullmatch(r"[0-9]{1,9}(\.[0-9]{1,3})?", word) or not least <= float(word) <= most:
-            raise argparse.ArgumentTypeError(f"{word} is no number from {least:g} to {most:g}")
+            raise argparse.ArgumentTypeError(f"{word} isn't a number from {least:g} to {most:g}")
         return float(word)
 
     return read
@@ -165,17 +209,27 @@ class Words(argparse.ArgumentParser):
     """Reads the words, and ends with a status of the tool's own if they are wrong."""
 
     def error(self, message: str) -> NoReturn:
-        self.exit(WRONG, f"{self.prog}: {message}\n{self.format_usage()}")
+        self.exit(
+            FAILED,
+            f"{self.prog}: {message}\nusage: {self.prog} [OPTION ..]; --help has the options\n",
+        )
 
 
 def parser() -> Words:
-    words = Words(prog="sample", description=ABOUT, epilog=STATUS, allow_abbrev=False)
-    words.add_argument("--every", metavar="S", type=number(0.5, 600), default=5.0, help=HELP["every"])
+    form = argparse.RawDescriptionHelpFormatter
+    words = Words(
+        prog="sample", description=ABOUT, epilog=STATUS, formatter_class=form, allow_abbrev=False
+    )
+    words.add_argument("--every", metavar="S", type=number(0.5, 600), default=5.0,
+                       help=HELP["every"])  # fmt: skip
     words.add_argument("--into", metavar="FILE", help=HELP["into"])
-    words.add_argument("--megabytes", metavar="N", type=number(1, 100_000), default=100.0, help=HELP["megabytes"])
-    words.add_argument("--files", metavar="N", type=number(0, 1000), default=7.0, help=HELP["files"])
+    words.add_argument("--megabytes", metavar="N", type=number(1, 100_000), default=100.0,
+                       help=HELP["megabytes"])  # fmt: skip
+    words.add_argument("--files", metavar="N", type=number(0, 1000), default=7.0,
+                       help=HELP["files"])  # fmt: skip
     words.add_argument("--seconds", metavar="S", type=number(0, 10**9), help=HELP["seconds"])
-    words.add_argument("--root", metavar="FOLDER", default="", help="a folder in place of the machine's own /, for tests")
+    words.add_argument("--root", metavar="FOLDER", default="",
+                       help="a folder in place of the machine's own /, for tests")  # fmt: skip
     return words
 
 
@@ -187,8 +241,14 @@ def run(given: argparse.Namespace) -> int:
     """Rounds until the end; the status."""
     machine = Machine(given.root)
     if not machine.round(0.0).count(",/,io,"):
-        print("sample: no pressure files: /proc/pressure needs a kernel with CONFIG_PSI, perhaps started with psi=1", file=sys.stderr)
-        return WRONG
+        print(
+            (
+                "sample: no pressure files: /proc/pressure needs a kernel with CONFIG_PSI, perhaps"
+                " started with psi=1"
+            ),
+            file=sys.stderr,
+        )
+        return FAILED
     output = Output(given.into, int(given.megabytes * MB), int(given.files))
     for name in (signal.SIGINT, signal.SIGTERM):
         signal.signal(name, stop)
@@ -197,7 +257,13 @@ def run(given: argparse.Namespace) -> int:
         while given.seconds is None or due <= begin + given.seconds:
             output.put(machine.round(time.time()))
             due += given.every * max(1, -(-(time.monotonic() - due) // given.every))
-            time.sleep(max(0.0, min(due, due if given.seconds is None else begin + given.seconds) - time.monotonic()))
+            time.sleep(
+                max(
+                    0.0,
+                    min(due, due if given.seconds is None else begin + given.seconds)
+                    - time.monotonic(),
+                )
+            )
     except Stopped:
         pass
     return 0
@@ -209,4 +275,4 @@ def main() -> int:
         return run(parser().parse_args())
     except OSError as fault:
         print(f"sample: {fault.filename or 'the output'}: {fault.strerror}", file=sys.stderr)
-        return WRITE
+        return FAILED

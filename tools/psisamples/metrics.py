@@ -1,4 +1,6 @@
-"""Samples as metrics: the JSON of a query of Prometheus, `promtool tsdb dump`, and OpenMetrics text with timestamps."""
+"""Samples as metrics: the JSON of a query of Prometheus, `promtool tsdb dump`, and OpenMetrics text
+with timestamps.
+"""
 from __future__ import annotations
 
 import json
@@ -7,7 +9,6 @@ from collections import Counter
 from collections.abc import Iterable
 from typing import NamedTuple, Optional, Protocol, TextIO
 
-from psireplay.command import Fault
 
 from .block import LEVELS, MS
 from .rows import HOST, MEMORY, ROOT, SWAP, Put, ns_of, us_of, whole
@@ -21,7 +22,8 @@ PRESSURE = {
     for number, (resource, level) in enumerate(LEVELS) for who in ("container", "node")
 }  # fmt: skip
 SIZES = {
-    "container_memory_usage_bytes": MEMORY, "container_memory_swap": SWAP, "node_memory_MemTotal_bytes": HOST,
+    "container_memory_usage_bytes": MEMORY, "container_memory_swap": SWAP,
+    "node_memory_MemTotal_bytes": HOST,
     "node_memory_SwapTotal_bytes": HOST + 1, "node_memory_SwapFree_bytes": HOST + 2,
 }  # fmt: skip
 LABEL = re.compile(r'\s*([a-zA-Z_][a-zA-Z0-9_]*)\s*=\s*"((?:[^"\\]|\\.)*)"\s*,?')
@@ -39,7 +41,8 @@ class Column(NamedTuple):
 
 
 class Metrics:
-    """Which series are samples. Each field of a group has one series: two are of several machines."""
+    """Which series are samples. Each field of a group has one series: two are of several machines.
+    """
 
     def __init__(self, labels: tuple[str, ...]) -> None:
         self.labels = labels
@@ -59,9 +62,17 @@ class Metrics:
         if group == ROOT and name.startswith("container_pressure"):
             group = SECOND_ROOT
         found = Column(group, field)
-        told = name + "{" + ", ".join(f'{key}="{labels[key]}"' for key in sorted(labels) if key != "__name__") + "}"
+        told = (
+            name
+            + "{"
+            + ", ".join(f'{key}="{labels[key]}"' for key in sorted(labels) if key != "__name__")
+            + "}"
+        )
         if self.series.setdefault(found, told) != told:
-            raise ValueError(f"two series of one group: {self.series[found]} and {told}: query those of one machine")
+            raise ValueError(
+                f"two series of one group: {self.series[found]} and {told}: query those of one"
+                " machine"
+            )
         return found
 
     def group_of(self, name: str, labels: dict[str, str]) -> Optional[str]:
@@ -79,12 +90,22 @@ class Metrics:
     def others(self) -> str:
         """Which other metrics came, for a message."""
         names = ", ".join(name for name, _ in self.unknown.most_common(3))
-        return f": it has {names}, and container_pressure_.. or node_pressure_.. are needed" if names else ""
+        return (
+            f": it has {names}, and container_pressure_.. or node_pressure_.. are needed"
+            if names
+            else ""
+        )
 
 
 def put_value(put: Put, column: Column, time: int, text: str, line: int) -> None:
     """A value of a series."""
-    put(time, column.group, column.field, (us_of(text) if column.field < MEMORY else whole(text),), line)
+    put(
+        time,
+        column.group,
+        column.field,
+        (us_of(text) if column.field < MEMORY else whole(text),),
+        line,
+    )
 
 
 def labels_of(text: str) -> dict[str, str]:
@@ -94,13 +115,17 @@ def labels_of(text: str) -> dict[str, str]:
         label = LABEL.match(text, at)
         if not label:
             raise ValueError(f"these are no labels: {text[at:at + 40]!r}")
-        found[label[1]] = re.sub(r"\\(.)", lambda it: "\n" if it[1] == "n" else str(it[1]), label[2])
+        found[label[1]] = re.sub(
+            r"\\(.)", lambda it: "\n" if it[1] == "n" else str(it[1]), label[2]
+        )
         at = label.end()
     return found
 
 
 def read_dump(lines: Iterable[tuple[int, str]], metrics: Metrics, put: Put) -> None:
-    """`NAME{LABELS} VALUE TIME`, as OpenMetrics writes it (s), or `{__name__="NAME", ..} VALUE TIME` as promtool does (ms)."""
+    """`NAME{LABELS} VALUE TIME`, as OpenMetrics writes it (s), or `{__name__="NAME", ..} VALUE
+    TIME` as promtool does (ms).
+    """
     known: dict[str, Optional[Column]] = {}
     for number, line in lines:
         if not line or line.startswith("#"):
@@ -117,7 +142,13 @@ def read_dump(lines: Iterable[tuple[int, str]], metrics: Metrics, put: Put) -> N
                 known.clear()
         if column is not None:
             value, time = rest.split(" # ")[0].split()
-            put_value(put, column, int(time) * MS if MILLISECONDS.fullmatch(time) else ns_of(time), value, number)
+            put_value(
+                put,
+                column,
+                int(time) * MS if MILLISECONDS.fullmatch(time) else ns_of(time),
+                value,
+                number,
+            )
 
 
 # ---------------------------------------------------------------- JSON
@@ -183,7 +214,9 @@ class Text:
                 raise ValueError(f"no point of a series: {self.text[self.at:self.at + 40]!r}")
 
 
-METRIC = re.compile(r'"metric"\s*:\s*|"status"\s*:\s*"error"|"resultType"\s*:\s*"(?:vector|scalar|string)"')
+METRIC = re.compile(
+    r'"metric"\s*:\s*|"status"\s*:\s*"error"|"resultType"\s*:\s*"(?:vector|scalar|string)"'
+)
 VALUES = re.compile(r'"values"\s*:\s*\[|"value"\s*:')
 
 
@@ -194,12 +227,20 @@ def read_json(file: TextIO, metrics: Metrics, put: Put, lined: Lined) -> None:
         if "error" in found[0]:
             raise ValueError("Prometheus answered with an error")
         if "resultType" in found[0]:
-            raise ValueError("one value of each series: query with a range, as container_pressure_io_waiting_seconds_total[6h]")
+            raise ValueError(
+                "one value of each series: query with a range, as"
+                " container_pressure_io_waiting_seconds_total[6h]"
+            )
         labels = text.value()
         if not isinstance(labels, dict):
             raise ValueError("a metric without labels")
         values = text.find(VALUES)
         if not values or values[0].startswith('"value"'):
-            raise ValueError("one value of each series: query with a range, as container_pressure_io_waiting_seconds_total[6h]")
+            raise ValueError(
+                "one value of each series: query with a range, as"
+                " container_pressure_io_waiting_seconds_total[6h]"
+            )
         name = str(labels.pop("__name__", ""))
-        text.points(put, metrics.column(name, {str(key): str(value) for key, value in labels.items()}))
+        text.points(
+            put, metrics.column(name, {str(key): str(value) for key, value in labels.items()})
+        )

@@ -1,15 +1,17 @@
-"""What a block's time looks like to the groups above it, and how a group above changes that by tasks of its own.
+"""What a block's time looks like to the groups above it, and how a group above changes that by
+tasks of its own.
 
-Such a task lies over the block: it takes no time of its own, so it adds no weight to the group, and no group below sees it.
+Such a task lies over the block: it takes no time of its own, so it adds no weight to the group, and
+no group below sees it.
 """
 from __future__ import annotations
 
-from functools import lru_cache
 from typing import NamedTuple
 
 from .block import Span
 
-# What is the case in a segment of a block: a task waits for IO, one is in a memory stall, all are, one is ready, one runs.
+# What is the case in a segment of a block: a task waits for IO, one is in a memory stall, all are,
+# one is ready, one runs.
 WAITS, STALLS, ALL_STALL, READY, RUNS = 1, 2, 4, 8, 16
 BUSY = READY | RUNS
 STATUSES = 32
@@ -19,21 +21,39 @@ IN_STALL = frozenset("sRX")
 def levels_of(status: int) -> tuple[int, ...]:
     """Which of the six levels a status has, as 0 or 1 in the order of LEVELS."""
     io, stalls, all_stall = status & WAITS, status & STALLS, status & ALL_STALL
-    found = (io, io and not status & BUSY, stalls, all_stall, status & READY, status & READY and not status & RUNS)
+    found = (
+        io,
+        io and not status & BUSY,
+        stalls,
+        all_stall,
+        status & READY,
+        status & READY and not status & RUNS,
+    )
     return tuple(int(bool(it)) for it in found)
 
 
-@lru_cache(maxsize=4096)
 def status_of(states: str) -> int:
     """The status of a time in which tasks are in these states."""
     is_stalled = any(it in IN_STALL for it in states)
     is_all = is_stalled and ("X" in states or not any(it in "rx" for it in states))
     status = WAITS * ("w" in states) + STALLS * is_stalled + ALL_STALL * is_all
-    return status + READY * any(it in "rR" for it in states) + RUNS * any(it in "xX" for it in states)
+    return (
+        status + READY * any(it in "rR" for it in states) + RUNS * any(it in "xX" for it in states)
+    )
+
+
+# A bit for each state, and the status of each set of states.
+STATES = "wsrRxX"
+BITS = {state: 1 << number for number, state in enumerate(STATES)}
+STATUS_OF = [
+    status_of("".join(it for it in STATES if BITS[it] & bits)) for bits in range(1 << len(STATES))
+]
 
 
 class Overlay(NamedTuple):
-    """A task of this kind, in this state. By each status: the status with it, or none if the task changes something else there."""
+    """A task of this kind, in this state. By each status: the status with it, or none if the task
+    changes something else there.
+    """
 
     kind: str
     state: str
@@ -46,11 +66,16 @@ class Overlay(NamedTuple):
 
 def overlay(kind: str, state: str, has: int, lacks: int, adds: int, takes: int = 0) -> Overlay:
     """An overlay for each status that has all bits of `has` and none of `lacks`."""
-    after = [(it | adds) & ~takes if it & has == has and not it & lacks else None for it in range(STATUSES)]
+    after = [
+        (it | adds) & ~takes if it & has == has and not it & lacks else None
+        for it in range(STATUSES)
+    ]
     changes = []
     for before, now in enumerate(after):
         pairs = zip(levels_of(before), levels_of(before if now is None else now))
-        changes.append(tuple((level, new - old) for level, (old, new) in enumerate(pairs) if old != new))
+        changes.append(
+            tuple((level, new - old) for level, (old, new) in enumerate(pairs) if old != new)
+        )
     takes = sum(1 << status for status, it in enumerate(after) if it is not None)
     return Overlay(kind, state, tuple(after), tuple(changes), takes)
 
@@ -68,7 +93,10 @@ LESS_CPU_FULL = (
 # By the level of `full`.
 LESS_FULL = {1: LESS_IO_FULL, 3: LESS_MEMORY_FULL, 5: LESS_CPU_FULL}
 # By the level of `some`: more of some and full, and more of some alone.
-MORE_OF_BOTH = {0: overlay("w", "w", 0, WAITS | BUSY, WAITS), 2: overlay("s", "s", 0, STALLS | BUSY, STALLS | ALL_STALL)}
+MORE_OF_BOTH = {
+    0: overlay("w", "w", 0, WAITS | BUSY, WAITS),
+    2: overlay("s", "s", 0, STALLS | BUSY, STALLS | ALL_STALL),
+}
 MORE_SOME = {
     0: (overlay("w", "w", READY, WAITS, WAITS), overlay("w", "w", RUNS, WAITS, WAITS)),
     2: (overlay("s", "s", READY, STALLS, STALLS), overlay("s", "s", RUNS, STALLS, STALLS)),
@@ -78,9 +106,15 @@ MORE_SOME = {
 
 def segments_of(spans: list[Span], length: int) -> list[list[int]]:
     """The segments of a block, each as [begin, end, status]."""
-    marks = sorted({0, length, *(it.begin for it in spans), *(it.end for it in spans)})
+    if len(spans) == 1 and spans[0].begin == 0 and spans[0].end == length:
+        return [[0, length, STATUS_OF[BITS[spans[0].state]]]]
+    states = [(begin, end, BITS[state]) for begin, end, _, state in spans]
+    marks = sorted({0, length, *(it[0] for it in states), *(it[1] for it in states)})
     found = []
-    for begin, end in zip(marks, marks[1:]):
-        states = "".join(it.state for it in spans if it.begin <= begin < it.end)
-        found.append([begin, end, status_of(states)])
+    for start, stop in zip(marks, marks[1:]):
+        bits = 0
+        for begin, end, bit in states:
+            if begin <= start < end:
+                bits |= bit
+        found.append([start, stop, STATUS_OF[bits]])
     return found

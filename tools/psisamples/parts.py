@@ -8,9 +8,9 @@ from collections.abc import Callable
 from dataclasses import dataclass, field
 from typing import IO
 
-from psireplay.command import Fault
+from psicli.fault import Fault
+from psicli.times import SECOND, duration
 from psireplay.sampled import Sampled
-from psireplay.times import SECOND, told
 
 from .block import TICK
 from .convert import Conversion, Off, Options
@@ -18,9 +18,11 @@ from .data import Data
 from .lives import Lives
 from .verify import Checked, check
 
-# By how much two parts overlap: averages begin at 0, and those over 300 s are right after that long.
+# By how much two parts overlap: averages begin at 0, and those over 300 s are right after that
+# long.
 OVERLAP = 450
-# More than these end a part: groups that are made in it, and tasks. A trace has at most 1,024 and 65,536; one group is the mark's.
+# More than these end a part: groups that are made in it, and tasks. A trace has at most 1,024 and
+# 65,536; one group is the mark's.
 MOST_GROUPS, MOST_TASKS, MOST_OF_ALL = 980, 60_000, 1023
 # Lines that the next tick may need.
 SPARE = 40_000
@@ -29,7 +31,9 @@ Progress = Callable[[int], None]
 
 @dataclass
 class Made:
-    """What came of all parts: their names, lines, processors and groups, totals that are off, and how many were compared."""
+    """What came of all parts: their names, lines, processors and groups, totals that are off, and
+    how many were compared.
+    """
 
     names: list[str] = field(default_factory=list)
     lines: list[int] = field(default_factory=list)
@@ -53,21 +57,37 @@ class Made:
 
 
 def part_name(output: str, part: int) -> str:
-    """The file of a part: the output itself, and with a number before its ending for further parts."""
+    """The file of a part: the output itself, and with a number before its ending for further parts.
+    """
     root, ending = os.path.splitext(output)
     return output if part == 1 else f"{root}.{part}{ending}"
 
 
 def number_of(data: Data, start: int, end: int) -> int:
     """A number of a set of traces, by which its parts are known as such."""
-    return zlib.crc32(" ".join([str(start), str(end), str(data.every), *sorted(data.groups)]).encode("utf-8", "surrogateescape"))
+    return zlib.crc32(
+        " ".join([str(start), str(end), str(data.every), *sorted(data.groups)]).encode(
+            "utf-8", "surrogateescape"
+        )
+    )
 
 
 class Maker:
-    """Makes the traces of samples from `start` to `end`, ns since 1970, of at most `most` lines each."""
+    """Makes the traces of samples from `start` to `end`, ns since 1970, of at most `most` lines
+    each.
+    """
 
-    def __init__(self, data: Data, start: int, end: int, options: Options, most: int, progress: Progress) -> None:
-        self.data, self.start, self.end, self.options, self.most, self.progress = data, start, end, options, most, progress
+    def __init__(
+        self, data: Data, start: int, end: int, options: Options, most: int, progress: Progress
+    ) -> None:
+        self.data, self.start, self.end, self.options, self.most, self.progress = (
+            data,
+            start,
+            end,
+            options,
+            most,
+            progress,
+        )
         self.made = Made()
         self.whole = number_of(data, start, end)
 
@@ -100,7 +120,13 @@ class Maker:
         every = self.data.every
         options = self.options if part == 1 else self.options.later()
         origin = begin - options.lead * TICK
-        lives = Lives(self.data.since(begin - 3 * every), origin, every, self.data.inputs.place, options.is_shaped)
+        lives = Lives(
+            self.data.since(begin - 3 * every),
+            origin,
+            every,
+            self.data.inputs.place,
+            options.is_shaped,
+        )
         ticks = max(1, -(-(self.end - begin) // TICK))
         conversion = Conversion(lives, options)
         with tempfile.TemporaryFile(prefix="samples-") as checks:
@@ -110,7 +136,10 @@ class Maker:
                 conversion.checks.clear()
                 self.progress(begin - self.start + conversion.tick * TICK)
             if conversion.tick < ticks and conversion.tick <= 2 * OVERLAP:
-                raise Fault(f"{told(conversion.tick * TICK)} of samples fill a trace: take fewer groups, by --groups DEPTH")
+                raise Fault(
+                    f"{duration(conversion.tick * TICK)} of samples fill a trace: take fewer"
+                    " groups, by --groups DEPTH"
+                )
             self.made.names.append(name)
             self.write(name, conversion, part, begin)
             checked = check(f"{name}.part", checks, conversion.off)
@@ -124,15 +153,30 @@ class Maker:
         file = conversion.file
         most = max(self.most - SPARE, self.most // 2)
         groups = max(MOST_GROUPS, conversion.first_groups + 10)
-        return file.count() > most or conversion.made_groups > groups or file.task_lines > 3 * MOST_TASKS
+        return (
+            file.count() > most
+            or conversion.made_groups > groups
+            or file.task_lines > 3 * MOST_TASKS
+        )
 
     def write(self, name: str, conversion: Conversion, part: int, begin: int) -> None:
         """Writes a part's file."""
         if conversion.made_groups > MOST_OF_ALL:
-            raise Fault(f"there are {conversion.made_groups} groups at once: at most {MOST_OF_ALL}, see --groups DEPTH")
+            raise Fault(
+                f"there are {conversion.made_groups} groups at once: at most {MOST_OF_ALL}, see"
+                " --groups DEPTH"
+            )
         conversion.end()
         skip = OVERLAP * TICK if part > 1 else 0
-        mark = Sampled(self.data.every, self.data.gap, self.data.has_scans, self.whole, part, begin - self.start, skip)
+        mark = Sampled(
+            self.data.every,
+            self.data.gap,
+            self.data.has_scans,
+            self.whole,
+            part,
+            begin - self.start,
+            skip,
+        )
         with open(f"{name}.part", "wb") as file:
             stored: IO[bytes] = file
             conversion.file.finish(mark.lines(), conversion.tick * TICK, stored)

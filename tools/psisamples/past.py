@@ -10,7 +10,9 @@ HUNDRED = 100
 
 
 class Past:
-    """The pressure of groups in the ticks before their first samples, by the averages that these had."""
+    """The pressure of groups in the ticks before their first samples, by the averages that these
+    had.
+    """
 
     def __init__(self, ticks: int) -> None:
         self.ticks = ticks
@@ -22,7 +24,9 @@ class Past:
         if life.path not in self.stretches:
             averages = [it / HUNDRED for it in life.averages] or [0.0] * 18
             triples = [averages[3 * level : 3 * level + 3] for level in range(len(LEVELS))]
-            self.stretches[life.path] = [stretches_of(it, self.ticks) if any(it) else [0.0] * 3 for it in triples]
+            self.stretches[life.path] = [
+                stretches_of(it, self.ticks) if any(it) else [0.0] * 3 for it in triples
+            ]
         place = 0 if tick < self.ticks - MIDDLE - LAST else 1 if tick < self.ticks - LAST else 2
         shares = [
             self.diffusion.percent(life.path, pressure, stretches[place])
@@ -34,6 +38,8 @@ class Past:
 
 
 def end_past(life: Life) -> None:
-    """The totals of a group begin anew where its past ends: what it has by then is what it is to have."""
+    """The totals of a group begin anew where its past ends: what it has by then is what it is to
+    have.
+    """
     life.target = list(life.achieved)
     life.base = [base - achieved for base, achieved in zip(life.base, life.achieved)]

@@ -1,8 +1,9 @@
 """Where the blocks of a tick are, such that each group and those above it have their shares.
 
-A group's share is sum(weight * time) // sum(weight) over processors. A group without blocks below it needs one block: the share is
-then the block's time. A group above others adds what is missing, and dilutes what is too much: overlays, which weigh nothing; a
-block of its own; and ballast, a block in which only its own task runs. Groups are done from the deepest up, so each sees all of the
+A group's share is sum(weight * time) // sum(weight) over processors. A group without blocks below
+it needs one block: the share is then the block's time. A group above others adds what is missing,
+and dilutes what is too much: overlays, which weigh nothing; a block of its own; and ballast, a
+block in which only its own task runs. Groups are done from the deepest up, so each sees all of the
 blocks below it.
 """
 from __future__ import annotations
@@ -10,13 +11,26 @@ from __future__ import annotations
 from collections.abc import Iterator
 from itertools import islice
 from math import isqrt
+from operator import add
 from typing import AbstractSet, NamedTuple, Optional, Sequence
 
-from .block import MS, NONE, TICK, Span, Times, easy_length, fitted, least_length, possible, spans_of
+from .block import (
+    MS,
+    NONE,
+    TICK,
+    Span,
+    Times,
+    easy_length,
+    fitted,
+    least_length,
+    possible,
+    spans_of,
+)
 from .overlays import LESS_FULL, LESS_OF_BOTH, MORE_OF_BOTH, MORE_SOME, Overlay, segments_of
 
-# The ms of a tick; how many processors tasks run on, one of 64 being for tasks that are made and end; over how many processors
-# groups without others below are spread; how many blocks of its own a group may have; and which levels there are.
+# The ms of a tick; how many processors tasks run on, one of 64 being for tasks that are made and
+# end; over how many processors groups without others below are spread; how many blocks of its own a
+# group may have; and which levels there are.
 ROOM = TICK // MS
 MOST_PROCESSORS = 63
 SPREAD = 24
@@ -28,7 +42,9 @@ ROUNDS = 12
 
 
 class Block:
-    """A block of a group on a processor: where it starts there, its length and its tasks' states, in ns; and its segments."""
+    """A block of a group on a processor: where it starts there, its length and its tasks' states,
+    in ns; and its segments.
+    """
 
     __slots__ = ("group", "start", "length", "spans", "others", "segments", "has")
 
@@ -44,8 +60,9 @@ class Block:
 
 
 class Offer(NamedTuple):
-    """`blocks` blocks of `length` ms each with these times, on this processor or on empty ones. With it the group weighs `heavy` ms in
-    all, and `off` ns of its shares are missing or too much."""
+    """`blocks` blocks of `length` ms each with these times, on this processor or on empty ones.
+    With it the group weighs `heavy` ms in all, and `off` ns of its shares are missing or too much.
+    """
 
     off: int
     heavy: int
@@ -56,17 +73,23 @@ class Offer(NamedTuple):
 
 
 class Tree(NamedTuple):
-    """The groups by number: each one's chain from itself up to the root, and the groups that are above it or itself, as a set."""
+    """The groups by number: each one's chain from itself up to the root, and the groups that are
+    above it or itself, as a set.
+    """
 
     chains: dict[int, tuple[int, ...]]
     above: dict[int, frozenset[int]]
 
 
 class Plan:
-    """The blocks of one tick. `before` has the processors on which each group had blocks in the tick before. Groups in `late` are made
-    just after the tick begins, so their blocks begin 1 ms after it."""
+    """The blocks of one tick. `before` has the processors on which each group had blocks in the
+    tick before. Groups in `late` are made just after the tick begins, so their blocks begin 1 ms
+    after it.
+    """
 
-    def __init__(self, tree: Tree, before: dict[int, list[int]], late: AbstractSet[int] = frozenset()) -> None:
+    def __init__(
+        self, tree: Tree, before: dict[int, list[int]], late: AbstractSet[int] = frozenset()
+    ) -> None:
         self.tree, self.before, self.late = tree, before, late
         self.blocks: list[list[Block]] = []
         self.used: list[int] = []
@@ -91,15 +114,15 @@ class Plan:
         self.blocks[processor].append(Block(group, self.used[processor] * MS, length * MS, times))
         self.used[processor] += length
         self.where.setdefault(group, []).append(processor)
+        added = (length, *times)
         for one in self.tree.chains[group]:
-            sums = self.has.setdefault(one, {}).setdefault(processor, [0] * 7)
-            sums[0] += length
-            if times is not NONE:
-                for level in SIX:
-                    sums[level + 1] += times[level]
+            places = self.has.setdefault(one, {})
+            before = places.get(processor)
+            places[processor] = list(map(add, before, added)) if before else list(added)
 
     def empty_places(self, group: int) -> Iterator[int]:
-        """The processors without blocks of the group or below it: those of the tick before first."""
+        """The processors without blocks of the group or below it: those of the tick before first.
+        """
         known, last = self.has.get(group, {}), self.before.get(group, ())
         yield from (it for it in last if it not in known)
         yield from (it for it in range(MOST_PROCESSORS) if it not in known and it not in last)
@@ -108,12 +131,15 @@ class Plan:
         """The ms that are left on these processors, the most first."""
         known = self.has.get(group, {})
         late = int(group in self.late)
-        found = [ROOM - (it or late) for processor, it in enumerate(self.used) if processor not in known]
+        found = [
+            ROOM - (it or late) for processor, it in enumerate(self.used) if processor not in known
+        ]
         return [ROOM - late] * (MOST_PROCESSORS - len(self.used)) + sorted(found, reverse=True)
 
     def place_alone(self, group: int, times: Times) -> None:
-        """The block of a group that has none below it: where the group above has least, since that sees two blocks of a processor
-        as one that is longer and heavier by the other."""
+        """The block of a group that has none below it: where the group above has least, since that
+        sees two blocks of a processor as one that is longer and heavier by the other.
+        """
         if group in self.late:
             times = fitted(times, (ROOM - 1) * MS)
         length = max(1, -(-easy_length(times) // MS))
@@ -126,7 +152,14 @@ class Plan:
         order = sorted((beside[it][0] if it in beside else 0, it) for it in places)
         found = next((it for _, it in order if self.room(it, group) >= length), None)
         if found is None:
-            found = next((it for it in range(len(places), MOST_PROCESSORS) if self.room(it, group) >= length), None)
+            found = next(
+                (
+                    it
+                    for it in range(len(places), MOST_PROCESSORS)
+                    if self.room(it, group) >= length
+                ),
+                None,
+            )
         if found is not None:
             self.place(group, found, length, times)
 
@@ -143,7 +176,9 @@ class Plan:
     # ---------------------------------------------------------------- overlays
 
     def lay(self, group: int, over: Overlay, amount: int) -> int:
-        """Lays tasks of the group over blocks below it, for `amount` ns times ms of weight; returns for how much there was room."""
+        """Lays tasks of the group over blocks below it, for `amount` ns times ms of weight; returns
+        for how much there was room.
+        """
         done, known = 0, self.has[group]
         for processor in sorted(known, key=lambda it: -known[it][0]):
             weight = known[processor][0]
@@ -151,7 +186,9 @@ class Plan:
                 if amount - done < weight:
                     break
                 if block.has & over.takes and group in self.tree.above[block.group]:
-                    done += weight * self.lay_over(group, processor, block, over, (amount - done) // weight)
+                    done += weight * self.lay_over(
+                        group, processor, block, over, (amount - done) // weight
+                    )
         return done
 
     def lay_over(self, group: int, processor: int, block: Block, over: Overlay, most: int) -> int:
@@ -181,13 +218,16 @@ class Plan:
 
     def sums(self, group: int) -> tuple[int, list[int]]:
         """The group's weight, and by level its sum of weight * time."""
-        weight, found = 0, [0] * 6
-        for it in self.has.get(group, {}).values():
-            heavy = it[0]
+        weight = io_some = io_full = memory_some = memory_full = cpu_some = cpu_full = 0
+        for heavy, *times in self.has.get(group, {}).values():
             weight += heavy
-            for level in SIX:
-                found[level] += heavy * it[level + 1]
-        return weight, found
+            io_some += heavy * times[0]
+            io_full += heavy * times[1]
+            memory_some += heavy * times[2]
+            memory_full += heavy * times[3]
+            cpu_some += heavy * times[4]
+            cpu_full += heavy * times[5]
+        return weight, [io_some, io_full, memory_some, memory_full, cpu_some, cpu_full]
 
     def shares(self, group: int) -> list[int]:
         """The group's shares (ns), as the program will compute them."""
@@ -219,8 +259,12 @@ class Plan:
                 heavy = max(heavy, offer.heavy)
         self.put_ballast(group, heavy - self.sums(group)[0])
 
-    def least_weight(self, group: int, times: Times, weight: int, sums: list[int], levels: Sequence[int]) -> int:
-        """The least weight (ms) by which none of these levels is too much, of what there is room for."""
+    def least_weight(
+        self, group: int, times: Times, weight: int, sums: list[int], levels: Sequence[int]
+    ) -> int:
+        """The least weight (ms) by which none of these levels is too much, of what there is room
+        for.
+        """
         found = weight
         for level in levels:
             if times[level] and sums[level] > times[level] * found:
@@ -259,8 +303,12 @@ class Plan:
 
     # ---------------------------------------------------------------- a block of its own
 
-    def best_offer(self, group: int, times: Times, heavy: int, levels: Sequence[int]) -> Optional[Offer]:
-        """The lightest blocks of its own by which the group has its shares; else those by which it comes nearest."""
+    def best_offer(
+        self, group: int, times: Times, heavy: int, levels: Sequence[int]
+    ) -> Optional[Offer]:
+        """The lightest blocks of its own by which the group has its shares; else those by which it
+        comes nearest.
+        """
         known = self.has[group]
         weight, sums = self.sums(group)
         now = sum(abs(times[it] * weight - sums[it]) for it in levels) // max(1, weight)
@@ -270,7 +318,9 @@ class Plan:
         for processor in sorted(known, key=lambda it: -known[it][0])[:2]:
             room = self.room(processor, group)
             if room:
-                offers.append(need._replace(base=known[processor], room=room, processor=processor).offer(1))
+                offers.append(
+                    need._replace(base=known[processor], room=room, processor=processor).offer(1)
+                )
         for count in range(1, 1 + min(MOST_OWN, len(free))):
             room = free[count - 1]
             if room < (ROOM - 1 if count > 1 else 1) or any(not it.off for it in offers):
@@ -282,7 +332,9 @@ class Plan:
     def take(self, group: int, it: Offer) -> None:
         """Puts the blocks of an offer."""
         places = [it.processor] if it.processor is not None else self.empty_places(group)
-        found = islice((place for place in places if self.room(place, group) >= it.length), it.blocks)
+        found = islice(
+            (place for place in places if self.room(place, group) >= it.length), it.blocks
+        )
         for processor in list(found):
             self.place(group, processor, it.length, it.times)
 
@@ -301,8 +353,10 @@ class Need(NamedTuple):
     processor: Optional[int]
 
     def at(self, length: int, count: int) -> tuple[int, int, list[int], Times]:
-        """For `count` blocks of a length (ms): the group's weight with ballast, by how much a ns of their times counts, what they
-        have to add, and their times. A block adds (base weight + length) * times + length * base times to what the group has."""
+        """For `count` blocks of a length (ms): the group's weight with ballast, by how much a ns of
+        their times counts, what they have to add, and their times. A block adds (base weight +
+        length) * times + length * base times to what the group has.
+        """
         wanted, added = self.wanted, count * length
         heavy = least = max(self.least, self.weight + added)
         more = [self.sums[it] + added * self.base[it + 1] for it in self.levels]
@@ -313,20 +367,29 @@ class Need(NamedTuple):
         share = count * (self.base[0] + length)
         rest = [wanted[level] * heavy - it for level, it in zip(self.levels, more)]
         raw = [max(0, (it + share // 2) // share) for it in rest] + [0] * (6 - len(rest))
-        return heavy, share, rest, (raw[0], min(raw[1], raw[0]), raw[2], min(raw[3], raw[2]), raw[4], min(raw[5], raw[4]))
+        return (
+            heavy,
+            share,
+            rest,
+            (raw[0], min(raw[1], raw[0]), raw[2], min(raw[3], raw[2]), raw[4], min(raw[5], raw[4])),
+        )
 
     def offer(self, count: int) -> Offer:
-        """The shortest blocks by which the group has its shares, or the longest that there is room for."""
+        """The shortest blocks by which the group has its shares, or the longest that there is room
+        for.
+        """
         length, base = 1 if count == 1 else self.room, self.base[0]
         for turn in range(ROUNDS):
             heavy, share, rest, times = self.at(length, count)
             lack = -(-least_length(times) // MS) - length
             if lack <= 0 or length >= self.room:
                 break
-            # The length at which a block is as long as its times need, if what they have to add stays what it is now; and more and
-            # more than that, since it grows with the length.
+            # The length at which a block is as long as its times need, if what they have to add
+            # stays what it is now; and more and more than that, since it grows with the length.
             better = (isqrt(base * base + 4 * (length + lack) * (base + length)) - base) // 2
-            length = min(self.room, max(better + 1, length + 1 + turn * lack) if turn else better + 1)
+            length = min(
+                self.room, max(better + 1, length + 1 + turn * lack) if turn else better + 1
+            )
         else:
             length = self.room
             heavy, share, rest, times = self.at(length, count)

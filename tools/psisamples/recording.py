@@ -1,14 +1,14 @@
 """The samples of a recording's folder: its pressure files, and the memory that its markers have."""
 from __future__ import annotations
 
+from psicli.fault import Fault
 from psiconvert.lead_in import averages_in
 from psiread.events import Marker
 from psiread.files import text_of
 from psiread.pressure import SAMPLE, reading_markers
 from psiread.recording import read_recording
-from psiread.source import Faulty, Source, Unreadable
+from psiread.source import Source
 from psirec.layout import MARK, PRESSURE, RESOURCES, escaped_path
-from psireplay.command import Fault
 from psireplay.lines import LEVELS
 
 from .rows import AVERAGES, HOST, MEMORY, ROOT, Put
@@ -18,10 +18,18 @@ EVERY = 2 * 10**9
 
 
 def times_of(source: Source, most: int) -> list[int]:
-    """When each reading of the pressure files was (ns), by its number from 0 to `most`. Readings whose markers were lost lie on the
-    line between those that have some, and go on as these do at both ends; without any marker they are EVERY apart."""
-    begins = {number: marker.moment for marker, number, is_begin in reading_markers(source) if is_begin}
-    ends = {number: marker.moment for marker, number, is_begin in reading_markers(source) if not is_begin}
+    """When each reading of the pressure files was (ns), by its number from 0 to `most`. Readings
+    whose markers were lost lie on the line between those that have some, and go on as these do at
+    both ends; without any marker they are EVERY apart.
+    """
+    begins = {
+        number: marker.moment for marker, number, is_begin in reading_markers(source) if is_begin
+    }
+    ends = {
+        number: marker.moment
+        for marker, number, is_begin in reading_markers(source)
+        if not is_begin
+    }
     known = sorted({**ends, **begins}.items()) or [(0, source.start)]
     (first, start), (last, end) = known[0], known[-1]
     every = (end - start) // (last - first) if last > first else EVERY
@@ -35,10 +43,12 @@ def times_of(source: Source, most: int) -> list[int]:
 
 
 def read_folder(folder: str, put: Put) -> None:
-    """Puts all samples of a recording. A line is that of its pressure file; samples of memory have none."""
+    """Puts all samples of a recording. A line is that of its pressure file; samples of memory have
+    none.
+    """
     try:
         source, text = read_recording(folder, True), text_of(folder, PRESSURE)
-    except (Unreadable, Faulty) as fault:
+    except Fault as fault:
         raise Fault(f"{folder}: {fault}") from None
     offset = source.realtime or 0
     samples = list(SAMPLE.finditer(text))
@@ -46,13 +56,24 @@ def read_folder(folder: str, put: Put) -> None:
         raise Fault(f"{folder}/{PRESSURE}: there is no reading of pressure files in it")
     times = times_of(source, max(int(it[1]) for it in samples))
     for path, averages in averages_in(text, int(samples[0][1])).items():
-        values = (round(100 * it) for resource in RESOURCES for level in LEVELS for it in averages.get((resource, level), (0.0,) * 3))
+        values = (
+            round(100 * it)
+            for resource in RESOURCES
+            for level in LEVELS
+            for it in averages.get((resource, level), (0.0,) * 3)
+        )
         put(times[int(samples[0][1])] + offset, path, AVERAGES, tuple(values), 1)
     line, at = 1, 0
     for it in samples:
         line, at = line + text.count("\n", at, it.start()), it.start()
         path = escaped_path(it[2].encode("utf-8", "surrogateescape"))
-        put(times[int(it[1])] + offset, path, 2 * RESOURCES.index(it[3]), (int(it[4]), int(it[5])), line)
+        put(
+            times[int(it[1])] + offset,
+            path,
+            2 * RESOURCES.index(it[3]),
+            (int(it[4]), int(it[5])),
+            line,
+        )
     for event in source.events:
         if isinstance(event, Marker) and event.text.startswith(MARK.encode()):
             put_memory(event, offset, put)

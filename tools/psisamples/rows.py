@@ -6,12 +6,13 @@ from collections.abc import Callable
 from decimal import Decimal, InvalidOperation
 from typing import NamedTuple
 
+from psicli.fault import Fault
+from psicli.times import SECOND
 from psirec.layout import escaped_path
-from psireplay.command import Fault
-from psireplay.times import SECOND
 
-# Fields of a sample: the six totals (us) in the order of LEVELS, a group's memory and swap (bytes) and scanned pages, the machine's
-# memory, swap and free swap (bytes), and three averages (hundredths of a percent) for each of the six levels.
+# Fields of a sample: the six totals (us) in the order of LEVELS, a group's memory and swap (bytes)
+# and scanned pages, the machine's memory, swap and free swap (bytes), and three averages
+# (hundredths of a percent) for each of the six levels.
 TOTALS, MEMORY, SWAP, SCANS, HOST, AVERAGES = 0, 6, 7, 8, 9, 12
 MOST_COMPONENTS, MOST_BYTES, MOST_VALUE = 32, 255, 2**60
 ROOT = "/"
@@ -28,8 +29,9 @@ class Place(NamedTuple):
 
 
 class Row(NamedTuple):
-    """Values of a group at a time (ns since 1970), of consecutive fields from `field` on. `place` is that of a Place in the reader's
-    numbering: the file's number and the line."""
+    """Values of a group at a time (ns since 1970), of consecutive fields from `field` on. `place`
+    is that of a Place in the reader's numbering: the file's number and the line.
+    """
 
     time: int
     group: str
@@ -42,7 +44,9 @@ Put = Callable[[int, str, int, tuple[int, ...], int], None]
 
 
 def ns_of(text: str) -> int:
-    """The ns of a decimal number of seconds, as any format writes one; a ValueError if it isn't one."""
+    """The ns of a decimal number of seconds, as any format writes one; a ValueError if it isn't
+    one.
+    """
     if re.fullmatch(r"[0-9]{1,12}", text):
         return int(text) * SECOND
     found = re.fullmatch(r"([0-9]{1,12})\.([0-9]{1,9})", text)
@@ -66,7 +70,9 @@ def us_of(text: str) -> int:
 
 
 def whole(text: str) -> int:
-    """A whole number from 0 on, which may be written as floating point; a ValueError if it isn't one."""
+    """A whole number from 0 on, which may be written as floating point; a ValueError if it isn't
+    one.
+    """
     if re.fullmatch(r"[0-9]{1,19}", text):
         found = int(text)
     else:
@@ -94,6 +100,12 @@ def must_be_path(path: str, place: Place) -> None:
         raise Fault(f"{place}: the group {path!r} doesn't begin with a /: --rename gives it a path")
     if escaped_path(path.encode("utf-8", "surrogateescape")) != path:
         spelled = escaped_path(path.encode("utf-8", "surrogateescape"))
-        raise Fault(f"{place}: a trace can't name the group {path!r}: rename it, as by --rename '{path}={spelled}'")
+        raise Fault(
+            f"{place}: a trace can't name the group {path!r}: rename it, as by --rename"
+            f" '{path}={spelled}'"
+        )
     if len(components) > MOST_COMPONENTS or len(path) > MOST_BYTES:
-        raise Fault(f"{place}: the path of a group has {len(path)} bytes and {len(components)} parts: at most 255 and 32; see --groups")
+        raise Fault(
+            f"{place}: the path of a group has {len(path)} bytes and {len(components)} parts: at"
+            " most 255 and 32; see --groups"
+        )

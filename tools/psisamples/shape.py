@@ -1,7 +1,8 @@
 """When in an interval a total grew, by avg10 at both of its ends.
 
-Between two samples a total could have grown early or late. avg10 at the end says which: late growth weighs more in it. So the rates of
-the ticks between become a slope, bounded by 0 and the most, whose growth is the total's and whose avg10 is the one that was read.
+Between two samples a total could have grown early or late. avg10 at the end says which: late growth
+weighs more in it. So the rates of the ticks between become a slope, bounded by 0 and the most,
+whose growth is the total's and whose avg10 is the one that was read.
 """
 from __future__ import annotations
 
@@ -28,8 +29,16 @@ def left_of(time: int, end: int) -> float:
     return float(FACTOR ** (max(0, end - AGE - time) / TICK))
 
 
-def bounded_rates(slope: float, recent: Sequence[float], most: Sequence[float], lengths: Sequence[int], growth: float) -> list[float]:
-    """Rates along a slope, from 0 to the most of each part, by which the total grows as much as it did."""
+def bounded_rates(
+    slope: float,
+    recent: Sequence[float],
+    most: Sequence[float],
+    lengths: Sequence[int],
+    growth: float,
+) -> list[float]:
+    """Rates along a slope, from 0 to the most of each part, by which the total grows as much as it
+    did.
+    """
     low, high = -abs(slope), 1.0 + abs(slope)
     found = [0.0] * len(recent)
     for _ in range(LEVELS_OF_SLOPE):
@@ -42,12 +51,24 @@ def bounded_rates(slope: float, recent: Sequence[float], most: Sequence[float], 
     return found
 
 
-def rates(start: int, end: int, growth: int, averages: tuple[float, float], most: Sequence[float] | None = None) -> list[float]:
-    """The rate (0 to 1) in each part of an interval in which a total grew (ns), with avg10 (percent) at its ends."""
+def rates(
+    start: int,
+    end: int,
+    growth: int,
+    averages: tuple[float, float],
+    most: Sequence[float] | None = None,
+) -> list[float]:
+    """The rate (0 to 1) in each part of an interval in which a total grew (ns), with avg10
+    (percent) at its ends.
+    """
     parts = parts_of(start, end)
     lengths = [other - one for one, other in parts]
     tops = list(most) if most else [1.0] * len(parts)
-    if len(parts) < 2 or growth <= 0 or growth >= sum(map(float.__mul__, tops, map(float, lengths))):
+    if (
+        len(parts) < 2
+        or growth <= 0
+        or growth >= sum(map(float.__mul__, tops, map(float, lengths)))
+    ):
         return [min(1.0, max(0.0, growth / (end - start)))] * len(parts)
     gains = [left_of(other, end) - left_of(one, end) for one, other in parts]
     recent = [gain / length * TICK for gain, length in zip(gains, lengths)]
@@ -65,10 +86,14 @@ def rates(start: int, end: int, growth: int, averages: tuple[float, float], most
 
 
 def knots_between(
-    one: tuple[int, int, int, int], other: tuple[int, int, int, int], before: tuple[float, float], after: tuple[float, float]
+    one: tuple[int, int, int, int],
+    other: tuple[int, int, int, int],
+    before: tuple[float, float],
+    after: tuple[float, float],
 ) -> list[tuple[int, int, int, int]]:
-    """Knots at the ticks between two samples, each a time, the totals of some and full, and 0; the others are samples. `before` and
-    `after` are avg10 of some and full at both."""
+    """Knots at the ticks between two samples, each a time, the totals of some and full, and 0; the
+    others are samples. `before` and `after` are avg10 of some and full at both.
+    """
     start, end = one[0], other[0]
     some = rates(start, end, other[1] - one[1], (before[0], after[0]))
     full = rates(start, end, other[2] - one[2], (before[1], after[1]), some)

@@ -6,8 +6,8 @@ import os
 import re
 from collections.abc import Callable, Iterable
 
+from psicli.fault import Fault
 from psirec.layout import escaped_path
-from psireplay.command import Fault
 
 from .block import RESOURCES
 from .rows import AVERAGES, HOST, MEMORY, ROOT, Put, hundredths, ns_of, whole
@@ -15,7 +15,9 @@ from .rows import AVERAGES, HOST, MEMORY, ROOT, Put, hundredths, ns_of, whole
 HEAD = "time,group,what,values"
 Lines = Iterable[tuple[int, str]]
 # A line of a pressure file.
-PRESSURE_LINE = re.compile(r"(some|full) avg10=([0-9.]+) avg60=([0-9.]+) avg300=([0-9.]+) total=([0-9]+)")
+PRESSURE_LINE = re.compile(
+    r"(some|full) avg10=([0-9.]+) avg60=([0-9.]+) avg300=([0-9.]+) total=([0-9]+)"
+)
 MEMORY_FILES = {"memory.current": 0, "memory.swap.current": 1}
 
 
@@ -26,8 +28,18 @@ def us(text: str) -> int:
     return int(text)
 
 
-def put_totals(put: Put, time: int, group: str, resource: str, words: list[str], line: int, has_averages: bool = True) -> None:
-    """The totals of a pressure file: some and full in us; then maybe the averages of both, if they are wanted."""
+def put_totals(
+    put: Put,
+    time: int,
+    group: str,
+    resource: str,
+    words: list[str],
+    line: int,
+    has_averages: bool = True,
+) -> None:
+    """The totals of a pressure file: some and full in us; then maybe the averages of both, if they
+    are wanted.
+    """
     base = 2 * RESOURCES.index(resource)
     put(time, group, base, (us(words[0]), us(words[1])), line)
     if has_averages and len(words) == 8:
@@ -35,8 +47,10 @@ def put_totals(put: Put, time: int, group: str, resource: str, words: list[str],
 
 
 def read_csv(lines: Lines, put: Put, has_averages: Callable[[], bool]) -> None:
-    """`TIME,GROUP,RESOURCE,SOME,FULL` with the six averages or without, `TIME,GROUP,mem,CURRENT,SWAP[,SCANS]` and
-    `TIME,/,host,TOTAL,SWAP_TOTAL,SWAP_FREE`; a first line with names is left out."""
+    """`TIME,GROUP,RESOURCE,SOME,FULL` with the six averages or without,
+    `TIME,GROUP,mem,CURRENT,SWAP[,SCANS]` and `TIME,/,host,TOTAL,SWAP_TOTAL,SWAP_FREE`; a first line
+    with names is left out.
+    """
     last, time = "", 0
     for number, line in lines:
         words = line.split(",")
@@ -52,12 +66,16 @@ def read_csv(lines: Lines, put: Put, has_averages: Callable[[], bool]) -> None:
         elif what == "host" and len(values) == 3:
             put(time, ROOT, HOST, tuple(map(whole, values)), number)
         else:
-            raise ValueError(f"{what!r} with {len(values)} values: io, memory or cpu has 2 or 8, mem 2 or 3, host 3")
+            raise ValueError(
+                f"{what!r} with {len(values)} values: io, memory or cpu has 2 or 8, mem 2 or 3,"
+                " host 3"
+            )
 
 
 def read_json_lines(lines: Lines, put: Put) -> None:
-    """An object a line: `time`, `group`, and for each resource an object with `some` and `full`, in us; or `current`, `swap` and
-    `pgscan`; or `mem_total`, `swap_total` and `swap_free`."""
+    """An object a line: `time`, `group`, and for each resource an object with `some` and `full`, in
+    us; or `current`, `swap` and `pgscan`; or `mem_total`, `swap_total` and `swap_free`.
+    """
     for number, line in lines:
         if not line.strip():
             continue
@@ -68,9 +86,15 @@ def read_json_lines(lines: Lines, put: Put) -> None:
         for resource in RESOURCES:
             if resource in value:
                 found = value[resource]
-                put_totals(put, time, group, resource, [str(found["some"]), str(found["full"])], number)
+                put_totals(
+                    put, time, group, resource, [str(found["some"]), str(found["full"])], number
+                )
         if "current" in value:
-            sizes = [value["current"], value.get("swap", 0), *([value["pgscan"]] if "pgscan" in value else [])]
+            sizes = [
+                value["current"],
+                value.get("swap", 0),
+                *([value["pgscan"]] if "pgscan" in value else []),
+            ]
             put(time, group, MEMORY, tuple(whole(str(it)) for it in sizes), number)
         if "mem_total" in value:
             names = ("mem_total", "swap_total", "swap_free")
@@ -81,7 +105,9 @@ def read_json_lines(lines: Lines, put: Put) -> None:
 
 
 class Round:
-    """One round of a loop over files: the totals of each pressure file, and the sizes of memory, by group."""
+    """One round of a loop over files: the totals of each pressure file, and the sizes of memory, by
+    group.
+    """
 
     def __init__(self, time: int) -> None:
         self.time = time
@@ -100,9 +126,14 @@ class Round:
             if not found:
                 raise ValueError(f"no line of a pressure file: {text.strip()!r}")
             if resource in RESOURCES:
-                self.totals.setdefault((group, resource), {})[found[1]] = [found[5], *found.groups()[1:4]], number
+                self.totals.setdefault((group, resource), {})[found[1]] = [
+                    found[5],
+                    *found.groups()[1:4],
+                ], number
         elif name in MEMORY_FILES:
-            self.sizes.setdefault(group_of(folder), [None, 0, None])[MEMORY_FILES[name]] = whole(text.strip())
+            self.sizes.setdefault(group_of(folder), [None, 0, None])[MEMORY_FILES[name]] = whole(
+                text.strip()
+            )
             self.lines[group_of(folder)] = number
         elif name == "memory.stat" and text.startswith("pgscan "):
             self.sizes.setdefault(group_of(folder), [None, 0, None])[2] = whole(text.split()[1])
@@ -112,10 +143,18 @@ class Round:
         for (group, resource), lines in self.totals.items():
             some, number = lines["some"]
             full, _ = lines.get("full", (["0", "0", "0", "0"], number))
-            put_totals(put, self.time, group, resource, [some[0], full[0], *some[1:], *full[1:]], number)
+            put_totals(
+                put, self.time, group, resource, [some[0], full[0], *some[1:], *full[1:]], number
+            )
         for group, sizes in self.sizes.items():
             if sizes[0] is not None:
-                put(self.time, group, MEMORY, tuple(it for it in sizes if it is not None), self.lines[group])
+                put(
+                    self.time,
+                    group,
+                    MEMORY,
+                    tuple(it for it in sizes if it is not None),
+                    self.lines[group],
+                )
 
 
 def group_of(folder: str) -> str:
@@ -127,7 +166,9 @@ def group_of(folder: str) -> str:
 
 
 def read_loop(lines: Lines, put: Put) -> None:
-    """For each round a line with the time in s, and then lines of files as `grep . FILE ..` prints them: `PATH:LINE`."""
+    """For each round a line with the time in s, and then lines of files as `grep . FILE ..` prints
+    them: `PATH:LINE`.
+    """
     found: Round | None = None
     for number, line in lines:
         if re.fullmatch(r"[0-9]+(\.[0-9]+)?", line):

@@ -1,4 +1,6 @@
-"""A trace that is written: events go to a temporary file, and what must come before them is known at its end."""
+"""A trace that is written: events go to a temporary file, and what must come before them is known
+at its end.
+"""
 from __future__ import annotations
 
 import shutil
@@ -8,14 +10,15 @@ from typing import IO
 
 from .plan import MOST_PROCESSORS
 
-MOST_EVENTS = 4_000_000
 # The processor on which tasks are made and end; blocks are on those after it.
 FIRST = 0
 PIECE = 1 << 20
 
 
 class Tasks:
-    """The tasks of a group's life, which are made with the group: `at` is where in the file of events, and `time` when (ns)."""
+    """The tasks of a group's life, which are made with the group: `at` is where in the file of
+    events, and `time` when (ns).
+    """
 
     def __init__(self, path: str) -> None:
         self.path, self.at, self.time = path, 0, 0

@@ -1,4 +1,5 @@
-"""Compares what the program prints of a trace with the samples: the tool's own proof of its output."""
+"""Compares what the program prints of a trace with the samples: the tool's own proof of its output.
+"""
 from __future__ import annotations
 
 import re
@@ -6,14 +7,16 @@ import tempfile
 from collections.abc import Iterator
 from typing import IO, NamedTuple
 
-from psireplay.command import Fault
+from psicli.fault import Fault
 from psireplay.program import start
 
 from .block import RESOURCES
 from .convert import NEAR, Off
 
 PIECE = 1 << 20
-REPORT = re.compile(rb"report (\d+) (\S+) (io|memory|cpu)\nsome [^\n]*?total=(\d+)\nfull [^\n]*?total=(\d+)\n")
+REPORT = re.compile(
+    rb"report (\d+) (\S+) (io|memory|cpu)\nsome [^\n]*?total=(\d+)\nfull [^\n]*?total=(\d+)\n"
+)
 BASES = {resource.encode(): 2 * number for number, resource in enumerate(RESOURCES)}
 
 Totals = dict[tuple[bytes, int], int]
@@ -22,8 +25,10 @@ NO_TOTALS: Totals = {}
 
 
 class Checked(NamedTuple):
-    """How many totals were compared; and those that differ by more than was reported: the time (ns), the group, the level, the total
-    by the samples, and the program's (us), which is none if it printed none."""
+    """How many totals were compared; and those that differ by more than was reported: the time
+    (ns), the group, the level, the total by the samples, and the program's (us), which is none if
+    it printed none.
+    """
 
     compared: int
     wrong: list[tuple[int, str, int, int, int | None]]
@@ -73,7 +78,9 @@ def wanted(checks: IO[bytes]) -> Iterator[tuple[int, Totals]]:
 
 
 def check(trace: str, checks: IO[bytes], off: dict[tuple[str, int], Off]) -> Checked:
-    """Replays a trace and compares all totals at the ticks of samples. A total may be off by NEAR, or by what was reported of it."""
+    """Replays a trace and compares all totals at the ticks of samples. A total may be off by NEAR,
+    or by what was reported of it.
+    """
     count, wrong = 0, []
     with tempfile.TemporaryFile() as notes:
         run = start(["replay", "--report-s=2", "--", trace], notes)
@@ -97,5 +104,8 @@ def check(trace: str, checks: IO[bytes], off: dict[tuple[str, int], Off]) -> Che
                 pass
         if run.wait():
             notes.seek(0)
-            raise Fault(f"psi_oomd refuses the trace, which is a fault of this tool: {notes.read().decode('utf-8', 'replace').strip()}")
+            raise Fault(
+                "psi_oomd refuses the trace, which is a fault of this tool:"
+                f" {notes.read().decode('utf-8', 'replace').strip()}"
+            )
     return Checked(count, wrong)

@@ -2,6 +2,7 @@
 from __future__ import annotations
 
 from collections.abc import Callable, Iterable
+from itertools import repeat
 
 from .block import TICK
 from .overlays import IN_STALL
@@ -18,12 +19,12 @@ Event = tuple[int, str]
 
 
 class Task:
-    """A task: its number, and the letter of its state."""
+    """A task: its number, the letter of its state, and that of the state to which it changes."""
 
-    __slots__ = ("number", "state")
+    __slots__ = ("number", "state", "next")
 
     def __init__(self, number: int) -> None:
-        self.number, self.state = number, "z"
+        self.number, self.state, self.next = number, "z", "z"
 
 
 class Processor:
@@ -38,18 +39,22 @@ class Processor:
         """The states that begin, by the ns since the start of the tick; tasks of the tick before sleep unless they go on."""
         found: dict[int, dict[Key, str]] = {}
         begins: dict[int, dict[Key, str]] = {}
-        for key, task in self.tasks.items():
-            if task.state != "z":
-                found.setdefault(0, {})[key] = "z"
+        asleep = {key: "z" for key, task in self.tasks.items() if task.state != "z"}
+        if asleep:
+            found[0] = asleep
         for block in blocks:
-            spans = [(block.group, it) for it in block.spans] + block.others
-            for group, span in spans:
-                key = group, span.kind
-                begins.setdefault(block.start + span.begin, {})[key] = span.state
-                if block.start + span.end < TICK:
-                    found.setdefault(block.start + span.end, {})[key] = "z"
+            start = block.start
+            spans = [(block.group, it) for it in block.spans] + block.others if block.others else zip(repeat(block.group), block.spans)
+            for group, (begin, end, kind, state) in spans:
+                key = group, kind
+                begins.setdefault(start + begin, {})[key] = state
+                if start + end < TICK:
+                    found.setdefault(start + end, {})[key] = "z"
         for time, states in begins.items():
-            found.setdefault(time, {}).update(states)
+            if time in found:
+                found[time].update(states)
+            else:
+                found[time] = states
         return found
 
     def play(self, blocks: Iterable[Block], out: list[Event]) -> None:
@@ -68,38 +73,40 @@ class Processor:
 
     def change(self, time: int, wanted: dict[Key, str], out: list[Event]) -> None:
         """Brings tasks into these states. A task that falls asleep, or enters or leaves a stall, runs for no time."""
-        cpu, turns, last, wakes = self.number, list[Task](), None, list[Task]()
-        states: dict[Task, str] = {}
+        cpu, tasks, runs = self.number, self.tasks, self.runs
+        changed, turns, last = list[Task](), list[Task](), None
         for key, state in wanted.items():
-            task = self.tasks.get(key)
+            task = tasks.get(key)
             if task is None:
-                task = self.tasks[key] = self.task_of(key)
-            if task.state == state:
+                task = tasks[key] = self.task_of(key)
+            before = task.state
+            if before == state:
                 continue
-            states[task] = state
-            if task.state in ASLEEP:
-                wakes.append(task)
+            task.next = state
+            changed.append(task)
+            if before in ASLEEP:
+                out.append((time, f"wake {task.number} {cpu}"))
             if state in RUNNING:
                 last = task
-            elif state in ASLEEP or (task.state in IN_STALL) != (state in IN_STALL):
+            elif state in ASLEEP or (before in IN_STALL) != (state in IN_STALL):
                 turns.append(task)
-        runs = self.runs
-        if runs is not None and states.get(runs, "x") not in RUNNING:
+        if runs is not None and runs.next not in RUNNING:
             turns = [runs, *(it for it in turns if it is not runs)]
         elif last is None:
             last = runs
-        out += [(time, f"wake {it.number} {cpu}") for it in wakes]
         how = "idle" if runs is None else "preempt"
         for task in turns if last is None else [*turns, last]:
-            if self.runs is not task:
+            if runs is not task:
                 out.append((time, f"switch {cpu} {task.number} {how}"))
-                self.runs = task
-            state = states.get(task, task.state)
-            if (task.state in IN_STALL) != (state in IN_STALL):
-                out.append((time, f"{'stall' if state in IN_STALL else 'unstall'} {task.number}"))
+                runs = task
+            state = task.next
+            is_stalled = state in IN_STALL
+            if (task.state in IN_STALL) != is_stalled:
+                out.append((time, f"{'stall' if is_stalled else 'unstall'} {task.number}"))
             how = HOW.get(state, "preempt")
-        if last is None and self.runs is not None:
+        if last is None and runs is not None:
             out.append((time, f"switch {cpu} 0 {how}"))
-            self.runs = None
-        for task, state in states.items():
-            task.state = state
+            runs = None
+        self.runs = runs
+        for task in changed:
+            task.state = task.next

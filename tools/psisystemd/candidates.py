@@ -49,11 +49,18 @@ def preference(group: Group, settings: Settings, above: str) -> str:
 
 def candidates_of(world: World, settings: Settings, watched: Iterable[str]) -> dict[str, Group]:
     """The candidates of all watched groups that can be read, by their paths."""
-    found = (it for path in watched if path in world.groups for it in leaves(world.groups[path], settings))
+    found = (
+        it
+        for path in watched
+        if path in world.groups
+        for it in leaves(world.groups[path], settings)
+    )
     return {it.path: it for it in found if memory_of(it)}
 
 
-def gathered(candidates: dict[str, Group], settings: Settings, above: str, risen: dict[Group, int]) -> list[Candidate]:
+def gathered(
+    candidates: dict[str, Group], settings: Settings, above: str, risen: dict[Group, int]
+) -> list[Candidate]:
     """The candidates that are `above` or its descendants, by their paths. `risen` has the scanned
     pages by which they are ranked; if a group isn't in it, all that it ever scanned counts.
     """
@@ -66,7 +73,9 @@ def gathered(candidates: dict[str, Group], settings: Settings, above: str, risen
             passed_over = "omit" if wish == "omit" else nothing
             is_new = group not in risen
             scanned = risen.get(group, sample.scanned)
-            found.append(Candidate(path, scanned, sample.memory, sample.swap, wish, passed_over, is_new))
+            found.append(
+                Candidate(path, scanned, sample.memory, sample.swap, wish, passed_over, is_new)
+            )
     return found
 
 

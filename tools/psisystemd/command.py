@@ -8,66 +8,53 @@ import json
 import sys
 from collections.abc import Iterator
 
+from psicli.fault import Fault
+from psicli.options import add_interval, add_json
+from psicli.parser import Parser
+from psicli.running import complain, run
+from psicli.status import Status
+from psicli.times import seconds
+from psicli.values import whole_number
+from psinames.known import add_names
+from psinames.shown import show_containers
 from psirules.program import Kill, Pace, Program, processors
 from psirules.replays import accepted
 from psirules.rules_file import RulesFile
-from psirules.wording import Fault, seconds
 from psisystemd.engine import Engine
 from psisystemd.replayed import kept_trace, replayed, warnings
 from psisystemd.settings import Settings
 from psisystemd.told import SWAP, Decision
 from psisystemd.values import percent
 
-TOLD = 0
-ABOUT = """Prints which groups systemd-oomd would have killed in TRACE, when and why, with the settings of a machine.
+ABOUT = """Prints which groups systemd-oomd would have killed in TRACE, when and why, with the
+settings of a machine.
 
   tools/systemd-oomd incident.trace --settings incident/systemd
 
-FOLDER is what tools/record stored as `systemd` in a recording, or a folder with files as in a machine's root:
-etc/systemd/oomd.conf.d/*.conf, usr/lib/systemd/system/user@.service.d/*.conf and so on, merged as systemd does."""
-STATUS = """A kill changes nothing, as in `psi_oomd replay`: what follows the first assumes that it freed nothing.
+FOLDER is what tools/record stored as `systemd` in a recording, or a folder with files
+as in a machine's root: etc/systemd/oomd.conf.d/*.conf,
+usr/lib/systemd/system/user@.service.d/*.conf and so on, merged as systemd does."""
+STATUS = """A kill changes nothing, as in `psi_oomd replay`: what follows the first assumes that it
+freed nothing.
 
-The status is 0 if everything was printed, and 2 if something couldn't be run: a usage error, a bad setting, a trace that psi_oomd
-rejects."""
-
-
-class Words(argparse.ArgumentParser):
-    """A parser that raises usage errors."""
-
-    def error(self, message: str) -> None:  # type: ignore[override]
-        raise Fault(f"{message}\n{self.format_usage()}".rstrip())
+The status is 0 if everything was printed, and 2 if something couldn't be run: a usage
+error, a bad setting, a trace that psi_oomd rejects."""
 
 
-def version(word: str) -> int:
-    """A version of systemd."""
-    if not (word.isascii() and word.isdigit() and 247 <= int(word) <= 9999):
-        raise argparse.ArgumentTypeError(f"{word} is no version of systemd from 247 on, such as 252")
-    return int(word)
-
-
-def interval(word: str) -> int:
-    """Seconds between evaluations of rules."""
-    if not (word.isascii() and word.isdigit() and 1 <= int(word) <= 3600):
-        raise argparse.ArgumentTypeError(f"{word} is no whole number from 1 to 3600")
-    return int(word)
-
-
-def parser() -> Words:
-    form = argparse.RawDescriptionHelpFormatter
-    words = Words(prog="systemd-oomd", description=ABOUT, epilog=STATUS, formatter_class=form, allow_abbrev=False)
+def parser() -> Parser:
+    """The parser of the command line."""
+    words = Parser(ABOUT, STATUS)
     add = words.add_argument
     add("trace", metavar="TRACE", help="a trace, or - for the standard input")
     add("--settings", metavar="FOLDER", required=True, help="the settings of a machine")
-    add("--systemd", metavar="N", type=version, help="the version of systemd; that of the recording, or 257, if left out")
+    add("--systemd", metavar="N", type=whole_number(247, 9999),
+        help="the version of systemd; that of the recording, or 257, if left out")  # fmt: skip
     add("--compare", metavar="FILE", help="print the kills by these rules of oomd's form too")
-    add("--interval-s", metavar="N", type=interval, help="with --compare: the interval of evaluations, as in `psi_oomd replay`")
+    add_interval(words, "with --compare: ")
     add("--all", dest="is_all", action="store_true", help="print each candidate that isn't chosen")
-    add("--json", dest="is_json", action="store_true", help="print it as JSON")
+    add_names(words)
+    add_json(words)
     return words
-
-
-def complain(text: str) -> None:
-    print(f"systemd-oomd: {text}", file=sys.stderr)
 
 
 class Compared:
@@ -77,7 +64,10 @@ class Compared:
         self.name, self.rules, self.kills = name, rules, kills
 
     def line(self, kill: Kill) -> str:
-        return f"{seconds(kill.moment)} s  by {self.name}: would kill {kill.path}, {self.rules.killer(kill)}"
+        return (
+            f"{seconds(kill.moment)} s  by {self.name}: would kill {kill.path},"
+            f" {self.rules.killer(kill)}"
+        )
 
     def verdict(self, own: list[Decision]) -> str:
         """How the first kills differ."""
@@ -86,27 +76,40 @@ class Compared:
             who = "systemd-oomd" if one else self.name if other else "neither"
             return f"first kill: by {who} alone" if one or other else "no kill by either"
         apart = other.moment - one.moment
-        when = "at the same moment" if not apart else f"{seconds(abs(apart))} s {'later' if apart > 0 else 'earlier'} by {self.name}"
-        return f"first kill: {'the same victim' if one.victim == other.path else 'another victim'}, {when}"
+        when = (
+            "at the same moment"
+            if not apart
+            else f"{seconds(abs(apart))} s {'later' if apart > 0 else 'earlier'} by {self.name}"
+        )
+        return (
+            f"first kill: {'the same victim' if one.victim == other.path else 'another victim'},"
+            f" {when}"
+        )
 
 
 def compared(program: Program, name: str, trace: str, interval_s: int | None) -> Compared:
     """Replays the trace with a rules file."""
     with contextlib.ExitStack() as files:
         rules, file = accepted(program, name, files)
-        return Compared(name, rules, program.replay(trace, file, Pace(None, interval_s), processors()))
+        kills = program.replay(trace, file, Pace(None, interval_s), processors())
+    return Compared(name, rules, kills)
 
 
 def told_decisions(decisions: list[Decision], is_all: bool) -> Iterator[tuple[int, list[str]]]:
     """The decisions as lines, by their times (ns). If a group is killed for swap in consecutive
     checks, it is listed once.
     """
-    for _, same in itertools.groupby(decisions, key=lambda it: (it.by, it.victim, it.by == SWAP or it.moment)):
+    for _, same in itertools.groupby(
+        decisions, key=lambda it: (it.by, it.victim, it.by == SWAP or it.moment)
+    ):
         first, *others = same
         lines = first.lines(is_all)
         if others:
             gap = lines[-1][: len(lines[-1]) - len(lines[-1].lstrip())]
-            lines.append(f"{gap}again at {len(others)} looks that found new samples, up to {seconds(others[-1].moment)} s")
+            lines.append(
+                f"{gap}again at {len(others)} looks that found new samples, up to"
+                f" {seconds(others[-1].moment)} s"
+            )
         yield first.moment, lines
 
 
@@ -130,10 +133,15 @@ def tell_lines(engine: Engine, other: Compared | None, is_all: bool) -> None:
         print("watched for swap: the machine has none")
     elif swap >= 0:
         limit = percent(engine.swap.settings.limits.swap_used)
-        print(f"watched for swap: at most {percent(swap)} used, at {seconds(moment)} s, with {percent(memory)} of memory; limit {limit}")
+        print(
+            f"watched for swap: at most {percent(swap)} used, at {seconds(moment)} s, with"
+            f" {percent(memory)} of memory; limit {limit}"
+        )
 
 
-def tell_json(engine: Engine, other: Compared | None, given: argparse.Namespace, settings: Settings) -> None:
+def tell_json(
+    engine: Engine, other: Compared | None, given: argparse.Namespace, settings: Settings
+) -> None:
     """Prints JSON for programs."""
     swap, memory, moment = engine.swap.most
     told: dict[str, object] = {
@@ -142,14 +150,24 @@ def tell_json(engine: Engine, other: Compared | None, given: argparse.Namespace,
         "systemd": settings.version,
         "decisions": [it.record() for it in engine.decisions],
         "watched": [it.record() for it in engine.pressure.courses.values()],
-        "swap": {"most_percent": swap / 100, "memory_percent": memory / 100, "at_ns": moment} if swap >= 0 else None,
-        "compared": other and {"rules": other.name, "kills": [other.rules.record(it) for it in other.kills]},
+        "swap": (
+            {"most_percent": swap / 100, "memory_percent": memory / 100, "at_ns": moment}
+            if swap >= 0
+            else None
+        ),
+        "compared": other and {
+            "rules": other.name,
+            "kills": [other.rules.record(it) for it in other.kills],
+        },
     }
     json.dump(told, sys.stdout, indent=1)
     print()
 
 
-def run(given: argparse.Namespace) -> int:
+def work(given: argparse.Namespace) -> int:
+    """Prints what systemd-oomd would have done."""
+    if not given.is_json:
+        show_containers([given.trace], vars(given))
     if given.interval_s and not given.compare:
         raise Fault("--interval-s is of the rules of --compare: systemd-oomd looks each second")
     settings = Settings(given.settings, given.systemd)
@@ -164,4 +182,9 @@ def run(given: argparse.Namespace) -> int:
         tell_json(engine, other, given, settings)
     else:
         tell_lines(engine, other, given.is_all)
-    return TOLD
+    return Status.DONE
+
+
+def main() -> int:
+    """Runs the command; returns the exit status."""
+    return run(lambda: work(parser().parse_args()))

@@ -9,11 +9,11 @@ from __future__ import annotations
 from collections.abc import Iterable
 from dataclasses import dataclass, replace
 
-from psirules.wording import seconds
+from psicli.times import SECOND, seconds
 from psisystemd.candidates import candidates_of, gathered, is_avoided, memory_of
 from psisystemd.settings import Settings
 from psisystemd.told import MEMORY_PRESSURE, SWAP, Candidate, Course, Decision, size
-from psisystemd.values import SECOND, WHOLE, percent
+from psisystemd.values import WHOLE, percent
 from psisystemd.world import Group, World
 from psiworld.groups import ROOT
 
@@ -84,6 +84,9 @@ class PressureRule:
         self.candidates: dict[str, Group] = {}
         """Those of the look before, if some group was above its limit then."""
         self.rests_until = 0
+        self.paused: list[tuple[int, str, int]] = []
+        """When (ns) a watched group's limits were exceeded, but the rule rested until a later time.
+        """
 
     def look(self, now: int, averages: dict[str, int]) -> list[Decision]:
         """The decisions at `now` (ns), from each group's full memory pressure over 10 s in
@@ -92,10 +95,14 @@ class PressureRule:
         self.scans.take(now, self.world)
         self.update(now, averages)
         above = [it for it in self.looks.values() if it.since is not None]
-        targets = sorted((it for it in above if now - (it.since or 0) >= it.duration), key=lambda it: it.group.path)
+        targets = sorted(
+            (it for it in above if now - (it.since or 0) >= it.duration),
+            key=lambda it: it.group.path,
+        )
         found = candidates_of(self.world, self.settings, self.looks) if above else {}
         known, self.candidates = set(self.candidates.values()), found
         if not targets or now < self.rests_until:
+            self.paused += [(now, it.group.path, self.rests_until) for it in targets]
             return []
         decisions = []
         self.candidates = {}
@@ -127,9 +134,16 @@ class PressureRule:
                 continue
             look = before.get(path)
             if not look or look.group is not group:
-                look = Look(group, watched.limit, watched.duration, scanned=sample.scanned if group.made == 0 else 0)
+                look = Look(
+                    group,
+                    watched.limit,
+                    watched.duration,
+                    scanned=sample.scanned if group.made == 0 else 0,
+                )
             self.looks[path] = look
-            if sample.scanned != look.scanned and (sample.scanned > look.scanned or sample.scanned > 0):
+            if sample.scanned != look.scanned and (
+                sample.scanned > look.scanned or sample.scanned > 0
+            ):
                 look.last_scan = now
             look.scanned = sample.scanned
             self.judge(now, look, averages[path])
@@ -141,7 +155,9 @@ class PressureRule:
         else:
             look.since, look.is_told = None, False
         path = look.group.path
-        self.courses.setdefault(path, Course(path, look.limit, look.duration)).take(now, pressure, look.since)
+        self.courses.setdefault(path, Course(path, look.limit, look.duration)).take(
+            now, pressure, look.since
+        )
 
     def why(self, now: int, target: Look, averages: dict[str, int]) -> str:
         path = target.group.path
@@ -154,20 +170,37 @@ class PressureRule:
         if target.is_told:
             return []
         target.is_told = True
-        reason = "the root's scans aren't looked at" if target.group.path == ROOT else f"no scan was seen for {seconds(RECLAIM)} s"
+        reason = (
+            "the root's scans aren't looked at"
+            if target.group.path == ROOT
+            else f"no scan was seen for {seconds(RECLAIM)} s"
+        )
         why = f"{self.why(now, target, averages)}; but {reason}"
         return [Decision(now, None, MEMORY_PRESSURE, target.group.path, why)]
 
-    def decided(self, now: int, target: Look, averages: dict[str, int], known: set[Group]) -> Decision:
+    def decided(
+        self, now: int, target: Look, averages: dict[str, int], known: set[Group]
+    ) -> Decision:
         """The victim, or why there is none. If a group was no candidate at the previous check, all
         pages that it ever scanned count.
         """
         path = target.group.path
         risen = {group: count for group, count in self.scans.risen.items() if group in known}
         found = gathered(self.candidates, self.settings, path, risen)
-        ranked = sorted(found, key=lambda it: (it.preference == "omit", is_avoided(it), -it.scanned, -it.memory, it.path))
+        ranked = sorted(
+            found,
+            key=lambda it: (
+                it.preference == "omit",
+                is_avoided(it),
+                -it.scanned,
+                -it.memory,
+                it.path,
+            ),
+        )
         why = self.why(now, target, averages)
-        return chosen(self.world, Decision(now, None, MEMORY_PRESSURE, path, why, ranked, self.scans.span()))
+        return chosen(
+            self.world, Decision(now, None, MEMORY_PRESSURE, path, why, ranked, self.scans.span())
+        )
 
 
 class SwapRule:
@@ -178,7 +211,9 @@ class SwapRule:
         self.samples = 0
         self.is_told = False
         self.most = (-1, -1, 0)
-        """The greatest share of swap that was used, the share of memory at that moment, and the moment (ns)."""
+        """The greatest share of swap that was used, the share of memory at that moment, and the
+        moment (ns).
+        """
         self.was_watched = self.is_absent = False
 
     def is_due(self) -> bool:
@@ -202,15 +237,24 @@ class SwapRule:
         shares = (used * WHOLE // host.swap, memory)
         self.most = max(self.most, (*shares, now), key=lambda it: it[:2])
         left = WHOLE - limit
-        if not (available < host.memory * left // WHOLE and host.swap_free < host.swap * left // WHOLE):
+        has_memory = available >= host.memory * left // WHOLE
+        if has_memory or host.swap_free >= host.swap * left // WHOLE:
             self.is_told = False
             return []
         found = gathered(candidates_of(self.world, self.settings, watched), self.settings, ROOT, {})
         least = host.swap * LEAST_SWAP_PERCENT // 100
         little = f"not above {LEAST_SWAP_PERCENT} % of swap"
-        judged = [replace(it, passed_over="omit" if it.preference == "omit" else little if it.swap <= least else "") for it in found]
-        ranked = sorted(judged, key=lambda it: (it.preference == "omit", is_avoided(it), -it.swap, it.path))
-        why = f"memory used {percent(shares[1])} and swap used {percent(shares[0])} of {size(host.swap)}, both > {percent(limit)}"
+        judged = []
+        for it in found:
+            why = "omit" if it.preference == "omit" else little if it.swap <= least else ""
+            judged.append(replace(it, passed_over=why))
+        ranked = sorted(
+            judged, key=lambda it: (it.preference == "omit", is_avoided(it), -it.swap, it.path)
+        )
+        why = (
+            f"memory used {percent(shares[1])} and swap used {percent(shares[0])} of"
+            f" {size(host.swap)}, both > {percent(limit)}"
+        )
         decision = chosen(self.world, Decision(now, None, SWAP, ROOT, why, ranked))
         was_told, self.is_told = self.is_told, decision.victim is None
         return [] if was_told and self.is_told else [decision]
@@ -224,7 +268,10 @@ def chosen(world: World, decision: Decision) -> Decision:
     if not first:
         return replace(decision, why=f"{decision.why}; but there is no candidate")
     if not world.groups[first.path].has_tasks():
-        return replace(decision, why=f"{decision.why}; but in {first.path}, which it would choose, nothing runs")
+        return replace(
+            decision,
+            why=f"{decision.why}; but in {first.path}, which it would choose, nothing runs",
+        )
     return replace(decision, victim=first.path)
 
 
@@ -233,7 +280,9 @@ class Engine:
 
     def __init__(self, settings: Settings) -> None:
         self.world = World()
-        self.pressure, self.swap = PressureRule(self.world, settings), SwapRule(self.world, settings)
+        self.pressure, self.swap = PressureRule(self.world, settings), SwapRule(
+            self.world, settings
+        )
         self.decisions: list[Decision] = []
         self.next_look = SWAP_INTERVAL
 

@@ -5,9 +5,10 @@ import difflib
 import os
 from dataclasses import dataclass, replace
 
+from psicli.times import SECOND
 from psirec.systemd import CONFIGURATIONS
 from psisystemd.texts import Setting, drop_ins, settings_of
-from psisystemd.values import SECOND, duration, share
+from psisystemd.values import duration, share
 
 SHARE = "a percentage such as 60%, from 0% to 100%, with at most two decimals"
 DURATION = "a time of at least 1 s, such as 20s or 1min 30s"
@@ -40,7 +41,11 @@ class Limits:
         return replace(self, **{field: value}, places=places)
 
 
-NAMES = {"SwapUsedLimit": "swap_used", "DefaultMemoryPressureLimit": "pressure", "DefaultMemoryPressureDurationSec": "duration"}
+NAMES = {
+    "SwapUsedLimit": "swap_used",
+    "DefaultMemoryPressureLimit": "pressure",
+    "DefaultMemoryPressureDurationSec": "duration",
+}
 
 
 def checked_duration(setting: Setting) -> int | None:
@@ -60,7 +65,10 @@ def unknown(setting: Setting, names: list[str], where: str) -> str:
     """The message that systemd has no such setting there."""
     meant = difflib.get_close_matches(setting.name, names, 1)
     guess = f"; did you mean {meant[0]}?" if meant else ""
-    return f"{setting.place}: there is no setting {setting.name} in {where}, so it is passed over{guess}"
+    return (
+        f"{setting.place}: there is no setting {setting.name} in {where}, so it is passed"
+        f" over{guess}"
+    )
 
 
 def configurations(root: str, version: int) -> list[str]:
@@ -76,7 +84,10 @@ def read_limits(root: str, version: int, notes: list[str]) -> Limits:
     for path in configurations(root, version):
         for setting in settings_of(path):
             if setting.section != SECTION:
-                notes.append(f"{setting.place}: {setting.name} stands in [{setting.section}], and means nothing outside of [{SECTION}]")
+                notes.append(
+                    f"{setting.place}: {setting.name} stands in [{setting.section}], and means"
+                    f" nothing outside of [{SECTION}]"
+                )
             elif setting.name in NAMES:
                 limits = limits.changed(setting)
             else:

@@ -11,10 +11,10 @@ import tempfile
 from collections.abc import Iterable, Iterator
 from dataclasses import dataclass
 
-from psireplay.command import Fault as ReplayFault
+from psicli.fault import Fault
+from psicli.wording import listed
 from psireplay.lines import Report, read
 from psirules.program import Kill, Program, Refusal
-from psirules.wording import Fault, listed
 from psisystemd.engine import Engine
 from psisystemd.settings import Settings
 from psisystemd.told import MEMORY_PRESSURE, SWAP, Decision
@@ -57,7 +57,11 @@ def kept(printed: Iterable[bytes], settings: Settings) -> Iterator[bytes]:
     for line in printed:
         if line[:5] not in (b"some ", b"full "):
             words = line.split(b" ")
-            is_kept = words[0] != b"report" or words[3] == b"memory\n" and is_needed(words[2].decode("latin-1"), settings)
+            is_kept = (
+                words[0] != b"report"
+                or words[3] == b"memory\n"
+                and is_needed(words[2].decode("latin-1"), settings)
+            )
         if is_kept:
             yield line
 
@@ -90,28 +94,38 @@ def decide(engine: Engine, trace: str, seconds: Iterator[Second]) -> None:
 
 def replayed(program: Program, trace: str, settings: Settings, threads: int) -> Engine:
     """What systemd-oomd would have done in a trace with these settings; or an error."""
-    words = ["replay", f"--tick-ms={LOOK_MS}", "--report-s=1", f"--workers={min(threads, 64)}", "--", trace]
+    words = [
+        "replay",
+        f"--tick-ms={LOOK_MS}",
+        "--report-s=1",
+        f"--workers={min(threads, 64)}",
+        "--",
+        trace,
+    ]
     engine = Engine(settings)
     with tempfile.TemporaryFile() as said:
         with program.started(words, said) as child:
             assert child.stdout is not None
             first = child.stdout.readline()
             if first:
-                try:
-                    decide(engine, trace, seconds_of(itertools.chain([first], child.stdout), settings))
-                except ReplayFault as fault:
-                    raise Fault(str(fault)) from fault
+                decide(engine, trace, seconds_of(itertools.chain([first], child.stdout), settings))
         if child.returncode:
             said.seek(0)
-            raise Refusal(trace, said.read(4096).decode("utf-8", "replace").strip(), child.returncode)
+            raise Refusal(
+                trace, said.read(4096).decode("utf-8", "replace").strip(), child.returncode
+            )
         if not first:
-            raise Fault(f"{program.path} printed no replay: let the variable PSI_OOMD name a psi_oomd")
+            raise Fault(
+                f"{program.path} printed no replay: let the variable PSI_OOMD name a psi_oomd"
+            )
     return engine
 
 
 def kills_of(decisions: Iterable[Decision]) -> list[Kill]:
     """The kills in the form of replays: the name of the rule takes the place of the ruleset."""
-    return [Kill(it.moment, BY.index(it.by), 0, it.victim) for it in decisions if it.victim is not None]
+    return [
+        Kill(it.moment, BY.index(it.by), 0, it.victim) for it in decisions if it.victim is not None
+    ]
 
 
 def warnings(engine: Engine, settings: Settings) -> list[str]:
@@ -120,11 +134,20 @@ def warnings(engine: Engine, settings: Settings) -> list[str]:
     pressure, swap = engine.pressure, engine.swap
     unread = sorted(pressure.unread - set(pressure.courses))
     if unread:
-        found.append(f"the trace has no sample of the memory of {listed(unread)}: what is watched there isn't known")
+        found.append(
+            f"the trace has no sample of the memory of {listed(unread)}: what is watched there"
+            " isn't known"
+        )
     elif not (pressure.courses or swap.was_watched):
-        found.append("no group of the trace is watched: no unit of the settings with `kill` is one of its groups")
+        found.append(
+            "no group of the trace is watched: no unit of the settings with `kill` is one of its"
+            " groups"
+        )
     if ROOT in pressure.courses:
-        found.append("/ is watched for memory pressure, by which systemd-oomd never kills: it doesn't look at the root's scans")
+        found.append(
+            "/ is watched for memory pressure, by which systemd-oomd never kills: it doesn't look"
+            " at the root's scans"
+        )
     if swap.was_watched and swap.most[0] < 0 and not swap.is_absent:
         found.append("swap can't be judged: the trace has no `host` line, or no `mem` line of /")
     return found

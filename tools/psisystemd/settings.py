@@ -10,8 +10,8 @@ import os
 import re
 from dataclasses import dataclass, replace
 
+from psicli.fault import Fault
 from psirec.systemd import CONFIGURATIONS, GROUPS, SYSTEM_UNITS, UNITS, USER_UNITS, VERSION
-from psirules.wording import Fault
 from psisystemd.limits import Limits, read_limits
 from psisystemd.texts import text_at
 from psisystemd.units import TYPES, Unit, UnitFiles, shown_units
@@ -52,7 +52,10 @@ def version_of(path: str) -> int:
     """
     found = re.match(r"systemd ([0-9]{1,4})\b", text_at(path))
     if not found:
-        raise Fault(f"{path} line 1: it isn't what `systemctl --version` says: give the version by --systemd")
+        raise Fault(
+            f"{path} line 1: it isn't what `systemctl --version` says: give the version by"
+            " --systemd"
+        )
     return int(found[1])
 
 
@@ -62,7 +65,10 @@ def recorded_groups(path: str) -> dict[str, Attributes]:
     for number, line in enumerate(text_at(path).splitlines(), 1):
         found = GROUP_LINE.fullmatch(line)
         if not found:
-            raise Fault(f"{path} line {number}: it is no group as tools/record writes it: PATH uid=0 oom_group=0 avoid=0 omit=0")
+            raise Fault(
+                f"{path} line {number}: it is no group as tools/record writes it: PATH uid=0"
+                " oom_group=0 avoid=0 omit=0"
+            )
         preference = "omit" if found[5] == "1" else "avoid" if found[4] == "1" else "none"
         groups[found[1]] = Attributes(int(found[2]), found[3] == "1", preference)
     return groups
@@ -74,15 +80,28 @@ class Settings:
     def __init__(self, root: str, version: int | None = None) -> None:
         self.root = root
         if not os.path.isdir(root):
-            raise Fault(f"{root}: it is no folder: give what tools/record stored as `systemd`, or files as from a machine's root on")
+            raise Fault(
+                f"{root}: it is no folder: give what tools/record stored as `systemd`, or files as"
+                " from a machine's root on"
+            )
         self.notes: list[str] = []
-        has = {name: os.path.join(root, name) for name in (VERSION, UNITS, GROUPS) if os.path.isfile(os.path.join(root, name))}
+        has = {
+            name: os.path.join(root, name)
+            for name in (VERSION, UNITS, GROUPS)
+            if os.path.isfile(os.path.join(root, name))
+        }
         self.version = version or (version_of(has[VERSION]) if VERSION in has else NEWEST)
         known = (*CONFIGURATIONS, *SYSTEM_UNITS, *USER_UNITS)
         if not has and not any(os.path.isdir(os.path.join(root, it)) for it in known):
-            raise Fault(f"{root}: it has no settings of systemd: no `{UNITS}` of tools/record, and none of {', '.join(known[:5])}")
+            raise Fault(
+                f"{root}: it has no settings of systemd: no `{UNITS}` of tools/record, and none of"
+                f" {', '.join(known[:5])}"
+            )
         self.limits: Limits = read_limits(root, self.version, self.notes)
-        self.files = {is_users: UnitFiles(root, is_users, self.version, self.notes) for is_users in (False, True)}
+        self.files = {
+            is_users: UnitFiles(root, is_users, self.version, self.notes)
+            for is_users in (False, True)
+        }
         self.shown = shown_units(has[UNITS], self.version) if UNITS in has else {}
         self.groups = recorded_groups(has[GROUPS]) if GROUPS in has else {}
         self.units: dict[str, Unit] = {}
@@ -107,7 +126,9 @@ class Settings:
         if path not in self.watches:
             unit = self.unit(path)
             limit = self.limits.pressure if unit.limit is None else unit.limit
-            self.watches[path] = Watched(unit.swap, unit.pressure, limit, unit.duration or self.limits.duration)
+            self.watches[path] = Watched(
+                unit.swap, unit.pressure, limit, unit.duration or self.limits.duration
+            )
         return self.watches[path]
 
     def is_whole(self, path: str) -> bool:

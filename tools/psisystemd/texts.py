@@ -8,7 +8,8 @@ import re
 from collections.abc import Iterator
 from dataclasses import dataclass
 
-from psirules.wording import Fault, quoted
+from psicli.fault import Fault
+from psicli.wording import quoted
 
 
 @dataclass(frozen=True)
@@ -77,7 +78,10 @@ def settings_of(path: str) -> Iterator[Setting]:
         if not is_there or not name.strip():
             raise Fault(f"{place}: {quoted(line)} is no setting: write NAME=VALUE")
         if not section:
-            raise Fault(f"{place}: {name.strip()} stands before any section, so it is passed over: write [OOM], or [Slice], above")
+            raise Fault(
+                f"{place}: {name.strip()} stands before any section, so it is passed over: write"
+                " [OOM], or [Slice], above"
+            )
         yield Setting(place, section, name.strip(), value.strip())
 
 

@@ -3,7 +3,7 @@ from __future__ import annotations
 
 from dataclasses import dataclass, field
 
-from psirules.wording import seconds
+from psicli.times import seconds
 from psisystemd.values import percent
 
 MEMORY_PRESSURE, SWAP = "memory pressure", "swap"
@@ -38,8 +38,16 @@ class Candidate:
     def told(self, by: str, span: str) -> str:
         """The values by which it was ranked."""
         span = " ever" if self.is_new else span
-        rank = f"scanned {self.scanned} pages{span}, memory {size(self.memory)}" if by == MEMORY_PRESSURE else f"swap {size(self.swap)}"
-        return ", ".join(filter(None, [rank, self.passed_over or ("avoid" if self.preference == "avoid" else "")]))
+        rank = (
+            f"scanned {self.scanned} pages{span}, memory {size(self.memory)}"
+            if by == MEMORY_PRESSURE
+            else f"swap {size(self.swap)}"
+        )
+        return ", ".join(
+            filter(
+                None, [rank, self.passed_over or ("avoid" if self.preference == "avoid" else "")]
+            )
+        )
 
 
 @dataclass(frozen=True)
@@ -63,7 +71,10 @@ class Decision:
         chosen = next((it for it in self.candidates if it.path == self.victim), None)
         others = [it for it in self.candidates if it is not chosen]
         shown = others if is_all else others[:MOST_TOLD]
-        told = [f"{when}  would kill {self.victim}" if self.victim else f"{when}  would kill nobody", f"{gap}{self.why}"]
+        told = [
+            f"{when}  would kill {self.victim}" if self.victim else f"{when}  would kill nobody",
+            f"{gap}{self.why}",
+        ]
         if chosen:
             told.append(f"{gap}chosen: {chosen.told(self.by, self.span)}")
         told += [f"{gap}not {it.path}: {it.told(self.by, self.span)}" for it in shown]
@@ -74,12 +85,14 @@ class Decision:
     def record(self) -> dict[str, object]:
         """The decision for JSON."""
         candidates = [
-            {"path": it.path, "scanned": it.scanned, "memory": it.memory, "swap": it.swap, "preference": it.preference,
+            {"path": it.path, "scanned": it.scanned, "memory": it.memory, "swap": it.swap,
+            "preference": it.preference,
              "passed_over": it.passed_over or None}
             for it in self.candidates
         ]  # fmt: skip
         return {
-            "moment_ns": self.moment, "victim": self.victim, "by": self.by, "watched": self.watched, "why": self.why,
+            "moment_ns": self.moment, "victim": self.victim, "by": self.by, "watched": self.watched,
+            "why": self.why,
             "candidates": candidates,
         }  # fmt: skip
 
@@ -105,12 +118,23 @@ class Course:
             self.longest = max(self.longest or 0, moment - since)
 
     def told(self) -> str:
-        above = "never above it" if self.longest is None else f"above it for {seconds(self.longest)} s at most"
+        above = (
+            "never above it"
+            if self.longest is None
+            else f"above it for {seconds(self.longest)} s at most"
+        )
         limits = f"limit {percent(self.limit)} for {seconds(self.duration)} s"
-        return f"{self.path}: at most {percent(self.most)}, at {seconds(self.most_at)} s; {limits}, {above}"
+        return (
+            f"{self.path}: at most {percent(self.most)}, at {seconds(self.most_at)} s; {limits},"
+            f" {above}"
+        )
 
     def record(self) -> dict[str, object]:
         return {
-            "path": self.path, "limit_percent": self.limit / 100, "duration_ns": self.duration, "most_percent": self.most / 100,
-            "most_at_ns": self.most_at, "longest_above_ns": self.longest,
-        }  # fmt: skip
+            "path": self.path,
+            "limit_percent": self.limit / 100,
+            "duration_ns": self.duration,
+            "most_percent": self.most / 100,
+            "most_at_ns": self.most_at,
+            "longest_above_ns": self.longest,
+        }

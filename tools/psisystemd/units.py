@@ -9,12 +9,13 @@ from collections.abc import Iterator
 from dataclasses import dataclass, field, replace
 from typing import TypeVar
 
+from psicli.fault import Fault
+from psicli.times import SECOND
 from psirec.layout import escaped_path
 from psirec.systemd import SYSTEM_UNITS, USER_UNITS
-from psirules.wording import Fault
 from psisystemd.limits import DURATION, SHARE, checked_duration, unknown
 from psisystemd.texts import Setting, drop_ins, settings_of, text_at
-from psisystemd.values import SECOND, duration, share, share_of_scale
+from psisystemd.values import duration, share, share_of_scale
 
 TYPES = ("service", "slice", "scope")
 """The types of units that may have such settings."""
@@ -56,7 +57,11 @@ class Unit:
         places = {**self.places, setting.name: setting.place}
         if setting.name in (SWAP, PRESSURE):
             is_on = chosen(setting, MODES, "auto")
-            return replace(self, swap=is_on, places=places) if setting.name == SWAP else replace(self, pressure=is_on, places=places)
+            return (
+                replace(self, swap=is_on, places=places)
+                if setting.name == SWAP
+                else replace(self, pressure=is_on, places=places)
+            )
         if setting.name == LIMIT:
             found = share(setting.value) if setting.value else 0
             if found is None:
@@ -70,7 +75,11 @@ class Unit:
         if setting.name == PREFERENCE:
             if not setting.value:
                 return self
-            return replace(self, preference=chosen(setting, dict(zip(PREFERENCES, PREFERENCES)), "none"), places=places)
+            return replace(
+                self,
+                preference=chosen(setting, dict(zip(PREFERENCES, PREFERENCES)), "none"),
+                places=places,
+            )
         if setting.name == POLICY:
             policy = chosen(setting, {it: it == "kill" for it in POLICIES}, "stop")
             return replace(self, is_whole=policy, places=places)
@@ -142,7 +151,12 @@ class UnitFiles:
 
     def paths(self, name: str, kind: str) -> list[str]:
         """The unit's file, or that of its template, and then its drop-in files."""
-        files = [os.path.join(self.root, it, one) for one in (name, template_of(name)) if one for it in self.folders]
+        files = [
+            os.path.join(self.root, it, one)
+            for one in (name, template_of(name))
+            if one
+            for it in self.folders
+        ]
         mains = [it for it in files if os.path.exists(it)][:1]
         folders = [f"{it}/{one}.d" for it in self.folders for one in drop_in_names(name)]
         return mains + drop_ins(self.root, folders + [f"{it}/{kind}.d" for it in self.folders])
@@ -152,12 +166,22 @@ class UnitFiles:
         notes.
         """
         if setting.name == DURATION_OF_UNIT and self.version < OWN_DURATION:
-            self.note(f"{setting.place}: {setting.name} means nothing before systemd {OWN_DURATION}")
+            self.note(
+                f"{setting.place}: {setting.name} means nothing before systemd {OWN_DURATION}"
+            )
         elif setting.name == PREFERENCE and not setting.value:
-            self.note(f"{setting.place}: {setting.name} is empty: systemd ignores that, and keeps what was set before")
+            self.note(
+                f"{setting.place}: {setting.name} is empty: systemd ignores that, and keeps what"
+                " was set before"
+            )
         elif setting.name.startswith("ManagedOOM") and setting.name not in NAMES:
             self.note(unknown(setting, list(NAMES), "units"))
-        return setting.name in NAMES or setting.name == "Slice" or setting.name == POLICY and kind != "slice"
+        return (
+            setting.name in NAMES
+            or setting.name == "Slice"
+            or setting.name == POLICY
+            and kind != "slice"
+        )
 
     def note(self, text: str) -> None:
         if text not in self.notes:
@@ -186,7 +210,9 @@ def shown_units(path: str, version: int) -> dict[str, tuple[str, Unit]]:
     for number, line in enumerate([*text_at(path).splitlines(), ""], 1):
         name, is_there, value = line.partition("=")
         if line and not is_there:
-            raise Fault(f"{path} line {number}: it is no line of `systemctl show`, which are NAME=VALUE")
+            raise Fault(
+                f"{path} line {number}: it is no line of `systemctl show`, which are NAME=VALUE"
+            )
         if line:
             block.append(Setting(f"{path} line {number}", "", name, value))
         elif block:
@@ -211,9 +237,15 @@ def shown_unit(shown: dict[str, Setting], version: int) -> Unit:
             raise shown[LIMIT].fault("a number up to 4294967295, which is 100%")
         unit = replace(unit, limit=limit or None, places={**unit.places, LIMIT: shown[LIMIT].place})
     setting = shown.get(SHOWN_DURATION)
-    if setting and version >= OWN_DURATION and not re.fullmatch(r"infinity|\[not set\]|", setting.value):
+    if (
+        setting
+        and version >= OWN_DURATION
+        and not re.fullmatch(r"infinity|\[not set\]|", setting.value)
+    ):
         found = duration(setting.value)
         if found is None or found < SECOND:
             raise setting.fault(DURATION)
-        unit = replace(unit, duration=found, places={**unit.places, DURATION_OF_UNIT: setting.place})
+        unit = replace(
+            unit, duration=found, places={**unit.places, DURATION_OF_UNIT: setting.place}
+        )
     return unit

@@ -4,7 +4,8 @@ from __future__ import annotations
 import re
 from decimal import Decimal
 
-SECOND = 10**9
+from psicli.times import SECOND
+
 WHOLE = 10000
 """All of it, in hundredths of a percent, as all shares are here."""
 SCALE = (1 << 32) - 1
@@ -22,7 +23,10 @@ UNITS = {
     "d": 86400 * SECOND, "day": 86400 * SECOND, "days": 86400 * SECOND,
     "w": 604800 * SECOND, "week": 604800 * SECOND, "weeks": 604800 * SECOND,
 }  # fmt: skip
-TRUTHS = {**dict.fromkeys(("1", "yes", "y", "true", "t", "on"), True), **dict.fromkeys(("0", "no", "n", "false", "f", "off"), False)}
+TRUTHS = {
+    **dict.fromkeys(("1", "yes", "y", "true", "t", "on"), True),
+    **dict.fromkeys(("0", "no", "n", "false", "f", "off"), False),
+}
 
 
 def share(text: str) -> int | None:

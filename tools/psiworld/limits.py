@@ -10,5 +10,7 @@ MOST_PROCESSORS = 64
 MOST_LABEL, MOST_MEMORY = 2**32 - 1, 2**60
 # The latest time (ns): a trace has at most a million ticks, and a tick is at most 60 s.
 MOST_TIME = 10**6 * 60 * 10**9
+# The longest time (ns) that one line of interrupts may have.
+MOST_INTERRUPTS = 10**9
 # A trigger's window, us.
 LEAST_WINDOW, MOST_WINDOW = 500_000, 10_000_000

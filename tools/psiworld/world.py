@@ -9,13 +9,14 @@ from __future__ import annotations
 from collections import Counter
 from enum import Enum, auto
 
+from psinames.busy import Clocks
+from psinames.lives import Life
+
 from .groups import ROOT, Groups, parent_of
-from .limits import MOST_LABEL
+from .limits import MOST_INTERRUPTS, MOST_LABEL
 
 # A label is the kernel's number of the task; if that is in use, this is added to it.
 LABEL_STEP = 100_000_000
-# The longest time (ns) that one line of interrupts may have.
-MOST_INTERRUPTS = 10**9
 
 
 class State(Enum):
@@ -43,13 +44,14 @@ class How(Enum):
 
 class Task:
     """A task of the trace: its label there, its group's path, its processor, what it does, whether
-    it is in a memory stall, and the number of its process.
+    it is in a memory stall, the number of its process, and its life.
     """
 
-    __slots__ = ("label", "group", "processor", "state", "is_stalled", "process")
+    __slots__ = ("label", "group", "processor", "state", "is_stalled", "process", "life")
 
-    def __init__(self, label: int, group: str, processor: int, process: int) -> None:
-        self.label, self.group, self.processor, self.process = label, group, processor, process
+    def __init__(self, label: int, group: str, processor: int, life: Life) -> None:
+        self.label, self.group, self.processor, self.process = label, group, processor, life.process
+        self.life = life
         self.state, self.is_stalled = State.READY, False
 
     def is_on(self, processor: int, state: State) -> bool:
@@ -81,6 +83,11 @@ class World:
         self.tasks: dict[int, Task] = {}
         self.runs: dict[int, int] = {}
         self.labels: set[int] = set()
+        # The lives of all tasks so far; the names of tasks that aren't met yet; and, if they are
+        # wanted, the clocks of who ran.
+        self.lives: list[Life] = []
+        self.names: dict[int, str] = {}
+        self.clocks: Clocks | None = None
         # The lines to write once a group is created.
         self.upon: dict[str, list[str]] = {}
         self.mended: Counter[str] = Counter()
@@ -137,6 +144,8 @@ class World:
     def move(self, task: Task, path: str) -> None:
         """Moves the task to an existing group."""
         before, task.group = task.group, path
+        if self.clocks and task.state is State.RUNNING:
+            self.clocks.run(task.processor, path, task.life, self.now)
         self.groups.enter(path)
         self.put(f"move {task.label} {path}")
         self.leave_group(before)
@@ -175,11 +184,22 @@ class World:
             self.vanish(number)
         place = self.make_group(path)
         label, processor = self.free_label(number), self.place_of(processor)
-        task = self.tasks[number] = Task(label, place, processor, process)
+        life = self.begun_life(label, number, process)
+        task = self.tasks[number] = Task(label, place, processor, life)
         self.labels.add(label)
         self.groups.enter(place)
         self.put(f"fork {label} {place} {processor}")
         return task
+
+    def begun_life(self, label: int, number: int, process: int) -> Life:
+        """The life of a new task."""
+        first = self.tasks.get(process) if process != number else None
+        life = Life(label, self.now, number, process, first.life.leader if first else None)
+        name = self.names.pop(number, None)
+        if name is not None:
+            life.rename(self.now, name)
+        self.lives.append(life)
+        return life
 
     def free_label(self, number: int) -> int:
         """A label for a task in the trace: the kernel's number, unless another task has it or a
@@ -241,6 +261,9 @@ class World:
             label, comes.state = comes.label, State.RUNNING
         self.lines.append(f"{self.now} switch {processor} {label} {how.word if leaves else 'idle'}")
         self.runs[processor] = following
+        if self.clocks:
+            runs = (comes.group, comes.life) if following else ("", None)
+            self.clocks.run(processor, *runs, self.now)
         if leaves and how.after:
             leaves.state = how.after
         elif leaves:
@@ -259,6 +282,7 @@ class World:
     def forget(self, number: int) -> None:
         """Removes the task from the trace."""
         task = self.tasks.pop(number)
+        task.life.last = self.now
         self.labels.discard(task.label)
         self.leave_group(task.group)
 
@@ -293,5 +317,6 @@ class World:
         for task, new in ((one, other), (two, number)):
             if task:
                 self.tasks[new] = task
+                task.life.renumber(new)
         changed = {number: other, other: number}
         self.runs = {processor: changed.get(who, who) for processor, who in self.runs.items()}

@@ -9,27 +9,19 @@ import tempfile
 from collections.abc import Iterator
 from typing import IO, NamedTuple
 
-from psireplay.command import Fault
-from psireplay.kinds import why_refused
-from psireplay.program import ADVICE, LAUNCHER, TOP, built_program, program_path
+from psicli.fault import Fault
+from psicli.status import ProgramStatus, Status
+
+from .kinds import why_refused
+from .program import ADVICE, LAUNCHER, TOP, built_program, program_path
 
 PROGRAM = "psi_oomd"
 
 
-class Stop(Fault):
-    """Why no page is written, with the status of the command that failed, or the tool's own."""
-
-    def __init__(self, status: int, message: str) -> None:
-        super().__init__(message)
-        self.status = status
-
-
-WORDS, NO_FILE, READ, NO_GROUP, NO_PROGRAM = 1, 4, 5, 11, 70
-
-
 class Done(NamedTuple):
-    """A command that was run: its number on the page, its words, its status, and what it said on standard error; and the file that was
-    made for it, if one was."""
+    """A command that was run: its number on the page, its words, its status, and what it said on
+    standard error; and the file that was made for it, if one was.
+    """
 
     number: int
     words: str
@@ -54,16 +46,20 @@ def refused_file(words: list[str], said: str) -> str:
 
 
 class Runs:
-    """Runs psi_oomd and the tools beside this one. Standard output goes into files, since that of a replay can be long."""
+    """Runs psi_oomd and the tools beside this one. Standard output goes into files, since that of a
+    replay can be long.
+    """
 
     def __init__(self) -> None:
         path = program_path()
         try:
             self.path = built_program(path) if path == LAUNCHER else path
         except OSError as fault:
-            raise Stop(NO_PROGRAM, f"{path} can't be run ({fault.strerror}): {ADVICE}") from None
+            raise Fault(
+                f"{path} can't be run ({fault.strerror}): {ADVICE}", ProgramStatus.NOT_BUILT
+            ) from None
         except Fault as fault:
-            raise Stop(NO_PROGRAM, str(fault)) from None
+            raise Fault(str(fault), ProgramStatus.NOT_BUILT) from None
         self.done: list[Done] = []
 
     def program(self, *words: str) -> Done:
@@ -80,11 +76,14 @@ class Runs:
         try:
             done = subprocess.run(words, stdout=output, stderr=subprocess.PIPE, env=environment)
         except OSError as fault:
-            raise Stop(NO_PROGRAM, f"{words[0]} can't be run ({fault.strerror}): {ADVICE}") from None
+            raise Fault(
+                f"{words[0]} can't be run ({fault.strerror}): {ADVICE}", ProgramStatus.NOT_BUILT
+            ) from None
         said = done.stderr.decode("utf-8", "replace").strip()
         if done.returncode not in taken:
             said = why_refused(said, refused_file(words, said))
-            raise Stop(max(1, done.returncode), f"{shlex.join(told)}: {said or f'its status is {done.returncode}'}")
+            status = done.returncode if done.returncode > 0 else Status.FAILED
+            raise Fault(f"{shlex.join(told)}: {said or f'its status is {done.returncode}'}", status)
         found = Done(len(self.done) + 1, shlex.join(told), done.returncode, said, output)
         self.done.append(found)
         return found

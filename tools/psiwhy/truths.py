@@ -1,7 +1,9 @@
-"""When detectors were true, by psi_oomd itself: rulesets that have one detector each, and kill whenever it is true.
+"""When detectors were true, by psi_oomd itself: rulesets with one detector each, which kill
+whenever it is true.
 
-A kill changes nothing else in a replay, and an action that rests for 0 s kills at each evaluation. So where such a ruleset kills, its
-detector was true then. It kills the root, which there is as long as some task is alive: without one nobody can be killed anyway.
+A kill changes nothing else in a replay, and an action that rests for 0 s kills at each evaluation.
+So when such a ruleset kills, its detector was true. It kills the root, which is a candidate as long
+as some task is live: without one nobody can be killed anyway.
 """
 from __future__ import annotations
 
@@ -13,7 +15,7 @@ from typing import Any, NamedTuple
 
 from psireplay.lines import Kill, read
 
-from .runs import Runs
+from psireplay.runs import Runs
 
 # A rules file has so many rulesets at most.
 MOST = 64
@@ -22,8 +24,9 @@ Detector = dict[str, Any]
 
 
 class Place(NamedTuple):
-    """A ruleset, one of its groups of detectors, a detector of it, by numbers from 0; -1 stands for all. `held` says that its
-    condition is looked at without its duration."""
+    """A ruleset, one of its groups of detectors, a detector of it, by numbers from 0; -1 is for
+    all. With `held` its condition is evaluated without its duration.
+    """
 
     ruleset: int
     group: int = -1
@@ -41,8 +44,11 @@ def without_duration(detector: Detector) -> Detector:
 
 
 def has_duration(detector: Detector) -> bool:
-    """Whether the condition must hold for a while; of memory_reclaim it is how long a rise counts."""
-    return detector["name"] != "memory_reclaim" and detector["args"].get("duration", "0") != "0"
+    """Whether the condition must hold for a while; for memory_reclaim it is how long a rise counts.
+    """
+    return bool(
+        detector["name"] != "memory_reclaim" and detector["args"].get("duration", "0") != "0"
+    )
 
 
 def questions(rulesets: list[dict[str, Any]]) -> Iterator[tuple[Place, list[list[Any]]]]:
@@ -65,7 +71,11 @@ def truths(runs: Runs, rulesets: list[dict[str, Any]], trace: str, pace: list[st
     with tempfile.TemporaryDirectory() as folder:
         for first in range(0, len(asked), MOST):
             part = asked[first : first + MOST]
-            rules = {"rulesets": [{"name": str(it), "detectors": it[1], "actions": [KILL]} for it in part]}
+            rules = {
+                "rulesets": [
+                    {"name": str(it), "detectors": it[1], "actions": [KILL]} for it in part
+                ]
+            }
             name = os.path.join(folder, "detectors.json")
             with open(name, "w", encoding="utf-8") as file:
                 json.dump(rules, file)
@@ -74,7 +84,9 @@ def truths(runs: Runs, rulesets: list[dict[str, Any]], trace: str, pace: list[st
                 if isinstance(line, Kill):
                     found[part[line.ruleset][0]].append(line.moment)
             told = json.dumps(rules)
-            runs.done[-1] = done._replace(words=done.words.replace(name, "DETECTORS.json"), given=told)
+            runs.done[-1] = done._replace(
+                words=done.words.replace(name, "DETECTORS.json"), given=told
+            )
     return found
 
 
@@ -85,7 +97,11 @@ def spans(moments: list[int], evaluations: list[int]) -> list[tuple[int, int]]:
     last = -2
     for moment in moments:
         place = places[moment]
-        found = [*found[:-1], (found[-1][0], moment)] if place == last + 1 else [*found, (moment, moment)]
+        found = (
+            [*found[:-1], (found[-1][0], moment)]
+            if place == last + 1
+            else [*found, (moment, moment)]
+        )
         last = place
     return found
 

@@ -1,12 +1,12 @@
-"""How near each detector came to its threshold: the highest of what it looks at, at the evaluations of the rules."""
+"""How near each detector came to its threshold: the highest value at the evaluations."""
 from __future__ import annotations
 
 from typing import Any, Iterable, NamedTuple, Optional
 
+from psicli.times import SECOND, seconds
 from psireplay.lines import Report, read
 from psireplay.program import opened
 from psireplay.rules import Plugin, argument, size
-from psireplay.times import seconds
 
 Looked = dict[str, "Group"]
 # The detectors of pressure, each with the seconds over which its average is.
@@ -14,8 +14,10 @@ PRESSURE = {"pressure_above": 10, "pressure_rising_beyond": 60}
 
 
 class Group(NamedTuple):
-    """What a group has at an evaluation: full averages of IO and of memory over 10 and 60 s in hundredths of a percent, its memory in
-    bytes where there was a sample, and by how many pages its count of scanned ones rose since the evaluation before."""
+    """What a group has at an evaluation: full averages of IO and of memory over 10 and 60 s in
+    hundredths of a percent, its memory in bytes if there was a sample, and how many pages were
+    scanned since the evaluation before.
+    """
 
     full: dict[tuple[str, str], int]
     memory: Optional[int]
@@ -38,11 +40,13 @@ class Memory:
         self.before: dict[str, int] = {}
         self.host: Optional[tuple[int, int, int]] = None
         with opened(trace) as file:
-            self.lines = [line for line in file if line.split(b" ", 2)[1] in (b"mem", b"host", b"rmgroup")]
+            self.lines = [
+                line for line in file if line.split(b" ", 2)[1] in (b"mem", b"host", b"rmgroup")
+            ]
         self.place = 0
 
     def go_to(self, moment: int, live: Iterable[str]) -> None:
-        """Takes the samples up to a moment (ns), at which an evaluation is. At the one before these groups were live."""
+        """Takes the samples up to an evaluation (ns); at the one before these groups were live."""
         self.before = {path: self.now.get(path, (0, 0))[1] for path in live}
         while self.place < len(self.lines):
             at, verb, *fields = self.lines[self.place].decode("latin-1").split()
@@ -69,9 +73,14 @@ class Watch:
     """A detector, and the nearest that it came to what it waits for."""
 
     def __init__(self, detector: dict[str, Any]) -> None:
-        self.plugin = Plugin(detector["name"], {key: argument(it) for key, it in detector["args"].items()})
+        self.plugin = Plugin(
+            detector["name"], {key: argument(it) for key, it in detector["args"].items()}
+        )
         self.nearest: Optional[Nearest] = None
         self.has_matched = self.lacks_swap = False
+        # The longest time (ns) for which a pressure was above the threshold, by printed digits.
+        self.hold = 0
+        self.since: Optional[int] = None
 
     def look(self, moment: int, groups: Looked, memory: Memory) -> None:
         """Looks at an evaluation."""
@@ -81,9 +90,17 @@ class Watch:
             if memory.host and memory.host[1]:
                 self.take(-100 * 100 * memory.host[2] // memory.host[1], moment, "")
             return
-        for path, group in groups.items():
-            if self.plugin.covers(path):
-                self.take(self.value(group), moment, path)
+        values = {
+            path: self.value(group) for path, group in groups.items() if self.plugin.covers(path)
+        }
+        for path, value in values.items():
+            self.take(value, moment, path)
+        if name in PRESSURE:
+            is_above = max((it or 0 for it in values.values()), default=0) > 100 * int(
+                self.plugin.args["threshold"]
+            )
+            self.since = (moment if self.since is None else self.since) if is_above else None
+            self.hold = max(self.hold, moment - self.since) if self.since is not None else self.hold
 
     def value(self, group: Group) -> Optional[int]:
         name, args = self.plugin
@@ -99,7 +116,9 @@ class Watch:
             self.nearest = Nearest(value, moment, path)
 
     def part(self, host: Optional[int]) -> float:
-        """Which part of the way to its threshold it went at most, from 0 to 1. The host's memory is in bytes."""
+        """Which part of the way to its threshold it went at most, from 0 to 1, on a host with this
+        memory (bytes).
+        """
         name, args = self.plugin
         if self.nearest is None or name == "exists":
             return 0.0
@@ -108,50 +127,76 @@ class Watch:
             return reached(value, int(args["threshold"]) * 100)
         if name == "memory_above":
             return reached(value, size(args["threshold"], host) or 0)
-        return reached(100 * int(args["threshold_pct"]), -value) if name == "swap_free" else float(value > 0)
+        return (
+            reached(100 * int(args["threshold_pct"]), -value)
+            if name == "swap_free"
+            else float(value > 0)
+        )
 
-    def nearest_told(self, host: Optional[int]) -> str:
-        """The nearest value beside the threshold, in a sentence's words."""
+    def nearest_told(self, host: Optional[int], hold: int) -> str:
+        """The nearest value, and how far it is from the threshold, or the longest time (ns) for
+        which the condition held from the duration; in a sentence's words.
+        """
         name, args = self.plugin
         if self.nearest is None or name in ("exists", "memory_reclaim"):
             return self.came(host)
         value, moment, path = self.nearest
         at = f"at {seconds(moment)} s"
         if name in PRESSURE:
-            what = f"full {args['resource']} pressure of {path} over {PRESSURE[name]} s was {share(value)} percent {at}"
-            limit = int(args["threshold"])
-            return f"{what}, with a threshold of {limit}{lasting(args) if value > 100 * limit else ''}"
+            what = f"full {args['resource']} pressure of {path} over {PRESSURE[name]} s"
+            what += f" was {share(value)} percent {at}"
+            limit = 100 * int(args["threshold"])
+            far = f"{share(limit - value)} below" if value <= limit else "above"
+            missing = short_of(args, hold, value > limit)
+            return f"{what}, {far} the threshold of {args['threshold']}{missing}"
         if name == "memory_above":
-            return f"memory of {path} was {mebibytes(value)} MiB {at}, with a threshold of {args['threshold']}"
-        return f"{share(-value)} percent of the swap was free {at}, with a threshold of {args['threshold_pct']}"
+            what, level = f"memory of {path} was {mebibytes(value)} MiB {at}", size(
+                args["threshold"], host
+            )
+            far = f"{mebibytes(level - value)} MiB below" if level and value <= level else "above"
+            missing = short_of(args, hold, far == "above")
+            return f"{what}, {far} the threshold of {args['threshold']}{missing}"
+        far = share(-value - 100 * int(args["threshold_pct"]))
+        limit_shown = f"{far} above the threshold of {args['threshold_pct']}"
+        return f"{share(-value)} percent of the swap was free {at}, {limit_shown}"
 
     def wanted(self) -> str:
         """What the detector waits for."""
         name, args = self.plugin
         long = lasting(args)
         whom = args.get("cgroup", "")
+        pressure = f"{whom}: full {args.get('resource')} pressure over"
+        which = "no such" if args.get("negate") == "true" else "such a"
         return {
-            "pressure_above": f"{whom}: full {args.get('resource')} pressure over 10 s above {args.get('threshold')} %{long}",
-            "pressure_rising_beyond": f"{whom}: full {args.get('resource')} pressure over 60 s, and over 10 s, above "
+            "pressure_above": f"{pressure} 10 s above {args.get('threshold')} %{long}",
+            "pressure_rising_beyond": f"{pressure} 60 s, and over 10 s, above "
             f"{args.get('threshold')} %{long}, and not falling fast",
             "memory_above": f"{whom}: memory above {args.get('threshold')}{long}",
             "memory_reclaim": f"{whom}: pages were scanned within {args.get('duration')} s",
             "swap_free": f"less than {args.get('threshold_pct')} % of the swap is free",
-            "exists": f"{whom}: there is {'no such' if args.get('negate') == 'true' else 'such a'} group",
+            "exists": f"{whom}: there is {which} group",
         }[name]
 
     def came(self, host: Optional[int]) -> str:
         """How near it came."""
         name, args = self.plugin
         if self.nearest is None:
-            none = "the trace has no sample of its memory" if self.has_matched else "there never was such a group"
-            swap = "the machine has no swap" if self.lacks_swap else "the trace says nothing of swap"
+            none = (
+                "the trace has no sample of its memory"
+                if self.has_matched
+                else "there never was such a group"
+            )
+            swap = (
+                "the machine has no swap" if self.lacks_swap else "the trace says nothing of swap"
+            )
             return swap if name == "swap_free" else none
         value, moment, path = self.nearest
         at = f"({path} at {seconds(moment)} s)"
         if name in PRESSURE:
             missing = int(args["threshold"]) * 100 - value
-            return f"highest {share(value)} % {at}" + (f", {share(missing)} % below" if missing > 0 else "")
+            return f"highest {share(value)} % {at}" + (
+                f", {share(missing)} % below" if missing > 0 else ""
+            )
         if name == "memory_above":
             level = size(args["threshold"], host)
             part = f", {100 * value / level:.1f} % of the threshold" if level else ""
@@ -173,6 +218,16 @@ def lasting(args: dict[str, str]) -> str:
     return f" for {args['duration']} s" if args.get("duration", "0") != "0" else ""
 
 
+def short_of(args: dict[str, str], hold: int, is_above: bool) -> str:
+    """For how long (ns) a value was above its threshold at most, if that was too short."""
+    missing = int(args.get("duration", "0")) * SECOND - hold
+    return (
+        f" for {seconds(hold)} s at most, {seconds(missing)} s short of {args['duration']} s"
+        if is_above and missing > 0
+        else ""
+    )
+
+
 def share(hundredths: int) -> str:
     return f"{hundredths // 100}.{hundredths % 100:02}"
 
@@ -187,11 +242,17 @@ def groups_of(reports: list[Report], memory: Memory) -> Looked:
     for it in reports:
         shares = full.setdefault(it.path, {})
         shares[it.resource, "avg10"], shares[it.resource, "avg60"] = it.full.avg10, it.full.avg60
-    return {path: Group(shares, memory.memory(path), memory.rise(path)) for path, shares in full.items()}
+    return {
+        path: Group(shares, memory.memory(path), memory.rise(path)) for path, shares in full.items()
+    }
 
 
-def watch(printed: Iterable[bytes], trace: str, evaluations: list[int], watches: list[Watch]) -> Optional[int]:
-    """Looks at all evaluations of a replay with a report at each. Gives the host's memory in bytes, where the trace says it."""
+def watch(
+    printed: Iterable[bytes], trace: str, evaluations: list[int], watches: list[Watch]
+) -> Optional[int]:
+    """Looks at all evaluations of a replay with a report at each. Returns the host's memory in
+    bytes, if the trace has it.
+    """
     memory, due = Memory(trace), set(evaluations)
     reports: list[Report] = []
     groups: Looked = {}

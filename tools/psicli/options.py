@@ -1,0 +1,51 @@
+"""The options that several tools share, each with one text and one type."""
+from __future__ import annotations
+
+from collections.abc import Callable
+
+from .parser import Parser
+from .times import WallTime, wall_time
+from .values import point, whole_number
+
+EXAMPLE = "2026-11-28T13:58:12Z"
+
+
+def add_span(
+    parser: Parser,
+    whole: str,
+    start: int | None = 0,
+    reader: Callable[[str], int | WallTime] = point,
+) -> None:
+    """--from and --to: the part of a trace, a chart or a recording, `start` and `end` in ns.
+    `start` is the value without --from.
+    """
+    forms = f"seconds, or a time such as {EXAMPLE}" if reader is point else "seconds"
+    parser.add_argument("--from", dest="start", metavar="S", type=reader, default=start,
+                        help=f"begin at this time of the {whole}: {forms}")  # fmt: skip
+    parser.add_argument("--to", dest="end", metavar="S", type=reader, help="end at this time")
+
+
+def add_start(parser: Parser, use: str, is_required: bool = False) -> None:
+    """--start: the time of day at which the trace began, `wall`."""
+    parser.add_argument("--start", dest="wall", metavar="TIME", type=wall_time,
+    required=is_required,
+                        help=f"when the trace began, such as {EXAMPLE}{use}")  # fmt: skip
+
+
+def add_tick(parser: Parser) -> None:
+    """--tick-ms of `psi_oomd replay`."""
+    parser.add_argument("--tick-ms", metavar="N", type=whole_number(1, 60000),
+                        help="the length of a tick, as in `psi_oomd replay` (2000)")  # fmt: skip
+
+
+def add_interval(parser: Parser, condition: str = "") -> None:
+    """--interval-s of `psi_oomd replay`."""
+    parser.add_argument("--interval-s", metavar="N", type=whole_number(1, 3600),
+                        help=f"{condition}the interval of evaluations, as in `psi_oomd "
+                             f"replay` (5)")  # fmt: skip
+
+
+def add_json(parser: Parser) -> None:
+    """--json: the output for programs, `is_json`."""
+    parser.add_argument("--json", dest="is_json", action="store_true",
+    help="print JSON, for programs")  # fmt: skip

@@ -1,0 +1,64 @@
+"""Runs a tool's work: reports what is wrong, and ends quietly if nobody reads any more."""
+from __future__ import annotations
+
+import contextlib
+import io
+import os
+import sys
+from collections.abc import Callable
+
+from .fault import Fault
+from .parser import tool_name
+from .status import Status
+
+
+def complain(message: str) -> None:
+    """Prints a line on standard error, with the tool's name. Nothing fails if nobody reads it."""
+    if sys.stderr is not None:
+        with contextlib.suppress(OSError, ValueError):
+            print(f"{tool_name()}: {message}", file=sys.stderr, flush=True)
+
+
+def write(data: bytes) -> None:
+    """Writes bytes to standard output."""
+    sys.stdout.buffer.write(data)
+
+
+def run(work: Callable[[], int]) -> int:
+    """Does a tool's work and flushes its output; returns the exit status."""
+    if not isinstance(sys.stdout, io.TextIOWrapper):
+        complain("there is no standard output")
+        return Status.FAILED
+    sys.stdout.reconfigure(errors="backslashreplace")
+    try:
+        return ended(work)
+    except Fault as fault:
+        complain(str(fault))
+        return fault.status
+    except MemoryError:
+        complain("out of memory")
+    except BrokenPipeError:
+        drop_output()
+    except OSError as fault:
+        drop_output()
+        complain(f"{fault.filename or 'the output'}: {fault.strerror}")
+    except KeyboardInterrupt:
+        drop_output()
+        return Status.INTERRUPTED
+    return Status.FAILED
+
+
+def ended(work: Callable[[], int]) -> int:
+    """The status of the work, whose output is flushed: also after --help, which ends by SystemExit.
+    """
+    try:
+        return work()
+    finally:
+        sys.stdout.flush()
+
+
+def drop_output() -> None:
+    """Lets the flush at the process's end succeed: the rest of the output has no reader."""
+    nothing = os.open(os.devnull, os.O_WRONLY)
+    os.dup2(nothing, 1)
+    os.close(nothing)

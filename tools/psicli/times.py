@@ -1,0 +1,120 @@
+"""Times and lengths of time, all in whole ns, and how people write them."""
+from __future__ import annotations
+
+import calendar
+import re
+import time
+from typing import NamedTuple
+
+from .fault import Malformed
+
+SECOND = 10**9
+MINUTE, HOUR, DAY = 60 * SECOND, 3600 * SECOND, 86400 * SECOND
+MONTHS = (
+    "January", "February", "March", "April", "May", "June",
+    "July", "August", "September", "October", "November", "December",
+)  # fmt: skip
+
+
+def ns_of(number: str) -> int:
+    """The ns of a decimal number of seconds, up to its ninth decimal."""
+    whole, _, part = number.partition(".")
+    return int(whole) * SECOND + int(part[:9].ljust(9, "0"))
+
+
+def seconds(ns: int) -> str:
+    """A number of seconds, without zeros after the last decimal."""
+    sign, ns = ("-", -ns) if ns < 0 else ("", ns)
+    return sign + f"{ns // SECOND}.{ns % SECOND:09}".rstrip("0").rstrip(".")
+
+
+def seconds_to_ms(ns: int) -> str:
+    """A number of seconds with three decimals, rounded down."""
+    return f"{ns // SECOND}.{ns % SECOND // 10**6:03}"
+
+
+def duration(ns: int) -> str:
+    """A length of time as people say it: `1 h 2 min 3.5 s`."""
+    parts = []
+    for unit, length in (("d", DAY), ("h", HOUR), ("min", MINUTE)):
+        count, ns = divmod(ns, length)
+        parts += [f"{count} {unit}"] if count else []
+    parts += [f"{seconds(ns)} s"] if ns or not parts else []
+    return " ".join(parts)
+
+
+def nearest(ns: int, unit: int) -> int:
+    """The nearest multiple of the unit, the greater one of two."""
+    return (ns + unit // 2) // unit * unit
+
+
+def rounded(ns: int) -> str:
+    """A rounded length of time: to whole hours from a day, whole minutes from an hour, whole
+    seconds from a minute, else to three digits.
+    """
+    three_digits = int(10 ** max(0, len(str(ns)) - 3))
+    for length, unit in ((MINUTE, three_digits), (HOUR, SECOND), (DAY, MINUTE)):
+        if nearest(ns, unit) < length:
+            return duration(nearest(ns, unit))
+    return duration(nearest(ns, HOUR))
+
+
+class WallTime(NamedTuple):
+    """A time of day with its zone: ns since 1970 in UTC, and the ns by which local clocks are ahead
+    of UTC.
+    """
+
+    epoch: int
+    ahead: int
+
+
+class ClockTime(NamedTuple):
+    """The date and the time that a clock shows."""
+
+    date: time.struct_time
+    clock: str
+
+    @property
+    def day(self) -> str:
+        return f"{self.date.tm_mday} {MONTHS[self.date.tm_mon - 1]}"
+
+
+def clock_time(local: int) -> ClockTime:
+    """The clock time `local` ns after the clock's 1970 began."""
+    whole, part = divmod(local, SECOND)
+    date = time.gmtime(whole)
+    decimals = f".{part:09}".rstrip("0") if part else ""
+    return ClockTime(date, f"{date.tm_hour:02}:{date.tm_min:02}:{date.tm_sec:02}{decimals}")
+
+
+def zone(ahead: int) -> str:
+    """The name of a zone whose clocks are `ahead` ns ahead of UTC."""
+    minutes = abs(ahead) // MINUTE
+    return f"UTC{'-' if ahead < 0 else '+'}{minutes // 60:02}:{minutes % 60:02}" if ahead else "UTC"
+
+
+WALL_TIME = re.compile(
+    r"([0-9]{4})-([0-9]{2})-([0-9]{2})T([0-9]{2}):([0-9]{2}):([0-9]{2})(?:\.([0-9]{1,9}))?"
+    r"(?:Z|([+-])([0-9]{2}):([0-9]{2}))"
+)
+
+
+def wall_time(word: str) -> WallTime:
+    """A time as ISO 8601 writes it, with its zone: `2026-11-28T13:58:12Z`,
+    `2026-11-28T14:58:12.5+01:00`.
+    """
+    found = WALL_TIME.fullmatch(word)
+    year, month, day, hour, minute, second = (
+        (int(it) for it in found.groups()[:6]) if found else (0,) * 6
+    )
+    hours, minutes = (int(it or 0) for it in found.groups()[8:]) if found else (0, 0)
+    is_month = 1970 <= year <= 2999 and 1 <= month <= 12
+    is_date = is_month and 1 <= day <= calendar.monthrange(year, month)[1]
+    is_clock = hour < 24 and minute < 60 and second < 60 and hours < 15 and minutes < 60
+    if not (found and is_date and is_clock):
+        forms = "2026-11-28T13:58:12Z or 2026-11-28T14:58:12.5+01:00"
+        raise Malformed(f"{word} isn't a time with its zone, such as {forms}")
+    ahead = (hours * HOUR + minutes * MINUTE) * (-1 if found[8] == "-" else 1)
+    part = int((found[7] or "").ljust(9, "0"))
+    whole = calendar.timegm((year, month, day, hour, minute, second))
+    return WallTime(whole * SECOND + part - ahead, ahead)

@@ -1,0 +1,51 @@
+"""Readers of arguments: each takes a word, and raises what a parser reports if it is malformed."""
+from __future__ import annotations
+
+import re
+from collections.abc import Callable
+
+from .fault import Malformed
+from .times import MINUTE, SECOND, WallTime, ns_of, wall_time
+
+
+def whole_number(least: int, most: int) -> Callable[[str], int]:
+    """A reader of whole numbers in a range."""
+
+    def read(word: str) -> int:
+        if not re.fullmatch("0|[1-9][0-9]{0,8}", word) or not least <= int(word) <= most:
+            raise Malformed(f"{word} isn't a whole number from {least} to {most}")
+        return int(word)
+
+    return read
+
+
+def decimal(word: str) -> float:
+    """A number that is at least 0, with or without decimals."""
+    if not re.fullmatch(r"[0-9]{1,9}(\.[0-9]{1,9})?", word):
+        raise Malformed(f"{word} isn't a number of at least 0")
+    return float(word)
+
+
+def nanoseconds(word: str) -> int:
+    """A number of seconds, with at most nine decimals, in ns."""
+    if not re.fullmatch(r"[0-9]{1,9}(\.[0-9]{1,9})?", word):
+        raise Malformed(f"{word} isn't a number of seconds with at most nine decimals")
+    return ns_of(word)
+
+
+def length(word: str) -> int:
+    """A length of time in whole seconds or minutes, such as 720 or 12min, in ns."""
+    found = re.fullmatch(r"([1-9][0-9]{0,5})(s|min)?", word)
+    if not found:
+        raise Malformed(f"{word} isn't a length of time such as 720 or 12min")
+    return int(found[1]) * (MINUTE if found[2] == "min" else SECOND)
+
+
+def point(word: str) -> int | WallTime:
+    """A time: seconds since the start of a trace (in ns), or a time with its zone."""
+    if "T" in word:
+        return wall_time(word)
+    try:
+        return nanoseconds(word)
+    except Malformed as fault:
+        raise Malformed(f"{fault}, nor a time such as 2026-11-28T13:58:12Z") from None

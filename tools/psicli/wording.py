@@ -1,0 +1,35 @@
+"""Counts, names and lists as messages have them."""
+from __future__ import annotations
+
+import difflib
+
+# The number of groups that a message names.
+NAMED = 8
+
+
+def counted(number: int, what: str) -> str:
+    """`no kill`, `1 kill`, `2 kills`."""
+    return f"{number or 'no'} {what}{'' if number == 1 else 's'}"
+
+
+def quoted(text: str) -> str:
+    """The text between single quotes, on one line whatever is in it."""
+    plain = text.replace("\\", "\\\\").replace("'", "\\'")
+    shown = (
+        it if it.isprintable() else it.encode("unicode_escape", "surrogatepass").decode()
+        for it in plain
+    )
+    return f"'{''.join(shown)}'"
+
+
+def listed(names: list[str], last: str = "and") -> str:
+    """`a, b and c`."""
+    return f" {last} ".join(filter(None, [", ".join(names[:-1]), *names[-1:]]))
+
+
+def suggested(word: str, names: list[str]) -> str:
+    """The groups of these names that a word may have meant, the nearest first; else the first ones.
+    """
+    near = difflib.get_close_matches(word, [it for it in names if it != "/"], NAMED)
+    near = near or [it for it in names if it.endswith(f"/{word.strip('/')}")] or names[:NAMED]
+    return f"{', '.join(near[:NAMED])}{'' if len(near) == len(names) else ', ..'}"

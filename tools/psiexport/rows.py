@@ -1,0 +1,83 @@
+"""The rows of an export, one for each report, signal and kill."""
+from __future__ import annotations
+
+from collections.abc import Iterable, Iterator
+from typing import Optional, Union
+
+from psicli.times import SECOND, WallTime
+from psinames.clock import wall_text
+from psinames.groups import GroupNames
+from psinames.known import Span
+from psireplay.lines import End, Event, Kill, Line, Pressure, Report
+from psireplay.rules import Rules
+
+Value = Union[str, int, float, None]
+Row = dict[str, Value]
+REPORT, SIGNAL, KILL = "report", "signal", "kill"
+KINDS = (REPORT, SIGNAL, KILL)
+AVERAGES = ("avg10", "avg60", "avg300")
+PRESSURES = tuple(f"{level}_{it}" for level in ("some", "full") for it in (*AVERAGES, "total_us"))
+# The columns of a table, in order.
+COLUMNS = (
+    "kind", "time_s", "time", "group", "name", "resource", "level", *PRESSURES,
+    "trigger", "threshold_us", "window_us", "ruleset", "action", "ruleset_name", "plugin",
+)  # fmt: skip
+
+
+def kind_of(line: Line) -> str:
+    """The kind of a line's row; empty for the last line, which has none."""
+    if isinstance(line, Report):
+        return REPORT
+    return SIGNAL if isinstance(line, Event) else KILL if isinstance(line, Kill) else ""
+
+
+def pressure_of(level: str, pressure: Optional[Pressure]) -> Row:
+    """A line of a pressure file: averages in percent, the total in us."""
+    if not pressure:
+        return {}
+    shares = {f"{level}_{name}": getattr(pressure, name) / 100 for name in AVERAGES}
+    return {**shares, f"{level}_total_us": pressure.total}
+
+
+class Exporter:
+    """Makes rows. Times of day are by `wall`, if that is known."""
+
+    def __init__(
+        self, wall: Optional[WallTime], groups: GroupNames, rules: Optional[Rules]
+    ) -> None:
+        self.wall, self.groups, self.rules = wall, groups, rules
+
+    def row(self, line: Union[Report, Event, Kill]) -> Row:
+        """The row of a line."""
+        row: Row = {"kind": kind_of(line), "time_s": line.moment / SECOND}
+        if self.wall:
+            row["time"] = wall_text(self.wall._replace(epoch=self.wall.epoch + line.moment))
+        row["group"] = line.path
+        if self.groups.shown(line.path) != line.path:
+            row["name"] = self.groups.shown(line.path)
+        if isinstance(line, Report):
+            row["resource"] = line.resource
+            return {**row, **pressure_of("some", line.some), **pressure_of("full", line.full)}
+        if isinstance(line, Event):
+            limits: Row = {"threshold_us": line.threshold, "window_us": line.window}
+            what: Row = {"resource": line.resource, "level": line.level}
+            return {**row, **what, "trigger": line.trigger, **limits}
+        return {**row, "ruleset": line.ruleset, "action": line.action, **self.killer(line)}
+
+    def killer(self, kill: Kill) -> Row:
+        """The names of a ruleset and an action, if the rules are known."""
+        if not self.rules:
+            return {}
+        killer = self.rules.killer(kill)
+        return {"ruleset_name": killer.ruleset, "plugin": killer.plugin}
+
+
+def selected(
+    lines: Iterable[Line], kinds: tuple[str, ...], span: Span
+) -> Iterator[Union[Report, Event, Kill]]:
+    """The lines of these kinds in this time, both ends included."""
+    for line in lines:
+        if isinstance(line, End) or kind_of(line) not in kinds:
+            continue
+        if span.start <= line.moment <= span.end:
+            yield line

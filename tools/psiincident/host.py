@@ -1,0 +1,82 @@
+"""A machine that is reached over ssh. What is put there is removed again, whatever happens."""
+from __future__ import annotations
+
+import secrets
+import shlex
+import shutil
+from types import TracebackType
+
+from psicli.running import complain
+
+from .steps import Steps, tools_path
+
+# What the recorder consists of; nothing else of this repository is copied to a host.
+RECORDER = ("record", "psirecord", "psirec")
+NAME = "recording"
+# How long (s) the removal waits for a recorder that was interrupted: it undoes its changes first.
+MOST_WAIT_S = 60
+
+
+class Host:
+    """A host by its ssh name, how ssh and sudo are called, and its own new folder there. Between
+    `with` and its end the folder may exist; afterwards it doesn't.
+    """
+
+    def __init__(self, steps: Steps, name: str, ssh: str, has_sudo: bool) -> None:
+        self.steps, self.name, self.ssh = steps, name, ssh
+        self.sudo = "sudo -n " if has_sudo else ""
+        self.folder = f"/tmp/psi-incident-{secrets.token_hex(8)}"
+        self.is_made = False
+
+    def __enter__(self) -> Host:
+        return self
+
+    def __exit__(
+        self,
+        kind: type[BaseException] | None,
+        error: BaseException | None,
+        trace: TracebackType | None,
+    ) -> None:
+        """Removes the folder, once no recorder writes into it any more."""
+        if not self.is_made:
+            return
+        wait = f"flock -w {MOST_WAIT_S} {self.folder}/{NAME}/meta true"
+        line = self.line(f"{self.sudo}{wait}; {self.sudo}rm -rf {self.folder}")
+        if not self.steps.try_to(line):
+            complain(f"{self.folder} may be left on {self.name}; this removes it: {line}")
+
+    def line(self, command: str, options: str = "") -> str:
+        """The line that runs a command there."""
+        return f"{self.ssh} {options}{shlex.quote(self.name)} {shlex.quote(command)}"
+
+    def copy_recorder(self) -> None:
+        """Copies the recorder into the new folder."""
+        pack = f"tar -C {tools_path()} -c {' '.join(RECORDER)}"
+        unpack = self.line(f"mkdir -m 700 {self.folder} && tar -C {self.folder} -x")
+        self.is_made = True
+        self.steps.run(f"{pack} | {unpack}", what=f"copying the recorder to {self.name}")
+
+    def record(self, words: str, taken: tuple[int, ...]) -> int:
+        """Records there. With a terminal of its own the recorder gets a hangup if the connection
+        ends, so that it ends too and undoes its changes.
+        """
+        command = f"{self.sudo}python3 {self.folder}/record {self.folder}/{NAME} {words}"
+        return self.steps.run(self.line(command, "-tt "), taken, f"recording on {self.name}")
+
+    def fetch(self, path: str, into: str) -> None:
+        """Fetches a folder under another name, which is new here: whole or not at all. Nothing
+        changes on the host.
+        """
+        above, _, last = path.rstrip("/").rpartition("/")
+        start = f"{above}/" if above or path.startswith("/") else "."
+        pack = f"{self.sudo}tar -C {shlex.quote(start)} -c {shlex.quote(last)}"
+        target = shlex.quote(into)
+        unpack = f"mkdir -m 700 {target} && tar -C {target} --strip-components=1 --no-same-owner -x"
+        try:
+            self.steps.run(f"{self.line(pack)} | ({unpack})", what=f"fetching {self.name}:{path}")
+        except BaseException:
+            shutil.rmtree(into, ignore_errors=True)
+            raise
+
+    def fetch_recording(self, into: str) -> None:
+        self.fetch(f"{self.folder}/{NAME}", into)

@@ -1,0 +1,78 @@
+"""An existing recording: a folder, an archive, or a folder on another machine."""
+from __future__ import annotations
+
+import os
+import re
+import shlex
+from collections.abc import Iterator
+
+from psicli.fault import Fault
+from psirec.layout import META
+
+from .steps import Steps
+
+ARCHIVE = re.compile(r"\.(tar(\.(gz|xz|bz2|zst))?|tgz|txz)$")
+REMOTE = re.compile(r"([^/:]+):(.+)")
+# A recording is at most this many folders below the top of its archive.
+DEEPEST = 2
+
+
+def remote_of(source: str) -> tuple[str, str] | None:
+    """The host and the folder of HOST:FOLDER, unless there is a file of that name."""
+    found = REMOTE.fullmatch(source)
+    return (found[1], found[2]) if found and not os.path.exists(source) else None
+
+
+def recordings_in(folder: str, depth: int = 0) -> Iterator[str]:
+    """The recordings in a folder, which may be one itself. Links aren't followed."""
+    if os.path.isfile(os.path.join(folder, META)):
+        yield folder
+        return
+    with os.scandir(folder) as entries:
+        inner = (
+            sorted(it.path for it in entries if it.is_dir(follow_symlinks=False))
+            if depth < DEEPEST
+            else []
+        )
+    for path in inner:
+        yield from recordings_in(path, depth + 1)
+
+
+def only_recording(folder: str, name: str) -> str:
+    """The one recording in a folder; `name` is for messages."""
+    found = list(recordings_in(folder))
+    if not found:
+        raise Fault(
+            f"{name} has no recording: a folder with a file `{META}`, as tools/record writes it"
+        )
+    named = [os.path.relpath(it, folder) for it in found]
+    if len(found) > 1:
+        raise Fault(
+            f"{name} has several recordings: name one of {', '.join(named)}"
+        )
+    return found[0]
+
+
+def unpack(steps: Steps, archive: str, into: str) -> str:
+    """Unpacks an archive into a folder; returns its recording."""
+    steps.run(
+        f"tar -C {shlex.quote(into)} --no-same-owner -xf {shlex.quote(archive)}",
+        what=f"unpacking {archive}",
+    )
+    return only_recording(into, archive)
+
+
+def is_archive(source: str) -> bool:
+    return os.path.isfile(source) and ARCHIVE.search(source) is not None
+
+
+def folder_of(source: str) -> str:
+    """A folder that is a recording."""
+    if os.path.isdir(source):
+        return only_recording(source, source)
+    if os.path.isfile(source):
+        raise Fault(
+            f"{source} is neither a folder nor an archive:"
+            " .tar, .tar.gz, .tar.xz, .tar.bz2 or .tar.zst"
+        )
+    raise Fault(f"no file: {source}")

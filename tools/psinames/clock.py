@@ -1,0 +1,144 @@
+"""The time of day in a trace, which itself counts ns from its start."""
+from __future__ import annotations
+
+import re
+import time
+import zoneinfo
+from datetime import datetime, timezone
+from typing import NamedTuple, Optional, Union
+
+from psicli.fault import Fault, Malformed
+from psicli.status import Status
+from psicli.times import DAY, HOUR, MINUTE, SECOND, WallTime, clock_time, seconds, wall_time, zone
+from psicli.values import nanoseconds
+
+TIME_OF_DAY = re.compile(r"([0-9]{1,2}):([0-9]{2})(?::([0-9]{2})(?:\.([0-9]{1,9}))?)?")
+OFFSET = re.compile(r"([+-])([0-9]{2}):([0-9]{2})")
+
+
+class TimeOfDay(NamedTuple):
+    """A time of day without its date, in ns since midnight, as it was written."""
+
+    since_midnight: int
+    text: str
+
+
+# A time in a trace as people write it: ns since the start, a time of day, or that with a date.
+Given = Union[int, TimeOfDay, WallTime]
+
+
+def time_of_day(word: str) -> Optional[TimeOfDay]:
+    """A time of day as `14:03`, `14:03:10` or `14:03:10.5`; None if it isn't one."""
+    found = TIME_OF_DAY.fullmatch(word)
+    if not found:
+        return None
+    hour, minute, second = int(found[1]), int(found[2]), int(found[3] or 0)
+    part = int((found[4] or "").ljust(9, "0"))
+    if hour > 23 or minute > 59 or second > 59:
+        return None
+    return TimeOfDay(hour * HOUR + minute * MINUTE + second * SECOND + part, word)
+
+
+def time_given(word: str) -> Given:
+    """Parses a time: seconds since the start of the trace, or a time of day."""
+    if "T" in word:
+        return wall_time(word)
+    if at := time_of_day(word):
+        return at
+    try:
+        return nanoseconds(word)
+    except Malformed:
+        forms = "90.5, 14:03, 14:03:10 or 2026-11-28T14:03:10Z"
+        raise Malformed(f"{word} is neither seconds nor a time of day, such as {forms}") from None
+
+
+# ---------------------------------------------------------------- zones
+
+
+def offset_of(word: str, epoch: int) -> Optional[int]:
+    """The ns by which clocks of a zone are ahead of UTC at a time (ns since 1970). The zone is
+    `UTC`, an offset, `local`, or a name such as Europe/Berlin. None if it isn't one.
+    """
+    found = OFFSET.fullmatch(word)
+    if found and int(found[2]) < 15 and int(found[3]) < 60:
+        return (int(found[2]) * HOUR + int(found[3]) * MINUTE) * (-1 if found[1] == "-" else 1)
+    if word in ("UTC", "Z"):
+        return 0
+    if word == "local":
+        return time.localtime(epoch // SECOND).tm_gmtoff * SECOND
+    try:
+        at = zoneinfo.ZoneInfo(word)
+    except (ValueError, OSError, zoneinfo.ZoneInfoNotFoundError):
+        return None
+    return offset_at(at, epoch)
+
+
+def offset_at(at: zoneinfo.ZoneInfo, epoch: int) -> int:
+    """The offset of a named zone (ns) at a time (ns since 1970)."""
+    offset = datetime.fromtimestamp(epoch // SECOND, timezone.utc).astimezone(at).utcoffset()
+    return int(offset.total_seconds()) * SECOND if offset else 0
+
+
+def zone_name(word: str) -> str:
+    """Parses the name of a zone."""
+    if offset_of(word, 0) is None:
+        raise Malformed(f"{word} isn't a time zone, such as UTC, +01:00, local or Europe/Berlin")
+    return word
+
+
+def in_zone(wall: WallTime, word: Optional[str]) -> WallTime:
+    """The same time by the clocks of another zone, if one is given."""
+    ahead = offset_of(word, wall.epoch) if word else None
+    return wall if ahead is None else wall._replace(ahead=ahead)
+
+
+# ---------------------------------------------------------------- times in a trace
+
+
+def wall_text(wall: WallTime) -> str:
+    """A time in ISO 8601 with its zone, which `wall_time` parses."""
+    at = clock_time(wall.epoch + wall.ahead)
+    offset = zone(wall.ahead).removeprefix("UTC") or "Z"
+    return f"{at.date.tm_year:04}-{at.date.tm_mon:02}-{at.date.tm_mday:02}T{at.clock}{offset}"
+
+
+def clock_at(wall: WallTime, now: int) -> str:
+    """The time of day at a time of the trace (ns), in whole seconds: `14:03:10`."""
+    return clock_time(wall.epoch + wall.ahead + now).clock.partition(".")[0]
+
+
+def span_text(wall: WallTime, length: int) -> str:
+    """When a trace of this length (ns) was recorded."""
+    first, last = clock_time(wall.epoch + wall.ahead), clock_time(wall.epoch + wall.ahead + length)
+    day = f" on {last.day}" if last.day != first.day else ""
+    begin, end = (it.clock.partition(".")[0] for it in (first, last))
+    return f"from {begin} on {first.day} {first.date.tm_year} to {end}{day}, {zone(wall.ahead)}"
+
+
+def given_text(given: Given) -> str:
+    """A time as it was given."""
+    if isinstance(given, TimeOfDay):
+        return given.text
+    return wall_text(given) if isinstance(given, WallTime) else seconds(given)
+
+
+def time_in(
+    given: Given, wall: Optional[WallTime], length: int, option: str, after: int = 0
+) -> int:
+    """A given time in ns since the start of a trace of this length (ns), which began at `wall`. A
+    time of day is the first one after the start, and at most `after` ns after the end.
+    """
+    if isinstance(given, int):
+        return given
+    if not wall:
+        why = "is a time of day, and nothing says when the trace began"
+        advice = "say by --start when it began, or make the trace with psitrace -o"
+        raise Fault(f"{option} {given_text(given)} {why}: {advice}", Status.NO_TIME)
+    if isinstance(given, WallTime):
+        at = given.epoch - wall.epoch
+    else:
+        at = (given.since_midnight - wall.epoch - wall.ahead) % DAY
+    if not 0 <= at <= length + after:
+        why = f"isn't in the trace, which was recorded {span_text(wall, length)}"
+        raise Fault(f"{option} {given_text(given)} {why}", Status.NO_TIME)
+    return at

@@ -1,0 +1,93 @@
+"""How a group's path is shown, and how an operator names a group."""
+from __future__ import annotations
+
+import re
+from collections import Counter
+from collections.abc import Iterable
+
+from psicli.fault import Fault
+from psicli.status import Status
+from psicli.wording import NAMED, suggested
+
+from .text import escapes
+
+CONTAINER = re.compile("[0-9a-f]{64}")
+POD = re.compile("[0-9a-f]{8}(?:[-_][0-9a-f]{4}){3}[-_][0-9a-f]{12}")
+# A component of a path with such a number, anywhere in a text.
+LETTERS = r"[A-Za-z0-9_.@:\\-]*"
+COMPONENT = re.compile(f"{LETTERS}(?:{CONTAINER.pattern}|{POD.pattern}){LETTERS}")
+# The digits of a number by which two containers of the same name are told apart, and the fewest
+# that a file of names may have.
+SHORT, LEAST = 6, 12
+
+
+class GroupNames:
+    """The names of containers and pods by their numbers, for paths that have these numbers."""
+
+    def __init__(self, containers: dict[str, str]) -> None:
+        self.containers = containers
+        self.starts = {number[:LEAST]: number for number in containers}
+        counts = Counter(containers.values())
+        self.several = {name for name, count in counts.items() if count > 1}
+        self.known: dict[str, str] = {}
+
+    def shown(self, path: str) -> str:
+        """The path, in which a component with the number of a known container or pod is replaced by
+        its name in braces, which no path has: `/kubepods.slice/{default/web/nginx}`.
+        """
+        if not self.containers:
+            return path
+        if path not in self.known:
+            self.known[path] = "/".join(self.component(it) for it in path.split("/"))
+        return self.known[path]
+
+    def in_text(self, text: str) -> str:
+        """A text in which each path is as it is shown."""
+        if not self.containers:
+            return text
+        return COMPONENT.sub(lambda found: self.component(found[0]), text)
+
+    def component(self, text: str) -> str:
+        """A component of a path as it is shown."""
+        for form in (CONTAINER, POD):
+            found = form.search(text)
+            name = self.name(found[0].replace("_", "-")) if found else None
+            if name:
+                return f"{{{name}}}"
+        return text
+
+    def name(self, number: str) -> str | None:
+        """The name of a container or pod, if it is known."""
+        known = self.starts.get(number[:LEAST], number)
+        if not number.startswith(known) or known not in self.containers:
+            return None
+        name = re.sub(r"[\s{}]", lambda letter: escapes(letter[0]), self.containers[known])
+        return f"{name}@{number[:SHORT]}" if self.containers[known] in self.several else name
+
+    # ------------------------------------------------------------ by name
+
+    def matches(self, word: str, path: str) -> bool:
+        """Whether a word names this group: its path, as it is or as it is shown, the last component
+        of one of these, such as a unit, or a container's name.
+        """
+        shown = self.shown(path)
+        container = re.search(r"/\{([^{}]*)\}\Z", shown)
+        names = {path, shown, path.rpartition("/")[2]}
+        return (
+            word in names or container is not None and word in (container[1], f"{{{container[1]}}}")
+        )
+
+    def find(self, word: str, paths: Iterable[str], where: str) -> str:
+        """The group of these that the word names; a Fault lists what there is `where`."""
+        names = list(dict.fromkeys(paths))
+        if word in names:
+            return word
+        found = [path for path in names if self.matches(word, path)] if word != "" else []
+        if len(found) == 1:
+            return found[0]
+        if found:
+            listed = ", ".join(found[:NAMED]) + (", .." if len(found) > NAMED else "")
+            many = f"{len(found)} groups {where}"
+            raise Fault(f"{word} is the name of {many}: {listed}", Status.NO_GROUP)
+        near = suggested(word, [self.shown(it) for it in names])
+        raise Fault(f"no group {word} {where}, which has {near}", Status.NO_GROUP)

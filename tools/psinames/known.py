@@ -1,0 +1,161 @@
+"""What a tool knows of a trace besides its lines, and the part of it that it was asked for."""
+from __future__ import annotations
+
+from collections.abc import Mapping
+from typing import Any, NamedTuple, Optional
+
+from psicli.fault import Fault
+from psicli.options import add_start
+from psicli.parser import Parser
+from psicli.status import Status
+from psicli.times import DAY, SECOND, WallTime, seconds
+from psicli.values import nanoseconds
+from psirec.containers import names_in
+
+from .clock import Given, in_zone, time_given, time_in, zone_name
+from .companion import Companion, find
+from .groups import GroupNames
+from .text import escaped
+
+# The length of --at, in ns, if none is given.
+AROUND = 60 * SECOND
+
+HELP = {
+    "from": (
+        "the start of the time to look at: seconds since the start of the trace, or a time of"
+        " day such as 14:01"
+    ),
+    "to": "its end",
+    "at": "look at the time around this one, in place of --from and --to",
+    "window": "with --at: the length of that time in s, half of it before (60)",
+    "tz": (
+        "the time zone of times of day, such as UTC, +01:00, local or Europe/Berlin (without it the"
+        " recorded machine's)"
+    ),
+    "containers": (
+        "names of containers and pods: lines NUMBER NAME, or what crictl, docker or podman"
+        " print as JSON"
+    ),
+    "no-names": "leave out the names of processes and containers",
+}
+
+
+class Span(NamedTuple):
+    """A part of a trace, in ns from its start."""
+
+    start: int
+    end: int
+
+
+class Known(NamedTuple):
+    """What is known of a trace: the time of day at its start, its companion, and names of groups.
+    """
+
+    wall: Optional[WallTime]
+    companion: Optional[Companion]
+    groups: GroupNames
+
+
+NOTHING = Known(None, None, GroupNames({}))
+
+
+def add_clock(parser: Parser) -> None:
+    """The options that say when a trace began, and in which zone times of day are."""
+    add_start(parser, ", if it has no companion file that says so")
+    parser.add_argument("--tz", type=zone_name, metavar="ZONE", help=HELP["tz"])
+
+
+def add_times(parser: Parser) -> None:
+    """The options that select a part of a trace."""
+    parser.add_argument("--from", dest="start", type=time_given, metavar="T", help=HELP["from"])
+    parser.add_argument("--to", dest="end", type=time_given, metavar="T", help=HELP["to"])
+    parser.add_argument("--at", type=time_given, metavar="T", help=HELP["at"])
+    parser.add_argument("--window", type=nanoseconds, metavar="S", help=HELP["window"])
+    add_clock(parser)
+
+
+def add_names(parser: Parser) -> None:
+    """The options about names."""
+    parser.add_argument("--containers", metavar="FILE", help=HELP["containers"])
+    parser.add_argument("--no-names", action="store_true", help=HELP["no-names"])
+
+
+# ---------------------------------------------------------------- what is known
+
+
+def containers_in(name: str) -> dict[str, str]:
+    """The names of containers in a file."""
+    try:
+        with open(name, encoding="utf-8", errors="surrogateescape") as file:
+            found = names_in(file.read())
+    except ValueError as fault:
+        raise Fault(f"{name} has no names of containers: {fault}") from None
+    return {number: escaped(it.encode("utf-8", "surrogateescape")) for number, it in found.items()}
+
+
+def known_of(trace: str, values: Mapping[str, Any], is_whole: bool = False) -> Known:
+    """What is known of a trace, with the options of `add_clock` and `add_names` as far as the tool
+    has them. Without `is_whole`, tasks aren't read.
+    """
+    companion = find(trace, is_whole)
+    has_names = not values.get("no_names")
+    containers = dict(companion.containers) if companion and has_names else {}
+    if values.get("containers") is not None and has_names:
+        containers.update(containers_in(values["containers"]))
+    wall = values.get("wall") or (companion.start if companion else None)
+    zoned = in_zone(wall, values.get("tz")) if wall else None
+    return Known(zoned, companion if has_names else None, GroupNames(containers))
+
+
+# ---------------------------------------------------------------- the part
+
+
+def must_fit(values: Mapping[str, Any]) -> None:
+    """Rejects options that exclude each other."""
+    for option, name in (("--from", "start"), ("--to", "end")):
+        if values["at"] is not None and values[name] is not None:
+            raise Fault(f"--at is in place of {option}: give one of them")
+    if values["window"] is not None and values["at"] is None:
+        raise Fault("--window is the length of the time around --at: give that too")
+
+
+def has_start(values: Mapping[str, Any]) -> bool:
+    """Whether the start of a part was asked for."""
+    return values["start"] is not None or values["at"] is not None
+
+
+def has_span(values: Mapping[str, Any]) -> bool:
+    """Whether a part of the trace was asked for."""
+    return any(values[name] is not None for name in ("start", "end", "at"))
+
+
+def span_in(
+    values: Mapping[str, Any], wall: Optional[WallTime], length: int, what: str = "trace"
+) -> Span:
+    """The part of a trace of this length (ns) that the options of `add_times` select."""
+    must_fit(values)
+    if values["at"] is not None:
+        at, half = time_in(values["at"], wall, length, "--at"), (values["window"] or AROUND) // 2
+        must_be_in("--at", at, length, what)
+        return Span(max(at - half, 0), min(at + half, length))
+    start = 0 if values["start"] is None else time_in(values["start"], wall, length, "--from")
+    end = length if values["end"] is None else end_in(values["end"], wall, length)
+    must_be_in("--from", start, length, what)
+    if start >= end and length:
+        why = f"isn't before --to {seconds(end)}: no time is left between"
+        raise Fault(f"--from {seconds(start)} {why}", Status.NO_TIME)
+    return Span(start, end)
+
+
+def end_in(given: Given, wall: Optional[WallTime], length: int) -> int:
+    """The end of a part in ns, at most that of the trace: a time of day may be up to half a day
+    later.
+    """
+    return min(time_in(given, wall, length, "--to", DAY // 2), length)
+
+
+def must_be_in(option: str, at: int, length: int, what: str) -> None:
+    """Rejects a time (ns) after the end."""
+    if at > length:
+        why = f"is after the end of the {what}, {seconds(length)} s"
+        raise Fault(f"{option} {seconds(at)} {why}", Status.NO_TIME)

@@ -1,0 +1,72 @@
+"""Names of tasks in the records of a processor: each switch has the name of the task that leaves,
+and each exec that of the file.
+"""
+from __future__ import annotations
+
+from typing import Any, NamedTuple, Optional
+
+from .events import Event, Exec, Named
+from .formats import Field, Format, text_at
+
+# The bytes of a task's name, without its terminating zero (TASK_COMM_LEN of Linux).
+MOST_NAME = 15
+
+
+class NameFields(NamedTuple):
+    """Where the records have names: the number of `sched_switch`, and the start and the end of its
+    field; the number of `sched_process_exec`, and its field.
+    """
+
+    switch: int
+    start: int
+    end: int
+    exec: int
+    file: Optional[Field]
+
+
+def name_fields(forms: dict[str, Format]) -> NameFields:
+    """The fields according to the recording's formats; numbers are -1 if it doesn't have them."""
+    switch, exec_ = forms.get("sched_switch"), forms.get("sched_process_exec")
+    name = switch.fields.get("prev_comm") if switch else None
+    file = exec_.fields.get("filename") if exec_ else None
+    numbers = switch.number if switch and name else -1, exec_.number if exec_ and file else -1
+    start = name.offset if name else 0
+    return NameFields(numbers[0], start, start + (name.size if name else 0), numbers[1], file)
+
+
+class Names:
+    """The names that the records of one processor have shown so far."""
+
+    def __init__(self, fields: NameFields) -> None:
+        self.fields = fields
+        self.switch, self.exec = fields.switch, fields.exec
+        self.start, self.end = fields.start, fields.end
+        self.known: dict[int, bytes] = {}
+
+    def of_switch(self, event: Any, data: bytes, at: int) -> Optional[Named]:
+        """The name of the task that leaves by this switch, if it is new; the record is at `at`."""
+        name = data[at + self.start : at + self.end]
+        task = event[3]
+        if self.known.get(task) == name:
+            return None
+        self.known[task] = name
+        if not task:
+            return None
+        text = name.partition(b"\0")[0]
+        return Named(event.moment, event.processor, event.current, task, text)
+
+    def of_exec(self, event: Event, data: bytes, at: int, end: int) -> Optional[Named]:
+        """The name that a task gets by exec, which is that of its file; scripts may be called
+        differently, which their next switch shows.
+        """
+        assert isinstance(event, Exec) and self.fields.file
+        name = text_at(data, at, end, self.fields.file).rpartition(b"/")[2][:MOST_NAME]
+        if not name:
+            return None
+        return Named(event.moment, event.processor, event.current, event.task, name)
+
+    def of(self, number: int, event: Event, data: bytes, at: int, end: int) -> Optional[Named]:
+        """The new name in the record of an event with this number, if it has one."""
+        if number == self.switch:
+            return self.of_switch(event, data, at)
+        return self.of_exec(event, data, at, end) if number == self.exec else None

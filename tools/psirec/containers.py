@@ -1,0 +1,79 @@
+"""Names of containers and pods, by the numbers in the names of their control groups: 64 hexadecimal
+digits for a container, the UID for a pod. A recording has them in the file FILE, with a line
+`NUMBER NAME` for each.
+
+They are in what these commands print: `crictl ps -a -o json`, `crictl pods -o json`,
+`docker ps -a --no-trunc --format '{{json .}}'`, `podman ps -a --no-trunc --format json`, and
+`docker inspect`. A container of a pod is named `NAMESPACE/POD/CONTAINER`.
+"""
+from __future__ import annotations
+
+import json
+import re
+from collections.abc import Iterator
+from typing import Any
+
+FILE = "containers"
+# A container's number may be shortened, as docker prints it.
+NUMBER = re.compile("[0-9a-f]{12,64}|[0-9a-f]{8}(?:[-_][0-9a-f]{4}){3}[-_][0-9a-f]{12}")
+KUBERNETES = "io.kubernetes."
+
+
+def names_in(text: str) -> dict[str, str]:
+    """The names in what one of the commands printed, or in lines `NUMBER NAME`. ValueError if it is
+    neither.
+    """
+    found: dict[str, str] = {}
+    if text.lstrip()[:1] in ("{", "["):
+        for value in values_in(text):
+            found.update(names_of(value))
+        return found
+    for line in text.splitlines():
+        number, _, name = line.strip().partition(" ")
+        if number and not number.startswith("#"):
+            if not NUMBER.fullmatch(number) or not name.strip():
+                raise ValueError(f"'{line.strip()[:60]}' isn't NUMBER NAME")
+            found[number.replace("_", "-")] = name.strip()
+    return found
+
+
+def values_in(text: str) -> Iterator[Any]:
+    """The objects of a JSON text, or of one with a value in each line."""
+    try:
+        whole = json.loads(text)
+    except ValueError:
+        whole = [json.loads(line) for line in text.splitlines() if line.strip()]
+    if isinstance(whole, dict):
+        whole = whole.get("containers") or whole.get("items") or [whole]
+    yield from (it for it in whole if isinstance(it, dict))
+
+
+def first_text(*values: Any) -> str:
+    """The first value that is a text, or a list that begins with one."""
+    for value in values:
+        value = value[0] if isinstance(value, list) and value else value
+        if isinstance(value, str) and value:
+            return value
+    return ""
+
+
+def part_of(value: Any, key: str) -> Any:
+    """The value of a key, if there is an object to have it."""
+    return value.get(key) if isinstance(value, dict) else None
+
+
+def names_of(value: dict[str, Any]) -> Iterator[tuple[str, str]]:
+    """The numbers of a container or a pod with its names."""
+    own, labels = value.get("metadata"), value.get("labels") or value.get("Labels")
+    number = first_text(value.get("id"), value.get("Id"), value.get("ID"))
+    name = first_text(part_of(own, "name"), value.get("Names"), value.get("Name")).lstrip("/")
+    keys = (f"{KUBERNETES}pod.{it}" for it in ("name", "namespace", "uid"))
+    pod, space, uid = (first_text(part_of(labels, key)) for key in keys)
+    if part_of(own, "uid"):  # a pod, whose number is that of its sandbox
+        space, uid = (first_text(part_of(own, key)) for key in ("namespace", "uid"))
+        pod, name = name, "sandbox"
+    whole = f"{space}/{pod}" if space and pod else pod
+    if NUMBER.fullmatch(number) and name:
+        yield number, f"{whole}/{name}" if whole else name
+    if NUMBER.fullmatch(uid) and whole:
+        yield uid.replace("_", "-"), whole

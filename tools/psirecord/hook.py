@@ -1,0 +1,80 @@
+"""A program of the operator that is run after each recording, to notify or to upload."""
+from __future__ import annotations
+
+import contextlib
+import os
+import stat
+import subprocess
+import time
+from collections.abc import Callable
+
+from .waiting import Signals, Waiting
+
+# A hook that runs longer than this (s) is terminated, and killed if it hasn't ended 10 s later.
+MOST_SECONDS, KILL_SECONDS = 600.0, 10.0
+LOOK_SECONDS = 0.2
+OTHERS_WRITE = stat.S_IWGRP | stat.S_IWOTH
+
+
+def why_not(path: str) -> str | None:
+    """Why the recorder, which is root, wouldn't run this program."""
+    if not os.path.isabs(path):
+        return "it must be a whole path, since a service has no working directory"
+    try:
+        found = os.stat(path)
+    except OSError as error:
+        return str(error.strerror)
+    if not stat.S_ISREG(found.st_mode) or not os.access(path, os.X_OK):
+        return "it isn't a program"
+    if found.st_uid not in (0, os.geteuid()) or found.st_mode & OTHERS_WRITE:
+        return "others may write to it"
+    return None
+
+
+def make_ordinary() -> None:
+    """In the new process: an ordinary priority, and no protection from the kernel's killer."""
+    with contextlib.suppress(OSError):
+        os.setpriority(os.PRIO_PROCESS, 0, 0)
+    with contextlib.suppress(OSError), open(
+        "/proc/self/oom_score_adj", "w", encoding="ascii"
+    ) as file:
+        file.write("0")
+
+
+def wait_for(child: subprocess.Popen[bytes], signals: Signals) -> str | None:
+    """Waits for the end of the hook. Why it was terminated, if it was."""
+    waiting, end = Waiting(signals), time.monotonic() + MOST_SECONDS
+    while child.poll() is None:
+        if signals.came or time.monotonic() > end:
+            child.terminate()
+            try:
+                child.wait(KILL_SECONDS)
+            except subprocess.TimeoutExpired:
+                child.kill()
+                child.wait()
+            return "a signal came" if signals.came else f"it ran for {MOST_SECONDS:.0f} s"
+        waiting.until(time.monotonic() + LOOK_SECONDS)
+    return None
+
+
+def run_hook(path: str, folder: str, signals: Signals, tell: Callable[[str], None]) -> None:
+    """Runs a program with the name of a recording's folder. Its failure is reported, and changes
+    nothing else.
+    """
+    fault = why_not(path)
+    if fault:
+        tell(f"the hook {path} wasn't run: {fault}")
+        return
+    words = [path, os.path.abspath(folder)]
+    try:
+        child = subprocess.Popen(
+            words, stdin=subprocess.DEVNULL, stdout=subprocess.DEVNULL, preexec_fn=make_ordinary
+        )
+    except OSError as error:
+        tell(f"the hook {path} couldn't be run: {error.strerror}")
+        return
+    why = wait_for(child, signals)
+    if why:
+        tell(f"the hook {path} was terminated: {why}")
+    elif child.returncode:
+        tell(f"the hook {path} ended with status {child.returncode}")

@@ -1,0 +1,152 @@
+"""The recordings in a folder: when each ended, what it holds, and which are deleted to keep limits.
+"""
+from __future__ import annotations
+
+import contextlib
+import fcntl
+import os
+from collections.abc import Callable, Iterator
+from dataclasses import dataclass
+
+from psirec import layout
+from psirec.layout import Key, Reason
+
+from .folder import FOLDER_FLAGS, remove_all
+from .machine import read_file
+
+MEGABYTE = 10**6
+FIRST = f"{Key.RECORDING} ".encode()
+
+
+@dataclass(frozen=True)
+class Limits:
+    """How many recordings are kept, and how many bytes of them; None if there is no limit."""
+
+    count: int | None = None
+    bytes: int | None = None
+
+
+@dataclass(frozen=True)
+class Stored:
+    """A recording: its folder's name, when it was last written (s since 1970), its bytes, whether a
+    recorder is writing it, and the lines of its `meta`.
+    """
+
+    name: str
+    ended: float
+    bytes: int
+    is_written: bool
+    meta: tuple[tuple[str, str], ...]
+
+    def values(self, key: str) -> list[str]:
+        """The values of a key of `meta`."""
+        return [value for name, value in self.meta if name == key]
+
+    def reason(self) -> str:
+        """Why it ended."""
+        found = self.values(Key.END)
+        return found[0] if found else Reason.KILLED
+
+    def lost(self) -> int:
+        """The number of lost events. A flight recorder's buffers are overwritten on purpose."""
+        names = [it for it in layout.LOST_STATS if it != "overrun" or not self.values(Key.RING)]
+        rows = (value.partition(" ")[2].partition(":") for value in self.values(Key.STATS))
+        return sum(
+            int(count) for name, _, count in rows if name in names and count.strip().isdigit()
+        )
+
+
+def is_locked(file: int) -> bool:
+    """Whether a recorder writes this `meta`: it holds a lock until it ends, however it ends."""
+    try:
+        fcntl.flock(file, fcntl.LOCK_SH | fcntl.LOCK_NB)
+    except OSError:
+        return True
+    fcntl.flock(file, fcntl.LOCK_UN)
+    return False
+
+
+def size_of(path: str) -> int:
+    """The bytes of all files of a folder. Links aren't followed."""
+    total = 0
+    with contextlib.suppress(OSError), os.scandir(path) as entries:
+        for entry in entries:
+            with contextlib.suppress(OSError):
+                is_folder = entry.is_dir(follow_symlinks=False)
+                total += (
+                    size_of(entry.path) if is_folder else entry.stat(follow_symlinks=False).st_size
+                )
+    return total
+
+
+def stored_at(path: str) -> Stored | None:
+    """The recording in this folder, if it is one."""
+    try:
+        file = os.open(f"{path}/{layout.META}", os.O_RDONLY | os.O_NOFOLLOW | os.O_NONBLOCK)
+    except OSError:
+        return None
+    try:
+        data, ended = read_file(f"/proc/self/fd/{file}"), os.fstat(file).st_mtime
+        if not data.startswith(FIRST):
+            return None
+        lines = data.decode(errors="replace").splitlines()
+        meta = tuple((key, value) for key, _, value in (line.partition(" ") for line in lines))
+        return Stored(os.path.basename(path), ended, size_of(path), is_locked(file), meta)
+    finally:
+        os.close(file)
+
+
+def recordings(folder: str) -> list[Stored]:
+    """The recordings in a folder, the newest first."""
+    found = []
+    with contextlib.suppress(OSError), os.scandir(folder) as entries:
+        names = [it.name for it in entries if it.is_dir(follow_symlinks=False)]
+        found = [it for it in (stored_at(os.path.join(folder, name)) for name in names) if it]
+    return sorted(found, key=lambda it: (-it.ended, it.name))
+
+
+def beyond(found: list[Stored], limits: Limits, own: str) -> Iterator[Stored]:
+    """The recordings to delete: all after those that the limits keep. The newest one always stays,
+    and so does one that is being written; the recorder's `own` counts, since it ends now.
+    """
+    finished = [it for it in found if not it.is_written or it.name == own]
+    total = 0
+    for place, it in enumerate(finished):
+        total += it.bytes
+        is_many = limits.count is not None and place >= limits.count
+        is_much = limits.bytes is not None and total > limits.bytes
+        if place and (is_many or is_much) and not it.is_written:
+            yield it
+
+
+def delete(folder: str, name: str) -> None:
+    """Deletes a recording. Links aren't followed, and a folder of another owner stays."""
+    above = os.open(folder, FOLDER_FLAGS & ~os.O_NOFOLLOW)
+    try:
+        inner = os.open(name, FOLDER_FLAGS, dir_fd=above)
+        try:
+            if os.fstat(inner).st_uid != os.geteuid():
+                raise PermissionError(1, "it belongs to somebody else", name)
+            remove_all(inner)
+        finally:
+            os.close(inner)
+        os.rmdir(name, dir_fd=above)
+    finally:
+        os.close(above)
+
+
+def keep(folder: str, limits: Limits, tell: Callable[[str], None], own: str = "") -> None:
+    """Deletes the oldest recordings beyond the limits, except those that are being written. With
+    `own` there is room for the recording of this name, which ends now.
+    """
+    if limits == Limits():
+        return
+    for it in beyond(recordings(folder), limits, own):
+        try:
+            delete(folder, it.name)
+            tell(
+                f"deleted {os.path.join(folder, it.name)}, {it.bytes / MEGABYTE:.1f} MB,"
+                " to keep the limit"
+            )
+        except OSError as error:
+            tell(f"{os.path.join(folder, it.name)} couldn't be deleted: {error.strerror}")

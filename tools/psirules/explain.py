@@ -1,0 +1,113 @@
+"""tools/rules explain: why rules fired on a trace, or didn't, and whom they chose."""
+import argparse
+import contextlib
+
+from psicli.fault import Fault
+from psicli.running import complain
+from psicli.status import Status
+from psioomd.emulation import Run, emulate
+from psireplay.lines import Kill
+from psireplay.runs import Runs
+from psirules import by_oomd, by_systemd, telling
+from psirules.program import Program, processors
+from psirules.replays import Traces, accepted, no_input, note_samples, note_unmatched
+from psirules.sampling import must_judge, note
+from psirules.telling import Form
+from psisystemd.replayed import replayed, warnings
+from psisystemd.settings import Settings
+from psiwhy import by_oomd as oomd_parts
+from psiwhy import by_rules as rules_parts
+from psiwhy import by_systemd as systemd_parts
+from psiwhy.explanation import Part, lines_of, record_of
+from psiwhy.judged import Asked, judge
+
+ABOUT = """Prints why the rulesets of RULES fired on TRACE, or didn't:
+
+  for each detector its highest value next to its threshold, when that was, and its longest hold
+  next to its duration
+  for each firing the candidates of its actions, and why each was or wasn't chosen; or why nobody
+  was killed
+  the ruleset that never fired and came nearest to it
+
+With --by oomd the rules are evaluated by oomd's algorithm, as by tools/oomd; RULES is its
+configuration then. With --by systemd-oomd RULES is a folder with the settings of systemd-oomd, as
+of tools/systemd-oomd."""
+STATUS = "The status is 0 if everything was printed, and 2 if something couldn't be run."
+PSI_OOMD = "psi_oomd"
+KILLERS = (PSI_OOMD, by_oomd.NAME, by_systemd.NAME)
+
+
+def check_words(given: argparse.Namespace) -> None:
+    """Raises a fault if the words don't fit together."""
+    no_input([given.trace])
+    if given.by == by_systemd.NAME and (given.tick_ms or given.interval_s):
+        raise Fault(
+            f"--tick-ms and --interval-s aren't for --by {given.by}, which evaluates each second"
+        )
+    if given.by == by_oomd.NAME and given.tick_ms:
+        raise Fault(
+            f"--tick-ms isn't for --by {given.by}, which evaluates at multiples of --interval-s"
+        )
+    if given.systemd and given.by != by_systemd.NAME:
+        raise Fault(f"--systemd is for --by {by_systemd.NAME}")
+
+
+def by_rules(given: argparse.Namespace) -> list[Part]:
+    """The rulesets of psi_oomd."""
+    program = Program()
+    program.prepare()
+    with contextlib.ExitStack() as files:
+        rules, file = accepted(
+            program, given.file, files, "RULES TRACE, with a rules file for RULES"
+        )
+        must_judge(given.trace, rules.data, given.file)
+        found = program.replay(given.trace, file, given.pace, processors())
+        traces = Traces.of([given.trace], given.pace, None)
+        note_unmatched(traces, traces.names, [rules])
+        note_samples(traces.names, [rules])
+        runs = Runs()
+        asked = Asked(given.trace, file.path, None, given.tick_ms, given.interval_s)
+        words = ["--report-s=1", f"--rules={file.path}", *asked.pace]
+        judged = judge(runs, asked, runs.program("replay", *words, "--", given.trace))
+    return rules_parts.parts(
+        judged, [Kill(it.moment, it.ruleset, it.action, it.path) for it in found]
+    )
+
+
+def parts_of(given: argparse.Namespace) -> list[Part]:
+    """The rulesets, by whoever evaluates them."""
+    if given.by == PSI_OOMD:
+        return by_rules(given)
+    program = Program()
+    program.prepare()
+    if given.by == by_oomd.NAME:
+        run = Run(given.trace, given.file, interval=given.interval_s or by_oomd.INTERVAL)
+        engine = emulate(program, run, processors())
+        said, found = oomd_parts.notes(engine), oomd_parts.parts(engine)
+    else:
+        settings = Settings(given.file, given.systemd)
+        watched = replayed(program, given.trace, settings, processors())
+        said = [*settings.notes, *warnings(watched, settings)]
+        found = systemd_parts.parts(watched, settings)
+    for text in said:
+        complain(text)
+    return found
+
+
+def run(given: argparse.Namespace) -> int:
+    check_words(given)
+    found = parts_of(given)
+    if given.form is Form.JSON:
+        telling.tell_json(
+            {"rules": given.file, "trace": given.trace, "by": given.by, **record_of(found)}
+        )
+    else:
+        mark = note(given.trace)
+        print(
+            "\n".join(
+                [f"{given.trace}{mark}:", *lines_of(found, given.is_all)]
+                if mark
+                else lines_of(found, given.is_all)
+            )
+        )
+    return Status.DONE

@@ -1,0 +1,274 @@
+"""Replays many traces with one rules file, on this machine or on many, using GNU parallel: see
+`tools/fleet --help`.
+"""
+import argparse
+import collections
+import os
+import re
+import shlex
+import shutil
+import subprocess
+import sys
+import tempfile
+import threading
+from dataclasses import dataclass, field
+from typing import IO
+
+from psicli.fault import Fault
+from psicli.parser import Parser
+from psicli.running import complain, run
+from psicli.status import Status
+from psicli.wording import counted, quoted
+from psireplay.sampled import time_in_whole, wholes
+from psirules.command import add_form, add_pace
+from psirules.program import Pace, Program, read_kills
+from psirules.rules_file import RulesFile, bytes_of, kept
+from psirules.telling import Form, tell_json
+
+ABOUT = """Replays each TRACE with the rules of RULES, and sums up: kills by ruleset and by path,
+and traces without any. If no TRACE is given, their names are read from standard input,
+one per line. Words after -- go to parallel: `-- --eta`."""
+STATUS = """The status is 0 if each trace was replayed, and 2 if something couldn't be run. Each
+host needs psi_oomd at the same path as here (or at the path in PSI_OOMD), and reads
+traces and rules by their paths, except with --copy."""
+
+# A line that parallel writes for a job, on either stream: its number, a tab, and a line. It also
+# takes a \r for the end of a line.
+TAGGED = re.compile(r"([0-9]+)\t([^\r\n]*)(?s:.*)")
+# A line of parallel's log: the job's number, its host, two times, two counts of bytes, and the
+# status.
+LOGGED = re.compile(r"^([0-9]+)\t([^\t]*)(?:\t[0-9. ]*){4}\t(-?[0-9]+)\t", re.MULTILINE)
+
+
+@dataclass
+class Answer:
+    """The result for a trace: the lines of its replay, the other output of its host, and how the
+    job ended.
+    """
+
+    lines: list[str] = field(default_factory=list)
+    said: list[str] = field(default_factory=list)
+    end: str = "gave no answer"
+
+    def fault(self) -> str:
+        """The error that is reported for a trace that wasn't replayed."""
+        told = "; ".join(filter(None, self.lines + self.said))
+        return told if self.lines else ": ".join(filter(None, [f"its host {self.end}", told]))
+
+
+def command(given: argparse.Namespace, options: list[str]) -> list[str]:
+    """The command line of parallel. Each line of its output has a job's number, a tab, and a line
+    with a kill, the end, or an error.
+    """
+    rules = os.path.abspath(given.rules)
+    replay = [
+        Program().absolute(),
+        "replay",
+        f"--rules={os.path.basename(rules) if given.copy else rules}",
+        "--report-s=0",
+    ]
+    replay += ["--workers=1", *Pace(given.tick_ms, given.interval_s).words(), "--"]
+    if "{" in "".join(replay):
+        raise Fault("parallel would take the { in a path for a word of its own: use another path")
+    hosts = ["--sshloginfile", given.sshloginfile] if given.sshloginfile else []
+    if given.copy:
+        hosts += [
+            "--workdir",
+            "...",
+            "--cleanup",
+            "--transferfile",
+            "{}",
+            "--transferfile",
+            parted(rules),
+        ]
+    hosts += ["--dry-run"] if given.dry_run else []
+    line = (
+        f"{shlex.join(replay)} {'{/}' if given.copy else '{}'} 2>&1 | grep -vE"
+        " '^(report|some|full|event) '"
+    )
+    return ["parallel", "--null", "--tagstring", "{#}", *hosts, *options, line]
+
+
+def parted(path: str) -> str:
+    """The path in parallel's notation for a file that is copied to the folder of its job, under its
+    last name.
+    """
+    return os.path.join(os.path.dirname(path), ".", os.path.basename(path))
+
+
+def names_of(given: argparse.Namespace, traces: list[str]) -> bytes:
+    """The traces in the format that parallel reads."""
+    paths = [os.path.abspath(name) for name in traces]
+    return b"\0".join(os.fsencode(parted(path) if given.copy else path) for path in paths)
+
+
+def overhear(end: int, found: list[Answer]) -> None:
+    """Stores what parallel's standard error says about jobs. Everything else is passed on at once:
+    `--eta` ends no line.
+    """
+    held = ""
+    with os.fdopen(end, "rb", 0) as pipe:
+        while piece := pipe.read(65536).decode("utf-8", "replace"):
+            *lines, held = (held + piece).split("\n")
+            for line in lines:
+                keep_or_tell(line + "\n", found)
+            if not held[:1].isdigit():
+                keep_or_tell(held, found)
+                held = ""
+    keep_or_tell(held, found)
+
+
+def keep_or_tell(text: str, found: list[Answer]) -> None:
+    """Stores a line about a job, and passes other text on."""
+    tagged = TAGGED.fullmatch(text)
+    if tagged and 0 < int(tagged[1]) <= len(found):
+        found[int(tagged[1]) - 1].said.append(tagged[2])
+    else:
+        print(text, end="", file=sys.stderr, flush=True)
+
+
+def note_ends(log: IO[bytes], found: list[Answer]) -> None:
+    """Reads from parallel's log on which host each job ran, and how it ended."""
+    for number, host, status in LOGGED.findall(log.read().decode("utf-8", "replace")):
+        found[int(number) - 1].end = (
+            f"{'' if host == ':' else host + ' '}gave no answer, status {status}"
+        )
+
+
+def answers(given: argparse.Namespace, options: list[str], traces: list[str]) -> list[Answer]:
+    """The result for each trace."""
+    found = [Answer() for _ in traces]
+    end, other = os.pipe()
+    ear = threading.Thread(target=overhear, args=(end, found))
+    ear.start()
+    with tempfile.NamedTemporaryFile(prefix="fleet-jobs-") as log:
+        words = command(given, ["--joblog", log.name, *options])
+        with os.fdopen(other, "wb") as errors:
+            parallel = subprocess.Popen(
+                words, stdin=subprocess.PIPE, stdout=subprocess.PIPE, stderr=errors
+            )
+        output = parallel.communicate(names_of(given, traces))[0].decode("utf-8", "replace")
+        ear.join()
+        note_ends(log, found)
+    for line in output.split("\n")[:-1]:
+        number, _, text = line.partition("\t")
+        if not number.isdigit():
+            raise Fault(f"parallel didn't take its words: {shlex.join(options)}")
+        found[int(number) - 1].lines.append(text)
+    return found
+
+
+def summary(given: argparse.Namespace, traces: list[str], found: list[Answer]) -> dict[str, object]:
+    """The results, counted. Traces made from the same samples count as one, and a kill in the time
+    that two of them share counts once.
+    """
+    rules = RulesFile(given.rules, bytes_of(given.rules))
+    rulesets: collections.Counter[str] = collections.Counter()
+    paths: collections.Counter[str] = collections.Counter()
+    without = []
+    all_kills = {
+        trace: read_kills(line + "\n" for line in answer.lines)
+        for trace, answer in zip(traces, found)
+    }
+    faults = {
+        trace: answer.fault() for trace, answer in zip(traces, found) if all_kills[trace] is None
+    }
+    together = wholes(traces)
+    for whole in together:
+        kills = [
+            kill
+            for name, mark in whole.parts
+            for kill in all_kills[name] or ()
+            if time_in_whole(kill.moment, mark) is not None
+        ]
+        if not kills and not any(name in faults for name, _ in whole.parts):
+            without.append(whole.name)
+        rulesets.update(
+            f"{kill.ruleset} {quoted(rules.ruleset_name(kill.ruleset))}" for kill in kills
+        )
+        paths.update(kill.path for kill in kills)
+    counts = {
+        "kills_by_ruleset": dict(rulesets.most_common()),
+        "kills_by_path": dict(paths.most_common()),
+    }
+    return {
+        "rules": given.rules,
+        "traces": len(together),
+        **counts,
+        "without_any": without,
+        "not_run": faults,
+    }
+
+
+def tell(summed: dict[str, object]) -> None:
+    """Prints the summary."""
+    without, faults = summed["without_any"], summed["not_run"]
+    assert isinstance(without, list) and isinstance(faults, dict)
+    print(
+        f"{counted(int(str(summed['traces'])), 'trace')}, {len(without)} without any kill,"
+        f" {len(faults)} not run"
+    )
+    for name in ("kills_by_ruleset", "kills_by_path"):
+        print(f"{name.replace('_', ' ')}:")
+        counts = summed[name]
+        assert isinstance(counts, dict)
+        for what, count in counts.items():
+            print(f"{count:>8}  {what}")
+    for trace, fault in faults.items():
+        complain(f"{trace}: {fault}")
+
+
+def fleet() -> int:
+    """Replays the traces, and prints the summary."""
+    at = sys.argv.index("--") if "--" in sys.argv else len(sys.argv)
+    given, options = parser().parse_args(sys.argv[1:at]), sys.argv[at + 1 :]
+    traces = given.traces or [
+        os.fsdecode(name) for name in sys.stdin.buffer.read().split(b"\n") if name
+    ]
+    if (
+        not shutil.which("parallel")
+        or b"GNU" not in subprocess.run(["parallel", "--version"], capture_output=True).stdout
+    ):
+        raise Fault("GNU parallel isn't installed: its package is called parallel")
+    if not traces:
+        raise Fault(
+            "no trace is given: name them, or write their names to standard input, one a line"
+        )
+    if given.dry_run:
+        return subprocess.run(command(given, options), input=names_of(given, traces)).returncode
+    program = Program()
+    program.prepare()
+    with kept(bytes_of(given.rules), given.rules) as rules:
+        program.judge(rules)
+    summed = summary(given, traces, answers(given, options, traces))
+    if given.form is Form.JSON:
+        tell_json(summed)
+    else:
+        tell(summed)
+    return Status.FAILED if summed["not_run"] else Status.DONE
+
+
+def parser() -> Parser:
+    """The parser of the command line."""
+    found = Parser(
+        ABOUT, STATUS, usage="%(prog)s [OPTION ..] RULES [TRACE ..] [-- OPTION OF PARALLEL ..]"
+    )
+    found.add_argument("rules", metavar="RULES", help="the rules file")
+    found.add_argument("traces", metavar="TRACE", nargs="*", help="a trace")
+    found.add_argument("--sshloginfile", metavar="FILE",
+                       help="the hosts, one per line, in parallel's format")  # fmt: skip
+    found.add_argument("--copy", action="store_true",
+                       help="copy rules and trace to the host for each job, by rsync")  # fmt: skip
+    found.add_argument(
+        "--dry-run",
+        action="store_true",
+        help="print the commands, and run nothing (`-- -vv`: with their hosts)",
+    )
+    add_pace(found)
+    add_form(found, False)
+    return found
+
+
+def main() -> int:
+    """Runs the command; returns the exit status."""
+    return run(fleet)

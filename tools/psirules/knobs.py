@@ -1,0 +1,259 @@
+"""The thresholds and durations of detectors, and the kills with other values."""
+from __future__ import annotations
+
+import copy
+import json
+from abc import ABC, abstractmethod
+from collections.abc import Iterator, Mapping
+from dataclasses import dataclass, replace
+from typing import Any
+
+from psicli.fault import Fault
+from psicli.times import SECOND
+from psicli.wording import quoted
+from psirules import by_oomd, by_systemd
+from psirules.by_oomd import ByOomd
+from psirules.by_systemd import BySystemd
+from psirules.program import Kill, Program
+from psirules.relaxed import Reading
+from psirules.replays import Traces, accepted
+from psirules.rules_file import RulesFile, bytes_of, kept
+from psisystemd.replayed import kills_of, replayed
+from psisystemd.settings import Settings
+
+PRESSURE = ("pressure_above", "pressure_rising_beyond")
+MOST_PERCENT = 100
+# A rules file has at most this many rulesets.
+MOST_RULESETS = 64
+# oomd's action that waits for a second look: then an earlier firing may mean a later kill.
+WAITS = "kill_by_pg_scan"
+Found = list[list[Kill] | Fault]
+
+
+@dataclass(frozen=True)
+class Knob:
+    """A number of a detector that may be varied: its place for people, its name, the greatest value
+    that makes sense, its value in the file, and its unit. `way` leads to it.
+    """
+
+    place: str
+    argument: str
+    most: int
+    present: int
+    unit: str
+    way: tuple[int | str, ...]
+
+    def spelled(self) -> str:
+        return f"{self.place} {self.argument}"
+
+
+Values = Mapping[Knob, int]
+
+
+class Subject(ABC):
+    """Rules whose numbers are varied, and who evaluates them."""
+
+    rules: RulesFile
+    # How many values one replay answers for.
+    at_once = 1
+
+    @abstractmethod
+    def knobs(self, longest: int) -> Iterator[Knob]:
+        """The numbers, where durations make sense up to the length (s) of the longest trace."""
+
+    @abstractmethod
+    def kills(self, values: Values, traces: Traces) -> Found:
+        """The kills of each trace with these values."""
+
+    def kills_of_each(self, many: list[Values], traces: Traces) -> list[Found]:
+        """The kills with each of some values."""
+        return [self.kills(values, traces) for values in many]
+
+    @abstractmethod
+    def text(self, values: Values) -> bytes:
+        """The file with these values."""
+
+    def is_monotone(self) -> bool:
+        """Whether a lower threshold or duration never makes a first kill later."""
+        return True
+
+
+def detector_knobs(rulesets: Any, longest: int) -> Iterator[Knob]:
+    """The thresholds in percent, and the durations, of a file's detectors."""
+    for number, ruleset in enumerate(rulesets):
+        for group, items in enumerate(ruleset["detectors"]):
+            for item, plugin in enumerate(items):
+                if not isinstance(plugin, dict) or plugin.get("name") not in (
+                    *PRESSURE,
+                    "memory_above",
+                ):
+                    continue
+                place = f"ruleset {number} {quoted(str(ruleset['name']))}, {plugin['name']}"
+                place += f" of {plugin['args'].get('cgroup', '')}"
+                way = (number, "detectors", group, item, "args")
+                threshold = str(plugin["args"].get("threshold", ""))
+                if plugin["name"] in PRESSURE or threshold.endswith("%"):
+                    present = int(threshold.rstrip("%"))
+                    yield Knob(place, "threshold", MOST_PERCENT, present, "%", (*way, "threshold"))
+                duration = int(plugin["args"]["duration"])
+                yield Knob(
+                    place, "duration", max(longest, duration), duration, "s", (*way, "duration")
+                )
+
+
+def changed(data: Any, values: Values) -> bytes:
+    """A rules file with other values."""
+    data = copy.deepcopy(data)
+    for knob, value in values.items():
+        at = data["rulesets"]
+        for step in knob.way[:-1]:
+            at = at[step]
+        before = str(at[knob.way[-1]])
+        at[knob.way[-1]] = f"{value}%" if before.endswith("%") else str(value)
+    return json.dumps(data, indent=1).encode() + b"\n"
+
+
+class OwnRules(Subject):
+    """Rules of psi_oomd."""
+
+    def __init__(self, program: Program, rules: RulesFile) -> None:
+        self.program, self.rules = program, rules
+        self.at_once = max(1, MOST_RULESETS // max(1, len(rules.rulesets)))
+
+    def knobs(self, longest: int) -> Iterator[Knob]:
+        return detector_knobs(self.rules.rulesets, longest)
+
+    def kills(self, values: Values, traces: Traces) -> Found:
+        (found,) = self.kills_of_each([values], traces)
+        return found
+
+    def kills_of_each(self, many: list[Values], traces: Traces) -> list[Found]:
+        """One replay has the rulesets of many values side by side, since rulesets don't affect one
+        another, nor do kills.
+        """
+        step = self.at_once
+        parts = [many[start : start + step] for start in range(0, len(many), step)]
+        return [found for part in parts for found in self.kills_side_by_side(part, traces)]
+
+    def kills_side_by_side(self, many: list[Values], traces: Traces) -> list[Found]:
+        """The kills with each of as many values as fit into one rules file."""
+        rulesets = [it for values in many for it in json.loads(self.text(values))["rulesets"]]
+        data = {**self.rules.data, "rulesets": rulesets}
+        with kept(json.dumps(data).encode(), self.rules.name) as file:
+            (found,) = traces.replays(self.program, [file])
+        return [
+            [own_kills(of_trace, number, len(self.rules.rulesets)) for of_trace in found]
+            for number in range(len(many))
+        ]
+
+    def text(self, values: Values) -> bytes:
+        return changed(self.rules.data, values)
+
+
+def own_kills(found: list[Kill] | Fault, number: int, count: int) -> list[Kill] | Fault:
+    """The kills by the rulesets of one of several copies of `count` rulesets each."""
+    if isinstance(found, Fault):
+        return found
+    return [
+        replace(it, ruleset=it.ruleset % count) for it in found if it.ruleset // count == number
+    ]
+
+
+class OomdRules(Subject):
+    """A configuration of oomd."""
+
+    def __init__(self, program: Program, name: str, interval: int | None) -> None:
+        self.program, self.interval = program, interval
+        self.rules = ByOomd(name)
+        self.data = Reading(bytes_of(name)).data
+
+    def knobs(self, longest: int) -> Iterator[Knob]:
+        return detector_knobs(self.data["rulesets"], longest)
+
+    def kills(self, values: Values, traces: Traces) -> Found:
+        with kept(self.text(values), self.rules.name) as file:
+            return by_oomd.replays(self.program, file.path, self.interval, traces)
+
+    def text(self, values: Values) -> bytes:
+        return changed(self.data, values)
+
+    def is_monotone(self) -> bool:
+        actions = [it for ruleset in self.rules.rulesets for it in ruleset["actions"]]
+        return all(it["name"] != WAITS for it in actions)
+
+
+class SystemdSettings(Subject):
+    """The limits of systemd-oomd in each watched group of some traces."""
+
+    def __init__(
+        self, program: Program, folder: str, version: int | None, groups: set[str]
+    ) -> None:
+        self.program, self.folder, self.version = program, folder, version
+        self.rules = BySystemd(folder)
+        settings = Settings(folder, version)
+        self.watched = {
+            path: settings.watched(path)
+            for path in sorted(groups)
+            if settings.watched(path).pressure
+        }
+
+    def knobs(self, longest: int) -> Iterator[Knob]:
+        for path, it in self.watched.items():
+            yield Knob(
+                path,
+                "ManagedOOMMemoryPressureLimit",
+                MOST_PERCENT,
+                it.limit // 100,
+                "%",
+                (path, "limit"),
+            )
+            seconds = it.duration // SECOND
+            yield Knob(
+                path,
+                "ManagedOOMMemoryPressureDurationSec",
+                max(longest, seconds),
+                seconds,
+                "s",
+                (path, "duration"),
+            )
+
+    def settings(self, values: Values) -> Settings:
+        """The settings with other limits."""
+        found = Settings(self.folder, self.version)
+        for knob, value in values.items():
+            path, field = str(knob.way[0]), str(knob.way[1])
+            number = value * 100 if field == "limit" else max(1, value) * SECOND
+            found.watches[path] = replace(found.watched(path), **{field: number})
+        return found
+
+    def kills(self, values: Values, traces: Traces) -> Found:
+        def replay(trace: str, threads: int) -> list[Kill]:
+            return kills_of(replayed(self.program, trace, self.settings(values), threads).decisions)
+
+        return traces.each(replay)
+
+    def text(self, values: Values) -> bytes:
+        lines = [
+            f"# {knob.place}\n{knob.argument}={value}{knob.unit}" for knob, value in values.items()
+        ]
+        return "\n".join([*lines, ""]).encode()
+
+
+def subject(
+    program: Program,
+    by: str,
+    name: str,
+    interval: int | None,
+    version: int | None,
+    groups: set[str],
+    files: Any,
+) -> Subject:
+    """The rules of this name, by whoever evaluates them."""
+    if by == by_systemd.NAME:
+        return SystemdSettings(program, name, version, groups)
+    if by == by_oomd.NAME:
+        return OomdRules(program, name, interval)
+    rules, _ = accepted(
+        program, name, files, "RULES --incidents TRACE .., with a rules file for RULES"
+    )
+    return OwnRules(program, rules)

@@ -1,0 +1,137 @@
+"""Which values of a number keep what is wanted: ranges, found by bisection if the answer is
+monotone, else on a grid.
+"""
+from __future__ import annotations
+
+from collections.abc import Callable
+from dataclasses import dataclass
+
+# How many values a grid has at most, besides the present one.
+GRID = 21
+EARLY, LATE, OTHER = "early", "late", "other"
+
+
+@dataclass(frozen=True)
+class Outcome:
+    """What a value leads to: what is wrong, as the first fault of each kind by EARLY, LATE and
+    OTHER, and the first kill of each trace.
+
+    EARLY faults stay if the value is lowered, and LATE ones if it is raised, if the answer is
+    monotone: then a lower value never makes a first kill later.
+    """
+
+    faults: dict[str, str]
+    first: tuple[object, ...]
+
+    @property
+    def holds(self) -> bool:
+        return not self.faults
+
+    def why(self) -> str:
+        return "; ".join(self.faults.values())
+
+
+@dataclass(frozen=True)
+class Range:
+    """Values in a row that hold, both ends included, and why the next value on each side doesn't;
+    empty if there is no next value.
+    """
+
+    low: int
+    high: int
+    below: str
+    above: str
+
+
+@dataclass(frozen=True)
+class Search:
+    """The ranges of a number, how they were found, and how many values were tried. `step` is the
+    distance between the values of a grid, or 1.
+    """
+
+    ranges: list[Range]
+    way: str
+    tried: int
+    step: int
+
+    def of(self, value: int) -> Range | None:
+        """The range that has a value."""
+        return next((it for it in self.ranges if it.low <= value <= it.high), None)
+
+    def widest(self) -> Range | None:
+        """The range with the most values, the first one of several."""
+        order = sorted(self.ranges, key=lambda it: (it.low - it.high, it.low))
+        return order[0] if order else None
+
+
+# The outcomes of some values. Many are asked for at once, since a replay can answer for many.
+Look = Callable[[list[int]], list[Outcome]]
+
+
+def is_settled(low: Outcome, high: Outcome) -> bool:
+    """Whether the values between two need not be tried: all have the same first kills, all are too
+    early or all are too late.
+    """
+    return low.first == high.first or EARLY in high.faults or LATE in low.faults
+
+
+def bisect(low: int, high: int, at_once: int, look: Look) -> dict[int, Outcome]:
+    """The outcomes between which all others are settled. The first round tries about `at_once`
+    values, and each other one halves all ranges that aren't settled.
+    """
+    step = max(1, -(-(high - low) // max(1, at_once - 1)))
+    values = sorted({*range(low, high, step), high})
+    found = dict(zip(values, look(values)))
+    unsettled = list(zip(values, values[1:]))
+    while unsettled:
+        halves = [
+            (start, (start + end) // 2, end)
+            for start, end in unsettled
+            if end - start > 1 and not is_settled(found[start], found[end])
+        ]
+        middles = [middle for _, middle, _ in halves]
+        found.update(zip(middles, look(middles) if middles else []))
+        unsettled = [it for start, middle, end in halves for it in ((start, middle), (middle, end))]
+    return found
+
+
+def on_grid(low: int, high: int, present: int, look: Look) -> tuple[dict[int, Outcome], int]:
+    """The outcomes of evenly spaced values, and of the present one; and their distance."""
+    step = max(1, -(-(high - low) // (GRID - 1)))
+    values = sorted({*range(low, high + 1, step), high, min(max(present, low), high)})
+    return dict(zip(values, look(values))), step
+
+
+def joined(found: dict[int, Outcome], is_exact: bool) -> list[Range]:
+    """The ranges of values that hold. On a grid, values between two that hold count as holding."""
+    values = sorted(found)
+    ranges: list[Range] = []
+    for place, value in enumerate(values):
+        if not found[value].holds:
+            continue
+        before = values[place - 1] if place else None
+        is_joined = before is not None and found[before].holds
+        is_same = before is not None and (
+            value - before == 1 or found[before].first == found[value].first
+        )
+        above = found[values[place + 1]].why() if place + 1 < len(values) else ""
+        if is_joined and (is_same or not is_exact):
+            last = ranges.pop()
+            ranges.append(Range(last.low, value, last.below, above))
+        else:
+            below = found[before].why() if before is not None else ""
+            ranges.append(Range(value, value, below, above))
+    return ranges
+
+
+def search(
+    span: tuple[int, int], present: int, at_once: int, is_monotone: bool, look: Look
+) -> Search:
+    """The ranges in a span, both ends included. `at_once` values cost little more than one."""
+    low, high = span
+    if is_monotone:
+        found = bisect(low, high, at_once, look)
+        return Search(joined(found, True), "bisection", len(found), 1)
+    found, step = on_grid(low, high, present, look)
+    way = "each value" if step == 1 else f"a grid of step {step}"
+    return Search(joined(found, False), way, len(found), step)

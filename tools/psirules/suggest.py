@@ -1,0 +1,308 @@
+"""tools/rules suggest: which thresholds and durations catch incidents and spare quiet days."""
+import argparse
+import contextlib
+import os
+from collections.abc import Iterator
+from dataclasses import dataclass
+
+from psicli.fault import Fault
+from psicli.running import complain
+from psicli.status import Status
+from psicli.times import SECOND, seconds
+from psicli.wording import quoted
+from psireplay.sampled import sampled
+from psirules import by_oomd, by_systemd, expectations, ranges, telling
+from psirules.expectations import Expectation, First, NoKillBefore
+from psirules.explain import PSI_OOMD
+from psirules.knobs import Found, Knob, Subject, Values, subject
+from psirules.program import Kill, Program
+from psirules.ranges import EARLY, LATE, OTHER, Outcome, Range, Search
+from psirules.replays import Traces, no_input, note_samples, note_unmatched
+from psirules.rules_file import bytes_of
+from psirules.sampling import note
+from psirules.telling import Form
+
+ABOUT = """Finds, for each threshold and duration of RULES, the values with which every incident is
+as the WANT file says, and nobody is killed in the quiet traces, while all other numbers stay; how
+far the present value is from both ends; and the values with the widest margins, which -o writes as
+a file.
+
+The WANT file has the lines of `rules expect`, such as `first /batch/import from 100 to 160`, for
+each incident. Ranges are found by bisection if a lower value can't make a first kill later and WANT
+has only lines `first` and `no kill before`, else on a grid; the answer says which. With --by, RULES
+is as for `rules explain`."""
+STATUS = "The status is 0 if there are such values, 1 if not, and 2 if something couldn't be run."
+TAIL = 64
+
+
+@dataclass(frozen=True)
+class Task:
+    """What is wanted: the incidents with their expectations, and the quiet traces."""
+
+    incidents: list[str]
+    wanted: list[Expectation]
+    quiet: list[str]
+    traces: Traces
+
+    def is_monotone(self) -> bool:
+        return all(isinstance(it, (First, NoKillBefore)) for it in self.wanted)
+
+
+def first_of(kills: list[Kill]) -> tuple[Kill, ...]:
+    """The kills at the time of the first one."""
+    return tuple(it for it in kills if it.moment == kills[0].moment)
+
+
+def kind_of(wanted: Expectation, kills: list[Kill]) -> str:
+    """Of which kind a broken expectation is."""
+    if isinstance(wanted, NoKillBefore):
+        return EARLY
+    if not isinstance(wanted, First):
+        return OTHER
+    if not kills or kills[0].moment > wanted.end:
+        return LATE
+    return EARLY if kills[0].moment < wanted.start else OTHER
+
+
+class Judge:
+    """Says what values lead to, and remembers it."""
+
+    def __init__(self, it: Subject, task: Task) -> None:
+        self.subject, self.task = it, task
+        self.known: dict[tuple[tuple[Knob, int], ...], Outcome] = {}
+
+    def look(self, many: list[Values]) -> list[Outcome]:
+        """The outcomes of values; those that aren't given are the file's own."""
+        keys = [tuple(sorted(values.items(), key=lambda it: it[0].spelled())) for values in many]
+        unknown = {key: values for key, values in zip(keys, many) if key not in self.known}
+        found = self.subject.kills_of_each(list(unknown.values()), self.task.traces)
+        self.known.update({key: self.judged(kills) for key, kills in zip(unknown, found)})
+        return [self.known[key] for key in keys]
+
+    def judged(self, found: Found) -> Outcome:
+        """The outcome of the kills in all traces."""
+        faults: dict[str, str] = {}
+        kills: list[list[Kill]] = []
+        for it in found:
+            if isinstance(it, Fault):
+                raise it
+            kills.append(it)
+        for trace, of_trace in zip(self.task.traces.names, kills):
+            for kind, why in self.faults(trace, of_trace):
+                faults.setdefault(kind, f"{trace}{note(trace)}: {why}")
+        return Outcome(faults, tuple(map(first_of, kills)))
+
+    def faults(self, trace: str, kills: list[Kill]) -> Iterator[tuple[str, str]]:
+        """What is wrong with the kills of a trace, each with its kind."""
+        if trace in self.task.quiet and kills:
+            yield EARLY, f"kills {kills[0].path} at {seconds(kills[0].moment)} s"
+        for wanted in self.task.wanted if trace in self.task.incidents else ():
+            verdict = wanted.verdict(kills, self.subject.rules)
+            if not verdict.holds:
+                yield kind_of(wanted, kills), f"{wanted.text}: {verdict.told}"
+
+
+def end_of(trace: str) -> int:
+    """The length of a trace in whole seconds, from its last line."""
+    try:
+        with open(trace, "rb") as file:
+            file.seek(max(0, os.fstat(file.fileno()).st_size - TAIL))
+            words = file.read().split(b"\n")[-2].split(b" ")
+        return int(words[0]) // SECOND + 1
+    except (OSError, IndexError, ValueError):
+        return 0  # the replay reports what is wrong with it
+
+
+@dataclass(frozen=True)
+class Answer:
+    """The ranges of a number, and of which samples the traces were made, if they were."""
+
+    knob: Knob
+    search: Search
+    samples: str
+
+    def lines(self) -> Iterator[str]:
+        knob, search = self.knob, self.search
+        holds = [f"{it.low} to {it.high} {knob.unit}" for it in search.ranges] or ["no value"]
+        tried = "; ".join(
+            filter(None, [f"{search.way}, {search.tried} values tried", self.samples])
+        )
+        yield f"{knob.spelled()}: {' or '.join(holds)}; now {knob.present} {knob.unit} ({tried})"
+        here = search.of(knob.present)
+        if here:
+            yield f"  margin: {knob.present - here.low} below, {here.high - knob.present} above"
+        for it in search.ranges:
+            for value, why in ((it.low - search.step, it.below), (it.high + search.step, it.above)):
+                if why:
+                    yield f"  not {value}: {why}"
+
+    def record(self) -> dict[str, object]:
+        found = [
+            {"low": it.low, "high": it.high, "below": it.below or None, "above": it.above or None}
+            for it in self.search.ranges
+        ]
+        return {
+            "place": self.knob.place, "argument": self.knob.argument, "unit": self.knob.unit,
+            "now": self.knob.present, "ranges": found, "by": self.search.way,
+            "tried": self.search.tried, "step": self.search.step,
+        }  # fmt: skip
+
+
+def searched(judge: Judge, knob: Knob, others: Values) -> Search:
+    """The ranges of a number, with these values of others."""
+    is_monotone = judge.subject.is_monotone() and judge.task.is_monotone()
+
+    def look(values: list[int]) -> list[Outcome]:
+        return judge.look([{**others, knob: value} for value in values])
+
+    least = 1 if knob.way[-1] == "duration" and len(knob.way) == 2 else 0
+    return ranges.search((least, knob.most), knob.present, judge.subject.at_once, is_monotone, look)
+
+
+def middle(found: Range) -> int:
+    return (found.low + found.high) // 2
+
+
+def widest(judge: Judge, knobs: list[Knob]) -> dict[Knob, int]:
+    """Values with wide margins: number after number goes to the middle of its widest range, while
+    the others have their new values. All but the last are centered again in the end, since ranges
+    depend on the other numbers.
+    """
+    chosen: dict[Knob, int] = {}
+    for knob in [*knobs, *knobs[:-1]]:
+        others = {it: value for it, value in chosen.items() if it != knob}
+        best = searched(judge, knob, others).widest()
+        if best:
+            chosen[knob] = middle(best)
+    return chosen
+
+
+def check_words(given: argparse.Namespace) -> None:
+    """Raises a fault if the words don't fit together."""
+    no_input([*given.incidents, *given.quiet])
+    both = sorted(set(given.incidents) & set(given.quiet))
+    if both:
+        raise Fault(f"{both[0]} is given as an incident and as a quiet trace")
+    if given.by != PSI_OOMD and given.tick_ms:
+        raise Fault(f"--tick-ms isn't for --by {given.by}")
+    if given.by == by_systemd.NAME and given.interval_s:
+        raise Fault(f"--interval-s isn't for --by {given.by}, which evaluates each second")
+    if given.systemd and given.by != by_systemd.NAME:
+        raise Fault(f"--systemd is for --by {by_systemd.NAME}")
+
+
+def task_of(given: argparse.Namespace) -> Task:
+    """What is wanted. Each line of WANT must fit the groups of each incident."""
+    wanted = expectations.read(given.want, bytes_of(given.want))
+    traces = Traces.of([*given.incidents, *given.quiet], given.pace, given.jobs)
+    for trace in given.incidents:
+        groups = traces.groups(trace)
+        for it in wanted if groups else ():
+            missing = it.missing(groups or set())
+            if missing:
+                raise Fault(f"{given.want} line {it.line}: {trace}: {missing}")
+    incidents = [it for it in traces.names if it in given.incidents]
+    return Task(incidents, wanted, [it for it in traces.names if it not in incidents], traces)
+
+
+def check_wanted(task: Task, it: Subject, name: str) -> None:
+    for wanted in task.wanted:
+        try:
+            wanted.check(it.rules)
+        except Fault as fault:
+            raise Fault(f"{name} line {wanted.line}: {fault}") from fault
+
+
+@dataclass(frozen=True)
+class Suggestion:
+    """The ranges of each number, the values with the widest margins and the ranges around these."""
+
+    answers: list[Answer]
+    chosen: dict[Knob, int]
+    around: list[Answer]
+    holds: bool
+
+
+def suggest(given: argparse.Namespace, judge: Judge, knobs: list[Knob]) -> Suggestion:
+    """Searches all ranges, and the values with the widest margins."""
+    marks = {mark.interval() for trace in judge.task.traces.names if (mark := sampled(trace))}
+    samples = ", ".join(sorted(marks))
+    answers = [Answer(knob, searched(judge, knob, {}), samples) for knob in knobs]
+    chosen = widest(judge, knobs)
+    holds = bool(chosen) and judge.look([chosen])[0].holds
+    if given.output and holds:
+        with open(given.output, "wb") as file:
+            file.write(judge.subject.text(chosen))
+    around = [
+        Answer(
+            knob,
+            searched(judge, knob, {it: value for it, value in chosen.items() if it != knob}),
+            samples,
+        )
+        for knob in chosen
+    ]
+    return Suggestion(answers, chosen, around if holds else [], holds)
+
+
+def suggested_lines(found: Suggestion) -> Iterator[str]:
+    """All ranges, and the values with the widest margins."""
+    for it in found.answers:
+        yield from it.lines()
+    if not found.holds:
+        yield "no values were found that hold together"
+        return
+    yield "widest margins:"
+    for it in found.around:
+        value, range_ = found.chosen[it.knob], it.search.of(found.chosen[it.knob])
+        if range_:
+            margin = f"{value - range_.low} below, {range_.high - value} above"
+            way = "; ".join(filter(None, [it.search.way, it.samples]))
+            yield f"  {it.knob.spelled()} {value} {it.knob.unit}: margin {margin} ({way})"
+
+
+def record_of(given: argparse.Namespace, found: Suggestion) -> dict[str, object]:
+    values = [
+        {"place": it.place, "argument": it.argument, "value": value}
+        for it, value in found.chosen.items()
+    ]
+    samples = {
+        trace: mark.interval()
+        for trace in [*given.incidents, *given.quiet]
+        if (mark := sampled(trace))
+    }
+    return {
+        "rules": given.file, "by": given.by, "want": given.want,
+        "incidents": given.incidents, "quiet": given.quiet,
+        "samples": samples, "ranges": [it.record() for it in found.answers],
+        "widest": values if found.holds else None, "around": [it.record() for it in found.around],
+    }  # fmt: skip
+
+
+def run(given: argparse.Namespace) -> int:
+    check_words(given)
+    program = Program()
+    program.prepare()
+    task = task_of(given)
+    groups = set().union(*(task.traces.groups(it) or set() for it in task.traces.names))
+    with contextlib.ExitStack() as files:
+        judged = subject(
+            program, given.by, given.file, given.interval_s, given.systemd, groups, files
+        )
+        check_wanted(task, judged, given.want)
+        knobs = list(judged.knobs(max(map(end_of, [*given.incidents, *given.quiet]), default=0)))
+        if not knobs:
+            raise Fault(
+                f"{given.file} has no threshold in percent and no duration of a detector that"
+                " could be varied"
+            )
+        found = suggest(given, Judge(judged, task), knobs)
+    if given.by not in (by_oomd.NAME, by_systemd.NAME):
+        note_unmatched(task.traces, task.incidents, [judged.rules])
+        note_samples(task.traces.names, [judged.rules])
+    if given.form is Form.JSON:
+        telling.tell_json(record_of(given, found))
+    else:
+        print("\n".join(suggested_lines(found)))
+    if given.output and not found.holds:
+        complain(f"{quoted(given.output)} wasn't written: no values were found that hold together")
+    return Status.DONE if found.holds else Status.FOUND

@@ -1,0 +1,152 @@
+"""Why rulesets of oomd 0.5.0 fired or didn't."""
+from __future__ import annotations
+
+from typing import Optional
+
+from psicli.times import SECOND, seconds
+from psicli.wording import quoted
+from psioomd.detectors import Above, MemoryAbove, Nearest, Reclaim, Rising, SwapFree
+from psioomd.engine import Engine, Ruleset
+from psioomd.outcome import Act, Fired
+from psioomd.plugin import Duration, Plugin
+from psisystemd.told import size
+from psisystemd.values import percent
+
+from .choice import Candidate, Choice
+from .explanation import Extreme, Firing, Measure, Miss, Part
+
+NO_VALUE = "oomd never looked"
+
+
+def extreme(
+    most: Nearest, shown: str, limit: Optional[float], limit_shown: str, unit: str
+) -> Optional[Extreme]:
+    """The value of a detector that came nearest to its limit."""
+    if most.value is None:
+        return None
+    word = "highest" if most.sign > 0 else "lowest"
+    value = most.value / 100 if unit == "percent" else most.value
+    return Extreme(word, value, shown, limit, limit_shown, unit, most.moment, most.path)
+
+
+def lasting(duration: Duration) -> str:
+    return f" for {duration.seconds} s" if duration.seconds else ""
+
+
+def measure(it: Plugin) -> Measure:
+    """A detector."""
+    cgroup = it.args["cgroup"].text if "cgroup" in it.args else ""
+    if isinstance(it, Above):
+        average = "60 s, and over 10 s," if isinstance(it, Rising) else "10 s"
+        limit = f"above {it.threshold} %{lasting(it.duration)}"
+        wanted = f"{cgroup}: full {it.resource} pressure over {average} {limit}"
+        shown = percent(it.most.value or 0)
+        found = extreme(it.most, shown, it.threshold, f"{it.threshold} %", "percent")
+        return held(it, wanted, found, it.duration)
+    if isinstance(it, MemoryAbove):
+        wanted = f"{cgroup}: memory above {size(it.threshold)}{lasting(it.duration)}"
+        found = extreme(
+            it.most, size(it.most.value or 0), it.threshold, size(it.threshold), "bytes"
+        )
+        return held(it, wanted, found, it.duration)
+    if isinstance(it, SwapFree):
+        shown, wanted = size(it.least.value or 0), f"less than {size(it.limit)} of the swap is free"
+        found = extreme(it.least, f"{shown} free", it.limit, size(it.limit), "bytes")
+        return Measure(it.name, wanted, found, "" if found else NO_VALUE, None, None, None)
+    if isinstance(it, Reclaim):
+        wanted = f"{cgroup}: pages were scanned within {it.args['duration']} s"
+        return Measure(
+            it.name, wanted, None, f"scanned {it.pages} pages at its last look", None, None, None
+        )
+    return Measure(it.name, cgroup, None, "it measures nothing", None, None, None)
+
+
+def held(it: Plugin, wanted: str, found: Optional[Extreme], duration: Duration) -> Measure:
+    absent = "" if found else NO_VALUE
+    return Measure(
+        it.name, wanted, found, absent, duration.longest, duration.seconds * SECOND, None
+    )
+
+
+def miss_at(it: Measure) -> Optional[Miss]:
+    """How near a detector came, if that can be measured."""
+    if it.extreme is None or not it.extreme.limit:
+        return None
+    value, limit = it.extreme.value, it.extreme.limit
+    part = value / limit if it.extreme.word == "highest" else limit / value if value else 1.0
+    part = min(1.0, part)
+    duration = it.duration or 0
+    hold = min(1.0, (it.hold or 0) / duration) if duration else float(part >= 1.0)
+    return Miss(part, hold, f"{it.plugin}: {it.line()}")
+
+
+def miss_of(ruleset: Ruleset, groups: list[tuple[str, list[Measure]]]) -> Optional[Miss]:
+    """How near a ruleset came that never fired: as near as the nearest group, which is as near as
+    its farthest detector.
+    """
+    if ruleset.fired:
+        return None
+    near = [[miss for miss in map(miss_at, measures) if miss] for _, measures in groups]
+    farthest = [min(it, key=lambda miss: miss.key) for it in near if it]
+    if not farthest:
+        return Miss(0.0, 0.0, "nothing that it watches has a distance")
+    best = max(farthest, key=lambda miss: miss.key)
+    if best.key == (1.0, 1.0):
+        return best._replace(
+            text="its detectors were each true at some time, or measure nothing, but not at once"
+        )
+    return best
+
+
+def choice(act: Act) -> Choice:
+    """An action with its candidates."""
+    found = []
+    for it in act.candidates:
+        is_chosen = act.victim is not None and it.path == act.victim.path
+        equal = act.victim is not None and it.path in act.victim.equals
+        other = (
+            "equal in rank, so oomd may kill it instead"
+            if equal
+            else "ranked lower"
+            if act.victim
+            else ""
+        )
+        reason = "ranked first" if is_chosen else it.passed_over or other
+        wish = "" if it.preference == "none" else it.preference
+        text = ", ".join(filter(None, [it.rank, wish]))
+        found.append(
+            Candidate(
+                it.path, text, {"rank": it.rank, "preference": it.preference}, is_chosen, reason
+            )
+        )
+    ordered = sorted(found, key=lambda it: not it.is_chosen)
+    return Choice(
+        act.action, act.plugin, act.victim.path if act.victim else None, act.nobody, ordered
+    )
+
+
+def firing(it: Fired) -> Firing:
+    return Firing(it.moment, it.why, it.paused_until, [choice(act) for act in it.acts])
+
+
+def part(ruleset: Ruleset) -> Part:
+    """A ruleset."""
+    groups = [
+        (f"group {number} {quoted(name)}", [measure(it) for it in detectors])
+        for number, (name, detectors) in enumerate(ruleset.groups)
+    ]
+    name = f"ruleset {ruleset.number} {quoted(ruleset.name)}"
+    name += f", of {ruleset.drop_in}" if ruleset.drop_in else ""
+    fired = [firing(it) for it in ruleset.fired]
+    return Part(name, groups, fired, miss_of(ruleset, groups))
+
+
+def parts(engine: Engine) -> list[Part]:
+    """All rulesets."""
+    return [part(it) for it in engine.rulesets]
+
+
+def notes(engine: Engine) -> list[str]:
+    """What weakens the answer."""
+    crash = [f"oomd crashes at {seconds(engine.last)} s: {engine.crash}"] if engine.crash else []
+    return [*engine.notes.texts, *crash]

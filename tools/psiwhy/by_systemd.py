@@ -1,0 +1,130 @@
+"""Why systemd-oomd killed or didn't: for memory pressure in each watched group, and for swap."""
+from __future__ import annotations
+
+from typing import Optional
+
+from psicli.times import seconds
+from psisystemd.engine import Engine
+from psisystemd.settings import Settings
+from psisystemd.told import MEMORY_PRESSURE, SWAP, Candidate, Course, Decision
+from psisystemd.values import percent
+
+from . import choice
+from .explanation import Extreme, Firing, Measure, Miss, Part
+
+KILL = "kill"
+
+
+def candidate(it: Candidate, decision: Decision) -> choice.Candidate:
+    """A candidate, and why it was or wasn't chosen."""
+    is_chosen = it.path == decision.victim
+    wish = "" if it.preference == "none" else it.preference
+    reason = (
+        "ranked first"
+        if is_chosen
+        else it.passed_over or ("ranked lower" if decision.victim else "")
+    )
+    told = it.told(decision.by, decision.span).removesuffix(f", {it.passed_over or wish}")
+    numbers: choice.Numbers = {
+        "scanned_pages": it.scanned, "memory_bytes": it.memory, "swap_bytes": it.swap,
+        "preference": it.preference,
+    }  # fmt: skip
+    return choice.Candidate(
+        it.path, ", ".join(filter(None, [told, wish])), numbers, is_chosen, reason
+    )
+
+
+def firing(decision: Decision) -> Firing:
+    """A decision: whom it killed, or why nobody."""
+    found = sorted(
+        (candidate(it, decision) for it in decision.candidates), key=lambda it: not it.is_chosen
+    )
+    why, _, nobody = decision.why.partition("; but ")
+    act = choice.Choice(0, KILL, decision.victim, nobody, found)
+    return Firing(decision.moment, [why], None, [act])
+
+
+def course_measure(it: Course) -> Measure:
+    """How near a watched group came to its limit."""
+    limit, name = percent(it.limit), f"full memory pressure over 10 s of {it.path}"
+    found = Extreme(
+        "highest",
+        it.most / 100,
+        percent(it.most),
+        it.limit / 100,
+        limit,
+        "percent",
+        it.most_at,
+        it.path,
+    )
+    wanted = f"{name} above {limit} for {seconds(it.duration)} s"
+    return Measure(MEMORY_PRESSURE, wanted, found, "", it.longest or 0, it.duration, None)
+
+
+def course_miss(it: Course) -> Miss:
+    """How near a watched group came that never had a decision."""
+    part = min(1.0, it.most / it.limit) if it.limit else 1.0
+    held = min(1.0, (it.longest or 0) / it.duration) if it.duration else 0.0
+    far = (
+        f"{percent(it.limit - it.most)} below"
+        if it.most <= it.limit
+        else f"{seconds(it.duration - (it.longest or 0))} s too short"
+    )
+    return Miss(part, held, f"{course_measure(it).line()}: {far}")
+
+
+def pressure_part(engine: Engine, path: str) -> Part:
+    """A watched group."""
+    course = engine.pressure.courses[path]
+    decided = [
+        firing(it) for it in engine.decisions if it.by == MEMORY_PRESSURE and it.watched == path
+    ]
+    paused = [
+        Firing(moment, [f"memory pressure of {path}"], until, [])
+        for moment, whose, until in engine.pressure.paused
+        if whose == path
+    ]
+    fired = sorted([*decided, *paused], key=lambda it: it.moment)
+    miss = None if fired else course_miss(course)
+    return Part(f"{MEMORY_PRESSURE} of {path}", [("", [course_measure(course)])], fired, miss)
+
+
+def swap_part(engine: Engine, settings: Settings) -> Optional[Part]:
+    """Swap, if some unit is watched for it."""
+    rule, limit = engine.swap, settings.limits.swap_used
+    if not rule.was_watched:
+        return None
+    share, memory, moment = rule.most
+    absent = "the machine has no swap" if rule.is_absent else "the trace doesn't contain it"
+    wanted = f"more than {percent(limit)} of memory and of swap are used"
+    found = Extreme(
+        "highest",
+        share / 100,
+        f"{percent(share)} of swap",
+        limit / 100,
+        percent(limit),
+        "percent",
+        moment,
+        "",
+    )
+    at_most = f"with {percent(memory)} of memory" if share >= 0 else ""
+    measure = Measure(
+        SWAP,
+        ", ".join(filter(None, [wanted, at_most])),
+        found if share >= 0 else None,
+        absent,
+        None,
+        None,
+        None,
+    )
+    fired = [firing(it) for it in engine.decisions if it.by == SWAP]
+    part = min(1.0, share / limit) if limit and share > 0 else 0.0
+    miss = None if fired else Miss(part, 0.0, measure.line())
+    return Part(SWAP, [("", [measure])], fired, miss)
+
+
+def parts(engine: Engine, settings: Settings) -> list[Part]:
+    """Each watched group, and swap."""
+    found = [pressure_part(engine, path) for path in sorted(engine.pressure.courses)]
+    swap = swap_part(engine, settings)
+    return [*found, swap] if swap else found

@@ -1,0 +1,91 @@
+"""The machine at each evaluation of the rules: its groups, their last samples, their pressure, and
+what the rules remember of earlier evaluations.
+"""
+from __future__ import annotations
+
+import itertools
+from collections.abc import Iterable, Iterator
+
+from psireplay.lines import Report, read
+from psisystemd.world import Group, Sample, World, lines_of
+
+from .judged import Asked
+
+NO_SAMPLE = Sample(0, 0, 0)
+# The rules remember the sizes at this many evaluations.
+REMEMBERED = 4
+
+
+class Evaluation:
+    """An evaluation at a time (ns). `full` has full averages in hundredths of a percent, by path,
+    resource and average; `sizes` the sizes (bytes) at the evaluations before, the newest first, and
+    `scans` the scan counts at the evaluation before.
+    """
+
+    def __init__(self, world: World) -> None:
+        self.moment = 0
+        self.world = world
+        self.full: dict[tuple[str, str, str], int] = {}
+        self.sizes: dict[Group, list[int]] = {}
+        self.scans: dict[Group, int] = {}
+
+    def take(self, moment: int, reports: list[Report]) -> None:
+        """Becomes the evaluation at this time, with these reports."""
+        self.moment = moment
+        self.full = {}
+        for it in reports:
+            self.full[it.path, it.resource, "avg10"] = it.full.avg10
+            self.full[it.path, it.resource, "avg60"] = it.full.avg60
+
+    def remember(self) -> None:
+        """Stores what the next evaluation compares with."""
+        groups = self.world.groups.values()
+        self.scans = {group: self.sample(group).scanned for group in groups}
+        self.sizes = {
+            group: [self.sample(group).memory, *self.sizes.get(group, [])][:REMEMBERED]
+            for group in groups
+        }
+
+    def sample(self, group: Group) -> Sample:
+        """The last sample; zeros if the group has none."""
+        return group.sample or NO_SAMPLE
+
+    def at(self, path: str) -> Sample:
+        return self.sample(self.world.groups[path])
+
+    def pressure(self, path: str, resource: str) -> int:
+        """The sum of full pressure over 10 s and 60 s, in hundredths of a percent."""
+        return sum(self.full.get((path, resource, it), 0) for it in ("avg10", "avg60"))
+
+    def rise(self, path: str) -> int:
+        """The pages scanned since the evaluation before; 0 if the group wasn't live then."""
+        group = self.world.groups[path]
+        scanned = self.sample(group).scanned
+        return max(0, scanned - self.scans.get(group, scanned))
+
+    def growth(self, path: str) -> tuple[int, int]:
+        """The growth as a fraction: the size over the mean of earlier sizes. The denominator is 0
+        if there are none.
+        """
+        group = self.world.groups[path]
+        past = self.sizes.get(group, [])
+        return self.sample(group).memory * len(past), sum(past)
+
+
+def evaluations(printed: Iterable[bytes], asked: Asked) -> Iterator[Evaluation]:
+    """The evaluations of a replay with a report at each. Each is valid until the next is taken."""
+    world = World()
+    found = Evaluation(world)
+    reports = (it for it in read(printed) if isinstance(it, Report))
+    with open(asked.trace, "rb") as file:
+        lines = lines_of(file)
+        line = next(lines, None)
+        for moment, of_moment in itertools.groupby(reports, key=lambda it: it.moment):
+            if not asked.is_due(moment):
+                continue
+            while line and line[0] <= moment:
+                world.take(*line)
+                line = next(lines, None)
+            found.take(moment, list(of_moment))
+            yield found
+            found.remember()

@@ -1,0 +1,242 @@
+"""Why each ruleset fired or didn't, whoever evaluates it: the facts, as lines and as JSON."""
+from __future__ import annotations
+
+from typing import NamedTuple, Optional
+
+
+from psicli.times import seconds
+from .choice import Candidate, Choice
+
+# At most this many candidates of an action, and lines of firings of a ruleset, are printed.
+MOST_CANDIDATES, MOST_FIRINGS = 8, 40
+Span = tuple[int, int]
+
+
+class Extreme(NamedTuple):
+    """The value that came nearest to a limit, when it was reached first (ns) and by which group,
+    and the limit; both in `unit`, and for people.
+    """
+
+    word: str
+    value: float
+    shown: str
+    limit: Optional[float]
+    limit_shown: str
+    unit: str
+    moment: int
+    path: str
+
+    def line(self) -> str:
+        whose = f" ({self.path})" if self.path else ""
+        limit = f", threshold {self.limit_shown}" if self.limit_shown else ""
+        return f"{self.word} {self.shown} at {seconds(self.moment)} s{whose}{limit}"
+
+
+class Measure(NamedTuple):
+    """A detector: what it waits for, its nearest value or why there is none, the longest time (ns)
+    for which its condition held, the time (ns) for which it must, and when it was true (ns).
+    """
+
+    plugin: str
+    wanted: str
+    extreme: Optional[Extreme]
+    absent: str
+    hold: Optional[int]
+    duration: Optional[int]
+    true: Optional[list[Span]]
+
+    def line(self) -> str:
+        found = [self.extreme.line() if self.extreme else self.absent]
+        if self.hold is not None:
+            asked = f", duration {seconds(self.duration)} s" if self.duration is not None else ""
+            found.append(f"longest hold {seconds(self.hold)} s{asked}")
+        if self.true is not None:
+            found.append(f"true {spans_text(self.true)}" if self.true else "never true")
+        return "; ".join(filter(None, found))
+
+    def record(self) -> dict[str, object]:
+        extreme = self.extreme
+        value: dict[str, object] = {"value": None, "absent": self.absent}
+        if extreme:
+            value = {
+                "value": extreme.value, "threshold": extreme.limit, "unit": extreme.unit,
+                "at_ns": extreme.moment, "path": extreme.path or None,
+            }  # fmt: skip
+        return {
+            "plugin": self.plugin, "wanted": self.wanted, **value,
+            "longest_hold_ns": self.hold, "duration_ns": self.duration, "true_ns": self.true,
+        }  # fmt: skip
+
+
+class Firing(NamedTuple):
+    """A firing at a time (ns), what was true then, and what its actions did. If it rested until a
+    later time (ns), or something else kept it from acting, none ran.
+    """
+
+    moment: int
+    by: list[str]
+    rests_until: Optional[int]
+    choices: list[Choice]
+
+    def record(self) -> dict[str, object]:
+        choices = [
+            {
+                "action": it.action, "plugin": it.plugin, "victim": it.victim,
+                "nobody": it.nobody or None,
+                "candidates": [candidate_record(one) for one in it.candidates],
+            }
+            for it in self.choices
+        ]  # fmt: skip
+        return {
+            "moment_ns": self.moment, "by": self.by, "rests_until_ns": self.rests_until,
+            "actions": choices,
+        }  # fmt: skip
+
+
+class Miss(NamedTuple):
+    """How near a ruleset that never fired came, from 0 to 1: the part of the way to the threshold,
+    and of the duration; and the value that was missing, for people.
+    """
+
+    part: float
+    held: float
+    text: str
+
+    @property
+    def key(self) -> tuple[float, float]:
+        """Nearer is greater."""
+        return self.part, self.held
+
+
+class Part(NamedTuple):
+    """A ruleset, or what is like one: its name, its detectors by their group's name, its firings,
+    and if it never fired, how near it came.
+    """
+
+    name: str
+    groups: list[tuple[str, list[Measure]]]
+    firings: list[Firing]
+    miss: Optional[Miss]
+
+    def victims(self) -> list[tuple[int, str]]:
+        """The kills, by time (ns) and path."""
+        return [(it.moment, one.victim) for it in self.firings for one in it.choices if one.victim]
+
+    def record(self) -> dict[str, object]:
+        groups = [
+            {"name": name, "detectors": [it.record() for it in found]}
+            for name, found in self.groups
+        ]
+        miss = self.miss and {
+            "part": self.miss.part,
+            "held": self.miss.held,
+            "text": self.miss.text,
+        }
+        return {
+            "name": self.name, "groups": groups,
+            "firings": [it.record() for it in self.firings], "miss": miss,
+        }  # fmt: skip
+
+
+def candidate_record(it: Candidate) -> dict[str, object]:
+    return {"path": it.path, "chosen": it.is_chosen, "reason": it.reason or None, **it.numbers}
+
+
+def spans_text(spans: list[Span], most: int = 3) -> str:
+    """`from 146 s to 214 s`, of the first spans."""
+    found = [
+        f"at {seconds(start)} s" if start == end else f"from {seconds(start)} s to {seconds(end)} s"
+        for start, end in spans[:most]
+    ]
+    more = f" and {len(spans) - most} times more" if len(spans) > most else ""
+    return ", ".join(found) + more
+
+
+def head_of(part: Part) -> str:
+    """What a ruleset did, in a line."""
+    if not part.firings:
+        return f"{part.name}: never fired"
+    killed = [f"{path} at {seconds(moment)} s" for moment, path in part.victims()]
+    more = f" and {len(killed) - 3} more" if len(killed) > 3 else ""
+    whom = f"killed {', '.join(killed[:3])}{more}" if killed else "killed nobody"
+    times = len(part.firings)
+    return f"{part.name}: fired {times} time{'' if times == 1 else 's'}, {whom}"
+
+
+def choice_lines(it: Choice, is_all: bool) -> list[str]:
+    """An action and its candidates."""
+    lines = [f"action {it.action} {it.plugin}: {f'killed {it.victim}' if it.victim else it.nobody}"]
+    shown = it.candidates if is_all else it.candidates[:MOST_CANDIDATES]
+    for one in shown:
+        why = f"chosen, {one.reason}" if one.is_chosen else f"not: {one.reason}"
+        lines.append(f"  {one.path}  {one.text}; {why}")
+    if it.candidates[len(shown) :]:
+        lines.append(f"  {len(it.candidates) - len(shown)} more, which --all shows")
+    return lines
+
+
+def firing_lines(found: list[Firing], is_all: bool) -> list[str]:
+    """Firings with their actions; those in a row during the same rest are one line."""
+    lines: list[str] = []
+    place = 0
+    while place < len(found):
+        first = found[place]
+        last = place
+        while (
+            first.rests_until
+            and last + 1 < len(found)
+            and found[last + 1].rests_until == first.rests_until
+        ):
+            last += 1
+        when = f"{seconds(first.moment)} s"
+        if first.rests_until:
+            many = (
+                f" to {seconds(found[last].moment)} s  fired {last - place + 1} times"
+                if last > place
+                else "  fired"
+            )
+            lines.append(f"{when}{many}, resting until {seconds(first.rests_until)} s")
+        else:
+            lines.append(f"{when}  fired by {first.by[0]}")
+            lines += [f"    and {it}" for it in first.by[1:]]
+            lines += [f"  {line}" for it in first.choices for line in choice_lines(it, is_all)]
+        place = last + 1
+    return lines
+
+
+def part_lines(part: Part, is_all: bool) -> list[str]:
+    """A ruleset: what it did, its detectors, its firings."""
+    lines = [head_of(part)]
+    for name, measures in part.groups:
+        lines += [f"  {name}"] if name else []
+        for it in measures:
+            lines += [f"    {it.plugin}: {it.wanted}", f"      {it.line()}"]
+    fired = firing_lines(part.firings, is_all)
+    shown = fired if is_all else fired[:MOST_FIRINGS]
+    lines += [f"  {it}" for it in shown]
+    if fired[len(shown) :]:
+        lines.append(f"  {len(fired) - len(shown)} lines more, which --all shows")
+    if part.miss:
+        lines.append(f"  {part.miss.text}")
+    return lines
+
+
+def nearest(parts: list[Part]) -> Optional[Part]:
+    """The ruleset that never fired and came nearest."""
+    missed = [it for it in parts if it.miss and it.miss.part]
+    order = sorted(missed, key=lambda it: it.miss.key if it.miss else (0.0, 0.0))
+    return order[-1] if order else None
+
+
+def lines_of(parts: list[Part], is_all: bool) -> list[str]:
+    """The whole explanation."""
+    lines = [line for part in parts for line in part_lines(part, is_all)]
+    best = nearest(parts)
+    if best and best.miss:
+        lines.append(f"nearest miss: {best.name}: {best.miss.text}")
+    return lines
+
+
+def record_of(parts: list[Part]) -> dict[str, object]:
+    best = nearest(parts)
+    return {"rulesets": [it.record() for it in parts], "nearest_miss": best.name if best else None}

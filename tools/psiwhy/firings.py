@@ -1,0 +1,74 @@
+"""When rulesets fired, and what their actions did then."""
+from __future__ import annotations
+
+import collections
+from collections.abc import Iterator
+from typing import NamedTuple, Optional
+
+from psicli.times import SECOND
+from psireplay.lines import Kill
+from psireplay.rules import TRUTHS, Plugin
+
+from .choice import Choice, choice
+from .evaluations import Evaluation, evaluations
+from .judged import Judged
+from .truths import Place
+
+
+class Firing(NamedTuple):
+    """A ruleset fired at a time (ns), by these groups of detectors. If it rested until a later time
+    (ns), no action ran.
+    """
+
+    moment: int
+    ruleset: int
+    groups: list[int]
+    rests_until: Optional[int]
+    choices: list[Choice]
+
+
+class Chains:
+    """The actions of each ruleset, its kills by time, and until when (ns) it rests."""
+
+    def __init__(self, judged: Judged, kills: list[Kill]) -> None:
+        self.actions = [
+            [Plugin(it["name"], it["args"]) for it in ruleset["actions"]] for ruleset in judged.json
+        ]
+        self.kills: dict[tuple[int, int], dict[int, str]] = collections.defaultdict(dict)
+        for kill in kills:
+            self.kills[kill.ruleset, kill.moment][kill.action] = kill.path
+        self.rests: dict[int, int] = {}
+
+    def run(self, ruleset: int, now: Evaluation) -> Iterator[Choice]:
+        """What the actions of a ruleset that fires did, up to the one that ended the chain."""
+        kills = self.kills[ruleset, now.moment]
+        for number, plugin in enumerate(self.actions[ruleset]):
+            victim = kills.get(number)
+            yield choice(number, plugin, now, victim)
+            if victim is not None and plugin.args["always_continue"] not in TRUTHS:
+                delay = int(plugin.args["post_action_delay"]) * SECOND
+                self.rests[ruleset] = now.moment + delay
+                return
+
+    def resting(self, ruleset: int, moment: int) -> Optional[int]:
+        """Until when it rests, if it does at this time."""
+        until = self.rests.get(ruleset, 0)
+        return until if moment < until else None
+
+
+def firings(judged: Judged, kills: list[Kill]) -> list[Firing]:
+    """All firings, in order of time and of rulesets."""
+    fired = {number: set(judged.truths[Place(number)]) for number in range(len(judged.json))}
+    if not any(fired.values()):
+        return []
+    chains, found = Chains(judged, kills), []
+    for now in evaluations(judged.run.lines(), judged.of):
+        for number, moments in fired.items():
+            if now.moment not in moments:
+                continue
+            groups = range(len(judged.json[number]["detectors"]))
+            true = [it for it in groups if now.moment in judged.truths[Place(number, it)]]
+            until = chains.resting(number, now.moment)
+            choices = [] if until else list(chains.run(number, now))
+            found.append(Firing(now.moment, number, true, until, choices))
+    return found

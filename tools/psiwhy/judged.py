@@ -1,0 +1,87 @@
+"""What a rules file did on a trace: its kills, when detectors were true, and how near they came."""
+from __future__ import annotations
+
+import json
+import tempfile
+from typing import Any, NamedTuple, Optional
+
+from psicli.times import SECOND
+from psireplay.rules import Rules
+from psireplay.runs import Done, Runs
+
+from .nearness import Watch, watch
+from .truths import ALWAYS, Truths, truths
+
+# What `replay` takes if no option says more.
+TICK_MS, INTERVAL_S = 2000, 5
+
+
+class Asked(NamedTuple):
+    """A trace and rules by their files' names, with the tick (ms) and the interval of evaluations
+    (s) if they aren't the program's own.
+    """
+
+    trace: str
+    rules: str
+    drop_in: Optional[str] = None
+    tick_ms: Optional[int] = None
+    interval_s: Optional[int] = None
+
+    @property
+    def pace(self) -> list[str]:
+        """The options of `replay` for both."""
+        options = (("--tick-ms", self.tick_ms), ("--interval-s", self.interval_s))
+        return [f"{name}={value}" for name, value in options if value is not None]
+
+    def is_due(self, tick: int) -> bool:
+        """Whether the rules are evaluated at a tick (ns)."""
+        length = (self.tick_ms or TICK_MS) * SECOND // 1000
+        interval = (self.interval_s or INTERVAL_S) * SECOND
+        return tick // interval > (tick - length) // interval
+
+
+class Judged(NamedTuple):
+    """What the rules did: `json` has them as the program understood them, `asked` the runs that
+    show when detectors were true, and `watches` how near each came, by ruleset, group and detector.
+    `host` is the machine's memory in bytes.
+    """
+
+    of: Asked
+    run: Done
+    json: list[dict[str, Any]]
+    rules: Rules
+    asked: list[Done]
+    truths: Truths
+    watches: dict[tuple[int, int, int], Watch]
+    host: Optional[int]
+
+    @property
+    def evaluations(self) -> list[int]:
+        return self.truths[ALWAYS]
+
+
+def read_rules(runs: Runs, asked: Asked) -> tuple[list[dict[str, Any]], Rules]:
+    """The rules as the program understood them, with their drop-in file."""
+    words = [f"--drop-in={asked.drop_in}"] if asked.drop_in is not None else []
+    text = runs.program("rules", *words, "--", asked.rules).text()
+    with tempfile.NamedTemporaryFile("w", suffix=".json", encoding="utf-8") as file:
+        file.write(text)
+        file.flush()
+        rules = Rules(file.name)
+    rules.name = asked.rules
+    return json.loads(text)["rulesets"], rules
+
+
+def judge(runs: Runs, asked: Asked, run: Done) -> Judged:
+    """Judges a replay of the trace by the rules, which has a report at each evaluation."""
+    values, rules = read_rules(runs, asked)
+    before = len(runs.done)
+    found = truths(runs, values, asked.trace, asked.pace)
+    watches = {
+        (number, place, which): Watch(detector)
+        for number, ruleset in enumerate(values)
+        for place, group in enumerate(ruleset["detectors"])
+        for which, detector in enumerate(group[1:])
+    }
+    host = watch(run.lines(), asked.trace, found[ALWAYS], list(watches.values()))
+    return Judged(asked, run, values, rules, runs.done[before:], found, watches, host)
