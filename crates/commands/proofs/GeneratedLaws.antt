@@ -194,7 +194,7 @@ pub planned_generated : (planner : PlannerView) (plans : PlansView) (shape : Sha
     → HasTaken planner (limits_of (of_seconds 2) shape.cpus) (generated shape).events
     → RepresentTaken planner plans
     → IsPlanned plans (generated shape) (timing_of (stress_options workers))
-planned_generated planner plans shape workers is within taken word_state =
+planned_generated planner plans shape workers is within taken represents =
     planned One planner plans (stress_options workers) (limits_of (of_seconds 2) shape.cpus) (generated shape).events
     (record {
       taken = taken;
@@ -206,7 +206,7 @@ planned_generated planner plans shape workers is within taken word_state =
       often = omega arith;
       workers = within;
     })
-    word_state
+    represents
 
 -- ---- a command that reads no file
 

@@ -160,15 +160,15 @@ flat_same f g from (suc n) same =
 pub printed_text : (limits : Limits) (version : Version) (plans : PlansView) (events : List Event) (order : List Slot) (last : ℕ) → AreLegal limits first_world events → Represent plans limits.cpus events → order ≡ live_slots plans.lives → last ≡ plans.finish
     → all_lines version plans.lives order last plans.plans ≡ stall_text (record { version = version; cpus = limits.cpus; events = events })
 unfolding stall_text
-printed_text limits version plans events order last legal word_state ordered ended =
-    let slots : order ≡ live_slots (after events).groups = ordered ∙ ap live_slots word_state.lives in
-    ap (λ gs. all_lines version gs order last plans.plans) word_state.lives
+printed_text limits version plans events order last legal represents ordered ended =
+    let slots : order ≡ live_slots (after events).groups = ordered ∙ ap live_slots represents.lives in
+    ap (λ gs. all_lines version gs order last plans.plans) represents.lives
     ∙ ap (λ slots. all_lines version (after events).groups slots last plans.plans) slots
-    ∙ ap (λ at. all_lines version (after events).groups (live_slots (after events).groups) at plans.plans) (ended ∙ word_state.finish)
-    ∙ ap (λ n. flat_map (λ cpu. plan_lines version (after events).groups (live_slots (after events).groups) (end_of events) (plan_at plans cpu) cpu) (range_with_len 0 n)) word_state.each
+    ∙ ap (λ at. all_lines version (after events).groups (live_slots (after events).groups) at plans.plans) (ended ∙ represents.finish)
+    ∙ ap (λ n. flat_map (λ cpu. plan_lines version (after events).groups (live_slots (after events).groups) (end_of events) (plan_at plans cpu) cpu) (range_with_len 0 n)) represents.each
     ∙ flat_same (λ cpu. plan_lines version (after events).groups (live_slots (after events).groups) (end_of events) (plan_at plans cpu) cpu) (λ cpu. stall_lines version cpu events) 0 limits.cpus
     (λ cpu low high.
-    ap (λ plan. plan_lines version (after events).groups (live_slots (after events).groups) (end_of events) plan cpu) (standing_plans plans limits.cpus events word_state cpu (omega (arith, high))) ∙ lines_are limits version events cpu legal)
+    ap (λ plan. plan_lines version (after events).groups (live_slots (after events).groups) (end_of events) plan cpu) (standing_plans plans limits.cpus events represents cpu (omega (arith, high))) ∙ lines_are limits version events cpu legal)
 
 -- ---- times by clocks
 
@@ -180,6 +180,6 @@ times_at_end clock plan slot k at is all later = clock_shows_planned clock plan 
 
 -- no change of a plan is after the end, and the end is in time
 pub ends_later : (limits : Limits) (plans : PlansView) (events : List Event) (cpu : ℕ) → AreLegal limits first_world events → Represent plans limits.cpus events → cpu < limits.cpus → last_change (plan_at plans cpu) (length (plan_at plans cpu).changes) ≤ plans.finish
-ends_later limits plans events cpu legal word_state below =
-    let moment : last_change (plan_at plans cpu) (length (plan_at plans cpu).changes) ≡ last_change (plan_of cpu events) (length (plan_of cpu events).changes) = ap (λ (plan : PlanView). last_change plan (length plan.changes)) (standing_plans plans limits.cpus events word_state cpu below) in
-    omega (arith, moment, last_within limits events cpu legal, word_state.finish)
+ends_later limits plans events cpu legal represents below =
+    let moment : last_change (plan_at plans cpu) (length (plan_at plans cpu).changes) ≡ last_change (plan_of cpu events) (length (plan_of cpu events).changes) = ap (λ (plan : PlanView). last_change plan (length plan.changes)) (standing_plans plans limits.cpus events represents cpu below) in
+    omega (arith, moment, last_within limits events cpu legal, represents.finish)

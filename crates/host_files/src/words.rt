@@ -9,25 +9,25 @@ use std::env::Args;
 use std::io;
 use std::io::ErrorKind;
 
-// All words but the first, which is the program's name.
+// Collects the arguments without the first, which is the program's name.
 fn after_the_name(alloc: Global, words: Args) -> Result<Vec<String>, AllocError>
     ensures { IfOk result (λ kept. kept.items ≡ drop 1 (into_iter_items words)) }
 {
     words.skip(1).collect(alloc)
 }
 
-/// The words of a command line without the first, which is the program's name. If a word isn't
-/// UTF-8, there are no words: that is never a command.
-pub fn words_of(alloc: Global, bytes_read: io::Result<Args>) -> Result<Vec<String>, NoMemory>
-    ensures words { IfOk bytes_read
+/// The arguments of a command line without the program's name. If one isn't UTF-8, the result is
+/// empty, which isn't a command.
+pub fn words_of(alloc: Global, arguments: io::Result<Args>) -> Result<Vec<String>, NoMemory>
+    ensures words { IfOk arguments
         (λ args. IfOk result (λ words. words.items ≡ drop 1 (into_iter_items args))) }
-    ensures none { IfErr bytes_read (λ error. IfOk result (λ words. words.items ≡ [])) }
-    ensures memory { IfErr bytes_read (λ error.
+    ensures none { IfErr arguments (λ error. IfOk result (λ words. words.items ≡ [])) }
+    ensures memory { IfErr arguments (λ error.
         error_kind error ≡ ErrorKind.OutOfMemory → IsErr result) }
-    ensures other { IfErr bytes_read (λ error. error_kind error ≢ ErrorKind.OutOfMemory →
+    ensures other { IfErr arguments (λ error. error_kind error ≢ ErrorKind.OutOfMemory →
         IsOk result) }
 {
-    match bytes_read {
+    match arguments {
         Ok(words) => Ok(after_the_name(alloc, words)?),
         Err(error) if error.kind() == ErrorKind::OutOfMemory => Err(AllocError.into()),
         Err(_) => Ok(Vec::new(alloc)),

@@ -70,29 +70,29 @@ again actions act action kill below here by = rw by (slice_get_read actions (len
 pub goes_on : (lives : List GroupLife) (number : ℕ) (actions : List Action) (now : Reading) (past : List Reading) (act : ℕ) (action : Action) (kill : Kill) → act < length actions → IsPlacedAt actions act action →
     Some kill ≡ turn lives number now past act action → (after_of action).always_continue ≡ true →
     suffix lives number actions now past act ≡ kill ∷ suffix lives number actions now past (act + 1)
-goes_on lives number actions now past act action kill below here bytes_read on = rw (turn_next lives number actions now past act action below here, sym bytes_read, on) refl
+goes_on lives number actions now past act action kill below here killed on = rw (turn_next lives number actions now past act action below here, sym killed, on) refl
 
 -- It doesn't end the chain.
 pub not_ended : (lives : List GroupLife) (number : ℕ) (actions : List Action) (now : Reading) (past : List Reading) (act : ℕ) (action : Action) (kill : Kill) → act < length actions → IsPlacedAt actions act action →
     Some kill ≡ turn lives number now past act action → (after_of action).always_continue ≡ true →
     find (ends_chain actions) (suffix lives number actions now past (act + 1)) ≡ find (ends_chain actions) (suffix lives number actions now past act)
-not_ended lives number actions now past act action kill below here bytes_read on =
-    let of = is_of number act now (victim lives action now past) kill bytes_read in
+not_ended lives number actions now past act action kill below here killed on =
+    let of = is_of number act now (victim lives action now past) kill killed in
     let mine : ends_chain actions kill ≡ false = rw (again actions act action kill below here of.by, on) refl in
-    rw (goes_on lives number actions now past act action kill below here bytes_read on, mine) refl
+    rw (goes_on lives number actions now past act action kill below here killed on, mine) refl
 
 -- A kill by another action ends the chain, and nothing follows.
 pub stops : (lives : List GroupLife) (number : ℕ) (actions : List Action) (now : Reading) (past : List Reading) (act : ℕ) (action : Action) (kill : Kill) → act < length actions → IsPlacedAt actions act action →
     Some kill ≡ turn lives number now past act action → (after_of action).always_continue ≡ false →
     suffix lives number actions now past act ≡ kill ∷ []
-stops lives number actions now past act action kill below here bytes_read off = rw (turn_next lives number actions now past act action below here, sym bytes_read, off) refl
+stops lives number actions now past act action kill below here killed off = rw (turn_next lives number actions now past act action below here, sym killed, off) refl
 
 -- The ruleset rests for its action's delay.
 pub rests : (lives : List GroupLife) (number : ℕ) (actions : List Action) (now : Reading) (past : List Reading) (act : ℕ) (action : Action) (kill : Kill) (until : ℕ) → act < length actions → IsPlacedAt actions act action →
     Some kill ≡ turn lives number now past act action → (after_of action).always_continue ≡ false → until ≡ kill.at + of_seconds (after_of action).delay_s →
     Some until ≡ option_map (rest_of actions) (find (ends_chain actions) (suffix lives number actions now past act))
-rests lives number actions now past act action kill until below here bytes_read off is =
-    let of = is_of number act now (victim lives action now past) kill bytes_read in
+rests lives number actions now past act action kill until below here killed off is =
+    let of = is_of number act now (victim lives action now past) kill killed in
     let found = again actions act action kill below here of.by in
     let mine : ends_chain actions kill ≡ true = rw (found, off) refl in
-    rw (stops lives number actions now past act action kill below here bytes_read off, mine, found, is) refl
+    rw (stops lives number actions now past act action kill below here killed off, mine, found, is) refl

@@ -64,7 +64,7 @@ fn rulesets_of(
 fn evaluate_all(rulesets: &mut [RuleState], reading: &Reading, past: &Past, found: &mut Vec<Kill>)
     requires few { length rulesets.old ≤ 64 }
     requires ready { All (IsRulesetReady reading.now) rulesets.old }
-    requires word_state { AreStanding reading.now.lives rulesets.old }
+    requires represents { AreStanding reading.now.lives rulesets.old }
     requires slots { length past.now.sizes ≡ length reading.now.lives }
     requires empty { found.old.items ≡ [] }
     requires room { MOST_KILLS ≤ vec_capacity found.old }

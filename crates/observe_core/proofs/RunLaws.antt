@@ -32,7 +32,7 @@ planned_for plans number path known read = record {
   version = read.version;
   planned = record {
     counted = read.counted;
-    word_state = read.word_state;
+    represents = read.represents;
     accepted = read.accepted;
     some = omega arith;
     short = omega arith;
@@ -53,7 +53,7 @@ takes_trace request files plans number read = record {
 pub finish_early : (plans : PlansView) (trace : Trace) (number : ℕ) (path : List ℕ) → IsPlannedFor plans trace number path → plans.finish ≤ last_moment
 finish_early plans trace number path is =
     let legal = legal_after (limits_of observed_tick_length trace.cpus) trace.events is.planned.accepted.legal in
-    omega (arith, is.planned.word_state.finish, legal.early)
+    omega (arith, is.planned.represents.finish, legal.early)
 
 -- ---- counts
 

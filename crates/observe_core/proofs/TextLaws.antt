@@ -78,10 +78,10 @@ record IsRight (trace : Trace) (entry : Entry) : Type 0 where
 right : (plans : PlansView) (trace : Trace) (timing : Timing) (entry : Entry) → IsPlanned plans trace timing → IsOn plans entry → IsRight trace entry
 right plans trace timing entry stands on =
     let cpu = entry.cpu.0 in
-    let each = stands.word_state.each in
+    let each = stands.represents.each in
     let there = on.cpu in
     let below : cpu < trace.cpus = omega (arith, there, each) in
-    let own : entry.plan.now ≡ plan_of cpu trace.events = on.plan ∙ standing_plans plans trace.cpus trace.events stands.word_state cpu below in
+    let own : entry.plan.now ≡ plan_of cpu trace.events = on.plan ∙ standing_plans plans trace.cpus trace.events stands.represents cpu below in
     let many = (changes_are_numbered cpu trace.events).2 in
     let count : entry.count ≤ length (plan_of cpu trace.events).changes = subst (λ (plan : PlanView). entry.count ≤ length plan.changes) own entry.within in
     let within : entry.count ≤ length (changes_of cpu trace.events) = omega (arith, count, many) in
@@ -133,7 +133,7 @@ text_is plans trace timing observers entries states planned on last many =
     ∙ ap (λ (lines : List ℕ). flat_map (sample_line trace) (looks_of entries) ++ lines ++ end_line plans.finish (length entries))
     (states_lines trace timing 0 states last ∙ ap (λ (n : ℕ). flat_map (board_line trace timing) (range_with_len 0 n)) many)
     ∙ ap (λ (n : ℕ). flat_map (sample_line trace) (looks_of entries) ++ flat_map (board_line trace timing) (range_with_len 0 observers) ++ end_line plans.finish n) (sym (length-looks entries))
-    ∙ ap (λ (finish : ℕ). flat_map (sample_line trace) (looks_of entries) ++ flat_map (board_line trace timing) (range_with_len 0 observers) ++ end_line finish (length (looks_of entries))) planned.word_state.finish
+    ∙ ap (λ (finish : ℕ). flat_map (sample_line trace) (looks_of entries) ++ flat_map (board_line trace timing) (range_with_len 0 observers) ++ end_line finish (length (looks_of entries))) planned.represents.finish
 
 -- ---- whose samples they are
 

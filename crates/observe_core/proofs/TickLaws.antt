@@ -37,7 +37,7 @@ can_pass set i replay is left = (set.trace, set.timing, [], i, is.replayed, left
 
 -- there is a plan for each processor of the trace
 pub as_many : (set : Setting) (i : ℕ) (replay : ReplayView) → IsReached set replay i → length set.plans.plans ≡ set.trace.cpus
-as_many set i replay is = ap (λ (plans : PlansView). length plans.plans) (sym is.plans_are) ∙ is.replayed.planned.word_state.each
+as_many set i replay is = ap (λ (plans : PlansView). length plans.plans) (sym is.plans_are) ∙ is.replayed.planned.represents.each
 
 -- at most 64
 pub few_plans : (set : Setting) (i : ℕ) (replay : ReplayView) → IsReached set replay i → length set.plans.plans ≤ 64

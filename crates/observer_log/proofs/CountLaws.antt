@@ -6,7 +6,7 @@ use Rattle.std.proofs.lemmas.Grind.{common_steps}
 use Rattle.std.proofs.lemmas.Bool.{eqb-true}
 use Rattle.std.proofs.lemmas.List.{map-append, take-append-drop}
 use Rattle.std.proofs.lemmas.List.Elements.{filter-append}
-use Rattle.observer_log.specs.Entries.{AreBy, AreOwn, by, counts_of, is_by, is_of, list_of, parsed_from}
+use Rattle.observer_log.specs.Entries.{AreBy, AreOwn, by, counts_of, is_by, is_of, list_of, entry_content}
 use Rattle.observer_log.specs.Journal.{Agrees, IsBefore, IsGood, IsNotBefore, RiseFrom, joined, last_of}
 use Rattle.observer_log.specs.declared.entry.Entry.{Entry}
 

@@ -5,23 +5,23 @@ use Rattle.std.proofs.Math.Seq.{drop-cons, get_or-append_seam, take-length}
 use Rattle.std.proofs.lemmas.Bool.{eqb-false, eqb-true}
 use Rattle.std.proofs.lemmas.List.{append-nil, append_assoc, get_or-map, get_or-set_other, get_or-set_same, get_or_past, length-map, length-set, length-take-le, map-append, take-append-drop, take_more}
 use Rattle.std.proofs.lemmas.List.Elements.{filter-append}
-use Rattle.observer_log.specs.Entries.{AreBy, AreOwn, Said, by, is_by, list_of, parsed_from}
+use Rattle.observer_log.specs.Entries.{AreBy, AreOwn, EntryContent, by, is_by, list_of, entry_content}
 use Rattle.observer_log.specs.Journal.{Agrees, AreInOrder, IsTaken, joined, place_of}
 use Rattle.observer_log.specs.declared.entry.Entry.{Entry}
 
 -- ---- an observer's entries
 
 -- among what entries say, those of an observer
-abbrev said_by : ℕ → List Said → List Said
-said_by o xs = filter (λ (s : Said). nat_eq s.observer o) xs
+abbrev contents_by : ℕ → List EntryContent → List EntryContent
+contents_by o xs = filter (λ (s : EntryContent). nat_eq s.observer o) xs
 
 -- which entries are an observer's follows from their content
-by_said : (o : ℕ) (entries : List Entry) → map parsed_from (by o entries) ≡ said_by o (map parsed_from entries)
-by_said o [] = refl
-by_said o (e ∷ es) = go (is_by o e) refl (by_said o es)
+by_contents : (o : ℕ) (entries : List Entry) → map entry_content (by o entries) ≡ contents_by o (map entry_content entries)
+by_contents o [] = refl
+by_contents o (e ∷ es) = go (is_by o e) refl (by_contents o es)
   where
-    go : (b : Bool) → is_by o e ≡ b → map parsed_from (by o es) ≡ said_by o (map parsed_from es) → map parsed_from (by o (e ∷ es)) ≡ said_by o (map parsed_from (e ∷ es))
-    go true is rest = rw (is) (ap (λ l. parsed_from e ∷ l) rest)
+    go : (b : Bool) → is_by o e ≡ b → map entry_content (by o es) ≡ contents_by o (map entry_content es) → map entry_content (by o (e ∷ es)) ≡ contents_by o (map entry_content (e ∷ es))
+    go true is rest = rw (is) (ap (λ l. entry_content e ∷ l) rest)
     go false is rest = rw (is) rest
 
 by_own : (o : ℕ) (list : List Entry) → AreBy o list → by o list ≡ list
@@ -100,14 +100,14 @@ own_push lists places taken o x known short next is old q false e =
 
 -- one entry more of a list, which says what the journal's next one says
 pub taken_push : (journal : List Entry) (lists : List (List Entry)) (places : List ℕ) (taken : List Entry) (j : ℕ) (e x : Entry) → IsTaken (take j journal) lists places taken → AreOwn lists
-    → j < length journal → e ≡ get_or journal j e → e.observer < length lists → place_of places e.observer < length (list_of lists e.observer) → x ≡ get_or (list_of lists e.observer) (place_of places e.observer) x → parsed_from e ≡ parsed_from x
+    → j < length journal → e ≡ get_or journal j e → e.observer < length lists → place_of places e.observer < length (list_of lists e.observer) → x ≡ get_or (list_of lists e.observer) (place_of places e.observer) x → entry_content e ≡ entry_content x
     → IsTaken (take (j + 1) journal) lists (set places e.observer (place_of places e.observer + 1)) (taken ++ x ∷ [])
 taken_push journal lists places taken j e x is own inside at there short next same =
     let more : take (j + 1) journal ≡ take j journal ++ e ∷ [] = take_more journal j e inside ∙ ap (λ (z : Entry). take j journal ++ z ∷ []) (sym at) in
     let by_o : x.observer ≡ e.observer = ap (λ (z : Entry). z.observer) next ∙ one_by e.observer (list_of lists e.observer) (place_of places e.observer) x (own e.observer) short in
     let all : length places ≡ length lists = is.all in let known : e.observer < length places = omega arith in record {
       all = length-set places e.observer (place_of places e.observer + 1) ∙ is.all;
-      same = map-append parsed_from taken (x ∷ []) ∙ ((λ i. is.same i ++ sym same i ∷ []) ∙ (sym (map-append parsed_from (take j journal) (e ∷ [])) ∙ ap (map parsed_from) (sym more)));
+      same = map-append entry_content taken (x ∷ []) ∙ ((λ i. is.same i ++ sym same i ∷ []) ∙ (sym (map-append entry_content (take j journal) (e ∷ [])) ∙ ap (map entry_content) (sym more)));
       within = λ q. within_push lists places e.observer known short is.within q (eqb q e.observer) refl;
       own = λ q. own_push lists places taken e.observer x known short next by_o is.own q (eqb q e.observer) refl;
     }
@@ -115,20 +115,20 @@ taken_push journal lists places taken j e x is own inside at there short next sa
 -- ---- if the two agree
 
 -- what the journal's entries of an observer say so far is what its list says up to its place
-so_far : (journal : List Entry) (lists : List (List Entry)) (places : List ℕ) (taken : List Entry) → IsTaken journal lists places taken → (o : ℕ) → map parsed_from (by o journal) ≡ map parsed_from (take (place_of places o) (list_of lists o))
-so_far journal lists places taken is o = by_said o journal ∙ (ap (said_by o) (sym is.same) ∙ (sym (by_said o taken) ∙ ap (map parsed_from) (is.own o)))
+so_far : (journal : List Entry) (lists : List (List Entry)) (places : List ℕ) (taken : List Entry) → IsTaken journal lists places taken → (o : ℕ) → map entry_content (by o journal) ≡ map entry_content (take (place_of places o) (list_of lists o))
+so_far journal lists places taken is o = by_contents o journal ∙ (ap (contents_by o) (sym is.same) ∙ (sym (by_contents o taken) ∙ ap (map entry_content) (is.own o)))
 
 -- if the journal agrees with the lists, its next entry has the content of the next entry in the
 -- observer's list
 pub agreed_next : (journal : List Entry) (lists : List (List Entry)) (places : List ℕ) (taken : List Entry) (j : ℕ) (e : Entry) → IsTaken (take j journal) lists places taken → j < length journal → e ≡ get_or journal j e → Agrees journal lists
-    → (rest : List Said) × (map parsed_from (list_of lists e.observer) ≡ map parsed_from (take (place_of places e.observer) (list_of lists e.observer)) ++ parsed_from e ∷ rest)
+    → (rest : List EntryContent) × (map entry_content (list_of lists e.observer) ≡ map entry_content (take (place_of places e.observer) (list_of lists e.observer)) ++ entry_content e ∷ rest)
 agreed_next journal lists places taken j e is inside at agrees =
     let o = e.observer in
     let suffix : drop j journal ≡ e ∷ drop (suc j) journal = drop-cons journal j e inside ∙ ap (λ (z : Entry). z ∷ drop (suc j) journal) (sym at) in
     let whole : by o journal ≡ by o (take j journal) ++ by o (drop j journal) = ap (by o) (sym (take-append-drop j journal)) ∙ filter-append (is_by o) (take j journal) (drop j journal) in
     let mine : by o (drop j journal) ≡ e ∷ by o (drop (suc j) journal) = ap (by o) suffix ∙ (filter-append (is_by o) (e ∷ []) (drop (suc j) journal) ∙ ap (λ l. l ++ by o (drop (suc j) journal)) (by_own o (e ∷ []) (refl, tt))) in (
-      map parsed_from (by o (drop (suc j) journal)),
-      sym (agrees o) ∙ (ap (map parsed_from) (whole ∙ ap (λ l. by o (take j journal) ++ l) mine) ∙ (map-append parsed_from (by o (take j journal)) (e ∷ by o (drop (suc j) journal)) ∙ ap (λ l. l ++ parsed_from e ∷ map parsed_from (by o (drop (suc j) journal))) (so_far (take j journal) lists places taken is o))),
+      map entry_content (by o (drop (suc j) journal)),
+      sym (agrees o) ∙ (ap (map entry_content) (whole ∙ ap (λ l. by o (take j journal) ++ l) mine) ∙ (map-append entry_content (by o (take j journal)) (e ∷ by o (drop (suc j) journal)) ∙ ap (λ l. l ++ entry_content e ∷ map entry_content (by o (drop (suc j) journal))) (so_far (take j journal) lists places taken is o))),
     )
 
 -- so there is a next one
@@ -138,37 +138,37 @@ next_there journal lists places taken j e is inside at agrees =
     let list = list_of lists e.observer in
     let p = place_of places e.observer in
     let next = agreed_next journal lists places taken j e is inside at agrees in
-    let prefix : length (map parsed_from (take p list)) ≡ p = length-map (take p list) parsed_from ∙ length-take-le p list (is.within e.observer) in
-    let all : length list ≡ length (map parsed_from (take p list)) + length (parsed_from e ∷ next.0) = sym (length-map list parsed_from) ∙ (ap length next.1 ∙ length-append (map parsed_from (take p list)) (parsed_from e ∷ next.0)) in
+    let prefix : length (map entry_content (take p list)) ≡ p = length-map (take p list) entry_content ∙ length-take-le p list (is.within e.observer) in
+    let all : length list ≡ length (map entry_content (take p list)) + length (entry_content e ∷ next.0) = sym (length-map list entry_content) ∙ (ap length next.1 ∙ length-append (map entry_content (take p list)) (entry_content e ∷ next.0)) in
     omega arith
 
 -- and it says the same
 pub next_same : (journal : List Entry) (lists : List (List Entry)) (places : List ℕ) (taken : List Entry) (j : ℕ) (e x : Entry) → IsTaken (take j journal) lists places taken → j < length journal → e ≡ get_or journal j e → Agrees journal lists
-    → x ≡ get_or (list_of lists e.observer) (place_of places e.observer) x → parsed_from e ≡ parsed_from x
+    → x ≡ get_or (list_of lists e.observer) (place_of places e.observer) x → entry_content e ≡ entry_content x
 next_same journal lists places taken j e x is inside at agrees there =
     let list = list_of lists e.observer in
     let p = place_of places e.observer in
     let next = agreed_next journal lists places taken j e is inside at agrees in
     let short = next_there journal lists places taken j e is inside at agrees in
-    let prefix : length (map parsed_from (take p list)) ≡ p = length-map (take p list) parsed_from ∙ length-take-le p list (is.within e.observer) in
-    let one : get_or (map parsed_from list) p (parsed_from x) ≡ parsed_from x = get_or-map parsed_from list p x (parsed_from x) short ∙ ap parsed_from (sym there) in
-    let other : get_or (map parsed_from (take p list) ++ parsed_from e ∷ next.0) p (parsed_from x) ≡ parsed_from e = ap (λ (n : ℕ). get_or (map parsed_from (take p list) ++ parsed_from e ∷ next.0) n (parsed_from x)) (sym prefix) ∙ get_or-append_seam (map parsed_from (take p list)) (parsed_from e) next.0 (parsed_from x) in
-    sym other ∙ (ap (λ l. get_or l p (parsed_from x)) (sym next.1) ∙ one)
+    let prefix : length (map entry_content (take p list)) ≡ p = length-map (take p list) entry_content ∙ length-take-le p list (is.within e.observer) in
+    let one : get_or (map entry_content list) p (entry_content x) ≡ entry_content x = get_or-map entry_content list p x (entry_content x) short ∙ ap entry_content (sym there) in
+    let other : get_or (map entry_content (take p list) ++ entry_content e ∷ next.0) p (entry_content x) ≡ entry_content e = ap (λ (n : ℕ). get_or (map entry_content (take p list) ++ entry_content e ∷ next.0) n (entry_content x)) (sym prefix) ∙ get_or-append_seam (map entry_content (take p list)) (entry_content e) next.0 (entry_content x) in
+    sym other ∙ (ap (λ l. get_or l p (entry_content x)) (sym next.1) ∙ one)
 
 -- and in the end all entries of each list were taken
 pub all_taken : (journal : List Entry) (lists : List (List Entry)) (places : List ℕ) (taken : List Entry) (o : ℕ) → IsTaken journal lists places taken → Agrees journal lists → place_of places o ≡ length (list_of lists o)
 all_taken journal lists places taken o is agrees =
     let list = list_of lists o in
     let p = place_of places o in
-    let same : map parsed_from list ≡ map parsed_from (take p list) = sym (agrees o) ∙ so_far journal lists places taken is o in
-    let prefix : length (map parsed_from (take p list)) ≡ p = length-map (take p list) parsed_from ∙ length-take-le p list (is.within o) in
-    sym prefix ∙ (ap length (sym same) ∙ length-map list parsed_from)
+    let same : map entry_content list ≡ map entry_content (take p list) = sym (agrees o) ∙ so_far journal lists places taken is o in
+    let prefix : length (map entry_content (take p list)) ≡ p = length-map (take p list) entry_content ∙ length-take-le p list (is.within o) in
+    sym prefix ∙ (ap length (sym same) ∙ length-map list entry_content)
 
 -- if all entries of each list were taken, the two agree
 pub in_order : (journal : List Entry) (lists : List (List Entry)) (places : List ℕ) (taken : List Entry) → IsTaken journal lists places taken → ((o : ℕ) → place_of places o ≡ length (list_of lists o)) → AreInOrder journal lists taken
 in_order journal lists places taken is whole =
     let mine : (o : ℕ) → by o taken ≡ list_of lists o = λ o. is.own o ∙ (ap (λ (n : ℕ). take n (list_of lists o)) (whole o) ∙ take-length (list_of lists o)) in record {
-      agrees = λ o. so_far journal lists places taken is o ∙ (ap (map parsed_from) (sym (is.own o) ∙ mine o));
+      agrees = λ o. so_far journal lists places taken is o ∙ (ap (map entry_content) (sym (is.own o) ∙ mine o));
       places = is.same;
       own = mine;
     }

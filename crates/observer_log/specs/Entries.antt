@@ -4,7 +4,7 @@ use Rattle.std.specs.Prelude.{◌≡◌, ℕ, Bool, ◌&&◌, nat_eq, List, [], 
 use Rattle.observer_log.specs.declared.entry.Entry.{Entry}
 
 -- the content of an entry, without its plan
-pub record Said : Type 0 where
+pub record EntryContent : Type 0 where
   pub observer : ℕ
   pub cpu : ℕ
   pub slot : ℕ
@@ -12,8 +12,8 @@ pub record Said : Type 0 where
   pub at : ℕ
   pub seven : List ℕ
 
-abbrev pub parsed_from : Entry → Said
-parsed_from entry =
+abbrev pub entry_content : Entry → EntryContent
+entry_content entry =
     record { observer = entry.observer; cpu = entry.cpu.0; slot = entry.slot.0; count = entry.count; at = entry.at; seven = entry.seven }
 
 -- the entry is an observer's

@@ -2,7 +2,7 @@
 -- observers' own lists.
 use Rattle.std.specs.Prelude.{◌≡◌, ℕ, ◌<◌, ◌≤◌, List, [], ◌∷◌, ◌++◌, length, map, take, slice_index, Option, None, Some}
 use Rattle.observer_log.specs.declared.entry.Entry.{Entry}
-use Rattle.observer_log.specs.Entries.{by, counts_of, list_of, parsed_from}
+use Rattle.observer_log.specs.Entries.{by, counts_of, list_of, entry_content}
 
 -- numbers that never decrease, all at least `low`
 abbrev pub RiseFrom : ℕ → List ℕ → Type 0
@@ -36,7 +36,7 @@ IsNotBefore entries entry = (last : ℕ) → last_of (counts_of entry.observer e
 -- A journal agrees with lists, one for each observer: its entries of each observer are that
 -- observer's list, apart from the plan. So it has no entry of an observer without a list.
 abbrev pub Agrees : List Entry → List (List Entry) → Type 0
-Agrees entries lists = (observer : ℕ) → map parsed_from (by observer entries) ≡ map parsed_from (list_of lists observer)
+Agrees entries lists = (observer : ℕ) → map entry_content (by observer entries) ≡ map entry_content (list_of lists observer)
 
 -- list after list
 abbrev pub joined : List (List Entry) → List Entry
@@ -47,7 +47,7 @@ joined (list ∷ lists) = list ++ joined lists
 -- entry at its index, apart from the plan, and those of each observer are that observer's list.
 pub record AreInOrder (journal : List Entry) (lists : List (List Entry)) (entries : List Entry) : Type 0 where
   pub agrees : Agrees journal lists
-  pub places : map parsed_from entries ≡ map parsed_from journal
+  pub places : map entry_content entries ≡ map entry_content journal
   pub own : (observer : ℕ) → by observer entries ≡ list_of lists observer
 
 -- the number of entries read from an observer's list
@@ -58,6 +58,6 @@ place_of places observer = slice_index places observer
 -- length in `places`.
 pub record IsTaken (journal : List Entry) (lists : List (List Entry)) (places : List ℕ) (taken : List Entry) : Type 0 where
   pub all : length places ≡ length lists
-  pub same : map parsed_from taken ≡ map parsed_from journal
+  pub same : map entry_content taken ≡ map entry_content journal
   pub within : (observer : ℕ) → place_of places observer ≤ length (list_of lists observer)
   pub own : (observer : ℕ) → by observer taken ≡ take (place_of places observer) (list_of lists observer)

@@ -1,6 +1,6 @@
 //! The entries of the observers' own lists, in the order of the journal if it agrees with them.
 ghost use Rattle.std.specs.Prelude.{◌≡◌, ◌↔◌, ℕ, true, IfOk, None, Ok, Some};
-ghost use Rattle.observer_log.specs.Entries.{AreOwn, by, list_of, parsed_from};
+ghost use Rattle.observer_log.specs.Entries.{AreOwn, by, list_of, entry_content};
 ghost use Rattle.observer_log.specs.Journal.{Agrees, AreInOrder, joined};
 
 use crate::entry::Entry;
@@ -10,7 +10,7 @@ use std::alloc::Global;
 
 // Whether two entries are the same, apart from the plan.
 fn say_same(one: &Entry<'_>, other: &Entry<'_>) -> bool
-    ensures { (result ≡ true) ↔ (parsed_from one.now ≡ parsed_from other.now) }
+    ensures { (result ≡ true) ↔ (entry_content one.now ≡ entry_content other.now) }
 {
     one.observer == other.observer
         && one.cpu.0 == other.cpu.0

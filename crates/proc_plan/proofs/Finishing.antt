@@ -84,9 +84,9 @@ somes_same (change ∷ one) (next ∷ other) same =
 
 -- the plans that represent events are the plans of these events
 pub standing_plans : PlansAreOfEvents
-standing_plans plans cpus events word_state cpu below =
-    let changes = somes_same (plan_at plans cpu).changes (changes_from cpu first_world events) (word_state.changes cpu below ∙ sym (changes_are_numbered cpu events).0) in
-    let parents = word_state.parents cpu below in
+standing_plans plans cpus events represents cpu below =
+    let changes = somes_same (plan_at plans cpu).changes (changes_from cpu first_world events) (represents.changes cpu below ∙ sym (changes_are_numbered cpu events).0) in
+    let parents = represents.parents cpu below in
     ap (λ cs. let plan : PlanView = record { changes = cs; parents = (plan_at plans cpu).parents } in plan) changes ∙ ap (λ ps. let plan : PlanView = record { changes = changes_from cpu first_world events; parents = ps } in plan) parents
 
 -- ---- a whole trace

@@ -102,7 +102,7 @@ impl Plans {
         requires counted { IsCpuCount cpus }
         requires short { latest ≤ last_moment }
         requires fit { AllFit events.now }
-        ensures word_state { IfOk result (λ plans. Represent plans cpus events.now) }
+        ensures represents { IfOk result (λ plans. Represent plans cpus events.now) }
         ensures accepted { OnOk result (IsAccepted (limits_by cpus latest) events.now) }
         ensures refused { IfErr result (IsRefusal (limits_by cpus latest) events.now) }
     {

@@ -49,10 +49,10 @@ fn end_of<R: Threads + Wait + Sync, S: Shelf, K: Sink, N: Sink>(
     out: &mut K,
     note: &mut N,
 ) -> ExitCode
-    ensures words { IfOk words (λ bytes_read. (status : ObserveStatus)
-        × EndsAs (request_of (map string_bytes bytes_read.items)) status (exit_status result)
+    ensures words { IfOk words (λ args. (status : ObserveStatus)
+        × EndsAs (request_of (map string_bytes args.items)) status (exit_status result)
         (N.faults note.old) (N.faults note.new) (N.has note.old) (N.has note.new)
-        × RanAs (request_of (map string_bytes bytes_read.items)) status (S.holds shelf.old)
+        × RanAs (request_of (map string_bytes args.items)) status (S.holds shelf.old)
         (run_counts (S.faults shelf.old) (S.absent shelf.old) (K.faults out.old))
         (run_counts (S.faults shelf.new) (S.absent shelf.new) (K.faults out.new))
         (run_reads (S.bytes_read shelf.old) (S.bytes_read shelf.new)

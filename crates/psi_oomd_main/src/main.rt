@@ -29,7 +29,7 @@ fn exit_code(status: Status) -> ExitCode
     ExitCode::from(status.code())
 }
 
-// Ends the program if memory ran out for the words.
+// Reports that memory ran out before the arguments were collected.
 fn end_without_words<N: Sink>(none: NoMemory, note: &mut N) -> ExitCode
     ensures { EndsAs None (Status.NoMemory no_memory) (exit_status result)
         (N.faults note.old) (N.faults note.new) (N.has note.old) (N.has note.new) }
@@ -38,8 +38,8 @@ fn end_without_words<N: Sink>(none: NoMemory, note: &mut N) -> ExitCode
     exit_code(Status::NoMemory(none))
 }
 
-// Runs the words and ends as the run did: what a run promises about a status, the files, the
-// output, the counts and the reads holds for the status that the exit code and the message report.
+// Runs the command line and returns the exit code of its status. The promises of `run` about the
+// status, the files, the output, the failure counts and the reads hold for the reported status.
 fn end_of<R: Threads + Sync, S: Shelf, K: Sink, N: Sink>(
     rt: &R,
     alloc: Global,
@@ -48,10 +48,10 @@ fn end_of<R: Threads + Sync, S: Shelf, K: Sink, N: Sink>(
     out: &mut K,
     note: &mut N,
 ) -> ExitCode
-    ensures words { IfOk words (λ bytes_read. (status : Status)
-        × EndsAs (command_of (map string_bytes bytes_read.items)) status (exit_status result)
+    ensures words { IfOk words (λ args. (status : Status)
+        × EndsAs (command_of (map string_bytes args.items)) status (exit_status result)
         (N.faults note.old) (N.faults note.new) (N.has note.old) (N.has note.new)
-        × RanAs (command_of (map string_bytes bytes_read.items)) status (S.holds shelf.old)
+        × RanAs (command_of (map string_bytes args.items)) status (S.holds shelf.old)
         (run_counts (S.faults shelf.old) (S.absent shelf.old) (K.faults out.old))
         (run_counts (S.faults shelf.new) (S.absent shelf.new) (K.faults out.new))
         (run_reads (S.bytes_read shelf.old) (S.bytes_read shelf.new)

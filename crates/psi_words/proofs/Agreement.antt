@@ -72,11 +72,11 @@ word_agrees names (x ∷ y ∷ rest) dashed other =
 -- ---- the meaning of parts
 
 -- what parts say, if no two have one id
-abbrev pub events_of_line : List Part → ParsedWords
-events_of_line [] = nothing
-events_of_line (parsed name value ∷ ps) =
-    record (events_of_line ps) { options = (name, value) ∷ (events_of_line ps).options }
-events_of_line (plain word ∷ ps) = record (events_of_line ps) { positional = Some word }
+abbrev pub parsed_parts : List Part → ParsedWords
+parsed_parts [] = nothing
+parsed_parts (parsed name value ∷ ps) =
+    record (parsed_parts ps) { options = (name, value) ∷ (parsed_parts ps).options }
+parsed_parts (plain word ∷ ps) = record (parsed_parts ps) { positional = Some word }
 
 -- no two parts have one id
 abbrev pub are_apart : List Part → Bool
@@ -85,7 +85,7 @@ are_apart (p ∷ ps) = not (has_part (id_of p) ps) && are_apart ps
 
 -- the same, or None if two have one id
 abbrev pub parts_say : List Part → Option ParsedWords
-parts_say ps = if are_apart ps then Some (events_of_line ps) else None
+parts_say ps = if are_apart ps then Some (parsed_parts ps) else None
 
 -- the options among the parts have these names
 abbrev pub AreKnown : List (List ℕ) → List Part → Type 0
@@ -116,17 +116,17 @@ option_under name value key g false is = rw is refl
 
 pub has_option : (names : List (List ℕ)) (key : List ℕ) (ps : List Part)
     → is_among positional_id names ≡ false → is_among key names ≡ true
-    → has_part key ps ≡ is_some (option_value key (events_of_line ps))
+    → has_part key ps ≡ is_some (option_value key (parsed_parts ps))
 has_option names key [] free known = refl
 has_option names key (parsed name value ∷ ps) free known =
     ap (λ b. bytes_eq name key || b) (has_option names key ps free known)
-    ∙ sym (option_under name value key (events_of_line ps) (bytes_eq name key) refl)
+    ∙ sym (option_under name value key (parsed_parts ps) (bytes_eq name key) refl)
 has_option names key (plain word ∷ ps) free known =
     ap (λ b. b || has_part key ps) (free_id names key free known)
     ∙ has_option names key ps free known
 
 pub has_plain : (names : List (List ℕ)) (ps : List Part) → is_among positional_id names ≡ false
-    → AreKnown names ps → has_part positional_id ps ≡ is_some (events_of_line ps).positional
+    → AreKnown names ps → has_part positional_id ps ≡ is_some (parsed_parts ps).positional
 has_plain names [] free known = refl
 has_plain names (parsed name value ∷ ps) free known =
     ap (λ b. b || has_part positional_id ps) (free_name names name free known.0)
@@ -140,7 +140,7 @@ say_option names name value ps free known =
     go (has_part name ps) (are_apart ps) refl refl (sym (has_option names name ps free known))
   where
     go : (b d : Bool) → has_part name ps ≡ b → are_apart ps ≡ d
-        → is_some (option_value name (events_of_line ps)) ≡ has_part name ps
+        → is_some (option_value name (parsed_parts ps)) ≡ has_part name ps
         → parts_say (parsed name value ∷ ps) ≡ parts_say ps >>= with_option name value
     go true true has apart same = rw (has, apart, same, has) refl
     go true false has apart same = rw (has, apart) refl
@@ -154,7 +154,7 @@ say_plain names word ps free known =
     go (has_part positional_id ps) (are_apart ps) refl refl (sym (has_plain names ps free known))
   where
     go : (b d : Bool) → has_part positional_id ps ≡ b → are_apart ps ≡ d
-        → is_some (events_of_line ps).positional ≡ has_part positional_id ps
+        → is_some (parsed_parts ps).positional ≡ has_part positional_id ps
         → parts_say (plain word ∷ ps) ≡ parts_say ps >>= with_positional word
     go true true has apart same = rw (has, apart, same, has) refl
     go true false has apart same = rw (has, apart) refl
@@ -327,15 +327,15 @@ refused_words names words free unfit =
         → parsed_from names at_word words ≡ None
     go None same unfit = same
     go (Some ps) same unfit =
-        same.1 ∙ ap (λ b. if b then Some (events_of_line ps) else None) (apart_if ps false unfit)
+        same.1 ∙ ap (λ b. if b then Some (parsed_parts ps) else None) (apart_if ps false unfit)
 
 -- if they fit, the words have their meaning
 pub accepted_words : (names words : List (List ℕ)) (ps : List Part)
     → is_among positional_id names ≡ false → parts names None words ≡ Some ps
     → judged [] (parts names None words) ≡ true
-    → AreKnown names ps × (parsed_from names at_word words ≡ Some (events_of_line ps))
+    → AreKnown names ps × (parsed_from names at_word words ≡ Some (parsed_parts ps))
 accepted_words names words ps free are fit =
     let same : Agrees names (Some ps) (parsed_from names at_word words) =
     subst (λ r. Agrees names r (parsed_from names at_word words)) are (all_agree names words free).0 in
     let fits_now : fits [] ps ≡ true = sym (ap (judged []) are) ∙ fit in
-    (same.0, same.1 ∙ ap (λ b. if b then Some (events_of_line ps) else None) (apart_if ps true fits_now))
+    (same.0, same.1 ∙ ap (λ b. if b then Some (parsed_parts ps) else None) (apart_if ps true fits_now))

@@ -16,7 +16,7 @@ use Rattle.run_spec.specs.Words.{at_word, is_among, parsed_from, option_value}
 use Rattle.psi_words.specs.Clap.{plain_app, plain_shape, option_rule, positional_rule}
 use Rattle.psi_words.specs.Clap.{positional_id, is_option_row, option_in, words_in, AreValued}
 use Rattle.psi_words.proofs.Parts.{parts, judged, AreTexts, Part, parsed, plain, gathered}
-use Rattle.psi_words.proofs.Agreement.{events_of_line, AreKnown, free_name, accepted_words, refused_words}
+use Rattle.psi_words.proofs.Agreement.{parsed_parts, AreKnown, free_name, accepted_words, refused_words}
 use Rattle.std.specs.Prelude.{filter, is_some, slice_get}
 use Rattle.psi_words.proofs.Finding.{same_text}
 use Rattle.std.specs.Str.{bytes_eq}
@@ -121,7 +121,7 @@ rows_valued [] = refl
 rows_valued (p ∷ ps) = rows_valued ps
 
 options_said : (names : List (List ℕ)) (ps : List Part) → is_among positional_id names ≡ false
-    → AreKnown names ps → map option_in (filter is_option_row (map row ps)) ≡ (events_of_line ps).options
+    → AreKnown names ps → map option_in (filter is_option_row (map row ps)) ≡ (parsed_parts ps).options
 options_said names [] free known = refl
 options_said names (parsed name value ∷ ps) free known =
     rw (free_name names name free known.0)
@@ -129,14 +129,14 @@ options_said names (parsed name value ∷ ps) free known =
 options_said names (plain word ∷ ps) free known = options_said names ps free known
 
 positional_said : (names : List (List ℕ)) (ps : List Part) → is_among positional_id names ≡ false
-    → AreKnown names ps → first_of positional_id (map row ps) ≡ (events_of_line ps).positional
+    → AreKnown names ps → first_of positional_id (map row ps) ≡ (parsed_parts ps).positional
 positional_said names [] free known = refl
 positional_said names (parsed name value ∷ ps) free known =
     rw (free_name names name free known.0) (positional_said names ps free known.1)
 positional_said names (plain word ∷ ps) free known = refl
 
 rows_said : (names : List (List ℕ)) (ps : List Part) → is_among positional_id names ≡ false
-    → AreKnown names ps → words_in (map row ps) ≡ events_of_line ps
+    → AreKnown names ps → words_in (map row ps) ≡ parsed_parts ps
 rows_said names ps free known =
     rw (options_said names ps free known, positional_said names ps free known) refl
 

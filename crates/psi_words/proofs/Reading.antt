@@ -16,7 +16,7 @@ use Rattle.psi_words.proofs.Walking.{is_nil, at_word, is_plain, place, total, to
 use Rattle.psi_words.proofs.Walking.{settle_old, settle_new, settled_new, judged_old, judged_new}
 use Rattle.psi_words.proofs.Walking.{use_again, use_new, new_row}
 use Rattle.psi_words.proofs.Turning.{positional_walked}
-use Rattle.psi_words.proofs.Turning.{events_turn, events_walked, open_turn}
+use Rattle.psi_words.proofs.Turning.{assigned_turn, assigned_walked, open_turn}
 use Rattle.psi_words.proofs.Turning.{open_walked, open_held}
 
 -- ---- the place of the positional
@@ -128,7 +128,7 @@ plain_reads names word rest t r free turn stray goes on acc last false false kno
     ∙ (on (joined acc last) ∙ sym (judged_new acc last _ is_old))))
 
 -- an option with its value in the same word
-pub read_counts : (names : List (List ℕ)) (word n v : List ℕ) (rest : List (List ℕ))
+pub assigned_reads : (names : List (List ℕ)) (word n v : List ℕ) (rest : List (List ℕ))
     (r : Option (List Part)) (position : ℕ) → is_among positional_id names ≡ false
     → bytes_eq word (45 ∷ 45 ∷ []) ≡ false → long_of word ≡ Some (n, Some v)
     → is_among n names ≡ true
@@ -140,19 +140,19 @@ pub read_counts : (names : List (List ℕ)) (word n v : List ℕ) (rest : List (
     → position ≡ (if has_positional acc last then 2 else 1)
     → is_nil (total names (at_word (held_for acc last) idle false position) (word ∷ rest))
     ≡ judged acc (then_last last (then_part (parsed n v) r))
-read_counts names word n v rest r position free other is among on acc last true again known is_old
+assigned_reads names word n v rest r position free other is among on acc last true again known is_old
     is_again at =
     total_step names _ word rest ∙ (first_false _ _
-    (ap is_nil (events_turn names (held_for acc last) idle position word n v other is among
+    (ap is_nil (assigned_turn names (held_for acc last) idle position word n v other is among
     ∙ ap (λ k. or_else (or_else k (use_fault false (built_option n) (v ∷ [])
     (settled (built_rules names) (held_for acc last)).rows)) [])
     (settle_old names acc last known free is_old))) ∙ sym (judged_old acc last _ is_old))
-read_counts names word n v rest r position free other is among on acc last false true known is_old
+assigned_reads names word n v rest r position free other is among on acc last false true known is_old
     is_again at =
     let turn : turn_fault (top names) [] (at_word (held_for acc last) idle false position) word
     ≡ or_else (or_else [] (use_fault false (built_option n) (v ∷ [])
     (map row (joined acc last)))) [] =
-    events_turn names (held_for acc last) idle position word n v other is among
+    assigned_turn names (held_for acc last) idle position word n v other is among
     ∙ (ap (λ k. or_else (or_else k (use_fault false (built_option n) (v ∷ [])
     (settled (built_rules names) (held_for acc last)).rows)) [])
     (settle_new names acc last known free is_old)
@@ -163,13 +163,13 @@ read_counts names word n v rest r position free other is among on acc last false
     (use_again (parsed n v) (joined acc last) is_again)))
     ∙ sym (judged_new acc last _ is_old
     ∙ judged_old (joined acc last) (Some (parsed n v)) r is_again))
-read_counts names word n v rest r position free other is among on acc last false false known is_old
+assigned_reads names word n v rest r position free other is among on acc last false false known is_old
     is_again at =
     let rows_are : settled (built_rules names) (held_for acc last)
     ≡ held_for (joined acc last) None = settled_new names acc last known free is_old in
     let turn : turn_fault (top names) [] (at_word (held_for acc last) idle false position) word
     ≡ [] =
-    events_turn names (held_for acc last) idle position word n v other is among
+    assigned_turn names (held_for acc last) idle position word n v other is among
     ∙ (ap (λ k. or_else (or_else k (use_fault false (built_option n) (v ∷ [])
     (settled (built_rules names) (held_for acc last)).rows)) [])
     (settle_new names acc last known free is_old)
@@ -178,7 +178,7 @@ read_counts names word n v rest r position free other is among on acc last false
     ∙ ap (λ k. or_else (or_else [] k) []) (use_new (parsed n v) (joined acc last) is_again))) in
     let goes : walked (built_rules names) [] (at_word (held_for acc last) idle false position) word
     ≡ at_word (held_for (joined acc last ++ parsed n v ∷ []) None) idle false position =
-    events_walked names (held_for acc last) position word n v other is among
+    assigned_walked names (held_for acc last) position word n v other is among
     ∙ (ap (λ (h : Held). at_word (record
     { rows = used (built_option n) (v ∷ []) h.rows; pending = None; skip = 0 }) idle false
     position) rows_are

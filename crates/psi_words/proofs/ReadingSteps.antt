@@ -17,10 +17,10 @@ use Rattle.psi_words.proofs.Walking.{end_fault, is_nil, at_word, place, total, t
 use Rattle.psi_words.proofs.Walking.{end_is}
 use Rattle.psi_words.proofs.Turning.{trailing_turn, trailing_stray, trailing_walked, bare_turn}
 use Rattle.psi_words.proofs.Turning.{bare_stray, bare_walked, dashes_turn}
-use Rattle.psi_words.proofs.Turning.{dashes_walked, none_turn, events_turn, open_turn}
+use Rattle.psi_words.proofs.Turning.{dashes_walked, none_turn, assigned_turn, open_turn}
 use Rattle.psi_words.proofs.Turning.{short_turn, open_held, open_bare_turn}
 use Rattle.psi_words.proofs.Turning.{open_bare_walked, open_settles, false_first}
-use Rattle.psi_words.proofs.Reading.{or_true, has_positional, Reads, Opens, judged_none, plain_reads, read_counts, open_reads, refused_reads}
+use Rattle.psi_words.proofs.Reading.{or_true, has_positional, Reads, Opens, judged_none, plain_reads, assigned_reads, open_reads, refused_reads}
 
 -- ---- one more word
 
@@ -114,7 +114,7 @@ long_reads names word rest (Some (n, v)) free utf8 dashed other is reads opens a
         ∙ ap (λ b. judged acc (then_last last (if b then parts names (Some n) rest else None)))
         (sym among)
     go true (Some x) among at =
-        read_counts names word n x rest (parts names None rest) (place acc last) free other at among
+        assigned_reads names word n x rest (parts names None rest) (place acc last) free other at among
         (λ more at_place. ap (λ k. is_nil
         (total names (at_word (held_for more None) idle false k) rest)) at_place
         ∙ reads more None false tt) acc last (has_last acc last) (has_part n (joined acc last))
@@ -201,7 +201,7 @@ open_long names word (Some (m, v)) acc n position among utf8 dashed other is =
         ap is_nil (open_turn names (open_held acc n) (option n) position word m other at found)
         ∙ false_first _ _ (open_settles names acc n among)
     go true (Some x) found at =
-        ap is_nil (events_turn names (open_held acc n) (option n) position word m x other at found)
+        ap is_nil (assigned_turn names (open_held acc n) (option n) position word m x other at found)
         ∙ false_first _ _ (false_first _ _ (open_settles names acc n among))
 
 pub parts_open : (names : List (List ℕ)) (n word : List ℕ) (rest : List (List ℕ))

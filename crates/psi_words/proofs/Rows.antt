@@ -13,7 +13,7 @@ use Rattle.psi_words.proofs.Rules.{built_option, built_rules}
 use Rattle.psi_words.proofs.Walking.{row, held_for, joined, then_last, has_last, Known, at_word}
 use Rattle.psi_words.proofs.Walking.{place, settled_new, judged_old, judged_new, new_row}
 use Rattle.psi_words.proofs.Turning.{trailing_walked, bare_walked, positional_walked, dashes_walked}
-use Rattle.psi_words.proofs.Turning.{events_walked, open_walked, open_held, open_bare_walked}
+use Rattle.psi_words.proofs.Turning.{assigned_walked, open_walked, open_held, open_bare_walked}
 use Rattle.std.proofs.lemmas.List.{append_assoc, append-nil}
 use Rattle.clap.specs.Walk.{finished}
 use Rattle.psi_words.proofs.Walking.{same_rows}
@@ -107,7 +107,7 @@ option_rows names word n v rest r position free other is among on acc last false
     ≡ held_for (joined acc last) None = settled_new names acc last known free is_old in
     let goes : walked (built_rules names) [] (at_word (held_for acc last) idle false position) word
     ≡ at_word (held_for (joined acc last ++ parsed n v ∷ []) None) idle false position =
-    events_walked names (held_for acc last) position word n v other is among
+    assigned_walked names (held_for acc last) position word n v other is among
     ∙ (ap (λ (h : Held). at_word (record
     { rows = used (built_option n) (v ∷ []) h.rows; pending = None; skip = 0 }) idle false
     position) rows_are

@@ -131,20 +131,20 @@ none_turn names h (option id) position word n v other is none =
 none_turn names h positional position word n v other is none =
     rw (other, is, by_long n names, none) refl
 
-pub events_turn : (names : List (List ℕ)) (h : Held) (waiting : Waiting) (position : ℕ)
+pub assigned_turn : (names : List (List ℕ)) (h : Held) (waiting : Waiting) (position : ℕ)
     (word n v : List ℕ) → bytes_eq word (45 ∷ 45 ∷ []) ≡ false → long_of word ≡ Some (n, Some v)
     → is_among n names ≡ true
     → turn_fault (top names) [] (at_word h waiting false position) word
     ≡ or_else (or_else (settle_fault (built_rules names) false h)
     (use_fault false (built_option n) (v ∷ []) (settled (built_rules names) h).rows)) []
-events_turn names h idle position word n v other is among =
+assigned_turn names h idle position word n v other is among =
     rw (other, is, by_long n names, among) refl
-events_turn names h (option id) position word n v other is among =
+assigned_turn names h (option id) position word n v other is among =
     rw (other, is, by_long n names, among) refl
-events_turn names h positional position word n v other is among =
+assigned_turn names h positional position word n v other is among =
     rw (other, is, by_long n names, among) refl
 
-pub events_walked : (names : List (List ℕ)) (h : Held) (position : ℕ) (word n v : List ℕ)
+pub assigned_walked : (names : List (List ℕ)) (h : Held) (position : ℕ) (word n v : List ℕ)
     → bytes_eq word (45 ∷ 45 ∷ []) ≡ false → long_of word ≡ Some (n, Some v)
     → is_among n names ≡ true
     → walked (built_rules names) [] (at_word h idle false position) word
@@ -154,7 +154,7 @@ pub events_walked : (names : List (List ℕ)) (h : Held) (position : ℕ) (word 
       pending = None;
     }) idle false position
 unfolding walked
-events_walked names h position word n v other is among = rw (other, is, by_long n names, among) refl
+assigned_walked names h position word n v other is among = rw (other, is, by_long n names, among) refl
 
 pub open_turn : (names : List (List ℕ)) (h : Held) (waiting : Waiting) (position : ℕ)
     (word n : List ℕ) → bytes_eq word (45 ∷ 45 ∷ []) ≡ false → long_of word ≡ Some (n, None)

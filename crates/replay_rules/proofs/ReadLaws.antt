@@ -223,10 +223,10 @@ read_next old new plans engine order trace timing rules i at is advances filled 
     let watching : HasFollowed trace.events (Some now) new.watch =
     subst (λ t. HasFollowed trace.events (Some t) new.watch) is.at_is
     (advances (limits_of timing.length trace.cpus) trace.events (newest_moment past) legal
-    is.planned.word_state.sides (subst (IsNotAfter (newest_moment past)) (sym is.at_is) before)
+    is.planned.represents.sides (subst (IsNotAfter (newest_moment past)) (sym is.at_is) before)
     is.read.watch) in
     let by_path : IsPathOrder (lives_of trace) (numbers_of order) =
-    subst (λ lives. IsPathOrder lives (numbers_of order)) is.planned.word_state.lives is.by_path in
+    subst (λ lives. IsPathOrder lives (numbers_of order)) is.planned.represents.lives is.by_path in
     let seen = reading_is engine new.watch plans (numbers_of order) trace timing (i + 1) is.planned
     is.ticked watching by_path in
     let reading : new.reading ≡ reading_of (lives_of trace) this =

@@ -217,7 +217,7 @@ is_reading trace timing i accepted =
     let seen : List Event = up_to trace.events at in
     let fit : AllFit seen = fit_filter _ trace.events accepted.fit in
     let live : List (List ℕ × ℕ) = live_groups (after seen).groups in
-    let word_state = live_represent (limits_of timing.length trace.cpus) trace.events accepted.legal at in
+    let represents = live_represent (limits_of timing.length trace.cpus) trace.events accepted.legal at in
     let averages : ℕ → List (List ℕ) = averages_at trace.cpus trace.events timing.length i in
     let known : List ℕ × ℕ → GroupReading =
     λ (pair : List ℕ × ℕ). group_seen seen (averages pair.1) pair.1 in
@@ -238,8 +238,8 @@ is_reading trace timing i accepted =
     let ascend = keys_ascend live (in_order_sorted (live_from 0 (after seen).groups)) in
     record {
       host = host_small seen fit;
-      each = All-from_recursion _ (map known live) (groups_fit lives known fits live word_state);
-      order = subst Ascend (paths_are lives seen averages live word_state) ascend;
+      each = All-from_recursion _ (map known live) (groups_fit lives known fits live represents);
+      order = subst Ascend (paths_are lives seen averages live represents) ascend;
     }
 
 -- ---- one after another

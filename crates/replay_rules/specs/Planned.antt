@@ -11,7 +11,7 @@ use Rattle.tick_engine.specs.Engine.{EngineView, Represents}
 -- plans represent an accepted trace, which may be replayed at this `timing`
 pub record IsPlanned (plans : PlansView) (trace : Trace) (timing : Timing) : Type 0 where
   pub counted : IsCpuCount trace.cpus
-  pub word_state : Represent plans trace.cpus trace.events
+  pub represents : Represent plans trace.cpus trace.events
   pub accepted : IsAccepted (limits_of timing.length trace.cpus) trace.events
   pub some : 0 < timing.length
   pub short : timing.length ≤ longest_tick

@@ -160,9 +160,9 @@ pub kills_below : (plans : PlansView) (trace : Trace) (timing : Timing) (rules :
     → All (λ (kill : Kill). kill.victim.0 < length plans.lives) (kills_in trace timing rules i)
 unfolding kills
 kills_below plans trace timing rules order i planned ordered =
-    let here : IsPathOrder (lives_of trace) (numbers_of order) = subst (λ lives. IsPathOrder lives (numbers_of order)) planned.word_state.lives ordered in
+    let here : IsPathOrder (lives_of trace) (numbers_of order) = subst (λ lives. IsPathOrder lives (numbers_of order)) planned.represents.lives ordered in
     let read = read_below plans trace timing (numbers_of order) i planned here in
     let now = reading_at trace.cpus trace.events timing.length i in
     let past = readings_until trace.cpus trace.events timing.length timing.interval (i - 1) in
-    subst (λ (lives : List GroupLife). All (IsOf (length lives)) (kills_in trace timing rules i)) (sym planned.word_state.lives)
+    subst (λ (lives : List GroupLife). All (IsOf (length lives)) (kills_in trace timing rules i)) (sym planned.represents.lives)
     (if_below (is_evaluation timing.interval timing.length i) (length (lives_of trace)) (kills_from (lives_of trace) 0 rules now past) (rules_below (lives_of trace) (length (lives_of trace)) 0 rules now past read))

@@ -72,7 +72,7 @@ early_enough plan k last at order low within past =
 sample_times : (plans : PlansView) (trace : Trace) (timing : Timing) (clock : ClockView) (slot cpu k at : ℕ) → IsPlanned plans trace timing → cpu < trace.cpus → IsClock clock (plan_at plans cpu) slot k → last_change (plan_at plans cpu) k ≤ at
     → opened clock at ≡ times_after cpu slot trace.events k at
 sample_times plans trace timing clock slot cpu k at planned below is past =
-    let plan_is = standing_plans plans trace.cpus trace.events planned.word_state cpu below in
+    let plan_is = standing_plans plans trace.cpus trace.events planned.represents cpu below in
     let own : IsClock clock (plan_of cpu trace.events) slot k = subst (λ plan. IsClock clock plan slot k) plan_is is in
     let there : last_change (plan_of cpu trace.events) k ≤ at = subst (λ plan. last_change plan k ≤ at) plan_is past in
     let many = (changes_are_numbered cpu trace.events).2 in
@@ -179,9 +179,9 @@ pub record HasReached (plans : PlansView) (old new : CrewView) (trace : Trace) (
 -- how many changes of a processor come up to the tick
 made_now : (plans : PlansView) (old new : CrewView) (trace : Trace) (timing : Timing) (i at cpu : ℕ) → HasReached plans old new trace timing i at → cpu < trace.cpus → (clocks_at new.clocks cpu).made ≡ changes_until trace timing.length cpu (i + 1)
 made_now plans old new trace timing i at cpu is below =
-    let inside : cpu < length new.clocks = omega (arith, below, is.planned.word_state.each, is.there.on_plans.each) in
+    let inside : cpu < length new.clocks = omega (arith, below, is.planned.represents.each, is.there.on_plans.each) in
     let next : i + 1 ≡ suc i = omega arith in
-    let plan_is = standing_plans plans trace.cpus trace.events is.planned.word_state cpu below in
+    let plan_is = standing_plans plans trace.cpus trace.events is.planned.represents cpu below in
     let count = (counts_by_plan (limits_of timing.length trace.cpus) trace.events is.planned.accepted.legal cpu at).0 in
     let here : count_at cpu trace.events at ≡ changes_until trace timing.length cpu (i + 1) =
     ap (count_at cpu trace.events) (is.at_is ∙ ap (tick_moment timing.length) next) ∙ ap (changes_until trace timing.length cpu) (sym next) in
@@ -210,11 +210,11 @@ slot_lines plans old new trace timing watch i at slot is by_tick requested sampl
     let own : (cpu : ℕ) → cpu < trace.cpus → IsSampled (plan_at plans cpu) slot.0 watch.count (clocks_at old.clocks cpu).made (clocks_at new.clocks cpu).made (watch_at old.watches cpu) (watch_at new.watches cpu) = λ cpu below.
     subst (λ n. IsSampled (plan_at plans cpu) slot.0 n (clocks_at old.clocks cpu).made (clocks_at new.clocks cpu).made (watch_at old.watches cpu) (watch_at new.watches cpu)) requested
     (subst (λ (p : PlansView). IsSampled (plan_at p cpu) slot.0 old.requested (clocks_at old.clocks cpu).made (clocks_at new.clocks cpu).made (watch_at old.watches cpu) (watch_at new.watches cpu)) is.same
-    (sampled cpu (let each = ap (λ (p : PlansView). length p.plans) is.same in omega (arith, below, each, is.planned.word_state.each)))) in
+    (sampled cpu (let each = ap (λ (p : PlansView). length p.plans) is.same in omega (arith, below, each, is.planned.represents.each)))) in
     let counts : ℕ → List ℕ = λ cpu. counts_sampled (watch_at new.watches cpu).samples in
     let text = same_pieces (λ cpu. samples_text at cpu (watch_at new.watches cpu).samples) (λ cpu. sample_lines trace slot.0 at cpu (counts cpu)) 0 trace.cpus
     (λ cpu _ below.
-    let inside : cpu < length new.clocks = omega (arith, below, is.planned.word_state.each, is.there.on_plans.each) in
+    let inside : cpu < length new.clocks = omega (arith, below, is.planned.represents.each, is.there.on_plans.each) in
     let there : cpu < trace.cpus = omega (arith, below) in
     sampled_text plans trace timing slot.0 cpu (clocks_at old.clocks cpu).made (clocks_at new.clocks cpu).made at (watch_at new.watches cpu).samples is.planned there (beside_cpu plans old new slot.0 cpu watch.count (clocks_at old.clocks cpu).made at (own cpu there) is.there inside)) in (
       counts,
@@ -225,9 +225,9 @@ slot_lines plans old new trace timing watch i at slot is by_tick requested sampl
 -- their clocks may be opened at the tick
 slot_in_time : (plans : PlansView) (old new : CrewView) (trace : Trace) (timing : Timing) (i at : ℕ) (slot : Slot) → HasReached plans old new trace timing i at → at ≤ last_moment → AreSampled (Some slot) old new → AreInTime trace.cpus new.watches at
 slot_in_time plans old new trace timing i at slot is early sampled = λ cpu below.
-    let inside : cpu < length new.clocks = omega (arith, below, is.planned.word_state.each, is.there.on_plans.each) in
+    let inside : cpu < length new.clocks = omega (arith, below, is.planned.represents.each, is.there.on_plans.each) in
     let own = subst (λ (p : PlansView). IsSampled (plan_at p cpu) slot.0 old.requested (clocks_at old.clocks cpu).made (clocks_at new.clocks cpu).made (watch_at old.watches cpu) (watch_at new.watches cpu)) is.same
-    (sampled cpu (let each = ap (λ (p : PlansView). length p.plans) is.same in omega (arith, below, each, is.planned.word_state.each))) in
+    (sampled cpu (let each = ap (λ (p : PlansView). length p.plans) is.same in omega (arith, below, each, is.planned.represents.each))) in
     sampled_in_time plans slot.0 cpu (clocks_at old.clocks cpu).made (clocks_at new.clocks cpu).made at (watch_at new.watches cpu).samples early (beside_cpu plans old new slot.0 cpu old.requested (clocks_at old.clocks cpu).made at own is.there inside)
 
 -- ---- nothing is watched
@@ -391,7 +391,7 @@ pub slot_is : (plans : PlansView) (lives : List GroupLife) (crew : CrewView) (li
     → at ≡ tick_moment timing.length (i + 1) → number_of_slot slot ≡ live_slot 0 lives path at → IsSlotAt slot trace timing (i + 1)
 slot_is plans lives crew live path trace timing i at slot planned is named same at_is found =
     let by_lives = slot_by_lives (limits_of timing.length trace.cpus) trace.events planned.accepted.legal path at in
-    found ∙ ap (λ groups. live_slot 0 groups path at) (same ∙ planned.word_state.lives) ∙ sym by_lives ∙ ap (live_slot_at trace.events path) at_is
+    found ∙ ap (λ groups. live_slot 0 groups path at) (same ∙ planned.represents.lives) ∙ sym by_lives ∙ ap (live_slot_at trace.events path) at_is
     ∙ ap (λ watched. watched_at trace watched (tick_moment timing.length (i + 1))) (sym named ∙ is.path)
 
 -- if no path is watched there is no watched slot

@@ -80,7 +80,7 @@ fired_is engine trace timing number some stands =
 -- their numbers are those of existing triggers
 pub fired_made : (plans : PlansView) (engine : EngineView) (trace : Trace) (timing : Timing) (number : ℕ) → IsPlanned plans trace timing → 0 < number → HasTicked engine trace timing number → All (λ number. number < length plans.triggers) engine.fired
 fired_made plans engine trace timing number planned some stands =
-    rw (fired_is engine trace timing number some stands, planned.word_state.triggers)
+    rw (fired_is engine trace timing number some stands, planned.represents.triggers)
     (fired_below trace.cpus (lives_of trace) (triggers_of trace.events) (ticks_of trace.cpus trace.events timing.length (number - 1)) (tick_of trace.cpus trace.events timing.length number))
 
 -- the lines of the signals of a tick
@@ -90,7 +90,7 @@ signals_text trace timing number = signal_lines (tick_moment timing.length numbe
 pub signals_are : (plans : PlansView) (engine : EngineView) (order : List Slot) (run_timing : RunTiming) (trace : Trace) (timing : Timing) (number at : ℕ) →
     IsToPut plans engine order run_timing trace timing number at → signal_lines at plans.lives plans.triggers engine.fired ≡ signals_text trace timing number
 signals_are plans engine order run_timing trace timing number at is =
-    rw (is.at_is, is.planned.word_state.lives, is.planned.word_state.triggers, fired_is engine trace timing number is.some is.ticked) refl
+    rw (is.at_is, is.planned.represents.lives, is.planned.represents.triggers, fired_is engine trace timing number is.some is.ticked) refl
 
 -- ---- reports
 
@@ -112,13 +112,13 @@ pub reports_are : (plans : PlansView) (engine : EngineView) (order : List Slot) 
 reports_are plans engine order run_timing trace timing number at is =
     let moment = tick_moment timing.length number in
     let lives = lives_of trace in
-    let ordered : IsPathOrder lives (numbers_of order) = subst (λ lives. IsPathOrder lives (numbers_of order)) is.planned.word_state.lives is.by_path in
+    let ordered : IsPathOrder lives (numbers_of order) = subst (λ lives. IsPathOrder lives (numbers_of order)) is.planned.represents.lives is.by_path in
     let same : (slot : ℕ) → slot < length lives → slot_report trace.version moment lives (totals_in engine) (averages_in engine) slot ≡ slot_report trace.version moment lives (totals_at trace timing number) (average_state_at trace timing number) slot = λ slot below.
     report_same trace.version moment lives (totals_in engine) (totals_at trace timing number) (averages_in engine) (average_state_at trace timing number) slot
     (ap (λ (group : Group). group.totals) (is.ticked.groups slot below)) (ap (λ (group : Group). group.averages) (is.ticked.groups slot below)) in
     ap (λ version. slot_reports version at plans.lives (totals_in engine) (averages_in engine) (numbers_of order)) is.paced.version
     ∙ ap (λ n. slot_reports trace.version n plans.lives (totals_in engine) (averages_in engine) (numbers_of order)) is.at_is
-    ∙ ap (λ lives. slot_reports trace.version moment lives (totals_in engine) (averages_in engine) (numbers_of order)) is.planned.word_state.lives
+    ∙ ap (λ lives. slot_reports trace.version moment lives (totals_in engine) (averages_in engine) (numbers_of order)) is.planned.represents.lives
     ∙ same_pieces (slot_report trace.version moment lives (totals_in engine) (averages_in engine)) (slot_report trace.version moment lives (totals_at trace timing number) (average_state_at trace timing number)) (length lives) (numbers_of order) same (order_below lives (numbers_of order) ordered)
     ∙ sym (reports_by_order (limits_of timing.length trace.cpus) trace timing number (numbers_of order) is.planned.accepted.legal ordered)
 
@@ -178,7 +178,7 @@ reports_put plans engine order run_timing trace timing number at is lives lives_
 -- the lines of kills that were put are those of the tick
 pub kills_put : (plans : PlansView) (trace : Trace) (timing : Timing) (rules : List Rule) (number : ℕ) → IsPlanned plans trace timing → (lives : List GroupLife) (killed : List Kill) →
     lives ≡ plans.lives → killed ≡ kills_in trace timing rules number → kill_lines lives killed ≡ kills_text trace timing rules number
-kills_put plans trace timing rules number planned lives killed lives_are are = rw (lives_are ∙ planned.word_state.lives, are) refl
+kills_put plans trace timing rules number planned lives killed lives_are are = rw (lives_are ∙ planned.represents.lives, are) refl
 
 -- a prefix of the signals is a prefix of the tick's text
 pub signals_prefix : (old new : Option (List ℕ)) (trace : Trace) (timing : Timing) (rules : List Rule) (number : ℕ) (signals : List ℕ) → signals ≡ signals_text trace timing number →

@@ -50,7 +50,7 @@ lives_within plans trace timing planned =
     let legal = planned.accepted.legal in
     let lives = lives_are_in_order limits trace.events legal in
     let early : (after trace.events).last ≤ last_moment = omega (arith, (legal_after limits trace.events legal).early, latest_within timing.length planned.short) in
-    subst (All (λ life. IsLifeWithin last_moment life)) (sym planned.word_state.lives)
+    subst (All (λ life. IsLifeWithin last_moment life)) (sym planned.represents.lives)
     (λ k d below. life_within (after trace.events).last last_moment (get_or (after trace.events).groups k d) early (lives.each k d below))
 
 trigger_within : (latest last slots : ℕ) (trigger : TriggerSpec) → latest ≤ last → IsTriggerWithin latest slots trigger → IsTriggerWithin last slots trigger
@@ -71,7 +71,7 @@ pub triggers_within : (plans : PlansView) (trace : Trace) (timing : Timing) → 
 triggers_within plans trace timing planned =
     let limits = limits_of timing.length trace.cpus in
     let set = triggers_later limits.latest last_moment (length (after trace.events).groups) (triggers_of trace.events) (latest_within timing.length planned.short) (triggers_are_within limits trace.events planned.accepted.legal) in
-    rw (planned.word_state.lives, planned.word_state.triggers) set
+    rw (planned.represents.lives, planned.represents.triggers) set
 
 -- ---- before the first tick
 
@@ -82,9 +82,9 @@ no_ticks engine trace timing stands = stands
 -- a new engine has had no tick of its trace
 pub engine_new : (plans : PlansView) (engine : EngineView) (trace : Trace) (timing : Timing) → IsPlanned plans trace timing → Represents engine (length plans.plans) plans.lives plans.triggers [] → HasTicked engine trace timing 0
 engine_new plans engine trace timing planned stands =
-    let cpus = subst (λ cpus. Represents engine cpus plans.lives plans.triggers []) planned.word_state.each stands in
-    let lives = subst (λ lives. Represents engine trace.cpus lives plans.triggers []) planned.word_state.lives cpus in
-    no_ticks engine trace timing (subst (λ triggers. Represents engine trace.cpus (lives_of trace) triggers []) planned.word_state.triggers lives)
+    let cpus = subst (λ cpus. Represents engine cpus plans.lives plans.triggers []) planned.represents.each stands in
+    let lives = subst (λ lives. Represents engine trace.cpus lives plans.triggers []) planned.represents.lives cpus in
+    no_ticks engine trace timing (subst (λ triggers. Represents engine trace.cpus (lives_of trace) triggers []) planned.represents.triggers lives)
 
 -- the new parts are a replay of their trace before its first tick
 pub replay_new : (replay : ReplayView) (trace : Trace) (timing : Timing) (rules : List Rule) → IsPlanned replay.plans trace timing →

@@ -44,7 +44,7 @@ use Rattle.replay_ticks.proofs.AheadLaws.{moment_early}
 pub tick_is : (plans : PlansView) (trace : Trace) (timing : Timing) (n at : ℕ) (table : List (List (List ℕ))) → IsPlanned plans trace timing → at ≡ tick_moment timing.length n → IsTableAt table plans at
     → tick_at at table ≡ tick_of trace.cpus trace.events timing.length n
 tick_is plans trace timing n at table planned moment is =
-    let filled : table ≡ table_until trace.cpus trace.events at = table_is_of_events (limits_of timing.length trace.cpus) trace.cpus trace.events plans table at planned.accepted.legal planned.word_state is in
+    let filled : table ≡ table_until trace.cpus trace.events at = table_is_of_events (limits_of timing.length trace.cpus) trace.cpus trace.events plans table at planned.accepted.legal planned.represents is in
     ap (tick_at at) filled ∙ ap (λ m. tick_at m (table_until trace.cpus trace.events m)) moment
 
 -- it comes next
@@ -60,8 +60,8 @@ tick_next plans engine trace timing i at table planned left moment stands is =
 pub tick_fits : (plans : PlansView) (engine : EngineView) (trace : Trace) (timing : Timing) (i : ℕ) (table : List (List (List ℕ))) → IsPlanned plans trace timing → HasTicked engine trace timing i → HasPlaces plans table
     → HasSizes engine.cpus (length engine.groups) table
 tick_fits plans engine trace timing i table planned stands sizes =
-    let cpus : length plans.plans ≡ engine.cpus = planned.word_state.each ∙ sym stands.cpus_are in
-    let slots : length plans.lives ≡ length engine.groups = ap length planned.word_state.lives ∙ sym stands.slots in
+    let cpus : length plans.plans ≡ engine.cpus = planned.represents.each ∙ sym stands.cpus_are in
+    let slots : length plans.lives ≡ length engine.groups = ap length planned.represents.lives ∙ sym stands.slots in
     subst (λ n. HasSizes n (length engine.groups) table) cpus (subst (λ n. HasSizes (length plans.plans) n table) slots sizes)
 
 -- then the engine has had this tick
@@ -304,13 +304,13 @@ made_fits replay trace timing rules i is =
 pub live_is : (replay : ReplayView) (trace : Trace) (timing : Timing) (rules : List Rule) (i at cpus : ℕ) → IsReplay replay trace timing rules (i + 1) → at ≡ tick_moment timing.length (i + 1) → cpus ≡ length replay.plans.plans
     → watches_text at cpus replay.crew.watches ≡ watches_text (tick_moment timing.length (i + 1)) trace.cpus replay.crew.watches
 live_is replay trace timing rules i at cpus is moment many =
-    ap (λ m. watches_text m cpus replay.crew.watches) moment ∙ ap (λ n. watches_text (tick_moment timing.length (i + 1)) n replay.crew.watches) (many ∙ is.planned.word_state.each)
+    ap (λ m. watches_text m cpus replay.crew.watches) moment ∙ ap (λ n. watches_text (tick_moment timing.length (i + 1)) n replay.crew.watches) (many ∙ is.planned.represents.each)
 
 -- the clocks of its samples may be opened
 pub live_in_time : (replay : ReplayView) (trace : Trace) (timing : Timing) (rules : List Rule) (i at cpus : ℕ) → IsReplay replay trace timing rules (i + 1) → at ≡ tick_moment timing.length (i + 1) → cpus ≡ length replay.plans.plans
     → AreInTime trace.cpus replay.crew.watches (tick_moment timing.length (i + 1)) → AreInTime cpus replay.crew.watches at
 live_in_time replay trace timing rules i at cpus is moment many are =
-    subst (AreInTime cpus replay.crew.watches) (sym moment) (subst (λ n. AreInTime n replay.crew.watches (tick_moment timing.length (i + 1))) (sym (many ∙ is.planned.word_state.each)) are)
+    subst (AreInTime cpus replay.crew.watches) (sym moment) (subst (λ n. AreInTime n replay.crew.watches (tick_moment timing.length (i + 1))) (sym (many ∙ is.planned.represents.each)) are)
 
 -- the lines of a tick, live lines first
 pub lines_put : (trace : Trace) (timing : Timing) (rules : List Rule) (i : ℕ) (live : List ℕ) (had mid has : Option (List ℕ)) → Appends had mid live → Appends mid has (tick_text trace timing (with_rules rules) i) → Appends had has (tick_lines trace timing rules i live)

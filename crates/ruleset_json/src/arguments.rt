@@ -160,9 +160,9 @@ impl<'v> Arguments<'v> {
 
     /// The arguments under the key `args` of a plugin object; none if there is no such key.
     pub fn of_plugin(alloc: Global, plugin: &'v Value, place: Place) -> Result<Self, RulesFault>
-        ensures found { ReadsBy (λ bytes_read. option_map (λ v. view v.now) bytes_read.found) result
+        ensures found { ReadsBy (λ arguments. option_map (λ v. view v.now) arguments.found) result
             (arguments_in place (json.get (codes "args") (view plugin.now))) }
-        ensures place { IfOk result (λ bytes_read. bytes_read.place ≡ place) }
+        ensures place { IfOk result (λ arguments. arguments.place ≡ place) }
     {
         let found = match plugin.get("args") {
             Some(value) => Some(object(value, place)?),

@@ -29,9 +29,9 @@ to_replay planner options cpus events taken ended some short interval often work
 
 -- the plans of a planned trace represent it
 pub planned : (version : Version) (planner : PlannerView) (plans : PlansView) (options : Options) (limits : Limits) (events : List Event) → IsToReplay planner options limits events → RepresentTaken planner plans → IsPlanned plans (trace_with version limits.cpus events) (timing_of options)
-planned version planner plans options limits events is word_state = record {
+planned version planner plans options limits events is represents = record {
   counted = is.taken.counted;
-  word_state = word_state limits events is.taken;
+  represents = represents limits events is.taken;
   accepted = subst (λ l. IsAccepted l events) is.latest is.ended;
   some = omega (arith, is.some);
   short = omega (arith, is.short);

@@ -174,7 +174,7 @@ pub record PlansRead (plans : PlansView) (number tick : ℕ) (known : Option (Li
   pub trace : Trace
   pub counted : IsCpuCount trace.cpus
   pub version : version_of number ≡ trace.version
-  pub word_state : Represent plans trace.cpus trace.events
+  pub represents : Represent plans trace.cpus trace.events
   pub known_verbs : AreKnown (verbs_of trace.version) trace.events
   pub accepted : IsAccepted (limits_of tick trace.cpus) trace.events
   pub read : (bytes : List ℕ) → known ≡ Some bytes → trace_of (accepts_with versions tick) bytes ≡ Ok trace
@@ -194,7 +194,7 @@ shelf_fault NoFile = Some shelf.NoFile
 shelf_fault ReadFault = Some shelf.Failed
 shelf_fault (NoMemory _) = None
 
--- the shelf's fault in a result, if any
+-- the fault of the file store that a result reports, if any
 abbrev pub shelf_fault_in : {A : Type 0} → Result A TraceFault → Option ShelfFault
 shelf_fault_in (Ok x) = None
 shelf_fault_in (Err found) = shelf_fault found

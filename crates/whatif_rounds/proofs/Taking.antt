@@ -45,9 +45,9 @@ never_refused limits events refusal accepted refused =
 
 -- plans that represent an accepted trace are plans of it
 pub are_plans : (plans : PlansView) (options : Options) (trace : Trace) → MayReplay options → IsTraceAt options trace → Represent plans trace.cpus trace.events → ArePlansOf plans options trace
-are_plans plans options trace may is word_state = record {
+are_plans plans options trace may is represents = record {
   counted = is.counted;
-  word_state = word_state;
+  represents = represents;
   accepted = is.accepted;
   some = omega (arith, may.some);
   short = omega (arith, may.short);
@@ -152,9 +152,9 @@ last_here options rules trace count events plans low so none are = (
 -- the same after the last possible round
 pub last_at_end : (options : Options) (rules : List Rule) (trace : Trace) (count : ℕ) (events : List Event) (plans : PlansView) → MayReplay options → IsTraceAt options trace → count ≡ most_rounds → HasLeft options rules trace count events
     → Represent plans trace.cpus events → AreLastPlans options rules trace plans
-last_at_end options rules trace count events plans may is all so word_state = (
+last_at_end options rules trace count events plans may is all so represents = (
   record trace { events = events },
   subst (λ n. after_rounds trace (timing_of options) rules n ≡ Ok (record trace { events = events })) all so.so_far,
   refl,
-  are_plans plans options (record trace { events = events }) may (record { counted = is.counted; accepted = so.accepted }) word_state,
+  are_plans plans options (record trace { events = events }) may (record { counted = is.counted; accepted = so.accepted }) represents,
 )

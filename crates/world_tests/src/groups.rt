@@ -15,14 +15,14 @@ fn path(rt: &impl Abort, alloc: Global, text: &str) -> Path {
 /// before.
 fn add(rt: &impl Abort, alloc: Global, tree: &mut Tree, text: &str, at: Ns) -> Result<Slot, Cause> {
     let path = path(rt, alloc, text);
-    let requested = tree.add_cause(&path);
-    let bytes_read = match tree.add(&path, at) {
+    let predicted = tree.add_cause(&path);
+    let outcome = match tree.add(&path, at) {
         Ok(slot) => Ok(slot),
         Err(Fault::Refused(cause)) => Err(cause),
         Err(Fault::NoMemory(none)) => panic!(rt; "{none:?}"),
     };
-    is(rt, bytes_read.err(), requested, text);
-    bytes_read
+    is(rt, outcome.err(), predicted, text);
+    outcome
 }
 
 /// Removes a group, or returns the cause that rejects it, which `remove_cause` must have returned
@@ -35,10 +35,10 @@ fn remove(
     at: Ns,
 ) -> Result<Slot, Cause> {
     let path = path(rt, alloc, text);
-    let requested = tree.remove_cause(&path);
-    let bytes_read = tree.remove(&path, at);
-    is(rt, bytes_read.err(), requested, text);
-    bytes_read
+    let predicted = tree.remove_cause(&path);
+    let outcome = tree.remove(&path, at);
+    is(rt, outcome.err(), predicted, text);
+    outcome
 }
 
 /// Switches a group's accounting, or returns the cause that rejects it, which `pressure_cause` must
@@ -51,10 +51,10 @@ fn switch(
     on: bool,
 ) -> Result<Slot, Cause> {
     let path = path(rt, alloc, text);
-    let requested = tree.pressure_cause(&path);
-    let bytes_read = tree.switch(&path, on);
-    is(rt, bytes_read.err(), requested, text);
-    bytes_read
+    let predicted = tree.pressure_cause(&path);
+    let outcome = tree.switch(&path, on);
+    is(rt, outcome.err(), predicted, text);
+    outcome
 }
 
 /// Groups, some of them removed and created again with the same path.
@@ -109,8 +109,8 @@ fn accounts_of_groups(rt: HostRuntime) {
         ("/b", true, Ok(Slot(3))),
         ("/b", true, Ok(Slot(3))),
     ] {
-        let bytes_read = switch(&rt, rt.alloc(), &mut tree, text, on);
-        is(&rt, bytes_read, want, text);
+        let outcome = switch(&rt, rt.alloc(), &mut tree, text, on);
+        is(&rt, outcome, want, text);
     }
     add(&rt, rt.alloc(), &mut tree, "/a/d", 4).expect(&rt, "/a/d");
     let on = tree.lives().iter().map(|life| life.on);
@@ -125,8 +125,8 @@ fn refused_groups(rt: HostRuntime) {
         ("/", Cause::GroupExists),
         ("/c/d", Cause::NoParent),
     ] {
-        let bytes_read = add(&rt, rt.alloc(), &mut tree, text, 4);
-        is(&rt, bytes_read, Err(want), text);
+        let outcome = add(&rt, rt.alloc(), &mut tree, text, 4);
+        is(&rt, outcome, Err(want), text);
     }
     for &(text, want) in &[
         ("/", Err(Cause::GroupBusy)),
@@ -136,8 +136,8 @@ fn refused_groups(rt: HostRuntime) {
         ("/a/b/c", Ok(Slot(7))),
         ("/a/b", Ok(Slot(5))),
     ] {
-        let bytes_read = remove(&rt, rt.alloc(), &mut tree, text, 4);
-        is(&rt, bytes_read, want, text);
+        let outcome = remove(&rt, rt.alloc(), &mut tree, text, 4);
+        is(&rt, outcome, want, text);
     }
 }
 
@@ -223,7 +223,7 @@ fn at_most_1024_groups(rt: HostRuntime) {
         made_and_gone(&rt, rt.alloc(), &mut tree, Slot(slot));
     }
     for text in &["/g", "/", "/x/y"] {
-        let bytes_read = add(&rt, rt.alloc(), &mut tree, text, 2);
-        is(&rt, bytes_read, Err(Cause::TooManyGroups), text);
+        let outcome = add(&rt, rt.alloc(), &mut tree, text, 2);
+        is(&rt, outcome, Err(Cause::TooManyGroups), text);
     }
 }

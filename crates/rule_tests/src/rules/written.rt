@@ -60,9 +60,9 @@ fn writes_plugin(
     alloc: Global,
     (file, text): (&str, &str),
     name: &str,
-    (bytes_read, shown): (&str, &str),
+    (input, shown): (&str, &str),
 ) {
-    let file = with_both(rt, alloc, file, name, bytes_read);
+    let file = with_both(rt, alloc, file, name, input);
     let text = with_both(rt, alloc, text, shown, name);
     writes(rt, alloc, &file, &text);
 }
@@ -140,15 +140,15 @@ const OF_NAMES: &str = "{\"rulesets\":[{\"name\":\"@\",\"detectors\":[[\"@\"]],\
 const WRITTEN_NAMES: &str =
     "{\"rulesets\":[{\"actions\":[],\"detectors\":[[\"@\"]],\"name\":\"@\"}]}";
 
-fn writes_name(rt: &impl Abort, alloc: Global, bytes_read: &str, shown: &str) {
-    let file = with_both(rt, alloc, OF_NAMES, bytes_read, "g");
+fn writes_name(rt: &impl Abort, alloc: Global, input: &str, shown: &str) {
+    let file = with_both(rt, alloc, OF_NAMES, input, "g");
     let text = with_both(rt, alloc, WRITTEN_NAMES, "g", shown);
     writes_bytes(rt, alloc, file.as_bytes(), text.as_bytes());
 }
 
 #[test]
 fn names(rt: HostRuntime) {
-    for (bytes_read, shown) in &NAMES {
-        writes_name(&rt, rt.alloc(), bytes_read, shown);
+    for (input, shown) in &NAMES {
+        writes_name(&rt, rt.alloc(), input, shown);
     }
 }

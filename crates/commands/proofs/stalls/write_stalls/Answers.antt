@@ -24,8 +24,8 @@ put_lines-requires-clause-made g c =
 pub put_lines-requires-clause-later : goal.put_lines-requires-clause-later
 put_lines-requires-clause-later g c = λ cpu below.
     let trace = c.requires.trace in
-    let word_state = c.in-Ok.ensures trace.0 trace.1 trace.2 in
-    rw c.finish-2.ensures (ends_later trace.0 c.in-Ok.plans trace.1 cpu trace.2.legal word_state (omega (arith, below, ap length c.deref_mut.ensures.value, c.in-Ok-first_clocks.ensures.on.each, word_state.each)))
+    let represents = c.in-Ok.ensures trace.0 trace.1 trace.2 in
+    rw c.finish-2.ensures (ends_later trace.0 c.in-Ok.plans trace.1 cpu trace.2.legal represents (omega (arith, below, ap length c.deref_mut.ensures.value, c.in-Ok-first_clocks.ensures.on.each, represents.each)))
 
 pub returns-in-Ok-put_lines-clause-writes : goal.returns-in-Ok-put_lines-clause-writes
 returns-in-Ok-put_lines-clause-writes g c = λ limits events taken.

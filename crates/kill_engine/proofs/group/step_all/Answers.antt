@@ -28,17 +28,17 @@ detectors-preserved c =
           (λ k below d. rw (get_or-set_other c.detectors.detectors i k c.step-hold.new.self d (omega arith)) (c.detectors.invariant.at k below d))
           (λ d. rw (stepped d) now);
       left = λ k d above. get_or-set_other c.detectors.detectors i k c.step-hold.new.self d (omega arith) ∙ c.detectors.invariant.left k d (omega arith);
-      answer = λ specs history word_state. laws.all_more (λ (detector : DetectorView) (spec : DetectorSpec). Represents detector lives spec history) (λ spec. is_true lives spec c.args.reading.now.seen history) old specs i item c.detectors.hold c.step-hold.result _ word_state (omega arith)
+      answer = λ specs history represents. laws.all_more (λ (detector : DetectorView) (spec : DetectorSpec). Represents detector lives spec history) (λ spec. is_true lives spec c.args.reading.now.seen history) old specs i item c.detectors.hold c.step-hold.result _ represents (omega arith)
           (λ spec stands. c.step-hold.ensures.answer spec history (subst (λ d. Represents d lives spec history) (before item) stands))
-          (c.detectors.invariant.answer specs history word_state);
+          (c.detectors.invariant.answer specs history represents);
     }
 
 pub returns-clause-answer : goal.returns-clause-answer
-returns-clause-answer c = λ specs history word_state.
-    laws.all_end (λ (detector : DetectorView) (spec : DetectorSpec). Represents detector c.args.reading.now.lives spec history) (λ spec. is_true c.args.reading.now.lives spec c.args.reading.now.seen history) c.args.detectors.now specs c.detectors.detector-index c.detectors.hold _ word_state (omega arith) (c.detectors.invariant.answer specs history word_state)
+returns-clause-answer c = λ specs history represents.
+    laws.all_end (λ (detector : DetectorView) (spec : DetectorSpec). Represents detector c.args.reading.now.lives spec history) (λ spec. is_true c.args.reading.now.lives spec c.args.reading.now.seen history) c.args.detectors.now specs c.detectors.detector-index c.detectors.hold _ represents (omega arith) (c.detectors.invariant.answer specs history represents)
 
 pub returns-clause-take : goal.returns-clause-take
-returns-clause-take c = λ specs history word_state.
+returns-clause-take c = λ specs history represents.
     laws.zipped_map (λ (detector : DetectorView) (spec : DetectorSpec). Represents detector c.args.reading.now.lives spec history)
     (λ (detector : DetectorView) (spec : DetectorSpec). Represents detector c.args.reading.now.lives spec (c.args.reading.now.seen ∷ history))
-    c.args.detectors.now c.detectors.detectors specs (omega arith) (λ k d spec below stands. c.detectors.invariant.take k (omega arith) d spec history stands) word_state
+    c.args.detectors.now c.detectors.detectors specs (omega arith) (λ k d spec below stands. c.detectors.invariant.take k (omega arith) d spec history stands) represents

@@ -14,12 +14,12 @@ evaluate-requires-clause-stands c =
     let i = c.rulesets.number in
     let old : List RulesetView = c.args.rulesets.now in
     let lives : List GroupLife = c.args.reading.now.lives in
-    let word_state = c.requires.word_state in
+    let represents = c.requires.represents in
     let item : RulesetView = get_or c.rulesets.rulesets i c.index-rulesets-number.result in
     let before : (d : RulesetView) → get_or old i d ≡ item = λ d. sym (c.rulesets.invariant.left i d (omega arith)) ∙ get_or_default c.rulesets.rulesets i d c.index-rulesets-number.result (omega arith) in
-    let r = laws.ruled_at lives word_state.1 0 old word_state.0 i word_state.2 (omega arith) in
+    let r = laws.ruled_at lives represents.1 0 old represents.0 i represents.2 (omega arith) in
     let number : 0 + i ≡ i = omega arith in
-    (r.rule, word_state.1, subst (λ n. RulesetRepresents lives word_state.1 n item r.rule) number (subst (λ state. RulesetRepresents lives word_state.1 (0 + i) state r.rule) (before item) (r.stands item)))
+    (r.rule, represents.1, subst (λ n. RulesetRepresents lives represents.1 n item r.rule) number (subst (λ state. RulesetRepresents lives represents.1 (0 + i) state r.rule) (before item) (r.stands item)))
 
 pub rulesets-preserved : goal.rulesets-preserved
 rulesets-preserved c =
@@ -38,34 +38,34 @@ rulesets-preserved c =
           (λ k below d. rw (get_or-set_other c.rulesets.rulesets i k c.evaluate.new.self d (omega arith)) (c.rulesets.invariant.at k below d))
           (λ d. rw (stepped d) c.evaluate.ensures.at);
       left = λ k d above. get_or-set_other c.rulesets.rulesets i k c.evaluate.new.self d (omega arith) ∙ c.rulesets.invariant.left k d (omega arith);
-      kills = λ rules history word_state is_past.
-          let r = laws.ruled_at lives history 0 old rules i word_state (omega arith) in
+      kills = λ rules history represents is_past.
+          let r = laws.ruled_at lives history 0 old rules i represents (omega arith) in
           let number : 0 + i ≡ i = omega arith in
           let stands : RulesetRepresents lives history i item r.rule = subst (λ n. RulesetRepresents lives history n item r.rule) number (subst (λ state. RulesetRepresents lives history (0 + i) state r.rule) (before item) (r.stands item)) in
           let mine : List Kill = kills_at lives i r.rule now history (kills_of lives i r.rule history) in
           let rest : List Kill = kills_from lives (i + 1) (drop (i + 1) rules) now history in
           rw (c.evaluate.ensures.kills r.rule history stands is_past, append_assoc c.rulesets.found.items mine rest)
-          (subst (λ suffix. c.rulesets.found.items ++ kills_from lives i suffix now history ≡ kills_from lives 0 rules now history) r.rest (c.rulesets.invariant.kills rules history word_state is_past));
+          (subst (λ suffix. c.rulesets.found.items ++ kills_from lives i suffix now history ≡ kills_from lives 0 rules now history) r.rest (c.rulesets.invariant.kills rules history represents is_past));
       few = omega (arith, c.evaluate.ensures.few, c.rulesets.invariant.few);
       room = omega (arith, c.evaluate.ensures.room, c.rulesets.invariant.room);
     }
 
 pub returns-clause-kills : goal.returns-clause-kills
 unfolding kills
-returns-clause-kills c = λ rules history word_state is_past.
+returns-clause-kills c = λ rules history represents is_past.
     let lives : List GroupLife = c.args.reading.now.lives in
     let now : Reading = c.args.reading.now.seen in
     let ends : c.rulesets.number ≡ length c.args.rulesets.now = omega arith in
-    let none : drop c.rulesets.number rules ≡ [] = rw ends (laws.ruled_end lives history 0 c.args.rulesets.now rules word_state) in
+    let none : drop c.rulesets.number rules ≡ [] = rw ends (laws.ruled_end lives history 0 c.args.rulesets.now rules represents) in
     sym (append-nil c.rulesets.found.items)
-    ∙ subst (λ suffix. c.rulesets.found.items ++ kills_from lives c.rulesets.number suffix now history ≡ kills_from lives 0 rules now history) none (c.rulesets.invariant.kills rules history word_state is_past)
+    ∙ subst (λ suffix. c.rulesets.found.items ++ kills_from lives c.rulesets.number suffix now history ≡ kills_from lives 0 rules now history) none (c.rulesets.invariant.kills rules history represents is_past)
 
 pub returns-clause-take : goal.returns-clause-take
-returns-clause-take c = λ rules history word_state is_past.
+returns-clause-take c = λ rules history represents is_past.
     let lives : List GroupLife = c.args.reading.now.lives in
     let now : Reading = c.args.reading.now.seen in
     laws.ruled_map lives history (now ∷ history) 0 c.args.rulesets.now c.rulesets.rulesets rules (omega arith)
     (λ k d rule below stands.
     let number : 0 + k ≡ k = omega arith in
     rw number (c.rulesets.invariant.take k (omega arith) d rule history (subst (λ n. RulesetRepresents lives history n (get_or c.args.rulesets.now k d) rule) number stands) is_past))
-    word_state
+    represents

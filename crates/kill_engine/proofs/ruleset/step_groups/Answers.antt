@@ -31,17 +31,17 @@ groups-preserved c =
           (λ k below d. rw (get_or-set_other c.groups.groups i k c.step-fires.new.self d (omega arith)) (c.groups.invariant.at k below d))
           (λ d. rw (stepped d) c.step-fires.ensures.at);
       left = λ k d above. get_or-set_other c.groups.groups i k c.step-fires.new.self d (omega arith) ∙ c.groups.invariant.left k d (omega arith);
-      answer = λ specs history word_state. laws.any_more (λ (group : List DetectorView) (spec : DetectorGroup). DetectorsRepresent lives history group spec.detectors) (λ spec. group_holds lives spec c.args.reading.now.seen history) old specs i item c.groups.fires c.step-fires.result _ word_state (omega arith)
+      answer = λ specs history represents. laws.any_more (λ (group : List DetectorView) (spec : DetectorGroup). DetectorsRepresent lives history group spec.detectors) (λ spec. group_holds lives spec c.args.reading.now.seen history) old specs i item c.groups.fires c.step-fires.result _ represents (omega arith)
           (λ spec stands. c.step-fires.ensures.answer spec.detectors history (subst (λ group. DetectorsRepresent lives history group spec.detectors) (before item) stands))
-          (c.groups.invariant.answer specs history word_state);
+          (c.groups.invariant.answer specs history represents);
     }
 
 pub returns-clause-answer : goal.returns-clause-answer
-returns-clause-answer c = λ specs history word_state.
-    laws.any_end (λ (group : List DetectorView) (spec : DetectorGroup). DetectorsRepresent c.args.reading.now.lives history group spec.detectors) (λ spec. group_holds c.args.reading.now.lives spec c.args.reading.now.seen history) c.args.groups.now specs c.groups.group-index c.groups.fires _ word_state (omega arith) (c.groups.invariant.answer specs history word_state)
+returns-clause-answer c = λ specs history represents.
+    laws.any_end (λ (group : List DetectorView) (spec : DetectorGroup). DetectorsRepresent c.args.reading.now.lives history group spec.detectors) (λ spec. group_holds c.args.reading.now.lives spec c.args.reading.now.seen history) c.args.groups.now specs c.groups.group-index c.groups.fires _ represents (omega arith) (c.groups.invariant.answer specs history represents)
 
 pub returns-clause-take : goal.returns-clause-take
-returns-clause-take c = λ specs history word_state.
+returns-clause-take c = λ specs history represents.
     laws.zipped_map (λ (group : List DetectorView) (spec : DetectorGroup). DetectorsRepresent c.args.reading.now.lives history group spec.detectors)
     (λ (group : List DetectorView) (spec : DetectorGroup). DetectorsRepresent c.args.reading.now.lives (c.args.reading.now.seen ∷ history) group spec.detectors)
-    c.args.groups.now c.groups.groups specs (omega arith) (λ k d spec below stands. c.groups.invariant.take k (omega arith) d spec.detectors history stands) word_state
+    c.args.groups.now c.groups.groups specs (omega arith) (λ k d spec below stands. c.groups.invariant.take k (omega arith) d spec.detectors history stands) represents

@@ -1,6 +1,6 @@
 use Rattle.std.proofs.Common.{◌≡◌, ◌<◌, ◌≤◌, ◌∙◌, ◌+◌, ◌++◌, ◌∷◌, [], ℕ, length, set, take, List, Vec, Some, ap, get_or, sym, subst, arith, rules}
 use Rattle.std.proofs.lemmas.List.{take_all}
-use Rattle.observer_log.specs.Entries.{list_of, parsed_from}
+use Rattle.observer_log.specs.Entries.{list_of, entry_content}
 use Rattle.observer_log.specs.Journal.{AreInOrder, IsTaken, place_of}
 use Rattle.observer_log.proofs.Taken.{all_taken, each_whole, in_order, list_at, next_same, next_there, no_list, no_more, not_both, place_at, taken_push}
 use Rattle.observer_log.proofs.order.in_order.Goals as goal
@@ -44,7 +44,7 @@ entries-preserved c =
     let list = c.entries-list.ensures ∙ list_at c.args.own.now e.observer c.index-own-observer.result (search rules) c.index-own-observer.is in
     let next : x ≡ get_or (list_of c.args.own.now e.observer) (place_of c.entries.places.items e.observer) x = rw (sym list, sym place) c.index-list-place.is in
     let short : place_of c.entries.places.items e.observer < length (list_of c.args.own.now e.observer) = rw (sym list, sym place) c.if-place-list.false in
-    let same : parsed_from e ≡ parsed_from x = search rules in
+    let same : entry_content e ≡ entry_content x = search rules in
     subst (λ (z : ℕ × List _). IsTaken (take (c.entries.entry-index + 1) c.args.journal.now) c.args.own.now (set c.entries.places.items e.observer (z.0 + 1)) z.1) (λ k. (sym place k, sym c.in_ok-push.ensures.items k))
     (taken_push c.args.journal.now c.args.own.now c.entries.places.items c.entries.taken.items c.entries.entry-index e x i c.requires (search rules) c.entry-item.is (search rules) short next same)
 

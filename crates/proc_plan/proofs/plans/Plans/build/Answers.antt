@@ -1,7 +1,7 @@
 use Rattle.proc_plan.proofs.plans.Plans.build.Goals as goal
 
-pub returns-in_ok-finish-in-Ok-clause-word_state : goal.returns-in_ok-finish-in-Ok-clause-word_state
-returns-in_ok-finish-in-Ok-clause-word_state c =
+pub returns-in_ok-finish-in-Ok-clause-represents : goal.returns-in_ok-finish-in-Ok-clause-represents
+returns-in_ok-finish-in-Ok-clause-represents c =
     let taken = c.in-Ok.ensures.taken (record { cpus = c.args.cpus; latest = c.args.latest }) c.in_ok-planner.ensures in
     c.in_ok-finish-in-Ok.ensures (record { cpus = c.args.cpus; latest = c.args.latest }) c.args.events.now taken.0
 

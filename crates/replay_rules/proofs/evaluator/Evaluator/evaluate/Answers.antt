@@ -22,7 +22,7 @@ fill_reading-requires-clause-made c =
     let is = subst (λ e. IsToEvaluate e c.args.plans.now c.args.engine.now order c.requires.0
     c.requires.1 c.requires.2 c.requires.3 c.args.at) (sym c.self.view_is) c.requires.4 in
     subst (λ lives. All (λ (slot : Slot). slot.0 < length lives) order)
-    (is.planned.word_state.lives ∙ sym is.read.lives)
+    (is.planned.represents.lives ∙ sym is.read.lives)
     (order_made c.args.plans.now.lives order is.by_path)
 
 pub fill_reading-requires-clause-rows : goal.fill_reading-requires-clause-rows
@@ -36,7 +36,7 @@ fill_reading-requires-clause-ascend c =
     let trace = c.requires.0 in
     let is = subst (λ e. IsToEvaluate e c.args.plans.now c.args.engine.now order trace c.requires.1
     c.requires.2 c.requires.3 c.args.at) (sym c.self.view_is) c.requires.4 in
-    let by_path = subst (λ lives. IsPathOrder lives (numbers_of order)) is.planned.word_state.lives
+    let by_path = subst (λ lives. IsPathOrder lives (numbers_of order)) is.planned.represents.lives
     is.by_path in
     let ascend = live_ascend (limits_of c.requires.1.length trace.cpus) trace.events
     is.planned.accepted.legal (numbers_of order) by_path c.args.at in

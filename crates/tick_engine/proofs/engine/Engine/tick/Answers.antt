@@ -9,7 +9,7 @@ use Rattle.tick_engine.specs.declared.watch.TriggerWatch.{TriggerWatch}
 use Rattle.tick_engine.specs.Tables.{tick_at}
 use Rattle.tick_engine.specs.Step.{engine_group, group_step, watch_begun}
 use Rattle.tick_engine.specs.Engine.{EngineView, Represents}
-use Rattle.tick_engine.proofs.RepresentLaws as word_state
+use Rattle.tick_engine.proofs.RepresentLaws as represents
 use Rattle.tick_engine.proofs.StepLaws.{states_within}
 use Rattle.tick_engine.proofs.engine.Engine.tick.Goals as goal
 
@@ -48,7 +48,7 @@ step_all-requires-clause-watches c =
     let begun : c.begin_all.new.watches ≡ map (watch_begun old.groups.items c.args.now) old.watches.items = c.begin_all.ensures ∙ rw (c.deref.ensures.value, c.deref_mut.ensures.value) refl in
     let begun_long : length c.begin_all.new.watches ≡ length old.watches.items = ap length begun ∙ length-map old.watches.items (watch_begun old.groups.items c.args.now) in
     let begun_seen : c.deref_mut-3.result.now ≡ map (watch_begun old.groups.items c.args.now) old.watches.items = c.deref_mut-3.ensures.value ∙ seam c.begin_all.new.watches _ _ (length old.watches.items) begun_long watches_long ∙ begun in
-    rw (groups_kept, begun_seen) (word_state.begun_within old.groups.items c.args.now (length old.groups.items) old.watches.items c.self.invariant.1.watches)
+    rw (groups_kept, begun_seen) (represents.begun_within old.groups.items c.args.now (length old.groups.items) old.watches.items c.self.invariant.1.watches)
 
 pub step_all-requires-clause-totals : goal.step_all-requires-clause-totals
 step_all-requires-clause-totals c =
@@ -59,7 +59,7 @@ step_all-requires-clause-totals c =
     rw groups_seen (states_within (tick_at c.args.now c.args.rows.now) c.tick_all.new.groups c.requires.next.early c.tick_all.ensures.totals)
 
 -- what the calls made of the engine
-ticked : (c : goal.After-self-3-1) → word_state.IsTicked (tick_at c.args.now c.args.rows.now)
+ticked : (c : goal.After-self-3-1) → represents.IsTicked (tick_at c.args.now c.args.rows.now)
     (record { cpus = c.self.inside.cpus; last = c.self.inside.last; groups = c.self.inside.groups.items; watches = c.self.inside.watches.items; fired = c.self.inside.fired.items })
     (record { cpus = c.self.inside.cpus; last = c.tick_all.new.last; groups = c.tick_all.new.groups; watches = c.step_all.new.watches; fired = c.step_all.new.fired.items })
 ticked c =
@@ -93,7 +93,7 @@ groups_whole c =
 watches_whole : (c : goal.After-self-3-1) → (rest : List TriggerWatch) → take c.self.inside.watches.len (c.step_all.new.watches ++ rest) ≡ c.step_all.new.watches
 watches_whole c rest =
     let long : c.self.inside.watches.len ≡ length c.self.inside.watches.items = omega (arith, c.deref_mut.ensures.len, ap length c.deref_mut.ensures.value) in
-    seam c.step_all.new.watches rest _ (length c.self.inside.watches.items) (word_state.ticked_many (ticked c)) long
+    seam c.step_all.new.watches rest _ (length c.self.inside.watches.items) (represents.ticked_many (ticked c)) long
 
 -- the tick comes next after the engine's last
 next : (c : goal.After-self-3-1) → IsNextTick c.self.inside.last (tick_at c.args.now c.args.rows.now)
@@ -103,10 +103,10 @@ pub invariant_of-self : goal.invariant_of-self
 invariant_of-self c =
     let sizes : HasSizes c.self.inside.cpus (length c.self.inside.groups.items) c.args.rows.now =
     let P : EngineView → Type 0 = λ engine. HasSizes engine.cpus (length engine.groups) c.args.rows.now in subst P (sym c.self.view_is) c.requires.sizes in
-    let many = word_state.ticked_many (ticked c) in
+    let many = represents.ticked_many (ticked c) in
     rw (groups_whole c, watches_whole c) (
       record { room = omega (arith, c.self.invariant.0.room, c.step_all.ensures.room, many) },
-      word_state.engine_kept _ _ (tick_at c.args.now c.args.rows.now) c.self.invariant.1 (next c) sizes (ticked c) c.tick_all.ensures.totals,
+      represents.engine_kept _ _ (tick_at c.args.now c.args.rows.now) c.self.invariant.1 (next c) sizes (ticked c) c.tick_all.ensures.totals,
     )
 
 pub returns-clause-last : goal.returns-clause-last
@@ -122,4 +122,4 @@ pub returns-clause-stands : goal.returns-clause-stands
 returns-clause-stands c = λ cpus lives triggers ticks stands.
     let tick = tick_at c.args.now c.args.rows.now in
     let before = let P : EngineView → Type 0 = λ engine. Represents engine cpus lives triggers ticks in subst P (sym c.self.view_is) stands in
-    rw (groups_whole c, watches_whole c) (word_state.is_next_in _ _ cpus lives triggers ticks tick c.self.invariant.1 (next c) (ticked c) before)
+    rw (groups_whole c, watches_whole c) (represents.is_next_in _ _ cpus lives triggers ticks tick c.self.invariant.1 (next c) (ticked c) before)
