@@ -27,7 +27,7 @@ shelf_fault fault.NoFile = Some shelf.NoFile
 shelf_fault fault.ReadFault = Some shelf.Failed
 shelf_fault (fault.NoMemory _) = None
 
--- the shelf's fault in a result, if any
+-- the fault of the file store that a result reports, if any
 abbrev pub shelf_fault_in : {A : Type 0} → Result A FileFault → Option ShelfFault
 shelf_fault_in (Ok x) = None
 shelf_fault_in (Err found) = shelf_fault found

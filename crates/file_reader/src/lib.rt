@@ -1,4 +1,4 @@
-//! Reads a prefix of a shelf's file into one piece of memory.
+//! Reads a file, or its first bytes, into one piece of memory.
 //!
 //! It is for small files such as rules; a trace is read line by line, with `psi_lines`.
 #![tactic(auto)]

@@ -1,4 +1,4 @@
-//! Reads a prefix of a file, however the shelf's reads split it.
+//! Reads the first bytes of a file, by as many reads as the shelf needs.
 ghost use Rattle.std.specs.Prelude.{◌≡◌, ◌+◌, ◌<◌, ◌≤◌, ℕ, List, length, take, IfOk, IsErrOf, Some, None};
 ghost use Rattle.outside.specs.Outside.{IsAbsent, counts_of, content_of};
 ghost use Rattle.outside.specs.Reads.{ReadsFile};
@@ -44,7 +44,7 @@ impl From<NoMemory> for FileFault {
     }
 }
 
-// `count` zeros.
+// Allocates `count` zero bytes.
 fn zeros(alloc: Global, count: usize) -> Result<Vec<u8>, NoMemory>
     ensures { IfOk result (λ bytes. length bytes.items ≡ count) }
 {

@@ -3,22 +3,22 @@ use Rattle.std.specs.Prelude.{◌≡◌, ℕ, ◌+◌, ◌-◌, ◌^◌, ◌<◌
 use Rattle.outside.specs.declared.shelf.ShelfFault.{ShelfFault}
 use Rattle.outside.specs.declared.shelf.ShelfFault.TheVariants.{Failed}
 
--- the remaining bytes of streams of a type are their bytes after their place
+-- for streams of this type: the remaining bytes are the content from the current position on
 abbrev pub LeavesFromPlace : {F : Type 0} → (F → Option (List ℕ)) → (F → Option ℕ) → (F → Option (List ℕ)) → Type 0
 LeavesFromPlace {F} left place bytes =
     (file : F) (at : ℕ) (held : List ℕ) → place file ≡ Some at → bytes file ≡ Some held → left file ≡ Some (drop at held)
 
--- a stream's place and bytes are known to be these
+-- the stream's position and content are known, and are these
 abbrev pub IsPlacedAt : {F : Type 0} → (F → Option ℕ) → (F → Option (List ℕ)) → F → ℕ → List ℕ → Type 0
 IsPlacedAt place bytes file at held = (place file ≡ Some at) × (bytes file ≡ Some held)
 
--- a 64-bit place advanced by the number of bytes read, and is unchanged if the read failed, which
--- is never a missing file
+-- the position advanced by the number of bytes read (64 bits), or is unchanged after a failed read;
+-- the failure is never a missing file
 abbrev pub GoesOn : ℕ → ℕ → Result ℕ ShelfFault → Type 0
 GoesOn before now result = MatchResult result (λ n. now ≡ min (before + n) (2 ^ 64 - 1)) (λ fault. (fault ≡ Failed) × (now ≡ before))
 
--- n bytes were read from this place into the start of this buffer; n is 0 only at the end. Nothing
--- is said about the rest of the buffer.
+-- n bytes were read from this offset into the start of the buffer; n is 0 only at the end of the
+-- file. The rest of the buffer may have any content.
 pub record ReadsPrefix (bytes : List ℕ) (at n : ℕ) (into : List ℕ) : Type 0 where
   pub read : take n into ≡ take n (drop at bytes)
   pub inside : n ≤ length bytes - at

@@ -1,4 +1,5 @@
-//! The system's files and streams. Nothing is known about their content: here trust begins.
+//! The system's files and streams. Contracts know nothing about their content, so their behaviour
+//! is trusted, not proved.
 ghost use Rattle.std.specs.Prelude.{◌≡◌, ◌≢◌, ◌<◌, ◌≤◌, ℕ, List, None, Some, IfErr, IfOk, IfSome, IsErrOf, OnOk, codes, length};
 ghost use Rattle.std.specs.Io.KnownBytes.{Keeps, ReadConsumes};
 ghost use Rattle.host_files.specs.Host.{GoesOn, LeavesFromPlace, ReadsPrefix, IsPlacedAt};
@@ -22,7 +23,7 @@ fn open_fault(kind: ErrorKind) -> ShelfFault
     }
 }
 
-// Reads at the stream's place, and advances `place`.
+// Reads once from a stream, whose offset is `place` (bytes), and advances `place`.
 fn read_next<I: Read>(stream: &mut I, place: &mut u64, into: &mut [u8]) -> Result<usize, ShelfFault>
     ensures bound { IfOk result (λ n. n ≤ length into.new) }
     ensures bytes { ReadConsumes (I.remaining stream.old) (I.remaining stream.new) result into.new }
@@ -37,7 +38,7 @@ fn read_next<I: Read>(stream: &mut I, place: &mut u64, into: &mut [u8]) -> Resul
     }
 }
 
-// Reads the input in order. A read at any other place fails.
+// Reads standard input at offset `at`. Fails unless `at` is where the previous read ended.
 fn read_input<I: Read>(
     input: &mut I,
     place: &mut u64,
@@ -76,7 +77,7 @@ struct Opened<F> {
 }
 
 impl<F: Read + Seek> Opened<F> {
-    // Reads at a place. It seeks only if the last read ended elsewhere.
+    // Reads at offset `at`. Seeks only if the previous read ended elsewhere.
     fn read_at(&mut self, at: u64, into: &mut [u8]) -> Result<usize, ShelfFault>
         ensures bound { IfOk result (λ n. n ≤ length into.new) }
         ensures bytes { (bytes : List ℕ)
@@ -95,7 +96,7 @@ impl<F: Read + Seek> Opened<F> {
     }
 }
 
-// Opens a file at its first byte. The system opens no name that is too long to store.
+// Opens a file at its first byte. A name that is too long for `Name` is too long for the system.
 fn open<R: Files>(rt: &R, name: &str) -> Result<Opened<R::File>, ShelfFault>
     ensures name { IfOk result (λ opened. opened.name ≡ name.now) }
     ensures place { IfOk result (λ opened. opened.place ≡ 0) }
@@ -114,7 +115,7 @@ fn open<R: Files>(rt: &R, name: &str) -> Result<Opened<R::File>, ShelfFault>
     }
 }
 
-// Reads a file, and leaves it open.
+// Reads a file at offset `at`, and keeps it open for the next read.
 fn read_file<R: Files>(
     rt: &R,
     opened: &mut Option<Opened<R::File>>,
@@ -224,8 +225,9 @@ impl<'a, R: Files, I: Read> Shelf for HostShelf<'a, R, I> {
     }
 }
 
-/// Standard output or standard error. Its content is known only if its stream's is, which is never
-/// so for the system's streams. A write fails if it takes nothing of a nonempty piece.
+/// A sink over a stream, such as standard output or standard error. Its content is known only if
+/// the stream's is; that of the system's streams never is. A write of a nonempty piece that takes
+/// no byte is a failure.
 #[derive(Drop)]
 pub struct HostSink<W> {
     stream: W,
@@ -255,7 +257,7 @@ impl<W: Write> Sink for HostSink<W> {
     }
 }
 
-/// A cursor over bytes is a stream whose remaining bytes are those after its place.
+/// The remaining bytes of a cursor over bytes are those from its position on.
 pub fn law_cursors_leave_from_place<T: AsBytes>()
     ensures { LeavesFromPlace ⟦<Cursor<T> as Read>⟧.remaining
         ⟦<Cursor<T> as Seek>⟧.stream_position

@@ -24,7 +24,7 @@ impl Model for Name {
 }
 
 impl Name {
-    /// A copy of the name, or None if it is too long.
+    /// Copies a file name. `None` if it is longer than the system allows.
     pub(crate) fn new(name: &str) -> Option<Name>
         ensures { MatchOption result (4095 < length name.now) (λ kept. kept ≡ name.now) }
     {
@@ -37,7 +37,7 @@ impl Name {
         Some(Name { bytes, length })
     }
 
-    /// Whether it is this name.
+    /// Whether this is the file name `name`.
     pub(crate) fn is(&self, name: &str) -> bool
         ensures { IsTrue result ↔ (self.now ≡ name.now) }
     {

@@ -15,7 +15,7 @@ bytes_of (file ∷ files) name = if bytes_eq file.0 name then Some file.1 else b
 abbrev pub Increased : ℕ → ℕ → Type 0
 Increased before now = (before < now) ⊎ (now ≡ 2 ^ 64 - 1)
 
--- a count never falls: it increased if the result is a failure, and is unchanged otherwise
+-- a failure count increased if the result is a failure, and is unchanged otherwise
 pub record HasCause {T E : Type 0} (before now : ℕ) (result : Result T E) : Type 0 where
   pub later : before ≤ now
   pub failed : OnErr result (Increased before now)
@@ -31,7 +31,8 @@ abbrev pub IsAbsent : Option Files → List ℕ → Type 0
 IsAbsent None name = ⊥
 IsAbsent (Some files) name = bytes_of files name ≡ None
 
--- n bytes from this place were read into the start of this buffer; n is 0 only at the end
+-- the n bytes from offset `at` on were read into the start of the buffer; n is 0 only at the end of
+-- the file
 pub record ReadsBytes (bytes : List ℕ) (at n : ℕ) (before into : List ℕ) : Type 0 where
   pub read : take n into ≡ take n (drop at bytes)
   pub inside : n ≤ length bytes - at
@@ -48,12 +49,12 @@ pub record ShelfCounts : Type 0 where
   pub faults : ℕ
   pub absent : ℕ
 
--- the counts of a shelf, from the two numbers
+-- makes the counts of a shelf from the two numbers
 abbrev pub counts_of : ℕ → ℕ → ShelfCounts
 counts_of faults absent = record { faults = faults; absent = absent }
 
--- A shelf's counts never fall. The first increased if a call says that a read failed, the second if
--- it says that a name is missing; otherwise each is unchanged.
+-- A shelf's counts never fall. The count of failed reads increased if the call reports a failed
+-- read, the count of missing names if it reports a missing name; otherwise each is unchanged.
 pub record HasCauses (before now : ShelfCounts) (HasFailed HasMissed : Type 0) : Type 0 where
   pub faults_later : before.faults ≤ now.faults
   pub absent_later : before.absent ≤ now.absent
@@ -62,24 +63,24 @@ pub record HasCauses (before now : ShelfCounts) (HasFailed HasMissed : Type 0) :
   pub faults_same : ¬ HasFailed → now.faults ≡ before.faults
   pub absent_same : ¬ HasMissed → now.absent ≡ before.absent
 
--- known bytes grew by a prefix of the bytes
+-- if the content is known, a prefix of these bytes was appended to it
 abbrev pub AppendsPrefix : Option (List ℕ) → Option (List ℕ) → List ℕ → Type 0
 AppendsPrefix None new bytes = ⊤
 AppendsPrefix (Some had) None bytes = ⊥
 AppendsPrefix (Some had) (Some has) bytes = has ≡ had ++ take (length has - length had) bytes
 
--- the number of known bytes
+-- the length of the content, if it is known, or else 0
 abbrev pub known_count : Option (List ℕ) → ℕ
 known_count None = 0
 known_count (Some bytes) = length bytes
 
--- the inner sink of a sink that forwards its bytes: the name of its borrow, and how many bytes it
--- is known to have
+-- the sink that another sink forwards its bytes to: the name of its borrow, and the length of its
+-- known content
 pub record Inner : Type 0 where
   pub name : ℕ
   pub count : ℕ
 
--- the inner sink, from the name of its borrow and its bytes, if they are known
+-- makes an inner sink from the name of its borrow and its content, if known
 abbrev pub inner_of : ℕ → Option (List ℕ) → Inner
 inner_of name has = record { name = name; count = known_count has }
 
@@ -87,7 +88,7 @@ inner_of name has = record { name = name; count = known_count has }
 abbrev pub no_inner : Inner
 no_inner = inner_of 0 None
 
--- the inner sink is the same as before, and has no fewer bytes
+-- the inner sink is still the same one, and lost no bytes
 pub record SameInner (before now : Inner) : Type 0 where
   pub same : now.name ≡ before.name
   pub more : before.count ≤ now.count

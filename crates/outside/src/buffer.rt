@@ -12,8 +12,8 @@ use std::marker::Model;
 /// The largest number of pending bytes.
 const ROOM: usize = 65536;
 
-/// Pending bytes of a buffered sink, which contracts see as a list: at most 65,536. Allocates
-/// everything at the start.
+/// The pending bytes of a buffered sink, at most 65,536. Contracts see them as a list. All memory
+/// is allocated by `new`.
 #[derive(Drop)]
 pub struct Pending {
     bytes: Vec<u8>,
@@ -30,7 +30,7 @@ impl Model for Pending {
 }
 
 impl Pending {
-    /// No pending bytes. Allocates everything at the start.
+    /// Makes an empty buffer. Allocates all of its memory at once.
     pub fn new(alloc: Global) -> Result<Pending, NoMemory>
         ensures { IfOk result (λ p. p ≡ []) }
     {
@@ -78,7 +78,7 @@ impl Pending {
 /// without a copy. Does not allocate.
 ///
 /// Its content is the other sink's followed by the pending bytes, so nothing that was put is ever
-/// missing; its count of faults is the other's. A failed write has taken nothing of its piece.
+/// missing; its fault count is the other's. After a failed write nothing of the piece was taken.
 /// [`BufferedSink::flush`] forwards the pending bytes; without it they are lost.
 #[derive(Drop)]
 pub struct BufferedSink<'a, K> {

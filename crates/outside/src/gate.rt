@@ -1,20 +1,22 @@
 //! Points at which tests can pause a run.
 use psi_base::Cpu;
 
-/// Points of a run at which a test may make one thread wait for another. No call changes a result.
+/// Synchronisation points at which a test may make one thread wait for another. The calls never
+/// change a result.
 pub trait Gate: Sync {
-    /// A worker has written a change of this processor; `count` of its changes are done.
+    /// Called after a worker has written a change of processor `cpu`, whose first `count` changes
+    /// are then written.
     fn moved(&self, cpu: Cpu, count: u64);
 
-    /// A live sample of this processor is about to be taken; `index` is its number in the interval,
-    /// from 0.
+    /// Called before a live sample of processor `cpu`; `index` is the sample's number within the
+    /// interval, from 0.
     fn before_sample(&self, cpu: Cpu, index: u32);
 
-    /// A live sample of this processor was taken, after `count` of its changes.
+    /// Called after a live sample of processor `cpu`, which saw its first `count` changes.
     fn sampled(&self, cpu: Cpu, count: u64);
 }
 
-/// A gate that is always open.
+/// A gate that never waits, as the programs use it.
 #[derive(Clone, Copy, Debug)]
 pub struct OpenGate;
 

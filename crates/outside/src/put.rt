@@ -52,8 +52,8 @@ pub fn put_each<K: Sink>(out: &mut K, pieces: &[&[u8]]) -> Result<(), WriteFaile
     Ok(())
 }
 
-/// Writes a number in its one spelling, as [`psi_base::read_number`] reads it. After a failure the
-/// sink has a prefix of the digits.
+/// Writes a number in decimal, as [`psi_base::read_number`] parses it. After a failure the sink has
+/// a prefix of the digits.
 pub fn put_number<K: Sink>(out: &mut K, n: u64) -> Result<(), WriteFailed>
     ensures bytes { PutsAll (K.has out.old) (K.has out.new) result (decimal n) }
     ensures cause { HasCause (K.faults out.old) (K.faults out.new) result }

@@ -6,8 +6,8 @@ ghost use Rattle.outside.specs.Reads.Progress.{Next};
 
 use crate::shelf::{Shelf, ShelfFault};
 
-/// Reads once from the place `at` (in bytes), into the buffer after its first `held` bytes, which
-/// stay unchanged. Returning 0 means the end of the file.
+/// Reads once at offset `at` (bytes) into the part of the buffer after its first `held` bytes,
+/// which are left unchanged. Returns the number of bytes read; 0 means the end of the file.
 pub fn read_after<S: Shelf>(
     shelf: &mut S,
     name: &str,

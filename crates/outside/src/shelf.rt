@@ -12,27 +12,27 @@ pub enum ShelfFault {
     Failed,
 }
 
-/// Files that are read by name. Their contents never change. Each of the counts `faults` and
-/// `absent` has 64 bits, starts at 0, never falls, and stays at its maximum. The count `given` and
-/// the log `reads` exist only in proofs, and are unbounded.
+/// A store of files that are read by name. Their contents never change. The counts `faults` and
+/// `absent` have 64 bits, start at 0, never fall, and saturate. The count `bytes_read` and the log
+/// `reads` exist only in proofs, and are unbounded.
 pub trait Shelf {
-    /// The names with their bytes, if known: if two pairs have one name, the first counts.
+    /// The files' names and contents, if known. If a name occurs twice, the first pair counts.
     ghost holds: { Self → Option Files };
 
     /// The number of failed reads.
     ghost faults: { Self → ℕ };
 
-    /// How often a name was missing.
+    /// The number of reads of a missing name.
     ghost absent: { Self → ℕ };
 
     /// The number of bytes returned by all reads.
     ghost bytes_read: { Self → ℕ };
 
-    /// All its reads, in order.
+    /// The log of all reads, in order.
     ghost reads: { Self → List ReadCall };
 
-    /// Reads the name's bytes from the place `at` (in bytes, from 0) into the start of `into`, and
-    /// returns how many. Returning 0 for a nonempty buffer means the end of the input.
+    /// Reads the file `name` from offset `at` (bytes) on into the start of `into`, and returns the
+    /// number of bytes read. For a nonempty buffer, 0 means the end of the file.
     ///
     /// If the contents are known, the result is `NoFile` only for a name that doesn't exist, and
     /// for such a name it is always `NoFile` or `Failed`.

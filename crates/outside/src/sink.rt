@@ -4,26 +4,24 @@ ghost use Rattle.std.specs.Io.KnownBytes.{WriteAppends};
 ghost use Rattle.std.specs.Io.{WritesAtMost};
 ghost use Rattle.outside.specs.Outside.{Inner, HasCause, SameInner, no_inner};
 
-/// A sink took nothing, and counts it as a fault.
+/// A failed write: the sink took no bytes, and counts a fault.
 #[derive(Clone, Copy, Debug, PartialEq, Eq)]
 pub struct WriteFailed;
 
-/// A place to write to. Its count of faults has 64 bits, starts at 0, never falls, and stays at its
-/// maximum.
+/// An output to write to. Its fault count has 64 bits, starts at 0, never falls, and saturates.
 pub trait Sink {
-    /// The bytes taken so far, if known.
+    /// All bytes that the sink has taken, if known.
     ghost has: { Self → Option (List ℕ) };
 
     /// The number of failed writes.
     ghost faults: { Self → ℕ };
 
-    /// The inner sink of a sink that forwards its bytes to another, which it borrows. No call
-    /// replaces it or removes bytes from it: so a caller knows what the inner sink contains in the
-    /// end.
+    /// The sink that this one forwards its bytes to, if it borrows another. No call replaces that
+    /// inner sink or removes bytes from it, so a caller knows its final content.
     ghost below: { Self → Inner } = { λ _. no_inner };
 
-    /// Takes a prefix of the piece, at least one byte unless the piece is empty, and returns its
-    /// length. After `WriteFailed` nothing was taken.
+    /// Writes a prefix of `piece`, at least one byte unless `piece` is empty, and returns the
+    /// prefix's length. After `WriteFailed` nothing was written.
     fn write(&mut self, piece: &[u8]) -> Result<usize, WriteFailed>
         ensures bound { WritesAtMost result piece.now }
         ensures progress { IfOk result (λ n. 0 < length piece.now → 0 < n) }

@@ -1,5 +1,5 @@
-//! A count and a log that only proofs read. They do not allocate, and their calls do nothing at run
-//! time.
+//! Ghost state: a count and a log that only contracts and proofs read. They occupy no memory, and
+//! their functions do nothing at run time.
 ghost use Rattle.std.specs.Prelude.{◌≡◌, ◌+◌, ◌++◌, ◌∷◌, [], ℕ, List};
 ghost use Rattle.std.specs.Borrow.{ftrue};
 ghost use Rattle.outside.specs.Reads.{ReadCall, read_call};
@@ -7,7 +7,7 @@ ghost use Rattle.outside.specs.Reads.{ReadCall, read_call};
 use crate::shelf::ShelfFault;
 use std::marker::Model;
 
-/// A sum. A clause reads it as `count`, which is unbounded.
+/// A ghost sum. Contracts read it as `count`, which is unbounded.
 #[derive(Drop)]
 pub struct Tally {
     pub ghost count: { ℕ },
@@ -34,20 +34,20 @@ impl Tally {
     }
 }
 
-/// A read, as it is logged.
+/// A log entry: one call of `read_at`.
 #[derive(Drop)]
 pub struct Call<'a> {
     /// The name that was read.
     pub name: &'a str,
-    /// The place of its first byte.
+    /// The offset of the read, in bytes.
     pub at: u64,
-    /// How many bytes it requested.
+    /// The requested number of bytes.
     pub size: usize,
-    /// How many bytes it returned, or why it failed.
+    /// The returned number of bytes, or the fault.
     pub outcome: Result<usize, ShelfFault>,
 }
 
-/// The reads of a shelf, in order. A clause reads them as `calls`.
+/// The ghost log of a shelf's reads, in order. Contracts read it as `calls`.
 #[derive(Drop)]
 pub struct ReadLog {
     pub ghost calls: { List ReadCall },

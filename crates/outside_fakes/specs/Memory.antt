@@ -4,8 +4,8 @@ use Rattle.outside.specs.Outside.{Files, ReadsBytes, bytes_of}
 use Rattle.outside.specs.declared.shelf.ShelfFault.{ShelfFault}
 use Rattle.outside.specs.declared.shelf.ShelfFault.TheVariants.{NoFile}
 
--- reading an existing name at a place returns the bytes from there, at most `most`, and at most as
--- many as fit; for any other name there is no file
+-- a read of an existing file returns the bytes from offset `at` on, at most `most` and at most as
+-- many as fit into the buffer; a read of any other name returns NoFile
 pub record GivesOf (files : Files) (name : List ℕ) (at most : ℕ) (before into : List ℕ) (result : Result ℕ ShelfFault) : Type 0 where
   pub held : (bytes : List ℕ) → bytes_of files name ≡ Some bytes → result ≡ Ok (min most (min (length into) (length bytes - at)))
   pub bytes : (bytes : List ℕ) → bytes_of files name ≡ Some bytes → IfOk result (λ n. ReadsBytes bytes at n before into)

@@ -21,15 +21,15 @@ pub struct HonestShelf {
     pub most: usize,
     /// The number of calls with a missing name.
     pub absent: u64,
-    /// The number of bytes that its calls returned.
+    /// The number of bytes returned by all calls.
     pub bytes_read: Tally,
-    /// Its calls.
+    /// The log of all calls.
     pub reads: ReadLog,
     ghost gives: { 0 < most },
 }
 
 impl HonestShelf {
-    /// A shelf of these files, before its first call.
+    /// Makes a shelf of these files.
     pub fn new(files: Vec<(Text, Text)>, most: usize) -> HonestShelf
         requires { 0 < most }
         ensures { (result.files ≡ files) × (result.most ≡ most) × (result.absent ≡ 0)
@@ -56,8 +56,8 @@ impl Shelf for HonestShelf {
 
     ghost reads = { λ s. s.reads.calls };
 
-    /// A missing name is `NoFile`. For an existing name it returns the bytes from `at` (in bytes)
-    /// on, at most `most`, and at most the length of `into`.
+    /// Reads the bytes from offset `at` (bytes) on, at most `most` and at most the length of
+    /// `into`. Returns `NoFile` for a missing name.
     fn read_at(&mut self, name: &str, at: u64, into: &mut [u8]) -> Result<usize, ShelfFault>
         ensures unchanged { (self.new.files ≡ self.old.files) × (self.new.most ≡ self.old.most) }
         ensures bytes_read { self.new.bytes_read.count
@@ -94,7 +94,7 @@ impl Shelf for HonestShelf {
 /// grows.
 #[derive(Drop)]
 pub struct HonestSink {
-    /// The bytes taken so far.
+    /// The bytes that were written.
     pub bytes: Vec<u8>,
     /// Its capacity in bytes.
     pub room: usize,
@@ -105,8 +105,7 @@ pub struct HonestSink {
 }
 
 impl HonestSink {
-    /// An empty sink with a capacity of `room` bytes, before its first call. Allocates everything
-    /// at the start.
+    /// Makes an empty sink with a capacity of `room` bytes, which it allocates at once.
     pub fn new(alloc: Global, room: usize) -> Result<HonestSink, NoMemory>
         ensures { IfOk result (λ s. (s.bytes.items ≡ []) × (s.room ≡ room)
             × (s.faults ≡ 0)) }
@@ -125,7 +124,7 @@ impl Sink for HonestSink {
 
     ghost faults = { λ s. s.faults };
 
-    /// A call with a nonempty piece fails if the sink is full. Otherwise it takes what fits.
+    /// Writes as much of `piece` as fits. Fails if `piece` isn't empty and the sink is full.
     fn write(&mut self, piece: &[u8]) -> Result<usize, WriteFailed>
         ensures unchanged { self.new.room ≡ self.old.room }
         ensures bytes { WriteAppends (Some self.old.bytes.items)

@@ -11,7 +11,7 @@ use outside::{Call, ReadLog, Shelf, ShelfFault, Sink, Tally, WriteFailed};
 use psi_base::{NoMemory, Text};
 use std::alloc::Global;
 
-// The bytes of a name, if it exists.
+// The contents of the file with this name, if it exists.
 pub(crate) fn find<'a>(files: &'a [(Text, Text)], name: &[u8]) -> Option<&'a [u8]>
     ensures { MatchOption result (bytes_of files.now name.now ≡ None)
         (λ found. bytes_of files.now name.now ≡ Some found.now) }
@@ -24,7 +24,8 @@ pub(crate) fn find<'a>(files: &'a [(Text, Text)], name: &[u8]) -> Option<&'a [u8
     None
 }
 
-// Copies the bytes from `at` on, at most `most` and at most as many as fit. Returns how many.
+// Copies the bytes from offset `at` on into `into`, at most `most` and at most as many as fit, and
+// returns their number.
 pub(crate) fn copy_part(bytes: &[u8], at: u64, most: usize, into: &mut [u8]) -> usize
     ensures count { result ≡ min most (min (length into.new) (length bytes.now - at)) }
     ensures bytes { take result into.new ≡ take result (drop at bytes.now) }
@@ -39,8 +40,8 @@ pub(crate) fn copy_part(bytes: &[u8], at: u64, most: usize, into: &mut [u8]) -> 
     count
 }
 
-// Copies the bytes of a name from `at` on, at most `most` and at most as many as fit, and counts
-// them. A missing name is counted as absent.
+// Like `copy_part`, for the file with this name. Adds to the count of bytes, or to that of missing
+// names.
 pub(crate) fn give(
     files: &[(Text, Text)],
     most: usize,
@@ -69,7 +70,7 @@ pub(crate) fn give(
     }
 }
 
-// Takes a prefix of the piece: as much as fits in `room` bytes, at most `most`.
+// Appends a prefix of `piece`: as much as fits in a sink of `room` bytes, at most `most` bytes.
 pub(crate) fn take_part(bytes: &mut Vec<u8>, room: usize, most: usize, piece: &[u8]) -> usize
     requires full { vec_len bytes.old ≤ room }
     requires room { room ≤ vec_capacity bytes.old }
@@ -85,14 +86,14 @@ pub(crate) fn take_part(bytes: &mut Vec<u8>, room: usize, most: usize, piece: &[
     count
 }
 
-// Whether a nonempty piece meets a full sink.
+// Whether `piece` isn't empty and the sink is full.
 pub(crate) fn finds_no_room(bytes: &[u8], room: usize, piece: &[u8]) -> bool
     ensures { IsTrue result ↔ ((0 < length piece.now) × (length bytes.now ≡ room)) }
 {
     !piece.is_empty() && bytes.len() == room
 }
 
-// Whether the write with the number `call` fails.
+// Whether the write with the number `call` is to fail.
 fn is_failing(fails: &[u64], call: u64, is_full: bool) -> bool
     ensures { IsTrue result ↔ (Contains fails.now call ⊎ IsTrue is_full) }
 {
@@ -114,15 +115,15 @@ pub struct MemShelf {
     pub faults: u64,
     /// The number of calls with a missing name.
     pub absent: u64,
-    /// The number of bytes that its calls returned.
+    /// The number of bytes returned by all calls.
     pub bytes_read: Tally,
-    /// Its calls.
+    /// The log of all calls.
     pub reads: ReadLog,
     ghost gives: { 0 < most },
 }
 
 impl MemShelf {
-    /// A shelf of these files, before its first call.
+    /// Makes a shelf of these files.
     pub fn new(files: Vec<(Text, Text)>, most: usize, fails: Vec<u64>) -> MemShelf
         requires { 0 < most }
         ensures { (result.files ≡ files) × (result.most ≡ most) × (result.fails ≡ fails)
@@ -153,9 +154,8 @@ impl Shelf for MemShelf {
 
     ghost reads = { λ s. s.reads.calls };
 
-    /// A call whose number is in `fails` fails. Otherwise a missing name is `NoFile`, and for an
-    /// existing name it returns the bytes from `at` (in bytes) on, at most `most`, and at most the
-    /// length of `into`.
+    /// Fails if the number of this call is in `fails`. Otherwise reads the bytes from offset `at`
+    /// (bytes) on, at most `most` and at most the length of `into`; `NoFile` for a missing name.
     fn read_at(&mut self, name: &str, at: u64, into: &mut [u8]) -> Result<usize, ShelfFault>
         ensures unchanged { (self.new.files ≡ self.old.files) × (self.new.most ≡ self.old.most)
             × (self.new.fails ≡ self.old.fails) }
@@ -210,7 +210,7 @@ impl Shelf for MemShelf {
 /// grows.
 #[derive(Drop)]
 pub struct MemSink {
-    /// The bytes taken so far.
+    /// The bytes that were written.
     pub bytes: Vec<u8>,
     /// Its capacity in bytes.
     pub room: usize,
@@ -228,7 +228,7 @@ pub struct MemSink {
 }
 
 impl MemSink {
-    /// An empty sink with a capacity of `room` bytes, before its first call.
+    /// Makes an empty sink with a capacity of `room` bytes.
     pub fn new(
         alloc: Global,
         room: usize,
@@ -257,8 +257,8 @@ impl Sink for MemSink {
 
     ghost faults = { λ s. s.faults };
 
-    /// A call fails if its number is in `fails`, or if its piece isn't empty and the sink is full.
-    /// Otherwise it takes what fits, at most `most` bytes.
+    /// Fails if the number of this call is in `fails`, or if `piece` isn't empty and the sink is
+    /// full. Otherwise writes as much of `piece` as fits, at most `most` bytes.
     fn write(&mut self, piece: &[u8]) -> Result<usize, WriteFailed>
         ensures unchanged { (self.new.room ≡ self.old.room) × (self.new.most ≡ self.old.most)
             × (self.new.fails ≡ self.old.fails) }

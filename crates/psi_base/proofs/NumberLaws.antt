@@ -1,4 +1,4 @@
--- Numbers as text: reading digit by digit, and the one spelling.
+-- Decimal numbers: parsing digit by digit, and that each number has exactly one spelling.
 use Rattle.std.proofs.Common.{◌≡◌, ℕ, ◌+◌, ◌-◌, ◌*◌, ◌^◌, ◌<◌, ◌≤◌, List, [], ◌∷◌, length, sym, ap, ◌∙◌, arith, rules, true}
 use Rattle.std.specs.Prelude.{Option, Some, None, IfSome, IfNone, decimal, slice_index, nat_lt, ◌==◌, ◌||◌, not}
 use Rattle.std.specs.Str.{all_ascii_digits}
@@ -14,12 +14,12 @@ use Rattle.psi_base.specs.Number.{value_after, digits_after, number_of}
 pub numerals : IsNumeralModel (λ ds. all_ascii_digits ds ≡ true) (value_after 0)
 numerals = numerals_by_fold _ (search rules) value_after (search rules)
 
--- more digits make no number smaller
+-- appending digits never makes a number smaller
 pub value_after-le : (n : ℕ) (ds : List ℕ) → n ≤ value_after n ds
 value_after-le n [] = omega arith
 value_after-le n (d ∷ ds) = omega (arith, value_after-le (n * 10 + (d - 48)) ds)
 
--- the digit at a place, and the digits after it
+-- the bytes from index i on are the byte at i, followed by the bytes after it
 digit_at : (n i : ℕ) (bytes : List ℕ) → i < length bytes → drop i bytes ≡ get_or bytes i 0 ∷ drop (i + 1) bytes
 digit_at n i bytes inside = drop_more bytes i 0 inside
 
@@ -41,7 +41,7 @@ digits_after-large n i bytes inside large = rw (digit_at n i bytes inside) (grin
 
 pub ruleset steps = (digits_after-end, digits_after-digit, digits_after-other, digits_after-large)
 
--- the first digit of a number is a zero only in `0`
+-- the decimal spelling of a number begins with a zero only if it is `0`
 first_digit : (n : ℕ) → n < 2 ^ 64 → (nat_lt (length (decimal n)) 2 || not (slice_index (decimal n) 0 == 48)) ≡ true
 first_digit n fits = elim (eq-zero-or-pos n) [ inl zero ↦ grind (arith, decimal_digit n) | inr more ↦ grind (arith, first_decimal n more fits) ]
 
@@ -54,7 +54,7 @@ number_of-decimal n fits =
     let first = first_digit n fits in
     grind (arith, digits, value, some, first)
 
--- what the tests of `number_of` say
+-- the facts that the tests in `number_of` establish about the bytes
 pub record IsNumber (bytes : List ℕ) (n : ℕ) : Type 0 where
   pub digits : all_ascii_digits bytes ≡ true
   pub some : 0 < length bytes

@@ -1,9 +1,9 @@
--- How the parts between a byte go on.
+-- Splitting bytes at a separator: the first part, and the rest after it.
 use Rattle.std.proofs.Common.{◌≡◌, ◌≢◌, ℕ, zero, suc, add-one, ◌+◌, ◌<◌, List, [], ◌∷◌, ◌++◌, ◌≤◌, Bool, length, take, drop, get_or, refl, ap, ◌∙◌, arith, true, false}
 use Rattle.std.specs.Prelude.{◌==◌, if◌then◌else◌}
 use Rattle.psi_base.specs.Path.{parts_at, onto_first}
 
--- no byte is `at`
+-- none of the first bytes, up to this number, is the separator `at`
 abbrev pub HasNone : ℕ → List ℕ → ℕ → Type 0
 HasNone at bytes n = (k : ℕ) → k < n → get_or bytes k 0 ≢ at
 
@@ -27,13 +27,13 @@ parts_at-suc at zero (byte ∷ bytes) inside found none = rw (found, parts_at-sa
 parts_at-suc at (suc i) (byte ∷ bytes) inside found none =
     parts_at-other at byte bytes (none 0 (omega arith)) ∙ ap (onto_first byte) (parts_at-suc at i bytes (omega arith) found (λ k below. none (suc k) (omega arith)))
 
--- the rest of the bytes after the first such byte, as a slice returns it
+-- the parts are the bytes before the first separator, followed by the parts of the rest after it
 pub parts_at-first : (at i : ℕ) (bytes rest : List ℕ) → i < length bytes → get_or bytes i 0 ≡ at → HasNone at bytes i → rest ≡ drop (i + 1) bytes → parts_at at bytes ≡ take i bytes ∷ parts_at at rest
 parts_at-first at i bytes rest inside found none suffix = rw suffix (rw add-one (parts_at-suc at i bytes inside found none))
 
 pub ruleset parts = (parts_at-all, parts_at-first)
 
--- there is a first part, at least as long as the leading bytes without the separator
+-- the first part contains at least the n leading bytes, which have no separator
 pub record HasPrefix (at n : ℕ) (bytes : List ℕ) : Type 0 where
   pub first : List ℕ
   pub rest : List (List ℕ)
@@ -72,7 +72,7 @@ prefix_of at (suc n) [] inside none = absurd (omega arith)
 prefix_of at (suc n) (byte ∷ bytes) inside none =
     onto_prefix at byte n bytes (none 0 (omega arith)) (prefix_of at n bytes (omega arith) (λ k below. none (suc k) (omega arith)))
 
--- the first part, and the bytes after it
+-- splitting a line without separators, then a separator, then more bytes
 pub parts_at-line : (at : ℕ) (line after : List ℕ) → HasNone at line (length line) → parts_at at (line ++ at ∷ after) ≡ line ∷ parts_at at after
 parts_at-line at [] after none = parts_at-same at after
 parts_at-line at (byte ∷ line) after none =

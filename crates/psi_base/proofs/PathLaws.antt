@@ -8,29 +8,29 @@ use Rattle.std.proofs.lemmas.Str.{IsUtf8-from_ascii}
 use Rattle.std.proofs.lemmas.Slice.Eq.{bytes_eq-Decides}
 use Rattle.psi_base.specs.Path.{is_path, is_path_byte, is_component, parts_at, onto_first}
 
--- the letters, digits and signs of paths are ASCII
+-- every byte that a path may contain is ASCII
 byte_ascii : (c : ℕ) → is_path_byte c ≡ true → c < 128
 byte_ascii c h = grind (arith, nat_tests)
 
--- two tests that hold
+-- both of two tests hold if their conjunction does
 both_true : (a b : Bool) → (a && b) ≡ true → (a ≡ true) × (b ≡ true)
 both_true true b h = (refl, h)
 both_true false b h = absurd (cc h)
 
--- the second of four tests that hold
+-- the second of four tests holds if their conjunction does
 second_of : (a b c d : Bool) → (a && b && c && d) ≡ true → b ≡ true
 second_of true true c d h = refl
 second_of true false c d h = absurd (cc h)
 second_of false b c d h = absurd (cc h)
 
--- the first and the last of four tests that hold
+-- the first and the last of four tests hold if their conjunction does
 ends_of : (a b c d : Bool) → (a && b && c && d) ≡ true → (a ≡ true) × (d ≡ true)
 ends_of true true true d h = (refl, h)
 ends_of true true false d h = absurd (cc h)
 ends_of true false c d h = absurd (cc h)
 ends_of false b c d h = absurd (cc h)
 
--- a byte put before the first part
+-- if the parts with a byte prepended have only path bytes, so do the byte and the parts
 onto : (byte : ℕ) (parts : List (List ℕ)) → list_all (list_all is_path_byte) (onto_first byte parts) ≡ true → (is_path_byte byte ≡ true) × (list_all (list_all is_path_byte) parts ≡ true)
 onto byte [] h = let first = both_true (is_path_byte byte && true) true h in ((both_true (is_path_byte byte) true first.0).0, refl)
 onto byte (part ∷ parts) h =
@@ -38,7 +38,7 @@ onto byte (part ∷ parts) h =
     let first = both_true (is_path_byte byte) (list_all is_path_byte part) all.0 in
     (first.0, ap (λ b. b && list_all (list_all is_path_byte) parts) first.1 ∙ all.1)
 
--- an ASCII byte before ASCII bytes
+-- ASCII bytes with an ASCII byte prepended are ASCII
 pub cons_ascii : (byte : ℕ) (bytes : List ℕ) → byte < 128 → IsAscii bytes → IsAscii (byte ∷ bytes)
 cons_ascii byte bytes first rest zero = first
 cons_ascii byte bytes first rest (suc i) = rest i
@@ -48,7 +48,7 @@ pub root_ascii : IsAscii (codes "/")
 root_ascii zero = omega arith
 root_ascii (suc i) = omega arith
 
--- parts of such bytes, with slashes between, are ASCII
+-- bytes are ASCII if their parts between slashes have only path bytes
 parts_ascii : (bytes : List ℕ) → list_all (list_all is_path_byte) (parts_at 47 bytes) ≡ true → IsAscii bytes
 unfolding parts_at
 parts_ascii [] h = λ i. omega arith
@@ -58,7 +58,7 @@ parts_ascii (byte ∷ bytes) h =
       | false ↦ λ _ all. let both = onto byte (parts_at 47 bytes) all in cons_ascii byte bytes (byte_ascii byte both.0) (parts_ascii bytes both.1)
     ] refl h
 
--- components are such parts
+-- components have only path bytes
 components : (parts : List (List ℕ)) → list_all is_component parts ≡ true → list_all (list_all is_path_byte) parts ≡ true
 components [] h = refl
 components (part ∷ parts) h =
@@ -66,7 +66,7 @@ components (part ∷ parts) h =
     let here = second_of (nat_lt 0 (length part)) (list_all is_path_byte part) (not (bytes_eq part (codes "."))) (not (bytes_eq part (codes ".."))) both.0 in
     ap (λ b. b && list_all (list_all is_path_byte) parts) here ∙ components parts both.1
 
--- a slash followed by components
+-- a slash followed by components is ASCII
 after_slash : (bytes : List ℕ) → (slice_index bytes 0 == 47) ≡ true → list_all is_component (parts_at 47 (drop 1 bytes)) ≡ true → IsAscii bytes
 after_slash [] slash all = λ i. omega arith
 after_slash (byte ∷ bytes) slash all = cons_ascii byte bytes (grind (arith, nat_tests)) (parts_ascii bytes (components (parts_at 47 bytes) all))

@@ -1,6 +1,6 @@
 -- Out of memory.
 use Rattle.psi_base.specs.declared.text.NoMemory as token
 
--- out of memory; there is only one such value
+-- the error value for out of memory; the type has only this value
 abbrev pub no_memory : token.NoMemory
 no_memory = record { refused = tt }

@@ -1,7 +1,7 @@
 -- Steps of parsing that may find nothing.
 use Rattle.std.specs.Prelude.{Option, None, Some}
 
--- the next step of parsing, unless the previous one found nothing
+-- applies the next parsing step to the value, if there is one
 infixl 10 ◌>>=◌
 abbrev pub ◌>>=◌ : {A B : Type 0} → Option A → (A → Option B) → Option B
 None >>= f = None

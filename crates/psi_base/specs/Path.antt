@@ -19,12 +19,12 @@ is_path_byte c =
     (nat_le 97 c && nat_le c 122) || (nat_le 65 c && nat_le c 90) || (nat_le 48 c && nat_le c 57) || c == 95 || c == 46 || c == 64
     || c == 58 || c == 45 || c == 92
 
--- one or more such bytes, but not `.` or `..`
+-- a component: one or more path bytes, but neither `.` nor `..`
 abbrev pub is_component : List ℕ → Bool
 is_component part =
     nat_lt 0 (length part) && list_all is_path_byte part && not (bytes_eq part (codes ".")) && not (bytes_eq part (codes ".."))
 
--- the root, or 1 to 32 components of at most 255 bytes in total, including their slashes
+-- a path: the root, or 1 to 32 components, each after a slash, with at most 255 bytes in total
 unfoldable pub is_path : List ℕ → Bool
 is_path bytes =
     bytes_eq bytes (codes "/") || (slice_index bytes 0 == 47 && nat_le (length bytes) 255

@@ -1,7 +1,7 @@
 -- Steps of parsing that may find a fault.
 use Rattle.std.specs.Prelude.{Result, Ok, Err}
 
--- the next step of parsing, unless the previous one found a fault
+-- applies the next parsing step to the value, or passes the fault on
 infixl 10 ◌>>=◌
 abbrev pub ◌>>=◌ : {A B E : Type 0} → Result A E → (A → Result B E) → Result B E
 (Ok x) >>= f = f x

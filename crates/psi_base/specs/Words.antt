@@ -11,7 +11,7 @@ use Rattle.psi_base.specs.declared.event.Res.TheVariants.{Io, Memory, Cpu}
 use Rattle.psi_base.specs.declared.event.Level.{Level}
 use Rattle.psi_base.specs.declared.event.Level.TheVariants.{SomeStalled, FullStalled}
 
--- how the running task leaves its processor
+-- the word for how the running task leaves its processor
 abbrev pub how_word : How → List ℕ
 how_word Preempt = codes "preempt"
 how_word Sleep = codes "sleep"
@@ -19,40 +19,40 @@ how_word IoWait = codes "iowait"
 how_word Exit = codes "exit"
 how_word Idle = codes "idle"
 
--- a group's kill preference
+-- the word for a kill preference
 abbrev pub preference_word : Preference → List ℕ
 preference_word Prefer = codes "prefer"
 preference_word Avoid = codes "avoid"
 preference_word Plain = codes "none"
 
--- a resource
+-- the word for a resource
 abbrev pub resource_word : Res → List ℕ
 resource_word Io = codes "io"
 resource_word Memory = codes "memory"
 resource_word Cpu = codes "cpu"
 
--- some or full
+-- the word for a level: some or full
 abbrev pub level_word : Level → List ℕ
 level_word SomeStalled = codes "some"
 level_word FullStalled = codes "full"
 
--- the ways to leave a processor
+-- all ways to leave a processor
 abbrev pub hows : List How
 hows = Preempt ∷ Sleep ∷ IoWait ∷ Exit ∷ Idle ∷ []
 
--- the kill preferences
+-- all kill preferences
 abbrev pub preferences : List Preference
 preferences = Prefer ∷ Avoid ∷ Plain ∷ []
 
--- the resources
+-- all resources
 abbrev pub resources : List Res
 resources = Io ∷ Memory ∷ Cpu ∷ []
 
--- the levels
+-- both levels
 abbrev pub levels : List Level
 levels = SomeStalled ∷ FullStalled ∷ []
 
--- the first value that has this word
+-- the first value in the list whose word this is
 abbrev pub named : {A : Type 0} → (A → List ℕ) → List A → List ℕ → Option A
 named name [] text = None
 named name (x ∷ xs) text = if bytes_eq text (name x) then Some x else named name xs text

@@ -137,8 +137,8 @@ pub enum Act {
         pid: Pid,
         path: Path,
     },
-    /// `mem`: a group's memory and swap in use, in bytes, and the number of pages scanned for it so
-    /// far.
+    /// `mem`: a sample of a group: memory and swap in use (bytes), and the total number of pages
+    /// scanned for reclaim.
     Mem {
         path: Path,
         current: u64,

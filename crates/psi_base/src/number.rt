@@ -5,8 +5,8 @@ ghost use Rattle.psi_base.specs.Number.{number_of, digits_of};
 /// For any smaller number one more digit fits in 64 bits, whichever it is.
 const LARGE: u64 = u64::MAX / 10;
 
-/// The number that these bytes write, up to 2^64 - 1. Leading zeros are allowed, and no bytes write
-/// 0. `None` if and only if a byte isn't a digit or the number is greater.
+/// Parses decimal digits as a number up to 2^64 - 1. Leading zeros are allowed, and an empty slice
+/// is 0. `None` if and only if a byte isn't a digit or the number is greater.
 #[tactic(auto, using(crate::proofs::NumberLaws::steps))]
 pub fn read_digits(bytes: &[u8]) -> Option<u64>
     ensures { result ≡ digits_of bytes.now }
@@ -27,8 +27,8 @@ pub fn read_digits(bytes: &[u8]) -> Option<u64>
     Some(number)
 }
 
-/// The number that the bytes spell: decimal digits, up to 2^64 - 1, without leading zeros except
-/// for `0` itself. `None` if and only if they spell no such number.
+/// Parses a decimal number up to 2^64 - 1, without leading zeros except in `0` itself. `None` if
+/// and only if the bytes aren't such a number.
 #[tactic(auto, unfolding(crate::specs::Number::number_of))]
 pub fn read_number(bytes: &[u8]) -> Option<u64>
     ensures exact { result ≡ number_of bytes.now }

@@ -28,7 +28,7 @@ fn are_path_bytes(part: &[u8]) -> bool
     part.iter().all(|c| is_path_byte(*c))
 }
 
-// One or more path bytes, and neither `.` nor `..`.
+// Whether this is a component: one or more path bytes, but neither `.` nor `..`.
 fn is_component(part: &[u8]) -> bool
     ensures { result ≡ is_component part.now }
 {
@@ -38,7 +38,7 @@ fn is_component(part: &[u8]) -> bool
     are_path_bytes(part)
 }
 
-// At most 32 components between slashes.
+// Whether the text is at most 32 components, separated by slashes.
 fn are_components(text: &[u8]) -> bool
     ensures { result ≡ (nat_le (length (parts_at 47 text.now)) 32
         && list_all is_component (parts_at 47 text.now)) }
@@ -57,7 +57,7 @@ fn are_components(text: &[u8]) -> bool
     parts.next_part().is_none()
 }
 
-// The root, or a slash followed by components, in at most 255 bytes.
+// Whether the text is the root, or a slash followed by components, in at most 255 bytes.
 #[tactic(auto, unfolding(crate::specs::Path::is_path))]
 fn is_path(bytes: &[u8]) -> bool
     ensures { result ≡ is_path bytes.now }
@@ -98,8 +98,8 @@ impl Path {
         })
     }
 
-    /// The path that the bytes spell. `None` if and only if they aren't a path; allocates only for
-    /// a path.
+    /// Parses a path. `None` if and only if the bytes aren't a path. Allocates memory only for a
+    /// path.
     pub fn read(alloc: Global, bytes: &[u8]) -> Result<Option<Path>, NoMemory>
         ensures read { IfOk result (λ read. MatchOption read (is_path bytes.now ≡ false)
             (λ path. (is_path bytes.now ≡ true) × (path ≡ bytes.now))) }

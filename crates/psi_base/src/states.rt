@@ -5,7 +5,7 @@ ghost use Rattle.psi_base.specs.States.{state_number, state_of};
 use crate::event::{Level, Res, State};
 
 impl State {
-    /// The state of a resource at a level. Its number is below that of `Nonidle`.
+    /// The state that a line of a pressure file is about. Its number is below that of `Nonidle`.
     pub fn of(res: Res, level: Level) -> State
         ensures value { result ≡ state_of res level }
         ensures pressure { state_number result < 6 }

@@ -19,20 +19,20 @@ pub record EndsAs (request : Option Request) (status : ObserveStatus) (exit faul
   pub prefix : AppendsPrefix old new (observe_status_text request status)
   pub whole : (Increased faults_before faults_now → ⊥) → Appends old new (observe_status_text request status)
 
--- The reads of a run: how many bytes were read before it and up to its end, and the logs.
+-- The reads of a run: the number of bytes read and the log, each before the run and at its end.
 pub record RunReads : Type 0 where
   pub bytes : ℕ
   pub bytes_now : ℕ
   pub log : List ReadCall
   pub log_now : List ReadCall
 
--- the reads of a run, from these
+-- makes such a record
 abbrev pub run_reads : ℕ → ℕ → List ReadCall → List ReadCall → RunReads
 run_reads bytes bytes_now log log_now =
     record { bytes = bytes; bytes_now = bytes_now; log = log; log_now = log_now }
 
--- The promises of a run hold for a request, that is for the trace, the counts, the reads and the
--- output.
+-- A run of this request kept the contract of `observe` about its status, trace, failure counts,
+-- reads and output.
 pub record KeepsPromises (request : Request) (ended : ObserveStatus) (files : Option Files) (before now : RunCounts) (reads : RunReads)
     (old new : Option (List ℕ)) : Type 0 where
   pub runs : Observes request files before now old new ended
@@ -49,8 +49,8 @@ pub record DoesNothing (reads : RunReads) (old new : Option (List ℕ)) : Type 0
   pub log : reads.log_now ≡ reads.log
   pub keeps : Keeps old new
 
--- A status is that of a run of some words: the promises of a run hold for their request. The status
--- is Usage exactly if the words aren't a request; then the run did nothing.
+-- The run ended with this status and kept its contract for the parsed request. The status is Usage
+-- exactly if the arguments aren't a request; then the run read and wrote nothing.
 pub record RanAs (request : Option Request) (ended : ObserveStatus) (files : Option Files) (before now : RunCounts) (reads : RunReads)
     (old new : Option (List ℕ)) : Type 0 where
   pub kept : (spelled : Request) → request ≡ Some spelled → KeepsPromises spelled ended files before now reads old new

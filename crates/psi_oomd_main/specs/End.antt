@@ -23,20 +23,20 @@ pub record EndsAs (command : Option Command) (status : Status) (exit faults_befo
   pub prefix : AppendsPrefix old new (status_text command status)
   pub whole : (Increased faults_before faults_now → ⊥) → Appends old new (status_text command status)
 
--- The reads of a run: how many bytes were read before it and up to its end, and the logs.
+-- The reads of a run: the number of bytes read and the log, each before the run and at its end.
 pub record RunReads : Type 0 where
   pub bytes : ℕ
   pub bytes_now : ℕ
   pub log : List ReadCall
   pub log_now : List ReadCall
 
--- the reads of a run, from these
+-- makes such a record
 abbrev pub run_reads : ℕ → ℕ → List ReadCall → List ReadCall → RunReads
 run_reads bytes bytes_now log log_now =
     record { bytes = bytes; bytes_now = bytes_now; log = log; log_now = log_now }
 
--- The promises of a run hold for a command, that is for its files, the counts, the reads and the
--- output.
+-- A run of this command kept the contract of `run` about its status, files, failure counts, reads
+-- and output.
 pub record KeepsPromises (command : Command) (ended : Status) (files : Option Files) (before now : RunCounts) (reads : RunReads)
     (old new : Option (List ℕ)) : Type 0 where
   pub runs : Runs command files before now old new ended
@@ -57,8 +57,8 @@ pub record DoesNothing (reads : RunReads) (old new : Option (List ℕ)) : Type 0
   pub log : reads.log_now ≡ reads.log
   pub keeps : Keeps old new
 
--- A status is that of a run of some words: the promises of a run hold for their command. If the
--- words aren't a command, the status is Usage or NoMemory, and the run did nothing.
+-- The run ended with this status and kept its contract for the parsed command. If the arguments
+-- aren't a command, the status is Usage or NoMemory, and the run read and wrote nothing.
 pub record RanAs (command : Option Command) (ended : Status) (files : Option Files) (before now : RunCounts) (reads : RunReads)
     (old new : Option (List ℕ)) : Type 0 where
   pub kept : (spelled : Command) → command ≡ Some spelled → KeepsPromises spelled ended files before now reads old new

@@ -94,7 +94,7 @@ status_fault (status.NoFile which) = Some shelf.NoFile
 status_fault status.ReadFault = Some shelf.Failed
 status_fault _ = None
 
--- the shelf's fault in a result, if any
+-- the fault of the file store that a result reports, if any
 abbrev pub status_fault_in : {A : Type 0} → Result A Status → Option ShelfFault
 status_fault_in (Ok x) = None
 status_fault_in (Err found) = status_fault found

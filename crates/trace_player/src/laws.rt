@@ -4,8 +4,7 @@ ghost use Rattle.trace_player.specs.Laws.{RefusesForOne, TakesOrRefuses};
 
 use crate::player::Player;
 
-/// A player that has played any events doesn't both take and reject the next one, and rejects it
-/// for one cause only.
+/// A player never both takes and rejects an event, and rejects it for exactly one cause.
 pub fn law_answers<P: Player>()
     ensures either { (old new : P) (event : Event) →
         TakesOrRefuses (P.Played old) (P.Played new) event }

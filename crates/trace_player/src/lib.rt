@@ -1,7 +1,7 @@
-//! The interface of players. A player takes the events of a trace one by one, as its lines are
-//! read.
+//! The trait [`Player`]: a state machine that takes the events of a trace one by one, as its lines
+//! are read.
 //!
-//! It doesn't play anything itself: task_table, proc_plan and others implement [`Player`].
+//! The implementations are in task_table, proc_plan and other crates.
 #![tactic(auto)]
 
 mod laws;

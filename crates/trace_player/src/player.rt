@@ -12,27 +12,28 @@ use crate::task_act::TaskAct;
 use psi_base::{Cause, Event, Fault, NoMemory, Ns};
 use std::alloc::Global;
 
-/// A machine that plays a trace. A player isn't used again after it rejected an event.
+/// A state machine that plays a trace, event by event. After it has rejected an event, it must not
+/// be used again.
 pub trait Player: Sized {
-    /// It has played these events of a trace with these limits.
+    /// The player has played exactly these events of a trace with these limits.
     ghost Played: { Self → Limits → List Event → Type 0 };
 
-    /// The machine before a trace with `cpus` processors, 1 to 64, in which no event is later than
-    /// `latest` (ns).
+    /// Makes a player that has played nothing, for a trace with `cpus` processors (1 to 64) in
+    /// which no event is later than `latest` (ns).
     fn start(alloc: Global, cpus: u32, latest: Ns) -> Result<Self, NoMemory>
         requires counted { IsCpuCount cpus }
         requires short { latest ≤ last_moment }
         ensures { IfOk result (λ player.
             Self.Played player (record { cpus = cpus; latest = latest }) []) };
 
-    /// Plays the next event, whose numbers are in the ranges of the grammar. Fails with `Refused`
-    /// and the first cause if the event isn't legal.
+    /// Plays the next event. Its numbers must be within the ranges of the grammar. Fails with
+    /// `Refused` and the first cause if the event isn't legal.
     fn take(&mut self, event: &Event) -> Result<(), Fault<Cause>>
         requires { Fits event.now }
         ensures { PlayerTakes (Self.Played self.old) (Self.Played self.new) event.now result };
 
-    /// Plays the event at a time (ns) that a task act represents, like [`Player::take`]: the fast
-    /// path, which stores no event. No task exits by the act.
+    /// The fast path of [`Player::take`] for a task act at time `at` (ns): it stores no event. The
+    /// act must not be the exit of a task.
     fn take_task(&mut self, at: Ns, act: TaskAct) -> Result<(), Fault<Cause>>
         requires fits { Fits (as_event at act) }
         requires stays { exits act ≡ false }
