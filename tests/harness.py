@@ -14,6 +14,7 @@ import inspect
 import multiprocessing
 import os
 import shlex
+import signal
 import sys
 import tempfile
 import time
@@ -187,6 +188,8 @@ def run_checks(checks: Mapping[str, Check], call: Call, words: Sequence[str]) ->
     """Runs the checks, or those that the words name, and returns the exit status: 0 if all passed,
     1 if one failed or there is none.
     """
+    # A shell's background jobs ignore interrupts, and so would the tools that a check interrupts.
+    signal.signal(signal.SIGINT, signal.default_int_handler)
     jobs, names = options_of(words)
     chosen = chosen_of(checks, names)
     failed, began = [], time.monotonic()
