@@ -16,7 +16,7 @@ from shared.program import TOP
 from psireport.trust import recording
 
 from .faults import fault
-from .pages import Node, page_of, read
+from .pages import Node, page_of, read, same
 from .told import lead_of
 
 SECOND = 10**9
@@ -183,11 +183,17 @@ def check_rules_on_other_groups(program: str) -> None:
     must_be("no note", page(program, OVER, [ruleset("right", "a/*", pressure("a", "5"))]).find("p", class_="note"), [])
 
 
+def check_a_group_by_its_last_component(program: str) -> None:
+    """It names the group as its path does. Only the page's own command differs."""
+    by_name, by_path = (same(page_of(program, RUNAWAY, "--group", it)) for it in ("import", "/batch/import"))
+    must(by_name.replace(" --group import", " --group /batch/import") == by_path, "both pages are the same")
+
+
 def check_words_that_name_nothing(program: str) -> None:
     """A missing group, a folder as the page, and each file by its purpose."""
-    for word, told in (("batch", "/batch, .."), ("/bathc", "/batch, .."), ("/nosuch", "")):
-        said = fault(program, 11, RUNAWAY, "--group", word)
-        must(said.startswith(f"no group {word} in the replay, which has {told}"), said)
+    every = "/, /batch, /batch/import, /batch/index, /web"
+    for word, near in (("bacth", "/batch, .."), ("/bathc", "/batch, .."), ("/nosuch", every)):
+        must_be(word, fault(program, 11, RUNAWAY, "--group", word), f"no group {word} in the replay, which has {near}")
     for words, status, wanted in (
         (["nope.trace"], 4, "there is no trace nope.trace"),
         ([RUNAWAY, "--rules", "nope.json"], 4, "there is no rules file nope.json"),

@@ -73,8 +73,8 @@ def check_what_it_says_of_faults(program: str) -> None:
         machine(room)
         done = room.run("sample", "--root", "top", "--every", "0.1", status=2)
         must("0.1 isn't a number from 0.5 to 600" in done.said, f"a wrong interval: {done.said}")
-        done = room.run("sample", "--root", "top", "--seconds", "0", "--into", "no/where", status=6)
-        must("no/where" in done.said, f"an output that can't be written: {done.said}")
+        done = room.run("sample", "--root", "top", "--seconds", "0", "--into", "no/where", status=2)
+        must_be("an output that can't be written", done.said, "sample: no/where: No such file or directory\n")
 
 
 def check_it_stands_alone(program: str) -> None:

@@ -6,7 +6,7 @@ import os
 import subprocess
 from typing import Sequence
 
-from harness import must, must_be
+from harness import must_be
 from shared.program import TOP
 
 RUNAWAY = (
@@ -32,12 +32,12 @@ def story(program: str) -> bytes:
     return run([program, *RUNAWAY])
 
 
-def fault_of(tool: str, printed: bytes, *words: str, **variables: str) -> str:
-    """The tool's message for a fault: the tool must print nothing else, and exit with status 2, with
-    11 for a group that isn't there, or with 12 for a time.
+def fault_of(tool: str, printed: bytes, *words: str, status: int = 2, **variables: str) -> str:
+    """The tool's message for a fault: the tool must print nothing else, and exit with this status.
+    The variables are added to the environment.
     """
     at = {**os.environ, **variables}
     done = subprocess.run([tool, *words], cwd=TOP, input=printed, capture_output=True, env=at)
-    must_be(f"the output of {words}", done.stdout, b"")
-    must(done.returncode in (2, 11, 12), f"the status of {words}: {done.returncode}")
+    must_be(f"the status and the output of {words}, which said {done.stderr!r}",
+            (done.returncode, done.stdout), (status, b""))  # fmt: skip
     return done.stderr.decode()
