@@ -60,17 +60,29 @@ def check_too_little(program: str) -> None:
     for words in (["--from=298.5", "--to=299.5"], ["--resource=irq"], ["--group=/batch/import", "--from=222"]):
         said = chart_fault(printed, *words)
         must(said.startswith("chart: no report of ") and "--report-s" in said, f"{words}: {said}")
-    for words, told in (
-        (["--group=/x"], "no group /x in the replay, which has /, /batch, /batch/import, /batch/index, /web"),
-        (["--group=/batch", "--group=/wbe"], "no group /wbe in the replay, which has /web, .."),
-        (["--from=400"], "--from 400 is after the end of the replay, 300 s"),
-        (["--from=300"], "--from 300 isn't before --to 300: no time is left between"),
-        (["--from=7", "--to=7"], "--from 7 isn't before --to 7: no time is left between"),
-        (["--from=100", "--to=50"], "--from 100 isn't before --to 50: no time is left between"),
+    for words, status, told in (
+        (["--group=/x"], 11, "no group /x in the replay, which has /, /batch, /batch/import, /batch/index, /web"),
+        (["--group", "bacth"], 11, "no group bacth in the replay, which has /batch, .."),
+        (["--group=/batch", "--group=/wbe"], 11, "no group /wbe in the replay, which has /web, .."),
+        (["--from=400"], 12, "--from 400 is after the end of the replay, 300 s"),
+        (["--from=300"], 12, "--from 300 isn't before --to 300: no time is left between"),
+        (["--from=7", "--to=7"], 12, "--from 7 isn't before --to 7: no time is left between"),
+        (["--from=100", "--to=50"], 12, "--from 100 isn't before --to 50: no time is left between"),
     ):
-        must_be(f"{words}", chart_fault(printed, *words), f"chart: {told}\n")
+        must_be(f"{words}", chart_fault(printed, *words, status=status), f"chart: {told}\n")
     no_report = chart_fault(b"end 5 ticks=0 events=0 kills=0\n")
     must(no_report.startswith("chart: no report of / from 0 s to 0.000000005 s of 0.000000005 s: "), no_report)
+
+
+def check_a_group_by_its_last_component(program: str) -> None:
+    """It names the one group whose path ends with it, and none if there are several."""
+    printed = story(program)
+    by_path = run([CHART, "--group=/batch"], printed)
+    must(run([CHART, "--group", "batch"], printed) == by_path, "both charts are the same")
+    trace = b"psitrace 1 cpus=1\n0 group /a\n0 group /a/x\n0 group /b\n0 group /b/x\n5000000000 end\n"
+    several = run([program, "replay", "-", "--report-s", "2"], trace)
+    said = chart_fault(several, "--group", "x", status=11)
+    must_be("several groups", said, "chart: x is the name of 2 groups in the replay: /a/x, /b/x\n")
 
 
 def check_wrong_words(program: str) -> None:
@@ -86,8 +98,12 @@ def check_wrong_words(program: str) -> None:
     ):  # fmt: skip
         must_say(chart_fault(story(program), f"--start={time}"), f"{time} isn't a time with its zone, such as 2026-11-28T13:58:12Z")
     start, before = "--start=2026-11-28T13:58:12Z", "2026-11-28T13:58:11Z"
-    must_say(chart_fault(story(program), f"--to={before}"), "is a time of day, and nothing says when the trace began: say by --start")
-    must_say(chart_fault(story(program), start, f"--from={before}"), "isn't in the trace, which was recorded from 13:58:12 on 28 November 2026 to 14:03:12, UTC")
+    said = chart_fault(story(program), f"--to={before}", status=12)
+    must_say(said, f"--to {before} is a time of day, and nothing says when the trace began: say by --start")
+    said = chart_fault(story(program), start, f"--from={before}", status=12)
+    must_say(said, f"--from {before} isn't in the trace, which was recorded from 13:58:12 on 28 November 2026 to 14:03:12, UTC")
+    must_be("no file", chart_fault(story(program), "x"), "chart: no file: x\n")
+    must_say(chart_fault(story(program), "examples/runaway.trace", "x"), "unrecognized arguments: x\nusage: chart ")
 
 
 def check_rules_that_cannot_be_read(program: str) -> None:
@@ -162,6 +178,21 @@ def check_inputs_of_another_kind(program: str) -> None:
             must_be(told, fault_of(tool, given, *words), f"{os.path.basename(tool)}: the input: {told}\n")
     huge = b"report " + b"9" * 5000 + b" / io\n"
     must("replay prints no such line here" in chart_fault(huge), "a number that no replay prints")
+
+
+def check_files_of_another_kind(program: str) -> None:
+    """A word of chart and of top is a trace: the message says what the file is."""
+    printed, want = story(program), os.path.join(TOP, "examples", "runaway.want")
+    with tempfile.NamedTemporaryFile() as file:
+        file.write(printed)
+        file.flush()
+        for name in ("chart", "top"):
+            tool = os.path.join(TOP, "tools", name)
+            bad_header = "trace line 1: BadHeader"
+            must_be(name, fault_of(tool, printed, want), f"{name}: psi_oomd refuses {want}: {bad_header}\n")
+            advice = f"give the trace that was replayed, or use `{name} < {file.name}`"
+            told = f"{bad_header}: it is the output of replay, not a trace: {advice}"
+            must_be(name, fault_of(tool, printed, file.name), f"{name}: psi_oomd refuses {file.name}: {told}\n")
 
 
 def check_traces_that_cannot_be_read(program: str) -> None:

@@ -74,7 +74,7 @@ class Given(NamedTuple):
 
 def parser() -> Parser:
     """The parser of the command line."""
-    words = Parser(ABOUT, AFTER, reads_input=True)
+    words = Parser(ABOUT, AFTER)
     option = words.add_argument
     option("replayed", nargs="?", metavar="TRACE", help=TRACE_HELP)
     option("--group", action="append", metavar="GROUP", help=HELP["group"])

@@ -47,7 +47,7 @@ def kinds(word: str) -> tuple[str, ...]:
 
 def parser() -> Parser:
     """The parser of the command line."""
-    words = Parser(__doc__, reads_input=True)
+    words = Parser(__doc__)
     option = words.add_argument
     option("trace", nargs="?", metavar="TRACE", help=TRACE_HELP)
     option("--csv", dest="is_table", action="store_true", help=HELP["csv"])

@@ -78,6 +78,8 @@ def told_kind(kind: Optional[Kind], expected: str, name: str) -> str:
     advice = kind.advice.format(name=name)
     if (kind.what, expected) == (TRACE, REPLAY):
         advice = f"`psi_oomd replay {name}` prints what this tool reads"
+    elif kind.what == REPLAY and expected != TRACE:
+        advice = ""
     return f"it is {kind.what}, not {expected}" + (f": {advice}" if advice else "")
 
 

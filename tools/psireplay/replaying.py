@@ -9,11 +9,11 @@ from collections.abc import Iterator, Mapping
 from typing import IO, Any, Optional
 
 from psicli.fault import Fault
-from psicli.parser import Parser
+from psicli.parser import Parser, tool_name
 from psicli.status import ProgramStatus
 from psicli.values import whole_number
 
-from .kinds import folder_told, why_refused
+from .kinds import REPLAY, file_kind, folder_told, why_refused
 from .program import ADVICE, LAUNCHER, built_program, program_path
 
 TRACE_HELP = (
@@ -94,4 +94,6 @@ def must_have_ended(
         raise Fault(said)
     name = rules if rules is not None and status == ProgramStatus.RULES_REFUSED else trace
     what = "refuses" if status in REFUSED else "failed on"
-    raise Fault(f"psi_oomd {what} {name}: {why_refused(said, name)}")
+    kind = file_kind(trace) if name == trace else None
+    other = f", or use `{tool_name()} < {trace}`" if kind and kind.what == REPLAY else ""
+    raise Fault(f"psi_oomd {what} {name}: {why_refused(said, name)}{other}")

@@ -29,7 +29,7 @@ DEFAULT = 10
 REPORT_S = 2
 MICROSECONDS = SECOND // 1000
 STANDARD_INPUT = "-"
-COUNT = re.compile("[1-9][0-9]{0,5}")
+COUNT, NUMBER = re.compile("[1-9][0-9]{0,5}"), re.compile("-?[0-9]+")
 
 
 def row_of(stalls: Stalls, known: Known, span: Span) -> list[str]:
@@ -60,7 +60,7 @@ def table(rows: list[list[str]]) -> str:
 
 def parser() -> Parser:
     """The parser of the command line."""
-    words = Parser(ABOUT, reads_input=True)
+    words = Parser(ABOUT)
     words.add_argument("words", nargs="*", metavar="TRACE|N",
                        help="a trace, which is replayed (without it standard input is read), and"
                        f" the number of groups that are listed ({DEFAULT})")  # fmt: skip
@@ -72,6 +72,9 @@ def parser() -> Parser:
 
 def words_in(words: list[str]) -> tuple[Optional[str], int]:
     """The trace and the number of groups among the arguments, in any order."""
+    for it in words:
+        if NUMBER.fullmatch(it) and not COUNT.fullmatch(it) and not os.path.exists(it):
+            raise Fault(f"argument N: {it} isn't a whole number from 1 to 999999")
     traces = [it for it in words if not COUNT.fullmatch(it) or os.path.exists(it)]
     counts = [int(it) for it in words if it not in traces]
     if len(traces) > 1 or len(counts) > 1:
