@@ -32,7 +32,7 @@ def check_faults(program: str) -> None:
     must("BadJson" in fault(program, 3, TRACE, "--rules", os.path.join(TOP, "README.md")), "refused rules")
     must("nope.trace" in fault(program, 4, "nope.trace"), "no file")
     fault(program, 5, ".")
-    must_be("a folder that is none", fault(program, 2, TRACE, "-o", "/dev/null/x"), "/dev/null/x.part: Not a directory")
+    must_be("a folder that is none", fault(program, 2, TRACE, "-o", "/dev/null/x"), "no folder: /dev/null, for /dev/null/x")
     must("can't be run" in fault("/nope", 70, TRACE), "no program")
 
 
@@ -40,7 +40,11 @@ def check_a_write_that_fails(program: str) -> None:
     """If the page can't be written completely, there is no page."""
     with tempfile.TemporaryDirectory() as folder:
         name = os.path.join(folder, "none", "page.html")
-        must_be("what is said", fault(program, 2, TRACE, "-o", name), f"{name}.part: No such file or directory")
+        must_be("what is said", fault(program, 2, TRACE, "-o", name), f"no folder: {folder}/none, for {name}")
+        name = os.path.join(folder, "page.html")
+        os.symlink("/dev/full", f"{name}.part")
+        must_be("a full device", fault(program, 2, TRACE, "-o", name), "the output: No space left on device")
+        must_be("what is there", os.listdir(folder), ["page.html.part"])
 
 
 def check_tools_that_stand_alone(program: str) -> None:

@@ -42,8 +42,12 @@ BAD: dict[str, tuple[str, str]] = {
     "an unknown kind": (changed(AT_40, AT_40.replace(",io,", ",disk,")), "bad line 53: this is no sample: 'disk'"),
     "no number": (changed(AT_40, AT_40.replace("24000000", "many")), "the total 'many' isn't a whole number"),
     "one reading": (csv(it for it in rows() if not it.at), "no group has two samples"),
-    "nothing": ("", "none of the formats"),
-    "a trace": ("psitrace 1 cpus=1\n0 end\n", "no value with a timestamp"),
+    "nothing": ("", "bad: it is empty, not samples\n"),
+    "another text": ("a b c\n", "bad line 1: this is no sample: "),
+    "a trace": ("psitrace 1 cpus=1\n0 end\n", "bad: it is a trace, not samples\n"),
+    "the output of replay": ("end 5 ticks=0 events=0 kills=0\n", "bad: it is the output of replay, not samples\n"),
+    "rules": ('{\n  "rulesets": []\n}\n', "bad: it is a rules file, not samples\n"),
+    "no format": ("-\n", "bad line 1: this is none of the formats of docs/SAMPLES.md\n"),
     "no text": ("\0\1\2", "this is no text"),
     "an empty answer": (answer([]), "there are no samples of pressure in it"),
     "an error": (json.dumps({"status": "error", "errorType": "bad_data", "error": "parse error"}), "Prometheus answered with an error"),
@@ -78,13 +82,22 @@ def check_bad_words(program: str) -> None:
             (["samples"], "required: -o/--output"), (["none", "-o", "x"], "no file: none"), (["samples", "-o", "x", "--groups", "0"], "isn't a whole number"),
             (["samples", "-o", "x", "--trigger", "/a io some 9 10"], "isn't '/GROUP io some THRESHOLD WINDOW'"),
             (["samples", "-o", "x", "--trigger", "/a io some 500000 2000000"], "samples each 5 s don't show windows below 10 s"),
-            (["samples", "-o", "x", "--trigger", "/none io some 500000 10000000"], "no group /none has samples"),
             (["samples", "-o", "x", "--rename", "a"], "isn't OLD=/PATH"),
         ):  # fmt: skip
             done = room.run("samples", *words, status=2)
             must(told in done.said, f"{words}: {done.said}")
         done = room.run("samples", "samples", "-o", "no/folder/x", status=2)
-        must("no/folder/x" in done.said, f"a folder that isn't there: {done.said}")
+        must_be("a folder that isn't there", done.said, "samples: no folder: no/folder, for no/folder/x\n")
+        trigger = "/none io some 500000 10000000"
+        done = room.run("samples", "samples", "-o", "x", "--trigger", trigger, status=11)
+        must_be("no group", done.said, f"samples: --trigger '{trigger}': no group /none in the samples, which have /, /a\n")
+        for words, told in (
+            (["--from", "1000"], "--from 1000 is after the end of the samples, "), (["--to", "1000"], "--to 1000 is after the end of the samples, "),
+            (["--from", "2020-01-01T00:00:00Z"], "--from 2020-01-01T00:00:00Z isn't in the trace, which was recorded from "),
+            (["--from", "5", "--to", "6"], "--from and --to leave less than a tick of 2 s"),
+        ):  # fmt: skip
+            done = room.run("samples", "samples", "-o", "x", *words, status=12)
+            must(done.said.startswith(f"samples: {told}"), f"{words}: {done.said}")
 
 
 def made(room: Room) -> None:

@@ -32,7 +32,7 @@ from psicli.status import Status
 from psicli.times import SECOND
 from psicli.values import decimal, length, nanoseconds, whole_number
 from psiconvert.wakeups import bounds_of, lag_bounds, with_wakeups
-from psinames.known import add_names
+from psinames.known import add_names, must_be_in
 from psinames.shown import show_containers
 from psiread.kinds import kind_of_file
 from psiread.pressure import compared, machine_readings, made_in, readings_within, replay_series
@@ -120,6 +120,7 @@ def options_of() -> Options:
 
 def start_of(options: Options, source: Source) -> int:
     """The start of the trace, in ns of the recording's clock."""
+    must_be_in("--from", options.start, source.stop - source.start, "recording")
     return source.start + options.start - options.lead_in
 
 

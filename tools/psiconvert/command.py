@@ -9,7 +9,8 @@ group wasn't accounted all the time (its cgroup.pressure was 0); else version 1.
 
 The status is 0; 2 for a usage error, or if something can't be read or written; 3 if events were lost or a limit of traces was reached,
 and if folding makes the trace longer: then nothing is written, except with --force, which writes the longest stretch without losses;
-and 4 if the check of a folded trace found a difference, which is a bug of this tool.
+4 if the check of a folded trace found a difference, which is a bug of this tool; 11 for a group of --trigger that isn't in the
+trace; and 12 for a time outside the recording.
 """
 from __future__ import annotations
 
@@ -20,6 +21,7 @@ from collections.abc import Iterable, Iterator, Sequence
 from typing import IO, NamedTuple
 
 from psicli.fault import Fault, Malformed
+from psicli.output import must_be_writable
 from psicli.parser import Parser
 from psicli.running import run
 from psicli.status import Status
@@ -152,6 +154,8 @@ def options_of(given: Sequence[str] | None) -> Options:
         words.error("--lead-in isn't for --fold: make the trace with its past, and fold that by tools/fold")
     found["method"] = Method(found["method"]) if found["method"] else None
     found["counting"] = Counting(found["counting"]) if found["counting"] else None
+    if found["output"] is not None:
+        must_be_writable(found["output"])
     return Options(**found)
 
 
@@ -353,7 +357,7 @@ def convert_recording(options: Options) -> int:
     converted = made.converted
     never_made = [path for path, words in upon.items() if any(it.startswith("trigger") for it in words)]
     if never_made:
-        raise Fault(f"--trigger: there is no group {never_made[0]} in the trace")
+        raise Fault(f"--trigger: there is no group {never_made[0]} in the trace", Status.NO_GROUP)
     losses += limit_lines(source, converted) + ["limit: the folded trace is longer than the trace"] * made.is_longer
     anonymous = Anonymous() if options.is_anonymous else None
     for line in [*summary_of(source, converted, method, window, whole), *made.told, *losses]:

@@ -11,6 +11,7 @@ from types import FrameType
 from typing import NoReturn
 
 from psicli.fault import Fault, Malformed
+from psicli.output import must_be_writable
 from psicli.parser import Parser
 from psicli.running import complain, run
 from psicli.status import Status
@@ -143,9 +144,7 @@ def check(options: argparse.Namespace) -> None:
     for path in (it for it in (options.rules, options.oomd) if it is not None):
         if not os.path.isfile(path):
             raise Fault(f"no file: {path}")
-    folder = os.path.dirname(os.path.abspath(options.output))
-    if not os.path.isdir(folder):
-        raise Fault(f"no folder: {folder}, for {options.output}")
+    must_be_writable(options.output)
 
 
 def record_here(steps: Steps, options: argparse.Namespace, folder: str, words: str) -> int:

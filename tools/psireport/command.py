@@ -5,6 +5,7 @@ import os
 
 from psicli.fault import Fault
 from psicli.options import add_interval, add_tick
+from psicli.output import must_be_writable
 from psicli.parser import Parser
 from psicli.running import complain, run, write
 from psicli.status import Status
@@ -67,7 +68,7 @@ def read_words() -> Given:
     if it.drop_in is not None and it.rules is None:
         raise Fault("--drop-in changes rules: give them by --rules")
     if it.start is not None and it.recording is None:
-        raise Fault("--from is a moment of the recording: give it by --recording")
+        raise Fault("--from is a time of the recording: give it by --recording")
     return Given(
         it.trace, it.rules, it.drop_in, it.recording, it.start, it.group, it.wall, it.tick_ms,
         it.interval_s, it.output, it.oomd,
@@ -94,8 +95,8 @@ def write_page(page: bytes, name: str | None) -> None:
 def report() -> int:
     """Writes the page that the arguments ask for."""
     given = read_words()
-    if given.output is not None and os.path.isdir(given.output):
-        raise Fault(f"{given.output} is a folder: name a file in it")
+    if given.output is not None:
+        must_be_writable(given.output)
     runs = Runs()
     facts = collect(runs, given)
     page = html(facts, runs)

@@ -9,11 +9,15 @@ import time
 
 from psicli.fault import Fault, Malformed
 from psicli.options import add_span
+from psicli.output import must_be_writable
 from psicli.parser import Parser
 from psicli.running import complain, run
 from psicli.status import Status
 from psicli.times import SECOND, WallTime, duration, seconds
 from psicli.values import length, whole_number
+from psicli.wording import suggested
+from psinames.clock import time_in
+from psinames.known import must_be_in
 from psiworld.limits import MOST_EVENTS
 
 from .block import LEVELS, TICK
@@ -30,7 +34,7 @@ ABOUT = (
 )
 STATUS = (
     "Each trace is replayed and compared with the samples before it gets its name. Statuses: 2 a usage error, a file that isn't "
-    "samples, or an output that can't be written, 4 totals differ by more than was reported."
+    "samples, or an output that can't be written, 4 totals differ by more than was reported, 11 no such group, 12 a time outside the samples."
 )
 HELP = {
     "output": "the trace to write; a longer time becomes several, with numbers before the ending",
@@ -105,14 +109,14 @@ def read(given: argparse.Namespace) -> Data:
 
 def span_of(given: argparse.Namespace, data: Data) -> tuple[int, int]:
     """From when to when the trace is, ns since 1970."""
+    length, wall = data.end - data.start, WallTime(data.start, 0)
     ends = []
-    for value, default in ((given.start, data.start), (given.end, data.end)):
-        at = default if value is None else value.epoch if isinstance(value, WallTime) else data.start + value
-        if not data.start <= at <= data.end:
-            raise Fault(f"{seconds(max(0, at - data.start))} s is outside the samples, which last {seconds(data.end - data.start)} s")
-        ends.append(at)
+    for option, value, default in (("--from", given.start, 0), ("--to", given.end, length)):
+        at = default if value is None else time_in(value, wall, length, option)
+        must_be_in(option, at, length, "samples")
+        ends.append(data.start + at)
     if ends[0] + TICK > ends[1]:
-        raise Fault(f"--from and --to leave less than a tick of {seconds(TICK)} s")
+        raise Fault(f"--from and --to leave less than a tick of {seconds(TICK)} s", Status.NO_TIME)
     return ends[0], ends[1]
 
 
@@ -124,7 +128,8 @@ def must_see(triggers: list[Trigger], data: Data) -> None:
             least = seconds(2 * data.every)
             raise Fault(f"--trigger '{it.path} {it.fields}': samples each {seconds(data.every)} s don't show windows below {least} s")
         if it.path not in data.groups:
-            raise Fault(f"--trigger '{it.path} {it.fields}': no group {it.path} has samples")
+            near = suggested(it.path, sorted(data.groups))
+            raise Fault(f"--trigger '{it.path} {it.fields}': no group {it.path} in the samples, which have {near}", Status.NO_GROUP)
 
 
 class Progress:
@@ -167,8 +172,7 @@ def report(data: Data, made: Made, span: int) -> list[str]:
 
 def work(given: argparse.Namespace) -> int:
     """Makes the traces; the status."""
-    if os.path.isdir(given.output):
-        raise Fault(f"{given.output} is a folder: name a file in it")
+    must_be_writable(given.output)
     data = read(given)
     must_see(given.trigger, data)
     start, end = span_of(given, data)

@@ -10,6 +10,7 @@ from typing import NamedTuple, TextIO
 
 from psicli.fault import Fault
 from psicli.times import SECOND
+from psireplay.kinds import JSON, RULES, kind_of, told_kind
 
 from .metrics import SECOND_ROOT, Metrics, read_dump, read_json
 from .recording import read_folder
@@ -18,10 +19,21 @@ from .store import Store
 from .texts import read_csv, read_json_lines, read_loop
 
 BEGINNING = 4096
+SAMPLES = "samples"
 # From this interval on (ns) avg10 says more of a total's growth than a line does; below, it is too
 # old.
 LONG = 14 * SECOND
 PRESSURE = "pressure"
+
+
+def other_kind(name: str, beginning: str) -> str:
+    """What a file is in place of samples, which may be compressed by gzip; empty if that isn't
+    known. JSON may be samples: only that of rules isn't.
+    """
+    kind = kind_of(beginning.encode("utf-8", "surrogateescape"))
+    if kind and kind.what == JSON:
+        return f"it is {RULES}, not {SAMPLES}" if '"rulesets"' in beginning else ""
+    return told_kind(kind, SAMPLES, name)
 
 
 def open_text(name: str) -> TextIO:
@@ -76,6 +88,13 @@ class Inputs:
         """The line that is read."""
         return Place(self.files[-1], self.line)
 
+    def refused(self, beginning: str, why: str) -> Fault:
+        """What is wrong with the line that is read; at the first one, what the file is instead of
+        samples, if that is known.
+        """
+        other = other_kind(self.files[-1], beginning) if self.line == 1 else ""
+        return Fault(f"{self.files[-1]}: {other}" if other else f"{self.here()}: {why}")
+
     def put(self, time: int, group: str, field: int, values: tuple[int, ...], line: int) -> None:
         """Takes values of a group at a time (ns)."""
         self.line = line
@@ -120,6 +139,7 @@ class Inputs:
 
     def read_file(self, name: str) -> None:
         """Reads a file in the format that its beginning shows."""
+        beginning = ""
         try:
             with open_text(name) as file:
                 beginning = file.read(BEGINNING)
@@ -128,7 +148,7 @@ class Inputs:
         except (EOFError, zlib.error) as fault:
             raise Fault(f"{self.here()}: the file ends too early: {fault}") from None
         except (ValueError, KeyError, IndexError) as fault:
-            raise Fault(f"{self.here()}: this is no sample: {str(fault)[:100]}") from None
+            raise self.refused(beginning, f"this is no sample: {str(fault)[:100]}") from None
         except FileNotFoundError:
             raise Fault(f"no file: {name}") from None
         except OSError as fault:
@@ -138,7 +158,7 @@ class Inputs:
         """Reads a text whose beginning is known."""
         first = beginning.lstrip()
         if "\0" in beginning:
-            raise Fault(f"{self.here()}: this is no text: is it compressed?")
+            raise self.refused(beginning, "this is no text: is it compressed?")
         if re.match(r'\{\s*__name__|\{[a-zA-Z_]+="', first):
             read_dump(self.numbered(file), self.metrics, self.put)
         elif first.startswith("{") and re.search(
@@ -155,7 +175,7 @@ class Inputs:
             read_dump(self.numbered(file), self.metrics, self.put)
         else:
             self.line = 1
-            raise Fault(f"{self.here()}: this is none of the formats of docs/SAMPLES.md")
+            raise self.refused(beginning, "this is none of the formats of docs/SAMPLES.md")
 
     def numbered(self, file: TextIO) -> Iterator[tuple[int, str]]:
         """The lines with their numbers."""

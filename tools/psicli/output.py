@@ -1,0 +1,15 @@
+"""The file that a tool writes."""
+from __future__ import annotations
+
+import os
+
+from .fault import Fault
+
+
+def must_be_writable(path: str) -> None:
+    """Rejects a path at which no file can be written, before the work whose result it gets."""
+    if os.path.isdir(path):
+        raise Fault(f"{path} is a folder: name a file in it")
+    folder = os.path.dirname(path)
+    if folder and not os.path.isdir(folder):
+        raise Fault(f"no folder: {folder}, for {path}")
