@@ -243,8 +243,8 @@ def run(given: argparse.Namespace) -> int:
     if not machine.round(0.0).count(",/,io,"):
         print(
             (
-                "sample: no pressure files: /proc/pressure needs a kernel with CONFIG_PSI, perhaps"
-                " started with psi=1"
+                f"sample: no pressure files in {given.root}/proc/pressure: the kernel needs"
+                " CONFIG_PSI, and perhaps psi=1 at boot"
             ),
             file=sys.stderr,
         )
