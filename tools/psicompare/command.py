@@ -15,8 +15,9 @@ difference in percent. A value that exceeds its limit has a mark (!); if the mac
 something, since they have 32 bits, it has another (w). The kernel shows zeros in the root's full
 line of cpu, and so does the trace.
 
-The status is 0 if all totals are within the limits, 1 if one isn't, and 2 if there was nothing to
-compare: a usage error, something that can't be read, or no trace.
+The status is 0 if all totals are within the limits, 1 if one isn't, 2 if there was nothing to
+compare: a usage error, something that can't be read, or no trace, and 12 if --from is after the
+end of the recording.
 """
 from __future__ import annotations
 
