@@ -60,7 +60,7 @@ def check_too_little(program: str) -> None:
     for words in (["--from=298.5", "--to=299.5"], ["--resource=irq"], ["--group=/batch/import", "--from=222"]):
         said = chart_fault(printed, *words)
         must(said.startswith("chart: no report of ") and "--report-s" in said, f"{words}: {said}")
-    for words, status, told in (
+    for words, status, message in (
         (["--group=/x"], 11, "no group /x in the replay, which has /, /batch, /batch/import, /batch/index, /web"),
         (["--group", "bacth"], 11, "no group bacth in the replay, which has /batch, .."),
         (["--group=/batch", "--group=/wbe"], 11, "no group /wbe in the replay, which has /web, .."),
@@ -69,7 +69,7 @@ def check_too_little(program: str) -> None:
         (["--from=7", "--to=7"], 12, "--from 7 isn't before --to 7: no time is left between"),
         (["--from=100", "--to=50"], 12, "--from 100 isn't before --to 50: no time is left between"),
     ):
-        must_be(f"{words}", chart_fault(printed, *words, status=status), f"chart: {told}\n")
+        must_be(f"{words}", chart_fault(printed, *words, status=status), f"chart: {message}\n")
     no_report = chart_fault(b"end 5 ticks=0 events=0 kills=0\n")
     must(no_report.startswith("chart: no report of / from 0 s to 0.000000005 s of 0.000000005 s: "), no_report)
 
@@ -191,8 +191,8 @@ def check_files_of_another_kind(program: str) -> None:
             bad_header = "trace line 1: BadHeader"
             must_be(name, fault_of(tool, printed, want), f"{name}: psi_oomd refuses {want}: {bad_header}\n")
             advice = f"give the trace that was replayed, or use `{name} < {file.name}`"
-            told = f"{bad_header}: it is the output of replay, not a trace: {advice}"
-            must_be(name, fault_of(tool, printed, file.name), f"{name}: psi_oomd refuses {file.name}: {told}\n")
+            message = f"{bad_header}: it is the output of replay, not a trace: {advice}"
+            must_be(name, fault_of(tool, printed, file.name), f"{name}: psi_oomd refuses {file.name}: {message}\n")
 
 
 def check_traces_that_cannot_be_read(program: str) -> None:

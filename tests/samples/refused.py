@@ -91,13 +91,13 @@ def check_bad_words(program: str) -> None:
         trigger = "/none io some 500000 10000000"
         done = room.run("samples", "samples", "-o", "x", "--trigger", trigger, status=11)
         must_be("no group", done.said, f"samples: --trigger '{trigger}': no group /none in the samples, which have /, /a\n")
-        for words, told in (
+        for words, message in (
             (["--from", "1000"], "--from 1000 is after the end of the samples, "), (["--to", "1000"], "--to 1000 is after the end of the samples, "),
             (["--from", "2020-01-01T00:00:00Z"], "--from 2020-01-01T00:00:00Z isn't in the trace, which was recorded from "),
             (["--from", "5", "--to", "6"], "--from and --to leave less than a tick of 2 s"),
         ):  # fmt: skip
             done = room.run("samples", "samples", "-o", "x", *words, status=12)
-            must(done.said.startswith(f"samples: {told}"), f"{words}: {done.said}")
+            must(done.said.startswith(f"samples: {message}"), f"{words}: {done.said}")
 
 
 def made(room: Room) -> None:
