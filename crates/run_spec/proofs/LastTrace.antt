@@ -1,4 +1,4 @@
--- Rounds that remove kills from a trace, in order.
+-- Proofs about the rounds of `whatif`, which remove kills from a trace in order.
 use Rattle.std.proofs.Common.{◌≡◌, ◌⊎◌, inl, inr, ℕ, zero, suc, ◌<◌, ◌≤◌, List, length, nat_lt, refl, ap, ◌∙◌, subst, arith, None, Some, Bool, true, false, if◌then◌else◌, get_or}
 use Rattle.std.specs.Prelude.{Result, Ok, Err, slice_get}
 use Rattle.std.proofs.lemmas.Option.{slice_get_cases, slice_get_past}
@@ -10,7 +10,7 @@ use Rattle.run_spec.specs.Replay.{Timing}
 use Rattle.run_spec.specs.Whatif.{after_rounds, all_kills, bounded_trace, most_rounds, round, then_round, without_kill}
 use Rattle.run_spec.specs.Laws.{LastOutgrown, LastWithoutKill, OutgrownAtRound}
 
--- ---- no kill with a number
+-- ---- no kill with this number
 
 past_if : {A : Type 0} (xs : List A) (i : ℕ) → slice_get xs i ≡ None → ((x : A) × (i < length xs) × (slice_get xs i ≡ Some x) × (get_or xs i x ≡ x)) ⊎ ((length xs ≤ i) × (slice_get xs i ≡ None)) → length xs ≤ i
 past_if xs i is (inl found) = let some = found.2 in absurd (let no : ⊥ = cc (is, some) in no)
@@ -19,37 +19,37 @@ past_if xs i is (inr past) = past.0
 past_none : {A : Type 0} (xs : List A) (i : ℕ) → slice_get xs i ≡ None → length xs ≤ i
 past_none xs i is = past_if xs i is (slice_get_cases xs i).1
 
--- if there is no element at a place, there is none at a later place
+-- if index `i` is past the end of a list, so is every later index `j`
 none_following : {A : Type 0} (xs : List A) (i j : ℕ) → i ≤ j → slice_get xs i ≡ None → slice_get xs j ≡ None
 none_following xs i j low is = slice_get_past xs j (omega (arith, past_none xs i is, low))
 
 -- ---- rounds
 
--- a trace within bounds is left as it is
+-- a trace with at most `most_events` events passes the check
 pub within_bounds : (trace : Trace) → length trace.events ≤ most_events → bounded_trace trace ≡ Ok trace
 within_bounds trace few =
     let not : nat_lt most_events (length trace.events) ≡ false = grind (arith, nat_tests) in
     rw not refl
 
--- and a trace that is too large gives the number of its events
+-- a trace with more than `most_events` events fails the check with the number of its events
 pub beyond_bounds : (trace : Trace) → most_events < length trace.events → bounded_trace trace ≡ Err (length trace.events)
 beyond_bounds trace many =
     let is : nat_lt most_events (length trace.events) ≡ true = grind (arith, nat_tests) in
     rw is refl
 
--- one more round
+-- one more round continues from the trace that the first `count` rounds left
 pub one_round : (trace left : Trace) (timing : Timing) (rules : List Rule) (count : ℕ) → after_rounds trace timing rules count ≡ Ok left
     → after_rounds trace timing rules (suc count) ≡ round timing rules count left
 unfolding after_rounds
 one_round trace left timing rules count is = ap (then_round timing rules count) is
 
--- after a round that left too much
+-- an `Err` of the first `count` rounds is also the result of one more round
 no_round : (trace : Trace) (timing : Timing) (rules : List Rule) (count events : ℕ) → after_rounds trace timing rules count ≡ Err events
     → after_rounds trace timing rules (suc count) ≡ Err events
 unfolding after_rounds
 no_round trace timing rules count events is = ap (then_round timing rules count) is
 
--- a number is at most another, or at most its predecessor
+-- a number that is at most `suc n` is `suc n`, or at most `n`
 or_before : (i n : ℕ) → i ≤ suc n → (i ≡ suc n) ⊎ (i ≤ n)
 or_before i n low = elim (nat_lt n i) as (λ b. nat_lt n i ≡ b → (i ≡ suc n) ⊎ (i ≤ n)) [
   | true ↦ λ is. inl (grind (arith, nat_tests))
@@ -65,7 +65,7 @@ lasts : (P : ℕ → Type 0) (i : ℕ) → P i → ((n : ℕ) → i ≤ n → P 
 lasts P i first goes zero low = subst P (omega (arith, low)) first
 lasts P i first goes (suc n) low = lasts_by P i n first (lasts P i first goes n) (goes n) (or_before i n low)
 
--- a round without a kill leaves the trace
+-- a round that finds no kill leaves the trace unchanged
 idle_round : (left : Trace) (timing : Timing) (rules : List Rule) (number : ℕ) → length left.events ≤ most_events → slice_get (all_kills left timing rules) number ≡ None
     → round timing rules number left ≡ Ok left
 idle_round left timing rules number few none = ap (λ kill. bounded_trace (without_kill left kill)) none ∙ within_bounds left few
@@ -80,15 +80,15 @@ pub last_outgrown : LastOutgrown
 last_outgrown trace timing rules count events some is =
     lasts (λ n. after_rounds trace timing rules n ≡ Err events) count is (λ n low so. no_round trace timing rules n events so) most_rounds some
 
--- ---- traces that grew too large
+-- ---- traces with too many events
 
--- some round before this one left too much
+-- some round before round `count` left `events` events, which is too many
 abbrev pub GrewBefore : Trace → Timing → List Rule → ℕ → ℕ → Type 0
 GrewBefore trace timing rules events count =
     (number : ℕ) × (left : Trace) × (number < count) × (after_rounds trace timing rules number ≡ Ok left)
     × (length (without_kill left (slice_get (all_kills left timing rules) number)).events ≡ events) × (most_events < events)
 
--- if no trace is left, the trace was too large
+-- if the check of a trace fails, the trace has the reported number of events, and that is too many
 is_beyond : (trace : Trace) (events : ℕ) → bounded_trace trace ≡ Err events → (length trace.events ≡ events) × (most_events < events)
 is_beyond trace events is = go (nat_lt most_events (length trace.events)) refl is
   where

@@ -1,4 +1,4 @@
--- The possible statuses of a run if a file of its command is known to be missing.
+-- Proofs about the statuses of a run if one of its files is known to be missing.
 use Rattle.std.proofs.Common.{◌≡◌, ◌⊎◌, inl, inr, ℕ, List, refl, sym, ap, ◌∙◌, Option, true≢false, Some}
 use Rattle.std.specs.Prelude.{IsSome, is_some}
 use Rattle.psi_base.specs.Memory.{no_memory}
@@ -35,7 +35,8 @@ missing_rules command files old new status.ReadFault name ends named lacks = inr
 missing_rules command files old new (status.NoMemory _) name ends named lacks = inr (inr refl)
 missing_rules command files old new status.Usage name ends named lacks = absurd ends
 
--- a failed read that is reported is one of the missing rules file, as no later file is read
+-- if the rules file is missing, a reported read failure is one of the rules file, because no later
+-- file is read
 pub rules_first : (command : Command) (files : Option Files) (before now : List ReadCall) (name : List ℕ) → ReadsInOrder command files before now status.ReadFault → rules_name command ≡ Some name → IsAbsent files name
     → FailsAt command before now RulesFile shelf.Failed
 rules_first command files before now name order named lacks = go order.0 order.1 order.2
@@ -46,7 +47,8 @@ rules_first command files before now name order named lacks = go order.0 order.1
     go TraceFile fails passed = absurd (passed.2.0 name named lacks)
     go ImportFile fails passed = absurd (passed.2.0 name named lacks)
 
--- or of the rules file, if the drop-in file is missing
+-- if the drop-in file is missing, a reported read failure is one of the drop-in file or of the
+-- rules file
 pub drop_in_first : (command : Command) (files : Option Files) (before now : List ReadCall) (name : List ℕ) → ReadsInOrder command files before now status.ReadFault → drop_in_name command ≡ Some name → IsAbsent files name
     → FailsAt command before now RulesFile shelf.Failed ⊎ FailsAt command before now DropInFile shelf.Failed
 drop_in_first command files before now name order named lacks = go order.0 order.1 order.2
@@ -76,7 +78,7 @@ missing_drop_in command files old new status.ReadFault name ends named lacks = i
 missing_drop_in command files old new (status.NoMemory _) name ends named lacks = inr (inr (inr (inl refl)))
 missing_drop_in command files old new status.Usage name ends named lacks = absurd ends
 
--- a command that reads a trace takes its trace from there
+-- a command that reads a trace file gets its trace from that file
 pub from_trace : (command : Command) → IsSome (file_of command TraceFile) → source_of command ≡ TraceFile
 from_trace (words.Stall trace) reads = refl
 from_trace (words.Check trace tick_ms) reads = refl
@@ -87,7 +89,7 @@ from_trace (words.Import file cpus) reads = absurd (true≢false (sym reads))
 from_trace (words.Rules file drop_in) reads = absurd (true≢false (sym reads))
 from_trace (words.Whatif trace options) reads = refl
 
--- and a command that imports an ftrace text reads its trace from that
+-- a command that imports an ftrace text gets its trace from that text
 pub from_import : (command : Command) → IsSome (file_of command ImportFile) → source_of command ≡ ImportFile
 from_import (words.Stall trace) reads = absurd (true≢false (sym reads))
 from_import (words.Check trace tick_ms) reads = absurd (true≢false (sym reads))
@@ -98,7 +100,7 @@ from_import (words.Import file cpus) reads = refl
 from_import (words.Rules file drop_in) reads = absurd (true≢false (sym reads))
 from_import (words.Whatif trace options) reads = absurd (true≢false (sym reads))
 
--- a command that takes its trace from a file has a trace
+-- a command that gets its trace from a file has a trace
 pub has_trace : (command : Command) (name : List ℕ) → source_name command ≡ Some name → HasTrace command
 has_trace (words.Stall trace) name named = tt
 has_trace (words.Check trace tick_ms) name named = tt

@@ -1,4 +1,4 @@
--- Properties of every command that words spell.
+-- Proofs that every command that `command_of` parses is in range.
 use Rattle.std.proofs.Common.{◌≡◌, ◌≢◌, ℕ, ◌<◌, ◌≤◌, ◌^◌, ◌-◌, ◌∷◌, ◌&&◌, List, [], Bool, true}
 use Rattle.std.proofs.Common.{false, not, Option, Some, None, nat_le, refl, sym, ap, subst}
 use Rattle.std.proofs.Common.{◌∙◌, true≢false, arith, if◌then◌else◌}
@@ -21,19 +21,19 @@ use Rattle.run_spec.specs.LegalCommand.{IsOptionName, IsWithin, AreOptions, IsSh
 use Rattle.run_spec.specs.LegalCommand.{IsCommand}
 use Rattle.run_spec.specs.Laws.{SpelledInRange}
 
--- if two steps have a value, so has the first
+-- if `r >>= f` has a value, then `r` has one, and `f` maps it to that value
 pub bind_some : {A B : Type 0} (r : Option A) (f : A → Option B) (y : B) → r >>= f ≡ Some y
     → (x : A) × (r ≡ Some x) × (f x ≡ Some y)
 bind_some None f y is = absurd (true≢false (sym (ap is_some is)))
 bind_some (Some x) f y is = (x, refl, is)
 
--- a test that let something through holds
+-- if `if b then Some x else None` is `Some y`, then `b` is true and `x` is `y`
 pub if_some : {A : Type 0} (b : Bool) (x y : A) → (if b then Some x else None) ≡ Some y
     → (b ≡ true) × (x ≡ y)
 if_some true x y is = (refl, cc)
 if_some false x y is = absurd (true≢false (sym (ap is_some is)))
 
--- ---- values
+-- ---- option values
 
 within_ranges : (least most : ℕ) (text : List ℕ) (n : ℕ) → number_within least most text ≡ Some n
     → IsWithin least most n
@@ -75,7 +75,7 @@ rules_ranges (Some name) rules is =
           (true≢false (sym both.1 ∙ ap not ((bytes_eq-Decides name (codes "-")).1 dash))),
     )
 
--- a drop-in file has such a name, and comes with a rules file
+-- a parsed drop-in file has a valid name, and comes only with a rules file
 drop_in_ranges : (rules parsed : Option (List ℕ)) (drop_in : Option (List ℕ)) → drop_in_option rules parsed ≡ Some drop_in
     → IsOptionName drop_in × (rules ≡ None → drop_in ≡ None)
 drop_in_ranges rules None drop_in is =
@@ -92,7 +92,7 @@ live_ranges (Some path) live is =
     let tests = if_some (is_path path) (Some path) live is in
     subst (λ r. IfSome r (λ path. is_path path ≡ true)) tests.1 tests.0
 
--- ---- tables
+-- ---- one function per command
 
 tick_ranges : (parsed : ParsedWords) (n : ℕ) → tick_option parsed ≡ Some n → IsWithin 1 60000 n
 tick_ranges parsed n is = or_ranges 2000 1 60000 _ n (lit≤ tt, lit≤ tt) is
@@ -243,7 +243,7 @@ rules_command_ranges parsed command is =
       rules_ranges (option_value (codes "drop-in") parsed) drop_in.0 drop_in.1,
     )
 
--- if the test for None passes, there is no value
+-- a value that passes the test for `None` is `None`
 none_there : {A : Type 0} (o : Option A) → not (is_some o) ≡ true → o ≡ None
 none_there None is = refl
 none_there (Some x) is = absurd (true≢false (sym is))
@@ -265,7 +265,7 @@ whatif_ranges parsed command is =
 
 -- ---- all commands
 
--- a property of each command's table
+-- the property `P` holds for the function of each command
 abbrev pub OfEach : ((ParsedWords → Option Command) → Type 0) → List CommandForm → Type 0
 OfEach P [] = ⊤
 OfEach P (form ∷ forms) = P form.command × OfEach P forms

@@ -1,4 +1,4 @@
--- The number of calls with which files are read.
+-- Proofs of upper bounds on the number of read calls.
 use Rattle.std.proofs.Common.{◌≡◌, ℕ, zero, suc, ◌+◌, ◌≤◌, List, [], ◌∷◌, ◌++◌, length, refl, sym, ap, ◌∙◌, subst, append_assoc, arith, Option, None, Some, Result, Ok, Err, true}
 use Rattle.std.specs.Prelude.{is_some}
 use Rattle.std.proofs.lemmas.List.{append-nil, length-append}
@@ -17,12 +17,12 @@ use Rattle.run_spec.proofs.Missing.{from_import, from_trace}
 
 -- ---- one file
 
--- after the last call of a file there is no other
+-- no read call follows the last call for a file
 over_none : (name : List ℕ) (fault : Option ShelfFault) (calls : List ReadCall) (to : Progress) → AreReads name (Over fault) calls to → length calls ≤ bytes_in calls
 over_none name fault [] to reads = omega arith
 over_none name fault (call ∷ calls) to reads = absurd reads
 
--- each call but the last returned a byte
+-- each read call for a file except the last returned at least one byte
 calls_few : (name : List ℕ) (from : Progress) (calls : List ReadCall) (to : Progress) → AreReads name from calls to → length calls ≤ bytes_in calls + 1
 calls_few name from [] to reads = omega arith
 calls_few name (Over fault) (call ∷ calls) to reads = absurd reads
@@ -47,11 +47,11 @@ bytes_append : (xs ys : List ReadCall) → bytes_in (xs ++ ys) ≡ bytes_in xs +
 bytes_append [] ys = omega arith
 bytes_append (call ∷ xs) ys = let rest = bytes_append xs ys in omega (arith, rest)
 
--- no call
+-- a log without new calls satisfies the bound 0
 no_calls : (log : List ReadCall) → CallsAreFew 0 log log
 no_calls log = record { calls = []; grown = sym (append-nil log); few = omega arith }
 
--- calls after calls
+-- the bounds of two consecutive parts of the log add up
 calls_add : (m n : ℕ) (before middle now : List ReadCall) → CallsAreFew m before middle → CallsAreFew n middle now → CallsAreFew (m + n) before now
 calls_add m n before middle now first then = record {
   calls = first.calls ++ then.calls;
@@ -59,7 +59,7 @@ calls_add m n before middle now first then = record {
   few = let bytes = bytes_append first.calls then.calls in let long = length-append first.calls then.calls in omega (arith, bytes, long, first.few, then.few);
 }
 
--- fewer are within a greater bound
+-- a bound may be increased
 calls_within : (m n : ℕ) (before now : List ReadCall) → m ≤ n → CallsAreFew m before now → CallsAreFew n before now
 calls_within m n before now least few = record { calls = few.calls; grown = few.grown; few = omega (arith, least, few.few) }
 
@@ -70,18 +70,19 @@ each_calls (name ∷ names) before now reads =
 
 -- ---- a command
 
--- a list of a name has one element
+-- the list of a given name has one element
 one_listed : (named : Option (List ℕ)) (name : List ℕ) → named ≡ Some name → length (listed named) ≡ 1
 one_listed named name is = ap (λ n. length (listed n)) is
 
--- how many files a command has
+-- the number of a command's files is the sum for the rules file, the drop-in file and the trace or
+-- ftrace text
 many_names : (command : Command) → length (names_in_order command) ≡ length (listed (rules_name command)) + length (listed (drop_in_name command)) + length (listed (source_name command))
 many_names command =
     let rules = length-append (listed (rules_name command)) (listed (drop_in_name command)) in
     let all = length-append (names_of_rules (rules_name command) (drop_in_name command)) (listed (source_name command)) in
     omega (arith, rules, all)
 
--- those before a file, and that file, are among them
+-- the files before a command's file `which`, and that file itself, are among the command's files
 names_within : (command : Command) (which : Which) (name : List ℕ) → file_of command which ≡ Some name → length (names_before command which) + 1 ≤ length (names_in_order command)
 names_within command RulesFile name named = let one = one_listed (rules_name command) name named in let many = many_names command in omega (arith, one, many)
 names_within command DropInFile name named = let one = one_listed (drop_in_name command) name named in let many = many_names command in omega (arith, one, many)

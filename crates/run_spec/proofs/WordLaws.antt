@@ -1,4 +1,4 @@
--- Different spellings of the same command.
+-- Proofs that different spellings give the same command.
 use Rattle.std.proofs.Common.{◌≡◌, ◌≢◌, ℕ, ◌∷◌, ◌++◌, ◌||◌, ◌∙◌, List, [], Bool, true, false}
 use Rattle.std.proofs.Common.{Option, Some, None, length, refl, sym, ap, subst, true≢false}
 use Rattle.std.proofs.Common.{arith, if◌then◌else◌}
@@ -33,7 +33,7 @@ pub or_false : (a b : Bool) → a || b ≡ false → (a ≡ false) × (b ≡ fal
 or_false false b is = (refl, is)
 or_false true b is = absurd (true≢false is)
 
--- the first `=` comes after a text that has none
+-- in `name=value` the first `=` is at the end of the name, if the name contains no `=`
 first_equals : (name value : List ℕ) → HasNoEquals name
     → position_or_len is_equals (name ++ 61 ∷ value) ≡ length name
 first_equals [] value none = refl
@@ -69,14 +69,14 @@ has_equals (byte ∷ name) value = rw (has_equals name value) (or_true (is_equal
 pub name_alone : (name : List ℕ) → HasNoEquals name → before_first is_equals name ≡ name
 name_alone name none = rw (no_equals name none) (take-length name)
 
--- ---- an option's word
+-- ---- the word of an option
 
 longer : (name rest : List ℕ) (byte : ℕ)
     → bytes_eq (codes "--" ++ (name ++ byte ∷ rest)) (codes "--") ≡ false
 longer [] rest byte = refl
 longer (first ∷ name) rest byte = refl
 
--- the kind of the word `--name=value`
+-- the kind of the word `--name=value`: `known` says if the name is an option of the command
 abbrev pub assigned_among : Bool → List ℕ → List ℕ → Word
 assigned_among known name value = if known then assigned name value else unknown
 
@@ -95,14 +95,15 @@ pub assigned_is : (names : List (List ℕ)) (name value : List ℕ) → HasNoEqu
     → word_of names (assigned_word name value) ≡ assigned_among (is_among name names) name value
 assigned_is names name value none = rw (longer name value 61) (option_is names name value none)
 
--- ---- words with the same content
+-- ---- parsed words with the same content
 
--- each option has the same value in both, and so does the positional
+-- two parses have the same content: each option has the same value in both, and so does the
+-- positional argument
 pub record SaysSame (one other : ParsedWords) : Type 0 where
   pub values : (name : List ℕ) → option_value name one ≡ option_value name other
   pub positional : one.positional ≡ other.positional
 
--- both are rejected, or have the same content
+-- both parses fail, or both succeed with the same content
 abbrev pub Same : Option ParsedWords → Option ParsedWords → Type 0
 Same None None = ⊤
 Same None (Some other) = ⊥
@@ -159,7 +160,7 @@ with_positional_same word (Some one) (Some other) same =
     go true is is_other = rw (is_other, is) tt
     go false is is_other = rw (is_other, is) (record { values = same.values; positional = refl })
 
--- two options with different names may come in either order
+-- two options with different names may be added in either order
 swapped : (name value other another : List ℕ) → name ≢ other → (r : Option ParsedWords)
     → Same ((r >>= with_option other another) >>= with_option name value)
     ((r >>= with_option name value) >>= with_option other another)
@@ -200,7 +201,7 @@ swapped name value other another differ (Some parsed) =
 
 -- ---- two options in either order
 
--- two words are too many if neither is an option
+-- two positional arguments are rejected
 two_positionals : (one other : List ℕ) (r : Option ParsedWords)
     → (r >>= with_positional other) >>= with_positional one ≡ None
 two_positionals one other None = refl
@@ -223,7 +224,7 @@ none_waits : (names : List (List ℕ)) (name word : List ℕ) (rest : List (List
     → is_dashed word ≡ true → parsed_from names (at_value name) (word ∷ rest) ≡ None
 none_waits names name word rest dashed = rw dashed refl
 
--- before two words that are options, known or not
+-- two adjacent options, known or unknown, may be swapped at the beginning of the words
 options_either : (names after : List (List ℕ)) (name value other another : List ℕ) (b d : Bool)
     → name ≢ other
     → word_of names (assigned_word name value) ≡ assigned_among b name value
@@ -239,7 +240,7 @@ options_either names after name value other another false true differ is is_othe
 options_either names after name value other another false false differ is is_other =
     rw (is, is_other) tt
 
--- a word before two lists with the same content doesn't make them differ
+-- if two lists of words have the same content, they still do after the same word is put before both
 word_either : (names : List (List ℕ)) (word : List ℕ) (one other : List (List ℕ))
     → SameFrom names one other → SameFrom names (word ∷ one) (word ∷ other)
 word_either names word one other same (at_value name) = go (is_dashed word)

@@ -1,4 +1,4 @@
--- The tables of commands depend only on the content of words, however it is spelled.
+-- Proofs that a command depends only on the content of its words, not on their spelling.
 use Rattle.std.proofs.Common.{◌≡◌, ◌≢◌, ℕ, ◌∷◌, ◌++◌, List, [], Bool, true, false, not}
 use Rattle.std.proofs.Common.{Option, Some, None, drop, refl, sym, ap, true≢false}
 use Rattle.std.proofs.Common.{if◌then◌else◌}
@@ -17,7 +17,7 @@ use Rattle.run_spec.specs.Laws.{HasNoEquals, OrderIsFree, ValueMayFollow}
 use Rattle.run_spec.proofs.RangeLaws.{OfEach, each_found}
 use Rattle.run_spec.proofs.WordLaws.{or_false, name_alone, assigned_among, assigned_is, SaysSame, Same, same_if, all_either}
 
--- ---- tables depend only on content
+-- ---- the functions of commands depend only on the content
 
 abbrev pub Respects : (ParsedWords → Option Command) → Type 0
 Respects read = (one other : ParsedWords) → SaysSame one other → read one ≡ read other
@@ -99,7 +99,7 @@ same_read read None (Some other) respects same = absurd same
 same_read read (Some one) None respects same = absurd same
 same_read read (Some one) (Some other) respects same = respects one other same
 
--- the content of the words after the command's word determines the command
+-- the command's own word and the content of the words after it determine the command
 same_command : (first : List ℕ) (one other : List (List ℕ))
     → ((names : List (List ℕ)) → Same (parsed_from names at_word one) (parsed_from names at_word other))
     → command_of (first ∷ one) ≡ command_of (first ∷ other)
@@ -124,7 +124,7 @@ order_is_free (first ∷ before) after name value other another none none_other 
     (before ++ assigned_word other another ∷ assigned_word name value ∷ after)
     (λ names. all_either names before after name value other another none none_other differ at_word)
 
--- ---- a value in a word of its own
+-- ---- a value as a word of its own
 
 -- the kind of the word `--name`
 opened_is : (names : List (List ℕ)) (name : List ℕ) → HasNoEquals name → name ≢ []
@@ -141,7 +141,7 @@ abbrev is_end : Word → Bool
 is_end end = true
 is_end _ = false
 
--- a word that isn't `--` doesn't end the options
+-- a word other than `--` doesn't have the kind `end`
 not_end : (names : List (List ℕ)) (word : List ℕ) → bytes_eq word (codes "--") ≡ false
     → is_end (word_of names word) ≡ false
 not_end names word other =
@@ -159,12 +159,13 @@ not_end names word other =
     go true true true true name value text = refl
     go true true true false name value text = refl
 
--- lists have the same content before a word and before a value
+-- two lists of words parse to the same result, both before a word and before the value of an option
 record IsEqual (names one other : List (List ℕ)) : Type 0 where
   word : parsed_from names at_word one ≡ parsed_from names at_word other
   value : (name : List ℕ) → parsed_from names (at_value name) one ≡ parsed_from names (at_value name) other
 
--- a word other than `--` before two lists with the same content doesn't make them differ
+-- two lists that parse to the same result still do after the same word other than `--` is put
+-- before both
 word_equal : (names : List (List ℕ)) (word : List ℕ) (one other : List (List ℕ))
     → bytes_eq word (codes "--") ≡ false → IsEqual names one other
     → IsEqual names (word ∷ one) (word ∷ other)

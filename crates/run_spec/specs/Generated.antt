@@ -1,4 +1,5 @@
--- Generated traces: large valid traces. A trace depends only on the few numbers of its shape.
+-- Generated traces: large valid traces for `gen` and `stress`. The trace depends only on the seed
+-- and the sizes in its `Shape`.
 use Rattle.std.specs.Prelude.{ℕ, zero, suc, ◌+◌, ◌-◌, ◌*◌, ◌/◌, ◌%◌, ◌^◌, ◌==◌}
 use Rattle.std.specs.Prelude.{List, [], ◌∷◌, ◌++◌, map, codes, decimal, is_some}
 use Rattle.std.specs.Prelude.{Option, None, Some, if◌then◌else◌}
@@ -18,40 +19,42 @@ use Rattle.run_spec.specs.declared.command.Shape.{Shape}
 
 -- ---- random numbers
 
--- the state after one random number: a linear congruential generator of 64 bits, with the constants
--- of Knuth's MMIX
+-- the next state of the random number generator: a 64-bit linear congruential generator with the
+-- constants of Knuth's MMIX
 abbrev pub next_state : ℕ → ℕ
 next_state state = (state * 6364136223846793005 + 1442695040888963407) % 2 ^ 64
 
--- the number below a bound that a state gives, from its 31 high bits
+-- a random number below `bound`, from the 31 high bits of `state`
 abbrev pub random_event : ℕ → ℕ → ℕ
 random_event state bound = (state / 2 ^ 33) % bound
 
 -- ---- groups and tasks
 
--- the number of tasks: four a processor, numbered from 1
+-- the number of tasks: four per processor, with pids from 1
 abbrev pub task_count : Shape → ℕ
 task_count shape = 4 * shape.cpus
 
--- the path of a group, by its number from 0
+-- the path of the group with a number (from 0)
 abbrev pub numbered_path : ℕ → List ℕ
 numbered_path number = codes "/g" ++ decimal number
 
--- the path of a task's group: tasks go to the groups in turn, or to the root if there are no groups
+-- the path of the group of task `pid`: tasks are assigned to the groups in turn, or to the root if
+-- there are no groups
 abbrev pub home_of : Shape → ℕ → List ℕ
 home_of shape pid =
     if shape.groups == 0 then codes "/" else numbered_path ((pid - 1) % shape.groups)
 
--- the act that creates a group, by its number
+-- the act (what an event does) that creates the group with a number
 abbrev pub made_group : ℕ → Act
 made_group number = act.Group (numbered_path number)
 
--- the act that creates a task, by its number: tasks 1 to 4 on the first processor, and so on
+-- the act that creates the task with a pid: tasks 1 to 4 are on processor 0, tasks 5 to 8 on
+-- processor 1, and so on
 abbrev pub made_task : Shape → ℕ → Act
 made_task shape pid =
     act.Fork (record { 0 = pid }) (home_of shape pid) (record { 0 = (pid - 1) / 4 })
 
--- an act at time 0
+-- the event that does an act at time 0
 abbrev pub at_start : Act → Event
 at_start what = record { at = 0; act = what }
 
@@ -61,28 +64,29 @@ first_events shape =
     map (λ number. at_start (made_group number)) (range_with_len 0 shape.groups)
     ++ map (λ pid. at_start (made_task shape pid)) (range_with_len 1 (task_count shape))
 
--- ---- what a task does next
+-- ---- the next event of a task
 
--- a random act, and the state after the random numbers that it used
+-- a random act, and the state of the generator after it
 pub record RandomEvent : Type 0 where
   pub act : Act
   pub state : ℕ
 
--- a blocked task is woken on any processor
+-- wakes the blocked task `pid` on a random processor
 abbrev pub woken : Shape → ℕ → ℕ → RandomEvent
 woken shape state pid = record {
   act = act.Wake (record { 0 = pid }) (record { 0 = random_event (next_state state) shape.cpus });
   state = next_state state;
 }
 
--- how the running task leaves its processor, by a number below 4: half of the ways wait for IO
+-- how the running task leaves its processor, for a random number below 4: 0 preemption, 1 sleep, 2
+-- and 3 a wait for IO
 abbrev pub way_of : ℕ → How
 way_of zero = Preempt
 way_of (suc zero) = Sleep
 way_of (suc (suc more)) = IoWait
 
--- a ready task runs next on its processor; if the processor is idle, no further random number is
--- used
+-- the ready task `pid` runs next on its processor. If the processor is idle, no random number is
+-- used.
 abbrev pub started : Tasks → ℕ → ℕ → Task → RandomEvent
 started tasks state pid task =
     if is_some (running_on tasks task.cpu.0)
@@ -92,18 +96,19 @@ started tasks state pid task =
     }
     else record { act = act.Switch task.cpu (Some (record { 0 = pid })) Idle; state = state }
 
--- ends a task's memory stall if it is in one, and begins one otherwise
+-- ends the memory stall of a task that is in one, and begins one for any other task
 abbrev pub stall_turn : ℕ → Task → Act
 stall_turn pid task =
     if task.stalled then act.Unstall (record { 0 = pid }) else act.Stall (record { 0 = pid })
 
--- a running task sleeps or waits for IO, or its memory stall begins or ends, by a number below 4
+-- the act of a running task, for a random number below 4: it sleeps (0), waits for IO (1), or
+-- begins or ends a memory stall (2 and 3)
 abbrev pub running_act : ℕ → Task → ℕ → Act
 running_act pid task zero = act.Switch task.cpu None Sleep
 running_act pid task (suc zero) = act.Switch task.cpu None IoWait
 running_act pid task (suc (suc more)) = stall_turn pid task
 
--- the next act of a task with this number, by its mode
+-- the next act of task `pid`, which depends on its mode
 abbrev pub next_of : Shape → Tasks → ℕ → ℕ → Task → Mode → RandomEvent
 next_of shape tasks state pid task Blocked = woken shape state pid
 next_of shape tasks state pid task Waiting = woken shape state pid
@@ -113,30 +118,31 @@ next_of shape tasks state pid task Running = record {
   state = next_state state;
 }
 
--- the next act of the task with this number; a task that doesn't exist would be woken, but every
--- task exists
+-- The next act of task `pid`. Every chosen task exists; the case `None` only makes the function
+-- total.
 abbrev pub next_if : Shape → Tasks → ℕ → ℕ → Option Task → RandomEvent
 next_if shape tasks state pid None = woken shape state pid
 next_if shape tasks state pid (Some task) = next_of shape tasks state pid task task.mode
 
--- the task that acts next, by a state
+-- the pid of the task that acts next, from a random state
 abbrev pub chosen : Shape → ℕ → ℕ
 chosen shape state = 1 + random_event state (task_count shape)
 
--- the next act: the first random number gives the time (ns) until it, the second the task
+-- The next act. The first random number after `state` gives the time of the event (see
+-- `next_event`); the second chooses the task.
 unfoldable pub next_random : Shape → Tasks → ℕ → RandomEvent
 next_random shape tasks state =
     next_if shape tasks (next_state (next_state state)) (chosen shape (next_state (next_state state)))
     (task_of tasks (chosen shape (next_state (next_state state))))
 
--- the next event in a world: less than 2 ms later
+-- the next event in world `w`, less than 2 ms after the last event
 abbrev pub next_event : Shape → World → ℕ → Event
 next_event shape w state = record {
   at = w.last + random_event (next_state state) 2000000;
   act = (next_random shape w.tasks state).act;
 }
 
--- the next n events from a world and a state, and the end at the time of the last
+-- `left` random events from a world and a state, followed by the end at the time of the last event
 unfoldable pub random_events : Shape → ℕ → World → ℕ → List Event
 random_events shape zero w state = record { at = w.last; act = act.End } ∷ []
 random_events shape (suc left) w state =
@@ -146,7 +152,7 @@ random_events shape (suc left) w state =
 
 -- ---- the trace
 
--- the trace of a shape: its groups and tasks are created, then come its events
+-- the trace of a shape: events that create its groups and tasks, followed by random events
 abbrev pub generated : Shape → Trace
 generated shape = record {
   version = One;
@@ -155,6 +161,6 @@ generated shape = record {
       ++ random_events shape shape.events (after (first_events shape)) shape.seed;
 }
 
--- the text of `gen`
+-- the output of `gen`
 abbrev pub gen_text : Shape → List ℕ
 gen_text shape = text_of (generated shape)

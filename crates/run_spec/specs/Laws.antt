@@ -1,5 +1,5 @@
--- Consequences of what a run promises: laws of the words of commands, of missing files, of the
--- number of reads, and of traces without kills.
+-- Laws that follow from the definitions: about command words, missing files, the number of read
+-- calls, and the rounds of `whatif`.
 use Rattle.std.specs.Prelude.{◌≡◌, ◌≢◌, ℕ, ◌+◌, ◌≤◌, ◌<◌, List, [], ◌∷◌, ◌++◌, length, false, codes, Option, None, Some, Ok, Err, slice_get, ◌⊎◌}
 use Rattle.std.specs.List.{list_any}
 use Rattle.run_spec.specs.declared.command.Command.{Command}
@@ -24,112 +24,119 @@ use Rattle.run_spec.specs.ReadOrder.{FailsAt, ReadsInOrder, names_in_order}
 use Rattle.run_spec.specs.Run.{Ends, IsNoFile}
 use Rattle.run_spec.specs.declared.status.Status.TheVariants as status
 
--- ---- words
+-- ---- command words
 
--- the command that words spell is in range
+-- every command that `command_of` parses is in range
 abbrev pub SpelledInRange : Type 0
 SpelledInRange = (words : List (List ℕ)) (command : Command)
     → command_of words ≡ Some command → IsCommand command
 
--- `--name=value`
+-- the word `--name=value`
 abbrev pub assigned_word : List ℕ → List ℕ → List ℕ
 assigned_word name value = codes "--" ++ name ++ 61 ∷ value
 
--- a text has no `=`
+-- the text contains no `=`
 abbrev pub HasNoEquals : List ℕ → Type 0
 HasNoEquals text = list_any is_equals text ≡ false
 
--- two options with different names may be swapped
+-- two adjacent options with different names may be swapped
 abbrev pub OrderIsFree : Type 0
 OrderIsFree = (before after : List (List ℕ)) (name value other another : List ℕ)
     → HasNoEquals name → HasNoEquals other → name ≢ other
     → command_of (before ++ assigned_word name value ∷ assigned_word other another ∷ after)
     ≡ command_of (before ++ assigned_word other another ∷ assigned_word name value ∷ after)
 
--- if no `--` came before, an option's value may be a word of its own, unless it would be read as an
--- option
+-- `--name=value` may also be written as the two words `--name value`, if no earlier word is `--`
+-- and the value doesn't look like an option
 abbrev pub ValueMayFollow : Type 0
 ValueMayFollow = (before after : List (List ℕ)) (name value : List ℕ)
     → HasNoEquals name → name ≢ [] → is_dashed value ≡ false → is_among (codes "--") before ≡ false
     → command_of (before ++ assigned_word name value ∷ after)
     ≡ command_of (before ++ (codes "--" ++ name) ∷ value ∷ after)
 
--- ---- files that are missing
+-- ---- missing files
 
--- if the rules file of a command is known to be missing, a run reports that, or another failure
+-- if the rules file of a command is known to be missing, the run reports that, or fails to read, or
+-- runs out of memory
 abbrev pub MissingRulesShow : Type 0
 MissingRulesShow = (command : Command) (files : Option Files) (old new : Option (List ℕ)) (result : Status) (name : List ℕ)
     → Ends command files old new result → rules_name command ≡ Some name → IsAbsent files name
     → (result ≡ status.NoFile RulesFile) ⊎ (result ≡ status.ReadFault) ⊎ (result ≡ status.NoMemory no_memory)
 
--- if the drop-in file is known to be missing, a run reports that one of the two files is missing,
--- or another failure, or an error in the rules file, which comes first
+-- if the drop-in file of a command is known to be missing, the run reports that this file or the
+-- rules file is missing, or an error in the rules file, which is read first; or it fails to read,
+-- or runs out of memory
 abbrev pub MissingDropInShows : Type 0
 MissingDropInShows = (command : Command) (files : Option Files) (old new : Option (List ℕ)) (result : Status) (name : List ℕ)
     → Ends command files old new result → drop_in_name command ≡ Some name → IsAbsent files name
     → (result ≡ status.NoFile RulesFile) ⊎ (result ≡ status.NoFile DropInFile) ⊎ (result ≡ status.ReadFault)
     ⊎ (result ≡ status.NoMemory no_memory) ⊎ ((fault : RulesFault) × (result ≡ status.Rules fault))
 
--- if the file of the trace is known to be missing, a run reports that a file is missing, or another
--- failure, or an error in the rules or in the drop-in file, which come first
+-- if the trace or ftrace text of a command is known to be missing, the run reports a missing file,
+-- or an error in the rules file or in the drop-in file, which are read first; or it fails to read,
+-- or runs out of memory
 abbrev pub MissingSourceShows : Type 0
 MissingSourceShows = (command : Command) (files : Option Files) (old new : Option (List ℕ)) (result : Status) (name : List ℕ)
     → Ends command files old new result → source_name command ≡ Some name → IsAbsent files name
     → IsNoFile result ⊎ (result ≡ status.ReadFault) ⊎ (result ≡ status.NoMemory no_memory)
     ⊎ ((fault : RulesFault) × (result ≡ status.Rules fault)) ⊎ ((fault : DropFault) × (result ≡ status.DropIn fault))
 
--- If the rules file of a command is known to be missing, a failed read that a run reports is one of
--- that file.
+-- If the rules file of a command is known to be missing and the run ends with ReadFault, the failed
+-- read was one of the rules file.
 abbrev pub MissingRulesComeFirst : Type 0
 MissingRulesComeFirst = (command : Command) (files : Option Files) (before now : List ReadCall) (name : List ℕ)
     → ReadsInOrder command files before now status.ReadFault → rules_name command ≡ Some name → IsAbsent files name
     → FailsAt command before now RulesFile shelf.Failed
 
--- if the drop-in file is known to be missing, it is one of that file or of the rules file
+-- If the drop-in file of a command is known to be missing and the run ends with ReadFault, the
+-- failed read was one of the drop-in file or of the rules file.
 abbrev pub MissingDropInComesFirst : Type 0
 MissingDropInComesFirst = (command : Command) (files : Option Files) (before now : List ReadCall) (name : List ℕ)
     → ReadsInOrder command files before now status.ReadFault → drop_in_name command ≡ Some name → IsAbsent files name
     → FailsAt command before now RulesFile shelf.Failed ⊎ FailsAt command before now DropInFile shelf.Failed
 
--- ---- the number of reads
+-- ---- the number of read calls
 
--- the number of bytes that calls returned
+-- the number of bytes that read calls returned
 abbrev pub bytes_in : List ReadCall → ℕ
 bytes_in [] = 0
 bytes_in (call ∷ calls) = count_read call.outcome + bytes_in calls
 
--- a log grew by calls, at most this many more than the bytes that they returned
+-- the log grew by read calls whose number is at most the number of bytes that they returned plus
+-- `more`
 pub record CallsAreFew (more : ℕ) (before now : List ReadCall) : Type 0 where
   pub calls : List ReadCall
   pub grown : now ≡ before ++ calls
   pub few : length calls ≤ bytes_in calls + more
 
--- a file is read with at most one call more than the bytes that its calls return
+-- the number of read calls for one file is at most the number of bytes returned plus one
 abbrev pub FileCallsAreFew : Type 0
 FileCallsAreFew = (name : List ℕ) (before now : List ReadCall) (fault : Option ShelfFault)
     → ReadsFile name 0 before now fault → CallsAreFew 1 before now
 
--- a command reads with at most one call more for each of its files
+-- the number of read calls of a command is at most the number of bytes returned plus one for each
+-- of its files
 abbrev pub CommandCallsAreFew : Type 0
 CommandCallsAreFew = (command : Command) (files : Option Files) (before now : List ReadCall) (result : Status)
     → ReadsInOrder command files before now result → CallsAreFew (length (names_in_order command)) before now
 
--- ---- traces without kills
+-- ---- rounds of `whatif`
 
--- If a round finds no kill with its number, no later round does: the trace after that round is the
--- last trace.
+-- If a round finds no kill with its number, the trace at that point is the last trace.
 abbrev pub LastWithoutKill : Type 0
 LastWithoutKill = (trace left : Trace) (timing : Timing) (rules : List Rule) (count : ℕ) → count ≤ most_rounds
     → length left.events ≤ most_events
     → after_rounds trace timing rules count ≡ Ok left → slice_get (all_kills left timing rules) count ≡ None
     → last_trace trace timing rules ≡ Ok left
 
--- If a round leaves too many events, that number of events is the result.
+-- If the first `count` rounds end with too many events, `last_trace` is `Err` with that number of
+-- events.
 abbrev pub LastOutgrown : Type 0
 LastOutgrown = (trace : Trace) (timing : Timing) (rules : List Rule) (count events : ℕ) → count ≤ most_rounds
     → after_rounds trace timing rules count ≡ Err events → last_trace trace timing rules ≡ Err events
 
--- The result is such a number exactly if some round leaves more events than a trace may have.
+-- If `last_trace` is `Err events`, then some round left `events` events, which is more than a trace
+-- may have.
 abbrev pub OutgrownAtRound : Type 0
 OutgrownAtRound = (trace : Trace) (timing : Timing) (rules : List Rule) (events : ℕ) → last_trace trace timing rules ≡ Err events
     → (number : ℕ) × (left : Trace) × (number < most_rounds) × (after_rounds trace timing rules number ≡ Ok left)

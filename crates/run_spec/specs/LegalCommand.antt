@@ -1,4 +1,4 @@
--- Properties of every command that words spell.
+-- Invariants of every command that `command_of` parses.
 use Rattle.std.specs.Prelude.{◌≡◌, ◌≢◌, ℕ, ◌-◌, ◌^◌, ◌≤◌, ◌<◌, List, [], true, codes, Option, None, IfSome, IsSome}
 use Rattle.psi_base.specs.Path.{is_path}
 use Rattle.run_spec.specs.declared.command.Command.{Command}
@@ -6,15 +6,16 @@ use Rattle.run_spec.specs.declared.command.Command.TheVariants.{Stall, Check, Re
 use Rattle.run_spec.specs.declared.command.Options.{Options}
 use Rattle.run_spec.specs.declared.command.Shape.{Shape}
 
--- a number is between a least and a greatest number
+-- the number is between `least` and `most`, inclusive
 abbrev pub IsWithin : ℕ → ℕ → ℕ → Type 0
 IsWithin least most number = (least ≤ number) × (number ≤ most)
 
--- the file name that an option gives isn't empty, and isn't `-` (standard input)
+-- the file name that an option gives, if any, isn't empty and isn't `-` (standard input)
 abbrev pub IsOptionName : Option (List ℕ) → Type 0
 IsOptionName named = IfSome named (λ name. (name ≢ []) × (name ≢ codes "-"))
 
--- the options of `replay` and `whatif` are in range
+-- the options of `replay` and `whatif` are in range, and a drop-in file comes only with a rules
+-- file
 pub record AreOptions (options : Options) : Type 0 where
   pub rules : IsOptionName options.rules
   pub drop_in : IsOptionName options.drop_in
@@ -26,14 +27,14 @@ pub record AreOptions (options : Options) : Type 0 where
   pub live : IfSome options.live (λ path. is_path path ≡ true)
   pub live_count : IsWithin 1 16 options.live_count
 
--- a shape's numbers are in range
+-- the numbers of a shape are in range
 pub record IsShape (shape : Shape) : Type 0 where
   pub seed : shape.seed < 2 ^ 64
   pub cpus : IsWithin 1 64 shape.cpus
   pub groups : shape.groups ≤ 1000
   pub events : shape.events ≤ 3900000
 
--- everything in a command is in range, and no file name is empty
+-- all numbers of a command are in range, and no file name is empty
 abbrev pub IsCommand : Command → Type 0
 IsCommand (Stall trace) = trace ≢ []
 IsCommand (Check trace tick_ms) = (trace ≢ []) × IsWithin 1 60000 tick_ms

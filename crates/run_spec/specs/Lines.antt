@@ -6,7 +6,7 @@ use Rattle.psi_spec.specs.Fields.{resource_word, level_word}
 use Rattle.psi_spec.specs.Grammar.{joined}
 use Rattle.pressure_spec.specs.File.{file_text, irq_text}
 
--- a number after its label
+-- a label followed by a number
 abbrev pub labelled : List ℕ → ℕ → List ℕ
 labelled label n = label ++ decimal n
 
@@ -16,14 +16,14 @@ line_of words = joined words ++ codes "\n"
 
 -- ---- stall and check
 
--- the line of a group on a processor: its times (ns) in the states, in the states' order, then
--- further words
+-- the line of `stall` for a group on processor `cpu`: its times (ns) in the states, in the order of
+-- the states, and in version 2 its interrupt time (ns)
 abbrev pub stall_line : ℕ → List ℕ → List ℕ → List ℕ
 stall_line cpu path times =
     line_of (codes "stall" ∷ labelled (codes "cpu=") cpu ∷ path ∷ map decimal times)
 
--- the line for a trace of n events, including the end: the number of lines, including the header,
--- the number of events, and the end time (ns)
+-- the line of `check` for an accepted trace of `events` events, including `end`: the number of
+-- lines, including the header, the number of events, and the end time (ns)
 abbrev pub check_line : ℕ → ℕ → List ℕ
 check_line events end =
     line_of (codes "ok" ∷ labelled (codes "lines=") (events + 1) ∷ labelled (codes "events=") events
@@ -31,48 +31,49 @@ check_line events end =
 
 -- ---- replay
 
--- a sample of a clock of the watched group at a tick (ns): the processor, the number of its
--- changes, and its times (ns) in the states, in the states' order
+-- the line of a live sample at time `at` (ns): the processor, the number of its changes, and the
+-- watched group's times (ns) in the states, in the order of the states
 abbrev pub live_line : ℕ → ℕ → ℕ → List ℕ → List ℕ
 live_line at cpu count seven =
     line_of (codes "live" ∷ decimal at ∷ labelled (codes "cpu=") cpu ∷ labelled (codes "count=") count
     ∷ map decimal seven)
 
--- a signal at a tick (ns): the trigger's number, its group's path, and what it watches, with its
--- threshold and window (us)
+-- the line of a trigger that signals at time `at` (ns): the trigger's number, its group's path, its
+-- resource and level, its threshold and its window (us)
 abbrev pub event_line : ℕ → ℕ → List ℕ → TriggerSpec → List ℕ
 event_line at index path trigger =
     line_of (codes "event" ∷ decimal at ∷ labelled (codes "trigger=") index ∷ path
     ∷ resource_word trigger.res ∷ level_word trigger.level
     ∷ decimal trigger.threshold_us ∷ decimal trigger.window_us ∷ [])
 
--- a kill at a tick (ns): the numbers of the ruleset and of its action (both from 0), and the
--- victim's path
+-- the line of a kill at time `at` (ns): the numbers of the ruleset and of its action (both from 0),
+-- and the victim's path
 abbrev pub kill_line : ℕ → ℕ → ℕ → List ℕ → List ℕ
 kill_line at rule action path =
     line_of (codes "kill" ∷ decimal at ∷ labelled (codes "ruleset=") rule
     ∷ labelled (codes "action=") action ∷ path ∷ [])
 
--- the line before a pressure file: the tick (ns), the group's path and the name of the file
+-- the line before a pressure file: the time of the tick (ns), the group's path and the name of the
+-- file
 abbrev pub head_line : ℕ → List ℕ → List ℕ → List ℕ
 head_line at path word = line_of (codes "report" ∷ decimal at ∷ path ∷ word ∷ [])
 
--- the line before the pressure file of a resource
+-- the line before the pressure file of resource `res`
 abbrev pub report_head : ℕ → List ℕ → Res → List ℕ
 report_head at path res = head_line at path (resource_word res)
 
--- a report on a resource of a group at a tick (ns): its head line, and the pressure file with the
--- totals (ns) and averages
+-- the report on one resource of a group at time `at` (ns): its head line, and the pressure file
+-- with the totals (ns) and averages
 abbrev pub report_text : ℕ → List ℕ → Res → Bool → List ℕ → List (List ℕ) → List ℕ
 report_text at path res is_root totals averages =
     report_head at path res ++ file_text res is_root totals averages
 
--- a report on interrupts of a group at a tick (ns): its head line, and the pressure file with the
--- averages and the total (ns)
+-- the report on the interrupts of a group at time `at` (ns): its head line, and the pressure file
+-- with the averages and the total (ns)
 abbrev pub irq_report : ℕ → List ℕ → List ℕ → ℕ → List ℕ
 irq_report at path averages total = head_line at path (codes "irq") ++ irq_text averages total
 
--- the last line of a replay: the end time (ns), and the numbers of ticks, signals and kills
+-- the last line of a replay: the end time (ns), and the numbers of ticks, of signals and of kills
 abbrev pub end_line : ℕ → ℕ → ℕ → ℕ → List ℕ
 end_line at ticks events kills =
     line_of (codes "end" ∷ decimal at ∷ labelled (codes "ticks=") ticks

@@ -1,5 +1,5 @@
--- The files that a command reads, the length of its ticks, the trace that it gets from a file, and
--- its output.
+-- The files that a command reads, the trace and the rules that it parses from them, its tick
+-- length, and its output.
 use Rattle.std.specs.Prelude.{◌≡◌, ℕ, ◌*◌, List, [], ◌∷◌, ◌++◌, codes, Option, None, Some, Result, Ok, Err}
 use Rattle.psi_base.specs.declared.event.Event.{Event}
 use Rattle.psi_base.specs.declared.event.Refusal.{Refusal}
@@ -27,7 +27,7 @@ use Rattle.run_spec.specs.Live.{LiveWatch}
 use Rattle.run_spec.specs.Replay.{IsReplayText, Timing, stress_text}
 use Rattle.run_spec.specs.Whatif.{last_trace}
 
--- the name of the trace that a command reads, if any
+-- the name of the trace file that a command reads, or `None`
 abbrev pub trace_name : Command → Option (List ℕ)
 trace_name (Stall trace) = Some trace
 trace_name (Check trace tick_ms) = Some trace
@@ -38,54 +38,54 @@ trace_name (Import file cpus) = None
 trace_name (Rules file drop_in) = None
 trace_name (Whatif trace options) = Some trace
 
--- the name of the rules file that a command reads, if any
+-- the name of the rules file that a command reads, or `None`
 abbrev pub rules_name : Command → Option (List ℕ)
 rules_name (Replay trace options) = options.rules
 rules_name (Rules file drop_in) = Some file
 rules_name (Whatif trace options) = options.rules
 rules_name _ = None
 
--- the name of the drop-in file that a command reads, if any
+-- the name of the drop-in file that a command reads, or `None`
 abbrev pub drop_in_name : Command → Option (List ℕ)
 drop_in_name (Replay trace options) = options.drop_in
 drop_in_name (Rules file drop_in) = drop_in
 drop_in_name (Whatif trace options) = options.drop_in
 drop_in_name _ = None
 
--- the name of the ftrace text that a command imports, if any
+-- the name of the ftrace text that a command imports, or `None`
 abbrev pub import_name : Command → Option (List ℕ)
 import_name (Import file cpus) = Some file
 import_name _ = None
 
--- the name of a command's file of this kind, if it reads one
+-- the name of a command's file of a given kind, or `None` if it reads no such file
 abbrev pub file_of : Command → Which → Option (List ℕ)
 file_of command RulesFile = rules_name command
 file_of command TraceFile = trace_name command
 file_of command ImportFile = import_name command
 file_of command DropInFile = drop_in_name command
 
--- the kind of file that contains a command's trace
+-- the kind of file from which a command gets its trace
 abbrev pub source_of : Command → Which
 source_of (Import file cpus) = ImportFile
 source_of _ = TraceFile
 
--- the name of that file, if the command reads one
+-- the name of the file from which a command gets its trace, or `None` if it reads no such file
 abbrev pub source_name : Command → Option (List ℕ)
 source_name command = file_of command (source_of command)
 
--- ms in ns
+-- milliseconds as nanoseconds
 abbrev pub of_ms : ℕ → ℕ
 of_ms n = n * 1000000
 
--- the length of a tick (ns); the latest time of a trace is a million ticks
+-- the length of a tick (ns); a trace may last at most a million ticks
 abbrev pub tick_length : Command → ℕ
 tick_length (Check trace tick_ms) = of_ms tick_ms
 tick_length (Replay trace options) = of_ms options.tick_ms
 tick_length (Whatif trace options) = of_ms options.tick_ms
 tick_length _ = of_seconds 2
 
--- the trace versions that a command accepts: any for `stall`, `check`, `replay` and `whatif`, and
--- only the first for each other command
+-- the trace versions that a command accepts: all versions for `stall`, `check`, `replay` and
+-- `whatif`, and version 1 for the other commands
 abbrev pub versions_of : Command → List Version
 versions_of (Stall trace) = versions
 versions_of (Check trace tick_ms) = versions
@@ -93,60 +93,61 @@ versions_of (Replay trace options) = versions
 versions_of (Whatif trace options) = versions
 versions_of _ = One ∷ []
 
--- what a command accepts as a trace: a version that it accepts, with all the verbs of that version,
--- at the length of its ticks
+-- what a command accepts as a trace: the accepted versions, all verbs of each, and times up to a
+-- million ticks
 abbrev pub accepts_of : Command → Accepts
 accepts_of command = accepts_with (versions_of command) (tick_length command)
 
--- a trace, or the status for its first rejected line
+-- the trace, or the status that reports its first rejected line
 abbrev pub or_refused_trace : Result Trace Refusal → Result Trace Status
 or_refused_trace (Ok trace) = Ok trace
 or_refused_trace (Err refusal) = Err (status.Trace refusal.line refusal.cause)
 
--- the trace of imported events, on n processors, or the status for the first rejected line of their
--- text
+-- the trace of the imported events on `cpus` processors, or the status that reports the first
+-- rejected line of the ftrace text
 abbrev pub or_not_imported : ℕ → Result (List Event) Refused → Result Trace Status
 or_not_imported cpus (Ok events) = Ok (import_trace cpus events)
 or_not_imported cpus (Err refusal) = Err (status.Import refusal.line refusal.cause)
 
--- The trace that a command gets from the bytes of its file, or the status for the first rejected
--- line: `import` converts an ftrace text, and each other command parses a trace.
+-- Parses a command's file: `import` converts an ftrace text, and every other command parses a
+-- trace. The result is the trace, or the status that reports the first rejected line.
 abbrev pub parse_of : Command → List ℕ → Result Trace Status
 parse_of (Import file cpus) bytes = or_not_imported cpus (import_of cpus bytes)
 parse_of command bytes = or_refused_trace (trace_of (accepts_of command) bytes)
 
--- parsed rules, or the status for the first error in the rules file
+-- the parsed rules, or the status that reports the first error in the rules file
 abbrev pub or_rules_fault : Result types.Rules RulesFault → Result types.Rules Status
 or_rules_fault (Ok rules) = Ok rules
 or_rules_fault (Err fault) = Err (status.Rules fault)
 
--- rules with a drop-in file applied, or the status for the first error in the drop-in file
+-- the rules with a drop-in file applied, or the status that reports the first error in the drop-in
+-- file
 abbrev pub or_drop_fault : Result types.Rules DropFault → Result types.Rules Status
 or_drop_fault (Ok rules) = Ok rules
 or_drop_fault (Err fault) = Err (status.DropIn fault)
 
--- parsed rules, with the bytes of a drop-in file applied (None: no drop-in file)
+-- applies the content of a drop-in file to parsed rules; `None` means that there is no drop-in file
 abbrev pub with_drop_in : Option (List ℕ) → Result types.Rules Status → Result types.Rules Status
 with_drop_in drop_in (Err why) = Err why
 with_drop_in None (Ok base) = Ok base
 with_drop_in (Some bytes) (Ok base) = or_drop_fault (dropped_in base bytes)
 
--- The rules of a command: those of the bytes of its rules file, with the bytes of its drop-in file
--- applied, if it has one; or the status for the first error, which says in which of the two files
+-- Parses a command's rules: the content of its rules file, with the content of its drop-in file (if
+-- any) applied. An error is the status that reports the first error, and in which of the two files
 -- it is.
 abbrev pub rules_from : List ℕ → Option (List ℕ) → Result types.Rules Status
 rules_from bytes drop_in = with_drop_in drop_in (or_rules_fault (rules_of bytes))
 
--- what is watched, if a path is given
+-- the watched path with `count` samples, or `None` if no path is watched
 abbrev pub watch_of_path : ℕ → Option (List ℕ) → Option LiveWatch
 watch_of_path count None = None
 watch_of_path count (Some path) = Some (record { path = path; count = count })
 
--- what the options watch
+-- the group that the options watch, if any
 abbrev pub watch_of : Options → Option LiveWatch
 watch_of options = watch_of_path options.live_count options.live
 
--- how the options replay a trace
+-- the tick length, report period, evaluation interval and watched group that the options request
 abbrev pub timing_of : Options → Timing
 timing_of options = record {
   length = of_ms options.tick_ms;
@@ -155,8 +156,8 @@ timing_of options = record {
   watch = watch_of options;
 }
 
--- the options with which `stress` replays: the defaults, except that only the last tick has a
--- report, and with its own number of threads
+-- the options with which `stress` replays: the defaults, except for `workers` and for reports,
+-- which come only at the last tick
 abbrev pub stress_options : ℕ → Options
 stress_options workers = record {
   rules = None;
@@ -169,12 +170,12 @@ stress_options workers = record {
   live_count = 1;
 }
 
--- A text is the whole output of a command for an accepted trace and rulesets. `replay` may have
--- several outputs if a group is watched, because a live sample may be taken after any number of
--- changes between the previous tick's and its own. `gen` and `stress` read no file: their trace is
--- the one of their shape. `import` prints its trace, which has the number of processors in its
--- options. `rules` has no trace, and prints its rulesets. `whatif` prints what `replay` prints for
--- the last trace, from which the victims of its kills were removed.
+-- The text is a whole output of a command for a valid trace and valid rulesets. If a group is
+-- watched, `replay` has several whole outputs, because a live sample may be taken after any number
+-- of changes between the counts at the previous tick and at this tick. `gen` and `stress` read no
+-- file: their trace is the generated trace of their shape. `import` prints its trace, whose number
+-- of processors is an option. `rules` has no trace, and prints its rulesets. `whatif` prints the
+-- replay of the last trace, without the victims of the kills.
 abbrev pub IsOutput : Command → Trace → List Rule → List ℕ → Type 0
 IsOutput (Stall name) trace rules text = text ≡ stall_text trace
 IsOutput (Check name tick_ms) trace rules text = text ≡ check_text trace
@@ -188,13 +189,14 @@ IsOutput (Rules file drop_in) trace rules text = text ≡ rules_text rules ++ co
 IsOutput (Whatif name options) trace rules text =
     (last : Trace) × (last_trace trace (timing_of options) rules ≡ Ok last) × IsReplayText last (timing_of options) rules text
 
--- the status for a last trace, or for a round that left more events than a trace may have
+-- the status for the result of `last_trace`: Done, or TooLarge if a round left more events than a
+-- trace may have
 abbrev pub status_of_last : Result Trace ℕ → Status
 status_of_last (Ok last) = status.Done
 status_of_last (Err events) = status.TooLarge events
 
--- How a command ends for an accepted trace and rulesets if nothing fails: Done, unless a round of
--- `whatif` leaves more events than a trace may have.
+-- The status of a command for a valid trace and valid rulesets if nothing fails: Done, unless a
+-- round of `whatif` leaves more events than a trace may have.
 abbrev pub outcome_of : Command → Trace → List Rule → Status
 outcome_of (Whatif name options) trace rules = status_of_last (last_trace trace (timing_of options) rules)
 outcome_of command trace rules = status.Done

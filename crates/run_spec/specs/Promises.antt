@@ -1,5 +1,5 @@
--- What a run promises about accepted and rejected files, given the counts and the log of reads
--- before it and at its end.
+-- The result of a run for accepted files and for rejected files, given the failure counts or the
+-- log of read calls before the run and at its end.
 use Rattle.std.specs.Prelude.{◌≡◌, ◌⊎◌, ℕ, List, Option, Some, Ok, Err}
 use Rattle.psi_base.specs.Memory.{no_memory}
 use Rattle.outside.specs.Outside.{Files, Increased, content_of}
@@ -18,34 +18,36 @@ use Rattle.run_spec.specs.Outputs.{outcome_of, parse_of, rules_from, rules_name,
 use Rattle.run_spec.specs.ReadOrder.{FailedAt}
 use Rattle.run_spec.specs.Run.{HasContent, ReadsFiles, RulesContent, RunCounts}
 
--- Accepted rules and an accepted file give the outcome, unless a read or write failed or memory ran
--- out.
+-- If the rules and the command's file are accepted, the run ends as `outcome_of` says, unless a
+-- read or a write fails or memory runs out.
 abbrev pub Completes : Command → Option Files → RunCounts → RunCounts → Status → Type 0
 Completes command files before now result = (rules : List Rule) (bytes : List ℕ) (trace : Trace)
     → RulesContent command files rules → HasContent command (source_of command) files bytes → parse_of command bytes ≡ Ok trace
     → (Increased before.shelf.faults now.shelf.faults → ⊥) → (Increased before.writes now.writes → ⊥)
     → (result ≡ outcome_of command trace rules) ⊎ (result ≡ status.NoMemory no_memory)
 
--- Accepted rules are printed by `rules`, unless a read or write failed or memory ran out.
+-- If the rules are accepted, `rules` prints them, unless a read or a write fails or memory runs
+-- out.
 abbrev pub PrintsRules : List ℕ → Option (List ℕ) → Option Files → RunCounts → RunCounts → Status → Type 0
 PrintsRules name drop_in files before now result = (rules : List Rule)
     → RulesContent (words.Rules name drop_in) files rules
     → (Increased before.shelf.faults now.shelf.faults → ⊥) → (Increased before.writes now.writes → ⊥)
     → (result ≡ status.Done) ⊎ (result ≡ status.NoMemory no_memory)
 
--- A command that reads no file is done, unless a write failed or memory ran out.
+-- A command that reads no file ends as Done, unless a write fails or memory runs out.
 abbrev pub MakesOutput : Command → RunCounts → RunCounts → Status → Type 0
 MakesOutput command before now result = (ReadsFiles command → ⊥) → (Increased before.writes now.writes → ⊥)
     → (result ≡ status.Done) ⊎ (result ≡ status.NoMemory no_memory)
 
--- A rejected rules file gives its first error, unless a read of that file failed or memory ran out.
+-- A rejected rules file gives the status with its first error, unless a read of that file fails or
+-- memory runs out.
 abbrev pub RejectsRules : Command → Option Files → List ReadCall → List ReadCall → Status → Type 0
 RejectsRules command files before now result = (name bytes : List ℕ) (fault : RulesFault)
     → rules_name command ≡ Some name → content_of files name ≡ Some bytes → rules_of bytes ≡ Err fault
     → (result ≡ status.Rules fault) ⊎ (result ≡ status.NoMemory no_memory) ⊎ FailedAt command before now RulesFile result
 
--- A rejected drop-in file for accepted rules gives its first error, unless a read of one of the two
--- files failed or memory ran out.
+-- If the rules file is accepted and the drop-in file is rejected, the result is the status with the
+-- first error of the drop-in file, unless a read of one of the two files fails or memory runs out.
 abbrev pub RejectsDropIn : Command → Option Files → List ReadCall → List ReadCall → Status → Type 0
 RejectsDropIn command files before now result = (bytes drop_in : List ℕ) (fault : DropFault)
     → HasContent command RulesFile files bytes → HasContent command DropInFile files drop_in
@@ -53,8 +55,8 @@ RejectsDropIn command files before now result = (bytes drop_in : List ℕ) (faul
     → (result ≡ status.DropIn fault) ⊎ (result ≡ status.NoMemory no_memory) ⊎ FailedAt command before now RulesFile result
     ⊎ FailedAt command before now DropInFile result
 
--- After accepted rules, a rejected file gives the status of its first rejected line, unless a read
--- failed or memory ran out.
+-- If the rules are accepted and the trace or ftrace text is rejected, the result is the status with
+-- its first rejected line, unless a read fails or memory runs out.
 abbrev pub RejectsSource : Command → Option Files → RunCounts → RunCounts → Status → Type 0
 RejectsSource command files before now result = (rules : List Rule) (bytes : List ℕ) (why : Status)
     → RulesContent command files rules → HasContent command (source_of command) files bytes → parse_of command bytes ≡ Err why

@@ -1,4 +1,4 @@
--- What `replay` prints: at each tick live lines, the signals of triggers, the kills of rules if an
+-- The output of `replay`. At each tick: live lines, the signals of triggers, the kills if an
 -- evaluation is due, and the pressure files of all live groups if a report is due.
 use Rattle.std.specs.Prelude.{◌≡◌, ℕ, ◌-◌, ◌≤◌, List, [], ◌++◌, length, sum_by, ◌==◌, Option, None, Some, if◌then◌else◌, slice_get, slice_index, slice_index_or, codes}
 use Rattle.std.specs.List.{flat_map, range_with_len}
@@ -21,21 +21,21 @@ use Rattle.run_spec.specs.Lines.{end_line, event_line, irq_report, kill_line, re
 use Rattle.run_spec.specs.Text.{end_of}
 use Rattle.run_spec.specs.Live.{IsLiveText, LiveWatch}
 
--- How a trace is replayed: the length of a tick (ns), the period of reports (ns; 0 for none), the
--- interval of evaluations (ns), and the watched group, if any.
+-- How a trace is replayed: the length of a tick (ns), the period of reports (ns; 0 means only at
+-- the last tick), the interval of evaluations (ns), and the watched group, if any.
 pub record Timing : Type 0 where
   pub length : ℕ
   pub report : ℕ
   pub interval : ℕ
   pub watch : Option LiveWatch
 
--- A replay's inputs apart from its trace: the lines of live samples at each tick, by its number,
--- and rulesets.
+-- The inputs of a replay apart from its trace: the live lines at each tick (by the tick's number),
+-- and the rulesets.
 pub record Beside : Type 0 where
   pub live : ℕ → List ℕ
   pub rules : List Rule
 
--- rulesets, and no live samples
+-- the inputs of a replay with these rulesets and without live lines
 abbrev pub with_rules : List Rule → Beside
 with_rules rules = record { live = λ _. []; rules = rules }
 
@@ -49,29 +49,29 @@ lives_of trace = (after trace.events).groups
 
 -- ---- signals
 
--- the numbers of the triggers that signal at a tick
+-- the numbers of the triggers that signal at tick `i`
 abbrev pub fired_in : Trace → Timing → ℕ → List ℕ
 fired_in trace timing i =
     fired_at trace.cpus (lives_of trace) (triggers_of trace.events) (ticks_of trace.cpus trace.events timing.length (i - 1))
     (tick_of trace.cpus trace.events timing.length i)
 
--- the line of a trigger that signals at a tick (ns), if there is such a trigger
+-- the line of a trigger that signals at time `at` (ns); nothing for `None`
 abbrev pub signal_line : ℕ → List GroupLife → ℕ → Option TriggerSpec → List ℕ
 signal_line at lives number None = []
 signal_line at lives number (Some trigger) = event_line at number (path_at lives trigger.slot.0) trigger
 
--- the lines of signals at a tick (ns), for the triggers with these numbers
+-- the lines of the triggers with these numbers, which signal at time `at` (ns)
 abbrev pub signal_lines : ℕ → List GroupLife → List TriggerSpec → List ℕ → List ℕ
 signal_lines at lives triggers numbers = flat_map (λ number. signal_line at lives number (slice_get triggers number)) numbers
 
--- the number of signals at the first n ticks
+-- the number of signals at the first `count` ticks
 abbrev pub signals_until : Trace → Timing → ℕ → ℕ
 signals_until trace timing count = sum_by (λ i. length (fired_in trace timing i)) (range_with_len 1 count)
 
 -- ---- kills
 
--- the kills at a tick: those of the rulesets at an evaluation, after the readings of all earlier
--- evaluations
+-- The kills at tick `i`, or none if no evaluation is due. They depend on the reading of the groups
+-- at this tick and on the readings at all earlier evaluations.
 abbrev pub kills_in : Trace → Timing → List Rule → ℕ → List Kill
 kills_in trace timing rules i =
     if is_evaluation timing.interval timing.length i
@@ -79,49 +79,50 @@ kills_in trace timing rules i =
     (readings_until trace.cpus trace.events timing.length timing.interval (i - 1))
     else []
 
--- the lines of kills
+-- the lines of kills, in order
 abbrev pub kill_lines : List GroupLife → List Kill → List ℕ
 kill_lines lives kills =
     flat_map (λ (kill : Kill). kill_line kill.at kill.rule kill.action (path_at lives kill.victim.0)) kills
 
--- the number of kills at the first n ticks
+-- the number of kills at the first `count` ticks
 abbrev pub kills_until : Trace → Timing → List Rule → ℕ → ℕ
 kills_until trace timing rules count = sum_by (λ i. length (kills_in trace timing rules i)) (range_with_len 1 count)
 
 -- ---- reports
 
--- the reports on the resources of a group at a tick (ns), from its totals (ns) and averages
+-- the reports on the resources of a group at time `at` (ns), given its totals (ns) and averages
 abbrev pub resource_files : ℕ → List ℕ → ℕ → List ℕ → List (List ℕ) → List ℕ
 resource_files at path slot totals averages = flat_map (λ res. report_text at path res (slot == 0) totals averages) resources
 
--- its report on interrupts, in a version that has them
+-- the report on the interrupts of a group in version 2; nothing in version 1, which has no
+-- interrupts
 abbrev pub irq_files : Version → ℕ → List ℕ → List ℕ → List (List ℕ) → List ℕ
 irq_files One at path totals averages = []
 irq_files Two at path totals averages = irq_report at path (slice_index_or averages irq_quantity []) (slice_index totals irq_quantity)
 
--- its reports in a trace of a version: on the resources, and in version 2 on interrupts
+-- all reports of a group: on the resources, and in version 2 also on interrupts
 abbrev pub files_text : Version → ℕ → List ℕ → ℕ → List ℕ → List (List ℕ) → List ℕ
 files_text version at path slot totals averages =
     resource_files at path slot totals averages ++ irq_files version at path totals averages
 
--- the report of a group at a tick
+-- all reports at tick `i` on a group, which is given as its path and its slot
 abbrev pub group_report : Trace → Timing → ℕ → List ℕ × ℕ → List ℕ
 group_report trace timing i group =
     files_text trace.version (tick_moment timing.length i) group.0 group.1
     (totals_after trace.cpus (lives_of trace) (ticks_of trace.cpus trace.events timing.length i) group.1)
     (group_averages trace.cpus (lives_of trace) (ticks_of trace.cpus trace.events timing.length i) group.1).averages
 
--- the groups that are live at a tick, sorted by the bytes of their paths, each with its slot
+-- the groups that are live at tick `i` with their slots, sorted by the bytes of their paths
 abbrev pub live_groups_at : Trace → Timing → ℕ → List (List ℕ × ℕ)
 live_groups_at trace timing i = live_groups (after (up_to trace.events (tick_moment timing.length i))).groups
 
--- the reports of all groups that are live at a tick
+-- the reports of all groups that are live at tick `i`
 abbrev pub reports : Trace → Timing → ℕ → List ℕ
 reports trace timing i = flat_map (group_report trace timing i) (live_groups_at trace timing i)
 
 -- ---- the whole output
 
--- the lines of a tick: live samples, signals, kills, and the report if one is due
+-- the output of tick `i`: live lines, signals, kills, and the reports if a report is due
 unfoldable pub tick_text : Trace → Timing → Beside → ℕ → List ℕ
 tick_text trace timing beside i =
     beside.live i
@@ -129,7 +130,7 @@ tick_text trace timing beside i =
     ++ kill_lines (lives_of trace) (kills_in trace timing beside.rules i)
     ++ (if is_report timing.report timing.length (tick_count trace timing) i then reports trace timing i else [])
 
--- the lines of the first n ticks
+-- the output of the first `count` ticks
 abbrev pub ticks_text : Trace → Timing → Beside → ℕ → List ℕ
 ticks_text trace timing beside count = flat_map (tick_text trace timing beside) (range_with_len 1 count)
 
@@ -139,24 +140,25 @@ last_line trace timing beside =
     end_line (end_of trace.events) (tick_count trace timing) (signals_until trace timing (tick_count trace timing))
     (kills_until trace timing beside.rules (tick_count trace timing))
 
--- the text of `replay`
+-- the output of `replay` with given live lines
 unfoldable pub replay_text : Trace → Timing → Beside → List ℕ
 replay_text trace timing beside = ticks_text trace timing beside (tick_count trace timing) ++ last_line trace timing beside
 
--- A text is the whole output of `replay`: at each tick its live lines are valid for that tick.
+-- The text is a whole output of `replay`: there are live lines, valid at each tick, with which it
+-- is the output.
 abbrev pub IsReplayText : Trace → Timing → List Rule → List ℕ → Type 0
 IsReplayText trace timing rules text =
     (live : ℕ → List ℕ) × ((i : ℕ) → 1 ≤ i → i ≤ tick_count trace timing → IsLiveText trace timing.length timing.watch i (live i))
     × (text ≡ replay_text trace timing (record { live = live; rules = rules }))
 
--- ---- the end alone
+-- ---- the output of `stress`
 
--- the root with its slot
+-- the root's path and slot
 abbrev pub root_group : List ℕ × ℕ
 root_group = (codes "/", 0)
 
--- the text of `stress`: the report of the root at the last tick, if there is a tick, and the last
--- line
+-- the output of `stress`: the reports of the root at the last tick (if there is a tick), and the
+-- last line
 abbrev pub stress_text : Trace → Timing → List ℕ
 stress_text trace timing =
     (if tick_count trace timing == 0 then [] else group_report trace timing (tick_count trace timing) root_group)

@@ -1,5 +1,5 @@
--- What a run of a command promises: what each status means for the files and the output, and which
--- counts of failures increase.
+-- The contract of a run: what each status implies for the files and the output, and which failure
+-- counts increase.
 use Rattle.std.specs.Prelude.{◌≡◌, ℕ, List, [], Option, None, Some, IsSome, MatchOption, option_map, Ok, Err, ⊤}
 use Rattle.std.specs.Io.KnownBytes.{Appends, Keeps}
 use Rattle.outside.specs.Outside.{Files, content_of, IsAbsent, Increased, AppendsPrefix, ShelfCounts, counts_of}
@@ -17,27 +17,27 @@ use Rattle.ruleset_json.specs.RuleRanges.{FitsRules}
 use Rattle.ruleset_json.specs.Rules.{rules_of}
 use Rattle.run_spec.specs.Outputs.{IsOutput, accepts_of, drop_in_name, file_of, outcome_of, rules_from, rules_name, source_of, parse_of}
 
--- ---- counts
+-- ---- failure counts
 
 -- the numbers of failed reads, of missing files, and of failed writes
 pub record RunCounts : Type 0 where
   pub shelf : ShelfCounts
   pub writes : ℕ
 
--- the counts of a run, from the three numbers
+-- the failure counts with these numbers of failed reads, missing files and failed writes
 abbrev pub run_counts : ℕ → ℕ → ℕ → RunCounts
 run_counts faults absent writes = record { shelf = counts_of faults absent; writes = writes }
 
--- a count increased if this happened, and is unchanged otherwise
+-- a count increased if `Happened` holds, and is unchanged if it doesn't
 pub record RisesWhere (Happened : Type 0) (before now : ℕ) : Type 0 where
   pub increased : Happened → Increased before now
   pub same : ¬ Happened → now ≡ before
 
--- the status says that a file is missing
+-- the status reports a missing file
 abbrev pub IsNoFile : Status → Type 0
 IsNoFile result = (which : Which) × (result ≡ status.NoFile which)
 
--- Each count increased exactly if the status reports its failure: so no failure is silently
+-- Each failure count increased exactly if the status reports its failure, so no failure is silently
 -- ignored.
 pub record FailuresAreCounted (before now : RunCounts) (result : Status) : Type 0 where
   pub faults : RisesWhere (result ≡ status.ReadFault) before.shelf.faults now.shelf.faults
@@ -46,18 +46,18 @@ pub record FailuresAreCounted (before now : RunCounts) (result : Status) : Type 
 
 -- ---- files
 
--- the bytes of a command's file of this kind are known to be these: the command reads such a file,
--- and the shelf's contents are known
+-- The command has a file `which`, and its content is known to be `bytes`.
 abbrev pub HasContent : Command → Which → Option Files → List ℕ → Type 0
 HasContent command which files bytes = (name : List ℕ) × (file_of command which ≡ Some name) × (content_of files name ≡ Some bytes)
 
--- the bytes of an optional file, if known; that no file is named is known too
+-- the content of an optional file, if known: `Some None` if no file is named, and `None` if the
+-- content of the named file is unknown
 abbrev pub content_if_named : Option Files → Option (List ℕ) → Option (Option (List ℕ))
 content_if_named files None = Some None
 content_if_named files (Some name) = option_map (λ bytes. Some bytes) (content_of files name)
 
--- the bytes of a command's drop-in file are known to be these, or it reads no such file and there
--- are no bytes
+-- The command's drop-in file is known to contain the bytes `drop_in`; or it has no drop-in file,
+-- and `drop_in` is `None`.
 abbrev pub DropInContent : Command → Option Files → Option (List ℕ) → Type 0
 DropInContent command files drop_in = content_if_named files (drop_in_name command) ≡ Some drop_in
 
@@ -66,9 +66,9 @@ abbrev pub HasTrace : Command → Type 0
 HasTrace (words.Rules file drop_in) = ⊥
 HasTrace _ = ⊤
 
--- A command takes a trace: its version and the verbs of its events are accepted, and the events are
--- a legal trace. If the bytes of the command's file are known, it is the trace that the command
--- gets from them.
+-- `trace` is a valid trace for the command: its version and the verbs of its events are accepted,
+-- and its events are legal. If the content of the command's file is known, `trace` is parsed from
+-- it.
 pub record TakesTrace (command : Command) (files : Option Files) (trace : Trace) : Type 0 where
   pub version : IsAmong trace.version (accepts_of command).versions
   pub cpus : IsCpuCount trace.cpus
@@ -76,20 +76,22 @@ pub record TakesTrace (command : Command) (files : Option Files) (trace : Trace)
   pub accepted : IsAccepted (limits_of (accepts_of command).tick trace.cpus) trace.events
   pub read : (bytes : List ℕ) → HasContent command (source_of command) files bytes → parse_of command bytes ≡ Ok trace
 
--- A command takes rulesets: each is in its ranges. They are those of the bytes of its rules file
--- and of the drop-in file, if these are known, and there are none if it reads no rules file.
+-- `rules` are valid rulesets for the command: each is in its ranges. If the contents of the rules
+-- file and of the drop-in file are known, `rules` are parsed from them. A command without a rules
+-- file has no rulesets.
 pub record TakesRules (command : Command) (files : Option Files) (rules : List Rule) : Type 0 where
   pub fit : FitsRules rules
   pub none : rules_name command ≡ None → rules ≡ []
   pub read : (bytes : List ℕ) (drop_in : Option (List ℕ)) → HasContent command RulesFile files bytes → DropInContent command files drop_in
       → rules_from bytes drop_in ≡ Ok (record { rules = rules })
 
--- a command takes these rules from its rules file, before a drop-in file is applied
+-- if the content of the command's rules file is known, it is parsed as `base`, before a drop-in
+-- file is applied
 abbrev pub TakesBase : Command → Option Files → Rules → Type 0
 TakesBase command files base = (bytes : List ℕ) → HasContent command RulesFile files bytes → rules_of bytes ≡ Ok base
 
--- the rulesets of a command are known to be these: those of its rules file with the drop-in file
--- applied, if it reads one, or none if it reads no rules file
+-- The rulesets of a command are known to be `rules`: the rulesets of its rules file with the
+-- drop-in file (if any) applied, or none if it has no rules file.
 abbrev pub RulesContent : Command → Option Files → List Rule → Type 0
 RulesContent command files rules = MatchOption (rules_name command) (rules ≡ [])
     (λ name. (bytes : List ℕ) × (drop_in : Option (List ℕ)) × (content_of files name ≡ Some bytes) × DropInContent command files drop_in
@@ -97,7 +99,7 @@ RulesContent command files rules = MatchOption (rules_name command) (rules ≡ [
 
 -- ---- statuses
 
--- no file of a command of this kind is known to be missing
+-- the command's file `which`, if it has one, isn't known to be missing
 abbrev pub IsThere : Command → Option Files → Which → Type 0
 IsThere command files which = (name : List ℕ) → file_of command which ≡ Some name → IsAbsent files name → ⊥
 
@@ -105,15 +107,16 @@ IsThere command files which = (name : List ℕ) → file_of command which ≡ So
 abbrev pub RulesAreThere : Command → Option Files → Type 0
 RulesAreThere command files = IsThere command files RulesFile × IsThere command files DropInFile
 
--- A command's whole output for an accepted trace and rulesets has a property, and none of its files
--- is missing. The output of a command without a trace doesn't depend on one.
+-- A whole output of the command, for a valid trace and valid rulesets, satisfies the property
+-- `IsSo`, and none of the command's files is missing. The output of a command without a trace
+-- doesn't depend on a trace.
 abbrev pub HasOutput : Command → Option Files → (List ℕ → Type 0) → Type 0
 HasOutput command files IsSo =
     (trace : Trace) × (rules : List Rule) × (HasTrace command → TakesTrace command files trace) × TakesRules command files rules
     × RulesAreThere command files × IsThere command files (source_of command)
     × ((text : List ℕ) × IsOutput command trace rules text × IsSo text)
 
--- If nothing fails, a command ends with this status for an accepted trace and rulesets, and none of
+-- If nothing fails, the command ends with `result` for a valid trace and valid rulesets. None of
 -- its files is missing.
 pub record ComesTo (command : Command) (files : Option Files) (result : Status) : Type 0 where
   pub trace : Trace
@@ -124,30 +127,32 @@ pub record ComesTo (command : Command) (files : Option Files) (result : Status) 
   pub there : IsThere command files (source_of command)
   pub outcome : outcome_of command trace rules ≡ result
 
--- What comes before a command reads its file of this kind is in order: the rules file comes first,
--- then the drop-in file, then any other. The files before it exist.
+-- All that a command reads before its file of a given kind was accepted. That is nothing for the
+-- rules file, the rules file for the drop-in file, and the rules with the drop-in file applied for
+-- any other file. None of the earlier files is missing.
 abbrev pub IsPassed : Command → Option Files → Which → Type 0
 IsPassed command files RulesFile = ⊤
 IsPassed command files DropInFile =
     (base : Rules) × IsSome (rules_name command) × TakesBase command files base × IsThere command files RulesFile
 IsPassed command files _ = (rules : List Rule) × TakesRules command files rules × RulesAreThere command files
 
--- a command reads a file of some kind
+-- the command reads at least one file
 abbrev pub ReadsFiles : Command → Type 0
 ReadsFiles command = (which : Which) × IsSome (file_of command which)
 
--- Nothing was written, and a status reports the first rejected line of a command's file of this
--- kind, after everything before it was in order.
+-- Nothing was written, and `result` reports the first rejected line of the command's file `which`.
+-- Everything that precedes this file was accepted.
 abbrev pub Refuses : Command → Option Files → Option (List ℕ) → Option (List ℕ) → Which → Status → Type 0
 Refuses command files old new which result =
     Keeps old new × IsSome (file_of command which) × IsPassed command files which × IsThere command files which
     × ((bytes : List ℕ) → HasContent command which files bytes → parse_of command bytes ≡ Err result)
 
--- What a status says about a command, with the files of the shelf if known, and with the sink's
--- bytes before and after: the whole output or a prefix of it, for an accepted trace and rulesets;
--- the first error in the rules file or in the drop-in file; after the rules, the first rejected
--- line of the trace or of an ftrace text; that what a round left of the trace is too large; or a
--- missing file. Unless the status is Done or WriteFault, the sink is unchanged.
+-- What a status implies, given the contents of the files (if known) and the bytes of the output
+-- before and after. Done: the whole output for a valid trace and valid rulesets was written.
+-- WriteFault: a prefix of it was written. Rules, DropIn: the first error in the rules file or in
+-- the drop-in file. Trace, Import: the first rejected line of the trace or of the ftrace text,
+-- after accepted rules. TooLarge: a round of `whatif` leaves too many events. NoFile: a file is
+-- missing. For every status except Done and WriteFault the output is unchanged.
 abbrev pub Ends : Command → Option Files → Option (List ℕ) → Option (List ℕ) → Status → Type 0
 Ends command files old new status.Done = HasOutput command files (λ text. Appends old new text)
 Ends command files old new status.WriteFault = HasOutput command files (λ text. AppendsPrefix old new text)
@@ -167,7 +172,7 @@ Ends command files old new status.ReadFault = Keeps old new × ReadsFiles comman
 Ends command files old new (status.NoMemory _) = Keeps old new
 Ends command files old new status.Usage = ⊥
 
--- A run of a command: what its status says, and the counts.
+-- The contract of a run of a command: what its status implies, and the failure counts.
 pub record Runs (command : Command) (files : Option Files) (before now : RunCounts) (old new : Option (List ℕ))
     (result : Status) : Type 0 where
   pub ends : Ends command files old new result

@@ -1,4 +1,4 @@
--- The exit codes of statuses, and the text that reports each status.
+-- The exit status for each status of a run, and the message that reports it.
 use Rattle.std.specs.Prelude.{ℕ, List, [], ◌++◌, codes, decimal, Option, None, Some}
 use Rattle.psi_base.specs.declared.event.Cause.{Cause}
 use Rattle.import_spec.specs.declared.cause.ImportCause.{ImportCause}
@@ -25,25 +25,25 @@ code_of (status.Import line why) = 8
 code_of (status.DropIn fault) = 9
 code_of (status.TooLarge events) = 10
 
--- a name, if there is one
+-- the name, or no bytes for `None`
 abbrev pub name_or_none : Option (List ℕ) → List ℕ
 name_or_none None = []
 name_or_none (Some name) = name
 
--- the name of a command's file of this kind
+-- the name of the command's file `which`, or no bytes if it is unknown
 abbrev pub name_text : Option Command → Which → List ℕ
 name_text None which = []
 name_text (Some command) which = name_or_none (file_of command which)
 
--- the line that reports a rejected line of a trace
+-- the message for a rejected line of a trace
 abbrev pub refusal_text : ℕ → Cause → List ℕ
 refusal_text line why = codes "trace line " ++ (decimal line ++ (codes ": " ++ (cause_text why ++ codes "\n")))
 
--- the line that reports a rejected line of an ftrace text
+-- the message for a rejected line of an ftrace text
 abbrev pub import_refusal_text : ℕ → ImportCause → List ℕ
 import_refusal_text line why = codes "import line " ++ (decimal line ++ (codes ": " ++ (import_cause_text why ++ codes "\n")))
 
--- the line that reports a status, with its newline; nothing for Done
+-- the message for a status: one line with its newline, or no bytes for Done
 abbrev pub status_text : Option Command → Status → List ℕ
 status_text command status.Done = []
 status_text command status.Usage = codes "usage: psi_oomd stall or check or replay or gen or stress or import or rules or whatif\n"

@@ -1,4 +1,4 @@
--- How far a command reads: up to the first rejected line of its trace, or of an ftrace text.
+-- Where a command stops reading: at the first rejected line of its trace or of its ftrace text.
 use Rattle.std.specs.Prelude.{◌≡◌, ℕ, ◌+◌, ◌-◌, ◌≤◌, List, length, take, Option, None, Some, Err, ⊤}
 use Rattle.outside.specs.Outside.{Files, content_of}
 use Rattle.psi_base.specs.Path.{parts_at}
@@ -9,36 +9,38 @@ use Rattle.run_spec.specs.Outputs.{drop_in_name, rules_name, source_of, parse_of
 use Rattle.run_spec.specs.Run.{HasContent}
 use Rattle.run_spec.specs.MostRead.{most_of_rules, most_until}
 
--- the number of bytes, or this number if they are unknown
+-- the number of bytes, or `number` if the bytes are unknown
 abbrev pub length_or : ℕ → Option (List ℕ) → ℕ
 length_or number None = number
 length_or number (Some bytes) = length bytes
 
--- the most bytes read of a rules file or drop-in file, if one is named: its length, if its bytes
--- are known
+-- an upper bound on the bytes read from an optional rules file or drop-in file: its length if its
+-- content is known
 abbrev pub read_of_rules : Option Files → Option (List ℕ) → ℕ
 read_of_rules files None = 0
 read_of_rules files (Some name) = length_or most_of_rules (content_of files name)
 
--- the most bytes that a command reads before its trace or ftrace text: those of its rules file and
--- of the drop-in file
+-- an upper bound on the bytes that a command reads from its rules file and its drop-in file, before
+-- it reads its trace or ftrace text
 abbrev pub rules_read : Command → Option Files → ℕ
 rules_read command files = read_of_rules files (rules_name command) + read_of_rules files (drop_in_name command)
 
--- the number of the rejected line that a status reports, or 0 if it reports none
+-- the number of the rejected line that a status reports, or 0 if it reports no rejected line
 abbrev pub refused_line : Status → ℕ
 refused_line (status.Trace line why) = line
 refused_line (status.Import line why) = line
 refused_line _ = 0
 
--- the line with this number is incomplete in the first n bytes: its newline isn't among them
+-- line `line` (numbered from 1) is incomplete in the first `count` bytes: its newline isn't among
+-- them
 abbrev pub IsNotWhole : ℕ → ℕ → List ℕ → Type 0
 IsNotWhole line count bytes = length (parts_at 10 (take count bytes)) ≤ line
 
--- Reading stops at the first rejected line, if these are the numbers of bytes read before a run and
--- up to its end. If the run ends with that line, only the files of rules, the lines before it and
--- the buffered bytes were read. If it ends with a failed read, that line was incomplete in what was
--- read after the files of rules.
+-- Reading stops at the first rejected line; `bytes_read` and `read_now` are the numbers of bytes
+-- read before the run and at its end. If the run reports a rejected line, it read at most the rules
+-- file, the drop-in file, the lines before the rejected line, and the buffered bytes. If the run
+-- ends with ReadFault although the content has a rejected line, that line was incomplete in the
+-- bytes that were read after the rules file and the drop-in file.
 abbrev pub StopsAtRefusal : Command → Option Files → ℕ → ℕ → Status → Type 0
 StopsAtRefusal command files bytes_read read_now (status.Trace line why) = read_now
     ≤ bytes_read + (rules_read command files + most_until line)

@@ -1,4 +1,4 @@
--- What `stall` and `check` print, byte for byte, and the names of causes.
+-- What `stall` and `check` print, byte for byte, and the printed names of causes.
 use Rattle.std.specs.Prelude.{ℕ, List, [], ◌∷◌, ◌++◌, length, map, Option, None, Some, codes, decimal}
 use Rattle.std.specs.List.{flat_map, range_with_len}
 use Rattle.psi_base.specs.declared.event.Event.{Event}
@@ -15,38 +15,39 @@ use Rattle.run_spec.specs.Lines.{check_line, stall_line}
 
 -- ---- stall sums
 
--- the time of the last event (ns), which ends a trace
+-- the time (ns) of the last event, which is the end of a trace
 abbrev pub end_of : List Event → ℕ
 end_of events = (after events).last
 
--- the stall times (ns) of a group on a processor at the end
+-- the stall times (ns) of a group on processor `cpu` up to the end, in the order of the states
 abbrev pub stall_times : ℕ → ℕ → List Event → List ℕ
 stall_times cpu slot events = map (λ state. stall state cpu slot events (end_of events)) states
 
--- the times (ns) that are printed for a group on a processor: the stall times and, in version 2,
--- the interrupt time after them
+-- the times (ns) that `stall` prints for a group on processor `cpu`: the stall times, followed by
+-- the interrupt time in version 2
 abbrev pub stall_times_of : Version → ℕ → ℕ → List Event → List ℕ
 stall_times_of One cpu slot events = stall_times cpu slot events
 stall_times_of Two cpu slot events = stall_times cpu slot events ++ irq_time cpu slot events ∷ []
 
--- the lines of a processor
+-- the lines of `stall` for processor `cpu`: one for each group that is live at the end, in the
+-- order of their paths
 abbrev pub stall_lines : Version → ℕ → List Event → List ℕ
 stall_lines version cpu events =
     flat_map (λ (pair : List ℕ × ℕ). stall_line cpu pair.0 (stall_times_of version cpu pair.1 events)) (live_groups (after events).groups)
 
--- the text of `stall`: the lines of all processors
+-- the output of `stall`: the lines of all processors, in order
 unfoldable pub stall_text : Trace → List ℕ
 stall_text trace = flat_map (λ cpu. stall_lines trace.version cpu trace.events) (range_with_len 0 trace.cpus)
 
 -- ---- checks
 
--- the text of `check`
+-- the output of `check` for an accepted trace
 abbrev pub check_text : Trace → List ℕ
 check_text trace = check_line (length trace.events) (end_of trace.events)
 
--- ---- causes
+-- ---- causes of rejection
 
--- the name of a cause
+-- the printed name of a cause
 abbrev pub cause_name : Cause → List ℕ
 cause_name cause.BadHeader = codes "BadHeader"
 cause_name cause.LineTooLong = codes "LineTooLong"
@@ -79,21 +80,21 @@ cause_name cause.IrqTooLong = codes "IrqTooLong"
 cause_name cause.RootPressure = codes "RootPressure"
 cause_name cause.TooManyPressures = codes "TooManyPressures"
 
--- the number, from 1, of the field that a cause names, if any
+-- the number (from 1) of the field that a cause reports, if any
 abbrev pub field_number : Cause → Option ℕ
 field_number (cause.BadField field) = Some field
 field_number _ = None
 
--- a number after a space, or nothing
+-- a space and the number, or nothing
 abbrev pub field_text : Option ℕ → List ℕ
 field_text None = []
 field_text (Some field) = codes " " ++ decimal field
 
--- a cause as it is printed: its name, and the number of the field that it names
+-- a cause as it is printed: its name, and the number of the bad field, if any
 abbrev pub cause_text : Cause → List ℕ
 cause_text why = cause_name why ++ field_text (field_number why)
 
--- the cause of a rejected ftrace line as it is printed: its name
+-- the printed name of the cause of a rejected ftrace line
 abbrev pub import_cause_text : ImportCause → List ℕ
 import_cause_text import_cause.LineTooLong = codes "LineTooLong"
 import_cause_text import_cause.Cut = codes "Cut"

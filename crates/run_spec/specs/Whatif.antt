@@ -1,4 +1,5 @@
--- The trace that remains if the victims of its kills are removed from it, one kill at a time.
+-- The trace that `whatif` replays: what remains of a trace after the victims of its kills were
+-- removed, one kill per round.
 use Rattle.std.specs.Prelude.{ℕ, zero, suc, List, length, nat_lt, if◌then◌else◌, Option, None, Some, Result, Ok, Err, slice_get}
 use Rattle.std.specs.List.{flat_map, range_with_len}
 use Rattle.psi_spec.specs.World.{most_events}
@@ -8,45 +9,45 @@ use Rattle.kill_spec.specs.declared.kill.Kill.{Kill}
 use Rattle.whatif_spec.specs.Without.{trace_without}
 use Rattle.run_spec.specs.Replay.{Timing, kills_in, tick_count}
 
--- the largest number of kills that are removed
+-- the maximum number of rounds, and so of kills that are removed
 abbrev pub most_rounds : ℕ
 most_rounds = 64
 
--- the kills at the first n ticks, by tick, ruleset and action
+-- the kills at the first `count` ticks, ordered by tick, ruleset and action
 abbrev pub kills_by : Trace → Timing → List Rule → ℕ → List Kill
 kills_by trace timing rules count = flat_map (kills_in trace timing rules) (range_with_len 1 count)
 
--- all kills of a trace
+-- all kills in a replay of `trace`
 abbrev pub all_kills : Trace → Timing → List Rule → List Kill
 all_kills trace timing rules = kills_by trace timing rules (tick_count trace timing)
 
--- a trace without the tasks of a kill's victim from the kill on, if there is a kill
+-- the trace without the tasks of the victim of `kill` from the time of the kill; the unchanged
+-- trace if there is no kill
 abbrev pub without_kill : Trace → Option Kill → Trace
 without_kill trace None = trace
 without_kill trace (Some kill) = trace_without trace kill.at kill.victim.0
 
--- a trace, or the number of its events if that is more than a trace may have
+-- the trace, or `Err` with the number of its events if that is more than a trace may have
 abbrev pub bounded_trace : Trace → Result Trace ℕ
 bounded_trace trace = if nat_lt most_events (length trace.events) then Err (length trace.events) else Ok trace
 
--- What one round leaves of a trace: it removes the kill with this number (from 0), if the trace has
--- one.
+-- The result of one round: the trace without the victim of its kill `number` (from 0), or the
+-- unchanged trace if it has no such kill. `Err` with the number of events if too many remain.
 abbrev pub round : Timing → List Rule → ℕ → Trace → Result Trace ℕ
 round timing rules number trace = bounded_trace (without_kill trace (slice_get (all_kills trace timing rules) number))
 
--- a round after others, unless one of them left too much
+-- the result of one more round after earlier rounds; an `Err` of an earlier round is passed on
 abbrev pub then_round : Timing → List Rule → ℕ → Result Trace ℕ → Result Trace ℕ
 then_round timing rules number (Err events) = Err events
 then_round timing rules number (Ok trace) = round timing rules number trace
 
--- What the first n rounds leave of a trace: the first round removes the first kill, the second
--- round removes the second kill of what remains, and so on. If a round leaves more events than a
--- trace may have, the result is that number of events.
+-- The trace after `count` rounds: the first round removes the first kill, the second round removes
+-- the second kill of the remaining trace, and so on. If a round leaves more events than a trace may
+-- have, the result is `Err` with that number of events.
 unfoldable pub after_rounds : Trace → Timing → List Rule → ℕ → Result Trace ℕ
 after_rounds trace timing rules zero = Ok trace
 after_rounds trace timing rules (suc count) = then_round timing rules count (after_rounds trace timing rules count)
 
--- the trace that remains after all kills, at most 64, were removed, or the number of events of a
--- round that left too many
+-- the trace after all 64 rounds, or `Err` with the number of events of a round that left too many
 abbrev pub last_trace : Trace → Timing → List Rule → Result Trace ℕ
 last_trace trace timing rules = after_rounds trace timing rules most_rounds

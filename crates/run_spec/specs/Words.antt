@@ -1,5 +1,5 @@
--- The command that words spell: options and a positional are read from left to right, then one
--- table per command gives the command.
+-- Parsing of the command line. The options and the positional argument are parsed from left to
+-- right; then one function per command builds the command from them.
 use Rattle.std.specs.Prelude.{ℕ, ◌-◌, ◌^◌, List, [], ◌∷◌, length, drop}
 use Rattle.std.specs.Prelude.{find, nat_eq, nat_lt, nat_le, ◌==◌, ◌&&◌, not, Bool}
 use Rattle.std.specs.Prelude.{false, if◌then◌else◌, codes, Option, None, Some}
@@ -16,34 +16,35 @@ use Rattle.run_spec.specs.declared.command.Shape.{Shape}
 
 -- ---- one word
 
--- what a word of the command line is by itself
+-- the kind of one word of the command line
 pub data Word : Type 0 where
-  -- `--name=value`, an option's name and its value
+  -- `--name=value`: an option's name and its value
   assigned : List ℕ → List ℕ → Word
-  -- `--name`, an option whose value is the next word
+  -- `--name`: an option whose value is the next word
   opened : List ℕ → Word
   -- `--`: no later word is an option
   end : Word
-  -- a word that doesn't begin with `-`, or is `-` itself
+  -- a word that doesn't begin with `-`, or the word `-` itself
   plain : Word
   -- any other word that begins with `-`
   unknown : Word
 
--- the word begins with `-` (45), and isn't `-` itself
+-- the word begins with `-` (byte 45), and isn't `-` itself
 abbrev pub is_dashed : List ℕ → Bool
 is_dashed [] = false
 is_dashed (first ∷ []) = false
 is_dashed (first ∷ second ∷ rest) = first == 45
 
--- a text is in a list
+-- the list contains the text
 abbrev pub is_among : List ℕ → List (List ℕ) → Bool
 is_among text texts = list_any (λ other. bytes_eq other text) texts
 
--- a byte is `=`
+-- the byte is `=`
 abbrev pub is_equals : ℕ → Bool
 is_equals byte = byte == 61
 
--- the option after `--`, given the names of options: the first `=` ends its name
+-- the kind of the word `--text`, given the known option names: the name ends at the first `=`, if
+-- any
 abbrev pub option_of : List (List ℕ) → List ℕ → Word
 option_of names text =
     if not (is_among (before_first is_equals text) names) then unknown
@@ -51,7 +52,7 @@ option_of names text =
     then assigned (before_first is_equals text) (after_first is_equals text)
     else opened (before_first is_equals text)
 
--- what a word is, given the names of options
+-- the kind of a word, given the known option names
 abbrev pub word_of : List (List ℕ) → List ℕ → Word
 word_of names word =
     if not (is_dashed word) then plain
@@ -61,38 +62,40 @@ word_of names word =
 
 -- ---- all words
 
--- the content of words: the names of options with their values, and the positional, if any
+-- the parsed words: the options with their names and values, and the positional argument, if any
 pub record ParsedWords : Type 0 where
   pub options : List (List ℕ × List ℕ)
   pub positional : Option (List ℕ)
 
--- the content of no words
+-- the result of parsing no words
 abbrev pub nothing : ParsedWords
 nothing = record { options = []; positional = None }
 
--- the value of the option with this name
+-- the value of the option with a name, or `None`
 abbrev pub option_value : List ℕ → ParsedWords → Option (List ℕ)
 option_value name parsed =
     option_map (λ option. option.1) (find (λ option. bytes_eq option.0 name) parsed.options)
 
--- adds an option to the content of the other words, which must not have it: an option comes once
+-- adds an option to the other parsed words; `None` if they contain the option already
 abbrev pub with_option : List ℕ → List ℕ → ParsedWords → Option ParsedWords
 with_option name value parsed =
     if is_some (option_value name parsed) then None
     else Some (record parsed { options = (name, value) ∷ parsed.options })
 
--- adds the positional to the content of the other words, which must not have one
+-- adds the positional argument to the other parsed words; `None` if they contain one already
 abbrev pub with_positional : List ℕ → ParsedWords → Option ParsedWords
 with_positional word parsed =
     if is_some parsed.positional then None else Some (record parsed { positional = Some word })
 
--- the state of the parser: before a word, before the value of an option, or after `--`
+-- the state of the parser: before a word, before the value of an option with this name, or after
+-- `--`
 pub data WordState : Type 0 where
   at_word : WordState
   at_value : List ℕ → WordState
   suffix : WordState
 
--- the content of a word and of the words after it, which are read from a state
+-- parses a word of this kind and the words after it; `rest` parses the words after it from a parser
+-- state
 abbrev pub by_word : Word → List ℕ → (WordState → Option ParsedWords) → Option ParsedWords
 by_word (assigned name value) word rest = rest at_word >>= with_option name value
 by_word (opened name) word rest = rest (at_value name)
@@ -100,7 +103,7 @@ by_word end word rest = rest suffix
 by_word plain word rest = rest at_word >>= with_positional word
 by_word unknown word rest = None
 
--- the content of words, read from a state, given the names of options
+-- parses words from a parser state, given the known option names; `None` if they are malformed
 abbrev pub parsed_from : List (List ℕ) → WordState → List (List ℕ) → Option ParsedWords
 parsed_from names at_word [] = Some nothing
 parsed_from names (at_value name) [] = None
@@ -111,76 +114,78 @@ parsed_from names (at_value name) (word ∷ words) =
     if is_dashed word then None else parsed_from names at_word words >>= with_option name word
 parsed_from names suffix (word ∷ words) = parsed_from names suffix words >>= with_positional word
 
--- ---- values
+-- ---- option values
 
--- a number in its one spelling, between the least and the greatest
+-- parses a decimal number without leading zeros; `None` unless it is between `least` and `most`
 abbrev pub number_within : ℕ → ℕ → List ℕ → Option ℕ
 number_within least most text = do
   number ← number_of text
   if nat_le least number && nat_le number most then Some number else None
 
--- such a number, or the default if the option is absent
+-- parses the number of an optional option, which is `default` if the option is absent
 abbrev pub number_or : ℕ → ℕ → ℕ → Option (List ℕ) → Option ℕ
 number_or default least most None = Some default
 number_or default least most (Some text) = number_within least most text
 
--- such a number, for an option that is required
+-- parses the number of a required option; `None` if the option is absent
 abbrev pub needed : ℕ → ℕ → Option (List ℕ) → Option ℕ
 needed least most None = None
 needed least most (Some text) = number_within least most text
 
--- a file name isn't empty
+-- the file name isn't empty
 abbrev pub is_name : List ℕ → Bool
 is_name name = nat_lt 0 (length name)
 
--- the name of the trace's file, which may be `-`, the standard input
+-- the positional argument as a file name; `-` means standard input. `None` if it is absent or
+-- empty.
 abbrev pub trace_option : ParsedWords → Option (List ℕ)
 trace_option parsed = do
   name ← parsed.positional
   if is_name name then Some name else None
 
--- the name of a rules file or drop-in file, which isn't `-`; Some(None) if the option is absent
+-- The name of a rules file or drop-in file: `Some None` if the option is absent, and `None` if the
+-- name is empty or `-` (standard input).
 abbrev pub rules_option : Option (List ℕ) → Option (Option (List ℕ))
 rules_option None = Some None
 rules_option (Some name) =
     if is_name name && not (bytes_eq name (codes "-")) then Some (Some name) else None
 
--- the name of the drop-in file; Some(None) if the option is absent. It is only valid with a rules
--- file.
+-- The name of the drop-in file: `Some None` if the option is absent, and `None` if the name is
+-- invalid or if no rules file is named.
 abbrev pub drop_in_option : Option (List ℕ) → Option (List ℕ) → Option (Option (List ℕ))
 drop_in_option rules None = Some None
 drop_in_option None (Some name) = None
 drop_in_option (Some rules) (Some name) = rules_option (Some name)
 
--- a group's path; Some(None) if the option is absent
+-- a group's path: `Some None` if the option is absent, and `None` if the path is malformed
 abbrev pub live_option : Option (List ℕ) → Option (Option (List ℕ))
 live_option None = Some None
 live_option (Some path) = if is_path path then Some (Some path) else None
 
--- ---- one table a command
+-- ---- one function per command
 
--- the length of a tick in ms
+-- the length of a tick in ms: 1 to 60,000, by default 2,000
 abbrev pub tick_option : ParsedWords → Option ℕ
 tick_option parsed = number_or 2000 1 60000 (option_value (codes "tick-ms") parsed)
 
--- the number of threads
+-- the maximum number of threads: 1 to 64, by default 64
 abbrev pub workers_option : ParsedWords → Option ℕ
 workers_option parsed = number_or 64 1 64 (option_value (codes "workers") parsed)
 
--- `stall` needs a trace
+-- `stall` requires a trace
 unfoldable pub stall_of : ParsedWords → Option Command
 stall_of parsed = do
   trace ← trace_option parsed
   Some (Stall trace)
 
--- `check` needs a trace, and may have the length of a tick
+-- `check` requires a trace, and accepts the length of a tick
 unfoldable pub check_of : ParsedWords → Option Command
 check_of parsed = do
   trace ← trace_option parsed
   tick_ms ← tick_option parsed
   Some (Check trace tick_ms)
 
--- the options of `replay` and `whatif`, with the default of each
+-- the options of `replay` and `whatif`, with their defaults
 unfoldable pub options_of : ParsedWords → Option Options
 options_of parsed = do
   rules ← rules_option (option_value (codes "rules") parsed)
@@ -202,14 +207,15 @@ options_of parsed = do
     live_count = live_count;
   })
 
--- `replay` needs a trace, and may have options
+-- `replay` requires a trace, and accepts options
 unfoldable pub replay_of : ParsedWords → Option Command
 replay_of parsed = do
   trace ← trace_option parsed
   options ← options_of parsed
   Some (Replay trace options)
 
--- the shape of a generated trace: no positional is given, and all four options are
+-- The shape of a generated trace. `None` unless there is no positional argument and all four
+-- options are given, each in range.
 unfoldable pub shape_of : ParsedWords → Option Shape
 shape_of parsed = do
   options ← if is_some parsed.positional then None else Some parsed
@@ -219,43 +225,42 @@ shape_of parsed = do
   events ← needed 0 3900000 (option_value (codes "events") options)
   Some (record { seed = seed; cpus = cpus; groups = groups; events = events })
 
--- `gen` needs a shape
+-- `gen` requires a shape
 unfoldable pub gen_of : ParsedWords → Option Command
 gen_of parsed = do
   shape ← shape_of parsed
   Some (Gen shape)
 
--- `stress` needs a shape, and may have the number of threads
+-- `stress` requires a shape, and accepts the maximum number of threads
 unfoldable pub stress_of : ParsedWords → Option Command
 stress_of parsed = do
   shape ← shape_of parsed
   workers ← workers_option parsed
   Some (Stress shape workers)
 
--- `import` needs a file, and the number of processors of the machine
+-- `import` requires a file and the number of processors of the machine
 unfoldable pub import_command_of : ParsedWords → Option Command
 import_command_of parsed = do
   file ← trace_option parsed
   cpus ← needed 1 64 (option_value (codes "cpus") parsed)
   Some (Import file cpus)
 
--- `rules` needs a rules file, and may have a drop-in file
+-- `rules` requires a rules file, and accepts a drop-in file
 unfoldable pub rules_command_of : ParsedWords → Option Command
 rules_command_of parsed = do
   file ← trace_option parsed
   drop_in ← rules_option (option_value (codes "drop-in") parsed)
   Some (Rules file drop_in)
 
--- `whatif` needs a trace and rules, and may have the other options of `replay` except those of live
--- samples
+-- `whatif` requires a trace and a rules file, and rejects a watched group
 unfoldable pub whatif_of : ParsedWords → Option Command
 whatif_of parsed = do
   trace ← trace_option parsed
   options ← options_of parsed
   if is_some options.rules && not (is_some options.live) then Some (Whatif trace options) else None
 
--- how a command is spelled: its own word, the names of its options, and its table, which gives the
--- command from the content of the words after its own
+-- The syntax of a command: its own word, the names of its options, and the function that builds the
+-- command from the words after its own.
 pub record CommandForm : Type 0 where
   pub word : List ℕ
   pub options : List (List ℕ)
@@ -265,65 +270,66 @@ pub record CommandForm : Type 0 where
 abbrev pub stall_form : CommandForm
 stall_form = record { word = codes "stall"; options = []; command = stall_of }
 
--- `check TRACE`, with one option
+-- `check TRACE [--tick-ms=N]`
 abbrev pub check_form : CommandForm
 check_form = record { word = codes "check"; options = codes "tick-ms" ∷ []; command = check_of }
 
--- the names of the options of `replay`
+-- the option names of `replay`
 abbrev pub replay_names : List (List ℕ)
 replay_names =
     codes "rules" ∷ codes "drop-in" ∷ codes "tick-ms" ∷ codes "interval-s" ∷ codes "report-s"
     ∷ codes "workers" ∷ codes "live" ∷ codes "live-count" ∷ []
 
--- `replay TRACE`, with options
+-- `replay TRACE` with options
 abbrev pub replay_form : CommandForm
 replay_form = record { word = codes "replay"; options = replay_names; command = replay_of }
 
--- the names of the options of a shape
+-- the option names of a shape
 abbrev pub shape_names : List (List ℕ)
 shape_names = codes "seed" ∷ codes "cpus" ∷ codes "groups" ∷ codes "events" ∷ []
 
--- `gen`, with four options
+-- `gen` with the four options of a shape
 abbrev pub gen_form : CommandForm
 gen_form = record { word = codes "gen"; options = shape_names; command = gen_of }
 
--- the names of the options of `stress`
+-- the option names of `stress`
 abbrev pub stress_names : List (List ℕ)
 stress_names = codes "workers" ∷ shape_names
 
--- `stress`, with four options and one more
+-- `stress` with the four options of a shape and `--workers`
 abbrev pub stress_form : CommandForm
 stress_form = record { word = codes "stress"; options = stress_names; command = stress_of }
 
--- `import FILE`, with one option
+-- `import FILE --cpus=N`
 abbrev pub import_form : CommandForm
 import_form = record { word = codes "import"; options = codes "cpus" ∷ []; command = import_command_of }
 
--- `rules FILE`, with one option
+-- `rules FILE [--drop-in=FILE]`
 abbrev pub rules_form : CommandForm
 rules_form = record { word = codes "rules"; options = codes "drop-in" ∷ []; command = rules_command_of }
 
--- the names of the options of `whatif`
+-- the option names of `whatif`
 abbrev pub whatif_names : List (List ℕ)
 whatif_names =
     codes "rules" ∷ codes "drop-in" ∷ codes "tick-ms" ∷ codes "interval-s" ∷ codes "report-s" ∷ codes "workers" ∷ []
 
--- `whatif TRACE`, with options
+-- `whatif TRACE` with options
 abbrev pub whatif_form : CommandForm
 whatif_form = record { word = codes "whatif"; options = whatif_names; command = whatif_of }
 
--- all commands
+-- the syntax of all commands
 abbrev pub forms : List CommandForm
 forms =
     stall_form ∷ check_form ∷ replay_form ∷ gen_form ∷ stress_form ∷ import_form ∷ rules_form ∷ whatif_form ∷ []
 
--- the command of this form that the words after its own spell
+-- the command of this syntax that the words after its own spell, or `None`
 abbrev pub spelled : CommandForm → List (List ℕ) → Option Command
 spelled form words = do
   parsed ← parsed_from form.options at_word words
   form.command parsed
 
--- the command that words spell, if any: the first word is the command's own
+-- Parses a command line, without the program's name; `None` if it isn't a command. The first word
+-- names the command.
 unfoldable pub command_of : List (List ℕ) → Option Command
 command_of [] = None
 command_of (first ∷ words) = do

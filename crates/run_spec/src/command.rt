@@ -1,9 +1,10 @@
-//! Commands: what the command line requests.
+//! Commands: the types of what a command line requests, and laws about their spelling. Parsing is
+//! done elsewhere.
 ghost use Rattle.run_spec.specs.Laws.{OrderIsFree, SpelledInRange, ValueMayFollow};
 
 use psi_base::{Path, Text};
 
-/// A command with everything that its words say; what the words leave out has its default.
+/// A parsed command. Options that the command line leaves out have their default values.
 #[derive(Drop)]
 pub enum Command {
     /// Prints how long each state lasted.
@@ -15,8 +16,8 @@ pub enum Command {
     Check {
         /// The name of the trace's file, or `-` for standard input.
         trace: Text,
-        /// The length of a tick in ms, which bounds the times of a trace: 1 to 60,000, by default
-        /// 2,000.
+        /// The length of a tick in ms: 1 to 60,000, by default 2,000. It limits the times of a
+        /// trace to a million ticks.
         tick_ms: u32,
     },
     /// Replays the trace tick by tick.
@@ -31,14 +32,14 @@ pub enum Command {
         /// The shape of the trace.
         shape: Shape,
     },
-    /// Replays a generated trace, which is never stored.
+    /// Replays a generated trace, which is never stored as a file.
     Stress {
         /// The shape of the trace.
         shape: Shape,
         /// The largest number of threads: 1 to 64, by default 64.
         workers: u32,
     },
-    /// Prints the trace of a text of the kernel's ftrace.
+    /// Converts the text of the kernel's ftrace to a trace, and prints it.
     Import {
         /// The name of the text's file, or `-` for standard input.
         file: Text,
@@ -52,12 +53,12 @@ pub enum Command {
         /// The name of the drop-in file, by default none.
         drop_in: Option<Text>,
     },
-    /// Replays what remains of the trace if the victims of its kills are removed, one kill at a
+    /// Replays the trace that remains after the victims of its kills were removed, one kill at a
     /// time.
     Whatif {
         /// The name of the trace's file, or `-` for standard input.
         trace: Text,
-        /// The options: those of `replay`, with rules, and without a watched group.
+        /// The options of `replay`. A rules file is required, and no group is watched.
         options: Options,
     },
 }
@@ -80,9 +81,9 @@ pub struct Options {
     pub report_s: u32,
     /// The largest number of threads: 1 to 64, by default 64.
     pub workers: u32,
-    /// The group whose clocks are sampled while the replay runs, by default none.
+    /// The group whose clocks are sampled while the replay runs (`--live`), by default none.
     pub live: Option<Path>,
-    /// The number of samples of each processor in each interval: 1 to 16, by default 1.
+    /// The number of live samples of each processor in each interval: 1 to 16, by default 1.
     pub live_count: u32,
 }
 
@@ -95,23 +96,23 @@ pub struct Shape {
     pub cpus: u32,
     /// The number of groups besides the root: 0 to 1,000.
     pub groups: u32,
-    /// The number of events after those that create the groups and tasks: 0 to 3,900,000.
+    /// The number of events after the events that create the groups and tasks: 0 to 3,900,000.
     pub events: u32,
 }
 
-/// Every command that words spell is in range: each number is within its bounds, and no name is
-/// empty.
+/// Every command that `command_of` parses is in range: each number is within its bounds, and no
+/// name is empty.
 pub fn law_ranges()
     ensures { SpelledInRange }
 {}
 
-/// Options may come in any order: two neighbours with different names may be swapped.
+/// Options may come in any order: two adjacent options with different names may be swapped.
 pub fn law_option_order()
     ensures { OrderIsFree }
 {}
 
-/// `--name=value` may be two words, if no `--` came before and the value wouldn't be read as an
-/// option.
+/// An option `--name=value` may also be written as two words, `--name value`, if no earlier word is
+/// `--` and the value doesn't begin with `-` (a single `-` is allowed).
 pub fn law_option_value()
     ensures { ValueMayFollow }
 {}

@@ -1,13 +1,13 @@
-//! What a run of the program promises: its command words, what each command prints, and what each
-//! status means. This crate has definitions and laws; the code that meets them is in the crates
-//! above.
+//! The specification of a run of `psi_oomd`: which words form a command, what each command prints,
+//! and what each status means. This crate contains only definitions and laws; the crates above
+//! contain the code that is proved to meet them.
 //!
-//! Read the files of `specs/` in this order: `Words` (which words are a command), `Lines`, `Text`,
-//! `Generated`, `Live` and `Replay` (what is printed), `Whatif` (what remains of a trace without
-//! the victims of its kills), `Outputs` (which files a command reads, and its whole output),
-//! `MostRead` (how many bytes are read), `Status` (exit status and message), `Run` (what a run
-//! promises), `Stops` (how far it reads), `ReadOrder` (in which order), `Promises` (what accepted
-//! and rejected files give); and `Laws`, their consequences.
+//! Read the files of `specs/` in this order: `Words` (which words form a command), `Lines`, `Text`,
+//! `Generated`, `Live` and `Replay` (what is printed), `Whatif` (the trace that remains without the
+//! victims of its kills), `Outputs` (which files a command reads, and its whole output), `MostRead`
+//! (upper bounds on the bytes read), `Status` (exit status and message), `Run` (the contract of a
+//! run), `Stops` (where reading stops), `ReadOrder` (the order of the files), `Promises` (the
+//! result for accepted and rejected files) and `Laws` (consequences of these definitions).
 #![tactic(auto)]
 
 mod command;

@@ -1,4 +1,4 @@
-//! How a run ends.
+//! The status that a run returns, its exit status, and laws about missing files and reads.
 ghost use Rattle.std.specs.Prelude.{◌≡◌};
 ghost use Rattle.run_spec.specs.Laws.{CommandCallsAreFew, FileCallsAreFew, MissingDropInComesFirst, MissingDropInShows, MissingRulesComeFirst, MissingRulesShow, MissingSourceShows};
 ghost use Rattle.run_spec.specs.Status.{code_of};
@@ -8,10 +8,10 @@ use import_spec::ImportCause;
 use psi_base::{Cause, NoMemory};
 use ruleset_json::RulesFault;
 
-/// Which of a command's files a status is about.
+/// The kind of a command's file.
 #[derive(Clone, Copy, Debug, PartialEq, Eq)]
 pub enum Which {
-    /// The rules.
+    /// The rules file.
     RulesFile,
     /// The trace.
     TraceFile,
@@ -26,25 +26,25 @@ pub enum Which {
 pub enum Status {
     /// The whole output was written.
     Done,
-    /// The words aren't a command.
+    /// The words don't form a command.
     Usage,
-    /// The trace is rejected at this line (from 1), for this cause.
+    /// The trace is rejected at this line (numbered from 1), for this cause.
     Trace { line: u32, cause: Cause },
     /// The rules file is rejected with this error.
     Rules { fault: RulesFault },
-    /// There is no file with this name.
+    /// The command's file of this kind doesn't exist.
     NoFile { which: Which },
     /// A read failed.
     ReadFault,
-    /// A write failed, after a prefix of the output.
+    /// A write failed; a prefix of the output was written.
     WriteFault,
     /// Out of memory.
     NoMemory(NoMemory),
-    /// The ftrace text is rejected at this line (from 1), for this cause.
+    /// The ftrace text is rejected at this line (numbered from 1), for this cause.
     Import { line: u32, cause: ImportCause },
     /// The drop-in file is rejected with this error.
     DropIn { fault: DropFault },
-    /// A round left this many events, more than a trace may have.
+    /// A round of `whatif` left this many events, more than a trace may have.
     TooLarge { events: u64 },
 }
 
@@ -69,9 +69,10 @@ impl Status {
     }
 }
 
-/// If a file of a command is known to be missing, a run reports that, or another failure. If it is
-/// the trace's file, a run may also report an error in the rules or in the drop-in file, which come
-/// first; if it is the drop-in file, an error in the rules file. No later file was read.
+/// If one of a command's files is known to be missing, the run reports that, or fails in another
+/// way. If the missing file is the trace or the ftrace text, the run may instead report an error in
+/// the rules file or in the drop-in file, which are read first; if it is the drop-in file, an error
+/// in the rules file. No file after the missing one was read.
 pub fn law_missing_files()
     ensures rules { MissingRulesShow }
     ensures drop_in { MissingDropInShows }
@@ -80,8 +81,9 @@ pub fn law_missing_files()
     ensures drop_in_first { MissingDropInComesFirst }
 {}
 
-/// A file is read with at most one call more than the bytes that its calls return, and a command
-/// reads with at most one more for each of its files.
+/// The number of read calls for a file is at most the number of bytes returned plus one, and the
+/// number of read calls of a command is at most the number of bytes returned plus one for each
+/// file.
 pub fn law_reads()
     ensures file { FileCallsAreFew }
     ensures command { CommandCallsAreFew }
