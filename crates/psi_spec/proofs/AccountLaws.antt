@@ -1,4 +1,4 @@
--- Whether the accounting of a group is on after an event.
+-- Proofs about the accounting of a group after an event.
 use Rattle.std.proofs.Common.{◌≡◌, ℕ, zero, suc, ◌+◌, ◌<◌, List, [], ◌∷◌, ◌++◌, refl, ap, ◌∙◌, sym, Bool, true, false, arith, Option, None, Some, ◌==◌, length, map}
 use Rattle.std.specs.Prelude.{◌&&◌, if◌then◌else◌, slice_get}
 use Rattle.std.specs.Option.{option_map}
@@ -12,27 +12,27 @@ use Rattle.psi_spec.specs.LegalGroups.{IsOneLive}
 use Rattle.psi_spec.proofs.GroupLaws.{found_below, found_group}
 use Rattle.psi_spec.proofs.RefusalLaws.{first_true, second_true}
 
--- equal numbers, by their test
+-- equal numbers pass the test for equality
 equal_numbers : (a b : ℕ) → a ≡ b → (a == b) ≡ true
 equal_numbers a b same = grind (arith, nat_tests)
 
--- a number by such a test
+-- numbers that pass the test for equality are equal
 number_is : (at slot : ℕ) → (at == slot) ≡ true → 0 + slot ≡ at
 number_is at slot same = grind (arith, nat_tests)
 
--- no group past the last
+-- a slot below the length of the list has a group
 past_last : (groups : List GroupLife) (at slot : ℕ) → at < 0 + length groups → (at == slot) ≡ true → slice_get groups slot ≡ None → ⊥
 past_last groups at slot below same none =
     let here : slot < length groups = grind (arith, nat_tests) in
     absurd (cc (sym none ∙ slice_get-get_or groups slot root here))
 
--- removing a group leaves whether it is on
+-- removing a group doesn't change its accounting
 removed_here : (o : Option GroupLife) (path : List ℕ) (at : ℕ) → is_on_life (option_map (marked_removed path at) o) ≡ is_on_life o
 removed_here None path at = refl
 removed_here (Some group) path at =
     elim (is_live group && bytes_eq group.path path) as (λ b. (let g : GroupLife = if b then record group { gone = Some at } else group in g.on) ≡ group.on) [ true ↦ refl | false ↦ refl ]
 
--- the accounting of the group with the named path is switched, and that of others doesn't change
+-- switching the accounting of the live group in slot `at` changes that group and no other
 switched_here : (path : List ℕ) (on : Bool) (groups : List GroupLife) (at slot : ℕ) → IsOneLive groups → slot_of groups path ≡ Some at → (o : Option GroupLife) → slice_get groups slot ≡ o →
     is_on_life (option_map (marked_switched path on) o) ≡ (if at == slot then on else is_on_life o)
 switched_here path on groups at slot one found None is =
@@ -62,11 +62,12 @@ pub switched_on : (path : List ℕ) (on : Bool) (groups : List GroupLife) (at sl
 switched_on path on groups at slot one found =
     ap is_on_life (slice_get-map (marked_switched path on) groups slot) ∙ switched_here path on groups at slot one found (slice_get groups slot) refl
 
--- the accounting of a removed group, and that of others, doesn't change
+-- removing a group doesn't change the accounting of any group
 pub removed_on : (path : List ℕ) (at : ℕ) (groups : List GroupLife) (slot : ℕ) → is_on (map (marked_removed path at) groups) slot ≡ is_on groups slot
 removed_on path at groups slot = ap is_on_life (slice_get-map (marked_removed path at) groups slot) ∙ removed_here (slice_get groups slot) path at
 
--- accounting is on for a new group, as it is for a group that doesn't exist
+-- appending a group whose accounting is on doesn't change `is_on` of any slot, because a group that
+-- doesn't exist counts as on
 pub made_on : (groups : List GroupLife) (group : GroupLife) (slot : ℕ) → group.on ≡ true → is_on (groups ++ group ∷ []) slot ≡ is_on groups slot
 made_on [] group zero on = on
 made_on [] group (suc slot) on = refl

@@ -1,4 +1,4 @@
--- How the worlds of events follow one another.
+-- Proofs about the worlds after successive events.
 use Rattle.std.proofs.Common.{◌≡◌, List, [], ◌∷◌, ◌++◌, refl, ap, Bool, true, false}
 use Rattle.std.specs.Prelude.{Option, None, Some, ◌||◌, if◌then◌else◌}
 use Rattle.psi_base.specs.declared.event.Act.{Act}
@@ -10,17 +10,17 @@ use Rattle.psi_spec.specs.World.{World, Limits, after_event, after_from, ends}
 use Rattle.psi_spec.specs.Refusal.{AreLegal, cause_of}
 use Rattle.psi_spec.specs.Trace.{EndsLast}
 
--- a first cause that doesn't apply
+-- if a search for a cause finds none, the first cause doesn't apply
 pub first_none : (b : Bool) (why : Cause) (others : Option Cause) → (if b then Some why else others) ≡ None → b ≡ false
 first_none true why others is = absurd (cc is)
 first_none false why others is = refl
 
--- the world of a legal event hasn't ended
+-- an event is legal only in a world that hasn't ended
 pub open_of_legal : (limits : Limits) (w : World) (event : Event) → cause_of limits w event ≡ None → w.ended ≡ false
 unfolding cause_of
 open_of_legal limits w event is = first_none w.ended cause.AfterEnd _ is
 
--- ---- the end is the last
+-- ---- `end` is the last event
 
 is_end : (a : Act) → ends a ≡ true → a ≡ act.End
 is_end act.End is = refl
@@ -41,7 +41,7 @@ last_end limits w (event ∷ next ∷ events) open_ legal ended =
     let later = last_end limits (after_event w event) (next ∷ events) (open_of_legal limits (after_event w event) next legal.1.0) legal.1 ended in
     (event ∷ later.0, later.1, ap (λ es. event ∷ es) later.2)
 
--- ---- events in turn
+-- ---- successive events
 
 pub after_from-append : (w : World) (xs ys : List Event) → after_from w (xs ++ ys) ≡ after_from (after_from w xs) ys
 after_from-append w [] ys = refl

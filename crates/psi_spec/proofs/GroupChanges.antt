@@ -1,4 +1,4 @@
--- What making a group does to groups, and what holds of the groups of legal worlds.
+-- Proofs about the creation of a group, and that legal events preserve the invariant of groups.
 use Rattle.std.proofs.Common.{◌≡◌, ℕ, zero, suc, ◌+◌, ◌<◌, ◌≤◌, List, [], ◌∷◌, ◌++◌, refl, ap, ◌∙◌, sym, subst, Bool, true, false, arith, Option, None, Some, ◌==◌, length, map, take, ⊎_elim, ◌⊎◌}
 use Rattle.std.specs.Prelude.{nat_le, ◌&&◌, ◌||◌, not, if◌then◌else◌, is_some, IfSome, IsSome, slice_get, slice_index_or}
 use Rattle.std.specs.Str.{bytes_eq}
@@ -23,29 +23,29 @@ use Rattle.psi_spec.proofs.GroupLaws.{by_step, first_of_two, found_in_suffix, sa
 
 -- ---- a group is created
 
--- parents with one more group at the end
+-- the parents after one group is appended
 pub parents_after : (groups : List GroupLife) (group : GroupLife) → parents_of (groups ++ group ∷ []) ≡ parents_of groups ++ number_of_slot group.parent ∷ []
 parents_after groups group = map-append (λ (g : GroupLife). number_of_slot g.parent) groups (group ∷ [])
 
--- paths with one more group at the end
+-- the paths after one group is appended
 paths_after : (groups : List GroupLife) (group : GroupLife) → map (λ (g : GroupLife). g.path) (groups ++ group ∷ []) ≡ map (λ (g : GroupLife). g.path) groups ++ group.path ∷ []
 paths_after groups group = map-append (λ (g : GroupLife). g.path) groups (group ∷ [])
 
--- a number as a slot is the number
+-- the number of a slot that was made from a number is that number
 pub slot_number : (o : Option ℕ) → number_of_slot (as_slot o) ≡ o
 slot_number None = refl
 slot_number (Some n) = refl
 
--- a place before, at or past the end of a list
+-- an index is before, at or past the end of a list
 place : (n slot : ℕ) → (slot < n) ⊎ ((slot ≡ n) ⊎ (n + 1 ≤ slot))
 place n slot = grind arith
 
--- the last parent is older
+-- if the appended parent has a slot below `n`, the parent in slot `n` is older than its child
 newest : (more : Option ℕ) (parent : ℕ) → more ≡ Some parent → (slot n : ℕ) → slot ≡ n → IfSome more (λ p. p < n) → parent < slot
 newest None parent is slot n same new = absurd (cc is)
 newest (Some p) parent is slot n same new = let equal : p ≡ parent = cc is in omega (arith, equal, same, new)
 
--- older parents stay older after one more is appended that is older
+-- the parents are still older than their children after one more older parent is appended
 older_after : (parents : List (Option ℕ)) (more : Option ℕ) → AreOlder parents → IfSome more (λ parent. parent < length parents) → AreOlder (parents ++ more ∷ [])
 older_after parents more older new slot parent is =
     let len : length (parents ++ more ∷ []) ≡ length parents + 1 = length-append parents (more ∷ []) in
@@ -57,7 +57,7 @@ older_after parents more older new slot parent is =
     or)
     (place (length parents) slot)
 
--- each slot but the first has a parent, after one more with a parent is appended
+-- each slot except the first still has a parent after one more parent is appended
 parented_after : (parents : List (Option ℕ)) (parent : ℕ) → HaveParents parents → HaveParents (parents ++ Some parent ∷ [])
 parented_after parents parent have slot first room =
     let len : length (parents ++ Some parent ∷ []) ≡ length parents + 1 = length-append parents (Some parent ∷ []) in
@@ -69,19 +69,19 @@ parented_after parents parent have slot first room =
     or)
     (place (length parents) slot)
 
--- a path before the end
+-- appending a group doesn't change the paths of earlier slots
 path_before : (groups : List GroupLife) (group : GroupLife) (slot : ℕ) → slot < length groups → path_at (groups ++ group ∷ []) slot ≡ path_at groups slot
 path_before groups group slot room =
     let len : length (map (λ (g : GroupLife). g.path) groups) ≡ length groups = length-map groups (λ (g : GroupLife). g.path) in
     ap (λ paths. slice_index_or paths slot []) (paths_after groups group) ∙ get_or_append_left (map (λ (g : GroupLife). g.path) groups) (group.path ∷ []) [] slot (omega (arith, len, room))
 
--- the path at the end
+-- the path in the last slot is the path of the appended group
 path_after : (groups : List GroupLife) (group : GroupLife) (slot : ℕ) → slot ≡ length groups → path_at (groups ++ group ∷ []) slot ≡ group.path
 path_after groups group slot same =
     let len : length (map (λ (g : GroupLife). g.path) groups) ≡ length groups = length-map groups (λ (g : GroupLife). g.path) in
     ap (λ paths. slice_index_or paths slot []) (paths_after groups group) ∙ get_or_push (map (λ (g : GroupLife). g.path) groups) group.path [] slot (len ∙ sym same)
 
--- parents still match the paths after a group is appended whose parent has the path above
+-- parents still match the paths after a group is appended whose parent has the parent's path
 above_after : (groups : List GroupLife) (group : GroupLife) (parent : ℕ) → AreOlder (parents_of groups) → AreAbove groups → number_of_slot group.parent ≡ Some parent → parent < length groups → path_at groups parent ≡ parent_path group.path → AreAbove (groups ++ group ∷ [])
 above_after groups group parent older above child room path slot high is =
     let len : length (parents_of groups) ≡ length groups = length-map groups (λ (g : GroupLife). number_of_slot g.parent) in
@@ -102,20 +102,20 @@ above_after groups group parent older above child room path slot high is =
     or)
     (place (length groups) slot)
 
--- an element before the end
+-- appending a group doesn't change the groups in earlier slots
 got_before : (groups : List GroupLife) (group : GroupLife) (slot : ℕ) → slot < length groups → slice_get (groups ++ group ∷ []) slot ≡ slice_get groups slot
 got_before [] group slot room = absurd (omega (arith, room))
 got_before (first ∷ groups) group zero room = refl
 got_before (first ∷ groups) group (suc slot) room = got_before groups group slot (omega (arith, room))
 
--- the element at the end
+-- the group in the last slot is the appended group
 pub got_after : (groups : List GroupLife) (group : GroupLife) (slot : ℕ) → slot ≡ length groups → slice_get (groups ++ group ∷ []) slot ≡ Some group
 got_after [] group zero same = refl
 got_after [] group (suc slot) same = absurd (omega (arith, same))
 got_after (first ∷ groups) group zero same = absurd (omega (arith, same))
 got_after (first ∷ groups) group (suc slot) same = got_after groups group slot (omega (arith, same))
 
--- each live group is found after one more is appended whose path no live one had
+-- looking up the path of a live group still finds it after a live group with a new path is appended
 one_live_after : (groups : List GroupLife) (group : GroupLife) → IsOneLive groups → is_live group ≡ true → slot_of groups group.path ≡ None → IsOneLive (groups ++ group ∷ [])
 one_live_after groups group one live new slot other is alive =
     let len : length (groups ++ group ∷ []) ≡ length groups + 1 = length-append groups (group ∷ []) in
@@ -142,12 +142,12 @@ one_live_after groups group one live new slot other is alive =
 
 -- ---- groups of legal worlds
 
--- there is a first group
+-- the list of groups isn't empty
 pub some_group : (groups : List GroupLife) → take 1 groups ≡ root ∷ [] → 0 < length groups
 some_group [] is = absurd (cc is)
 some_group (group ∷ groups) is = omega arith
 
--- a group is made
+-- creating a legal group preserves the invariant of groups
 pub groups_made : (groups : List GroupLife) (path : List ℕ) (at parent : ℕ) → length groups < 1024 → slot_of groups path ≡ None → slot_of groups (parent_path path) ≡ Some parent → AreGroups groups → AreGroups (groups ++ new_group groups path at ∷ [])
 groups_made groups path at parent few new over are =
     let group = new_group groups path at in
@@ -166,7 +166,7 @@ groups_made groups path at parent few new over are =
       one_live = one_live_after groups group are.one_live refl new;
     }
 
--- the root doesn't change if another group is removed
+-- removing a group other than the root doesn't change the root
 root_stays : (path : List ℕ) (at : ℕ) → is_root path ≡ false → marked_removed path at root ≡ root
 root_stays path at other =
     elim (bytes_eq root.path path) as (λ b. bytes_eq root.path path ≡ b → (if b then record root { gone = Some at } else root) ≡ root) [
@@ -174,7 +174,7 @@ root_stays path at other =
       | false ↦ λ _. refl
     ] refl
 
--- a group is removed
+-- removing a group other than the root preserves the invariant of groups
 pub groups_removed : (groups : List GroupLife) (path : List ℕ) (at : ℕ) → is_root path ≡ false → AreGroups groups → AreGroups (map (marked_removed path at) groups)
 groups_removed groups path at other are =
     let len : length (map (marked_removed path at) groups) ≡ length groups = length-map groups (marked_removed path at) in
@@ -192,7 +192,7 @@ groups_removed groups path at other are =
       one_live = one_live_without path at groups are.one_live;
     }
 
--- the accounting of a group is switched
+-- switching the accounting of a group other than the root preserves the invariant of groups
 pub groups_switched : (groups : List GroupLife) (path : List ℕ) (on : Bool) → is_root path ≡ false → AreGroups groups → AreGroups (map (marked_switched path on) groups)
 groups_switched groups path on other are =
     let len : length (map (marked_switched path on) groups) ≡ length groups = length-map groups (marked_switched path on) in
@@ -210,17 +210,17 @@ groups_switched groups path on other are =
       one_live = one_live_switched path on groups are.one_live;
     }
 
--- the root alone has no parent
+-- in the list with only the root, no slot has a parent
 first_alone : (slot parent : ℕ) → slice_index_or (parents_of (root ∷ [])) slot None ≡ Some parent → ⊥
 first_alone zero parent is = cc is
 first_alone (suc slot) parent is = cc is
 
--- the root alone is found
+-- in the list with only the root, looking up the path of the root finds it
 root_found : (slot : ℕ) (group : GroupLife) → slice_get (root ∷ []) slot ≡ Some group → slot_of (root ∷ []) group.path ≡ Some slot
 root_found zero group is = let same : root ≡ group = cc is in subst (λ (g : GroupLife). slot_of (root ∷ []) g.path ≡ Some 0) same refl
 root_found (suc slot) group is = absurd (cc is)
 
--- the root alone
+-- the list with only the root satisfies the invariant of groups
 pub groups_first : AreGroupsFirst
 groups_first = record {
   few = omega arith;
@@ -231,21 +231,21 @@ groups_first = record {
   one_live = λ slot group is live. root_found slot group is;
 }
 
--- what a test of an option that passes says
+-- an option that isn't `None` has a value
 the_some : (o : Option ℕ) → not (is_some o) ≡ false → (n : ℕ) × (o ≡ Some n)
 the_some None h = absurd (cc h)
 the_some (Some n) h = (n, refl)
 
--- the first of three tests, none of which holds
+-- if a disjunction of three tests is false, the first test is false
 first_false : (a b c : Bool) → (a || b || c) ≡ false → a ≡ false
 first_false false b c h = refl
 first_false true b c h = cc h
 
--- fewer by the test, fewer
+-- a number that fails the test for at least 1,024 is below 1,024
 fewer : (n : ℕ) → nat_le 1024 n ≡ false → n < 1024
 fewer n h = grind (arith, nat_tests)
 
--- a legal act keeps the groups
+-- a legal act preserves the invariant of groups
 groups_act : (limits : Limits) (w : World) (at : ℕ) (a : Act) → cause_of limits w (record { at = at; act = a }) ≡ None → AreGroups w.groups → AreGroups (groups_after at w.groups a)
 unfolding cause_of
 groups_act limits w at (act.Group path) legal are =
@@ -269,11 +269,11 @@ groups_kept limits w event legal are = groups_act limits w event.at event.act le
 
 -- ---- parents
 
--- nothing follows
+-- appending the empty list changes nothing
 nothing_after : (parents : List (Option ℕ)) → parents ≡ parents ++ []
 nothing_after parents = sym (append-nil parents)
 
--- an act adds the parent of a new group
+-- an act appends the parent of the new group, if it creates one
 parents_act : (at : ℕ) (groups : List GroupLife) (a : Act) → parents_of (groups_after at groups a) ≡ parents_of groups ++ new_parents groups a
 parents_act at groups (act.Group path) = parents_after groups (new_group groups path at) ∙ ap (λ o. parents_of groups ++ o ∷ []) (slot_number (slot_of groups (parent_path path)))
 parents_act at groups (act.Remove path) = parents_without path at groups ∙ nothing_after (parents_of groups)
@@ -285,17 +285,17 @@ parents_kept w event = parents_act event.at w.groups event.act
 
 -- ---- the root
 
--- a parent's way up leads to the first slot, and so its child's does
+-- if the parent of a slot is at or below the root, so is the optional parent of that slot
 leads_up : (parents : List (Option ℕ)) (slot : ℕ) (o : Option ℕ) → slice_index_or parents slot None ≡ o → IsSome o → ((parent : ℕ) → slice_index_or parents slot None ≡ Some parent → is_under parents parent 0 ≡ true) → leads_to parents o 0 ≡ true
 leads_up parents slot None is some above = cc some
 leads_up parents slot (Some parent) is some above = above parent is
 
--- nothing but a second test that holds
+-- a disjunction is true if its second test is true
 or_true : (a b : Bool) → b ≡ true → (a || b) ≡ true
 or_true true b h = refl
 or_true false b h = h
 
--- each slot up to a number is under the first
+-- each slot up to `n` is at or below the root
 under_first : (parents : List (Option ℕ)) → AreOlder parents → HaveParents parents → (n slot : ℕ) → slot ≤ n → slot < length parents → is_under parents slot 0 ≡ true
 under_first parents older have n zero low room = by_step parents 0 0 older
 under_first parents older have zero (suc slot) low room = absurd (omega (arith, low))

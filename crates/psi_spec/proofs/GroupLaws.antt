@@ -1,4 +1,4 @@
--- Groups of legal worlds, and the groups above a group.
+-- Proofs about the groups of legal worlds and about ancestors.
 use Rattle.std.proofs.Common.{◌≡◌, ℕ, zero, suc, ◌+◌, ◌<◌, ◌≤◌, List, [], ◌∷◌, ◌++◌, refl, ap, ◌∙◌, sym, subst, Bool, true, false, arith, Option, None, Some, ◌==◌, length, map}
 use Rattle.std.specs.Prelude.{◌&&◌, ◌||◌, if◌then◌else◌, IfSome, slice_get, slice_index_or}
 use Rattle.std.specs.Option.{option_map}
@@ -15,24 +15,24 @@ use Rattle.psi_spec.specs.LegalGroups.{AreOlder, IsOneLive, leads_to}
 use Rattle.psi_spec.specs.Laws.{ClimbsKept, UnderByStep, AncestorsAreOlder}
 use Rattle.psi_spec.proofs.RefusalLaws.{second_true}
 
--- ---- the groups above a group
+-- ---- ancestors of a group
 
--- the first slot has no parent, so its way up ends
+-- the first slot has no parent, so the climb from there ends
 ends_at_first : (parents : List (Option ℕ)) → AreOlder parents → (slot : ℕ) → slot ≤ 0 → (o : Option ℕ) → slice_index_or parents slot None ≡ o → (n high : ℕ) → climbs n parents o high ≡ false
 ends_at_first parents older slot low None is n high = refl
 ends_at_first parents older slot low (Some parent) is n high = let less = older slot parent is in absurd (omega (arith, less, low))
 
--- a step less is enough from the parent on
+-- `n` steps are enough from the parent of a slot if `suc n` steps are enough from the slot
 next_fits : (parents : List (Option ℕ)) → AreOlder parents → (slot n : ℕ) → slot ≤ suc n → (o : Option ℕ) → slice_index_or parents slot None ≡ o → IfSome o (λ s. s ≤ n)
 next_fits parents older slot n fits None is = tt
 next_fits parents older slot n fits (Some parent) is = let less = older slot parent is in omega (arith, less, fits)
 
--- no test added
+-- a disjunction with a false second test is its first test
 or_false : (b c : Bool) → c ≡ false → (b || c) ≡ b
 or_false true c h = refl
 or_false false c h = h
 
--- more steps than a slot's number change nothing
+-- once there are at least as many steps as the slot's number, further steps don't change the climb
 enough_steps : (parents : List (Option ℕ)) → AreOlder parents → (n m : ℕ) (o : Option ℕ) (high : ℕ) → IfSome o (λ s. s ≤ n) → IfSome o (λ s. s ≤ m) → climbs n parents o high ≡ climbs m parents o high
 enough_steps parents older n m None high at_n at_m = refl
 enough_steps parents older zero zero (Some slot) high at_n at_m = refl
@@ -45,13 +45,14 @@ enough_steps parents older (suc n) (suc m) (Some slot) high at_n at_m =
     (next_fits parents older slot n at_n (slice_index_or parents slot None) refl)
     (next_fits parents older slot m at_m (slice_index_or parents slot None) refl))
 
--- a way up of enough steps is the whole one
+-- a climb with enough steps reaches every ancestor
 whole_way : (parents : List (Option ℕ)) → AreOlder parents → (n : ℕ) (o : Option ℕ) (high : ℕ) → IfSome o (λ s. s ≤ n) → climbs n parents o high ≡ leads_to parents o high
 unfolding is_under
 whole_way parents older n None high at_n = refl
 whole_way parents older n (Some slot) high at_n = enough_steps parents older n slot (Some slot) high at_n (omega arith)
 
--- one step up
+-- one step of the climb: a slot is at or below `high` exactly if it is `high` or its parent is at
+-- or below `high`
 pub by_step : UnderByStep
 unfolding is_under
 by_step parents zero high older =
@@ -61,12 +62,12 @@ by_step parents zero high older =
 by_step parents (suc low) high older =
     ap (λ b. suc low == high || b) (whole_way parents older low (slice_index_or parents (suc low) None) high (next_fits parents older (suc low) low (omega arith) (slice_index_or parents (suc low) None) refl))
 
--- a parent is no newer than what its child isn't newer than
+-- the parent of a slot that is at most `low` is at most `low`
 older_still : (parents : List (Option ℕ)) → AreOlder parents → (slot low : ℕ) → slot ≤ low → (o : Option ℕ) → slice_index_or parents slot None ≡ o → IfSome o (λ s. s ≤ low)
 older_still parents older slot low from None is = tt
 older_still parents older slot low from (Some parent) is = let less = older slot parent is in omega (arith, less, from)
 
--- what a way up meets is no newer than its start
+-- every slot that a climb reaches is at most the slot at its start
 none_newer : (parents : List (Option ℕ)) → AreOlder parents → (n : ℕ) (o : Option ℕ) (high : ℕ) → climbs n parents o high ≡ true → (low : ℕ) → IfSome o (λ s. s ≤ low) → high ≤ low
 none_newer parents older n None high is low from = absurd (cc is)
 none_newer parents older zero (Some slot) high is low from = grind (arith, nat_tests)
@@ -82,12 +83,12 @@ ancestors_older parents low high older is = none_newer parents older low (Some l
 
 -- ---- later groups
 
--- a parent is a slot that there is
+-- the parent of an existing slot is an existing slot
 next_below : (parents : List (Option ℕ)) → AreOlder parents → (slot : ℕ) → slot < length parents → (o : Option ℕ) → slice_index_or parents slot None ≡ o → IfSome o (λ s. s < length parents)
 next_below parents older slot room None is = tt
 next_below parents older slot room (Some parent) is = let less = older slot parent is in omega (arith, less, room)
 
--- ways up stay as they were
+-- groups that are created later don't change the climb from an earlier slot
 ways_kept : (n : ℕ) (parents more : List (Option ℕ)) (o : Option ℕ) (high : ℕ) → AreOlder parents → IfSome o (λ s. s < length parents) → climbs n (parents ++ more) o high ≡ climbs n parents o high
 ways_kept n parents more None high older room = refl
 ways_kept zero parents more (Some slot) high older room = refl
@@ -100,14 +101,15 @@ pub climbs_kept : ClimbsKept
 unfolding is_under
 climbs_kept parents more low high older room = ways_kept low parents more (Some low) high older room
 
--- ---- slots of live groups
+-- ---- lookup of live groups
 
--- the first of two, if there is one
+-- the first optional slot if it has a value, or the second
 abbrev pub first_of_two : Option ℕ → Option ℕ → Option ℕ
 first_of_two None other = other
 first_of_two (Some slot) other = Some slot
 
--- after a group is appended, a search finds what it found, or that group
+-- after a group is appended, a lookup finds the same slot as before, or the new group if it found
+-- none
 pub found_in_suffix : (from : ℕ) (groups : List GroupLife) (group : GroupLife) (path : List ℕ) → slot_from from (groups ++ group ∷ []) path ≡ first_of_two (slot_from from groups path) (if is_live group && bytes_eq group.path path then Some (from + length groups) else None)
 found_in_suffix from [] group path = let same : from ≡ from + 0 = omega arith in ap (λ n. if is_live group && bytes_eq group.path path then Some n else None) same
 found_in_suffix from (first ∷ groups) group path =
@@ -117,20 +119,20 @@ found_in_suffix from (first ∷ groups) group path =
       | false ↦ found_in_suffix (from + 1) groups group path ∙ ap (λ n. first_of_two (slot_from (from + 1) groups path) (if is_live group && bytes_eq group.path path then Some n else None)) same
     ]
 
--- texts that are equal by the test
+-- byte strings that pass the test for equality are equal
 pub same_bytes : (xs ys : List ℕ) → bytes_eq xs ys ≡ true → xs ≡ ys
 same_bytes xs ys = (bytes_eq-Decides xs ys).0
 
--- a text is itself
+-- a byte string passes the test for equality with itself
 pub bytes_itself : (xs : List ℕ) → bytes_eq xs xs ≡ true
 bytes_itself xs = (bytes_eq-Decides xs xs).1 refl
 
--- a second test that doesn't hold
+-- a conjunction is false if its second test is false
 pub and_false : (a b : Bool) → b ≡ false → (a && b) ≡ false
 and_false true b h = h
 and_false false b h = refl
 
--- past a group that is removed
+-- the lookup passes over a group that is removed here
 removed_here : (from : ℕ) (path : List ℕ) (group : GroupLife) (rest : Option ℕ) (other : List ℕ) → (is_live group && bytes_eq group.path path) ≡ true →
     (if bytes_eq path other then None else rest) ≡ (if bytes_eq path other then None else (if is_live group && bytes_eq group.path other then Some from else rest))
 removed_here from path group rest other it =
@@ -140,7 +142,7 @@ removed_here from path group rest other it =
       | false ↦ λ differ. let misses = and_false (is_live group) (bytes_eq group.path other) (ap (λ p. bytes_eq p other) same ∙ differ) in sym (ap (λ b. if b then Some from else rest) misses)
     ] refl
 
--- past a group that stays
+-- the lookup treats a group that isn't removed as before
 kept_here : (from : ℕ) (path : List ℕ) (group : GroupLife) (rest : Option ℕ) (other : List ℕ) → (is_live group && bytes_eq group.path path) ≡ false →
     (if is_live group && bytes_eq group.path other then Some from else (if bytes_eq path other then None else rest)) ≡ (if bytes_eq path other then None else (if is_live group && bytes_eq group.path other then Some from else rest))
 kept_here from path group rest other it =
@@ -149,7 +151,8 @@ kept_here from path group rest other it =
       | false ↦ λ _. refl
     ] refl
 
--- the group that is removed isn't found, and any other as before
+-- after a group is removed, a lookup of its path finds nothing, and a lookup of any other path
+-- finds the same slot as before
 pub removed_not_found : (from at : ℕ) (path : List ℕ) (groups : List GroupLife) (other : List ℕ) → slot_from from (map (marked_removed path at) groups) other ≡ (if bytes_eq path other then None else slot_from from groups other)
 removed_not_found from at path [] other = elim (bytes_eq path other) as (λ b. let none : Option ℕ = None in none ≡ (if b then none else none)) [ true ↦ refl | false ↦ refl ]
 removed_not_found from at path (group ∷ groups) other =
@@ -159,7 +162,7 @@ removed_not_found from at path (group ∷ groups) other =
       | false ↦ λ it. ap (λ o. if is_live group && bytes_eq group.path other then Some from else o) rest ∙ kept_here from path group (slot_from (from + 1) groups other) other it
     ] refl
 
--- a slot that is found exists
+-- a lookup finds only existing slots
 pub found_below : (from : ℕ) (groups : List GroupLife) (path : List ℕ) (slot : ℕ) → slot_from from groups path ≡ Some slot → (from ≤ slot) × (slot < from + length groups)
 found_below from [] path slot is = absurd (cc is)
 found_below from (group ∷ groups) path slot is =
@@ -169,7 +172,7 @@ found_below from (group ∷ groups) path slot is =
       | false ↦ λ i. let rest = found_below (from + 1) groups path slot i in (omega (arith, rest.0), omega (arith, rest.1, more))
     ] is
 
--- the group in a slot that is found has the path
+-- the group in the slot that a lookup finds has the path
 pub found_path : (from : ℕ) (groups : List GroupLife) (path : List ℕ) (slot place : ℕ) → slot_from from groups path ≡ Some slot → from + place ≡ slot → path_at groups place ≡ path
 found_path from [] path slot place is at = absurd (cc is)
 found_path from (group ∷ groups) path slot zero is at =
@@ -183,7 +186,7 @@ found_path from (group ∷ groups) path slot (suc place) is at =
       | false ↦ λ i. found_path (from + 1) groups path slot place i (omega (arith, at))
     ] is
 
--- the group in a slot that is found is live and has the path
+-- the group in the slot that a lookup finds is live and has the path
 pub found_group : (from : ℕ) (groups : List GroupLife) (path : List ℕ) (slot place : ℕ) (group : GroupLife) → slot_from from groups path ≡ Some slot → from + place ≡ slot → slice_get groups place ≡ Some group → (is_live group && bytes_eq group.path path) ≡ true
 found_group from [] path slot place group is at got = absurd (cc is)
 found_group from (first ∷ groups) path slot zero group is at got =
@@ -197,19 +200,19 @@ found_group from (first ∷ groups) path slot (suc place) group is at got =
       | false ↦ λ i. found_group (from + 1) groups path slot place group i (omega (arith, at)) got
     ] is
 
--- ---- a group is removed
+-- ---- removing a group
 
--- removing a group leaves its parent
+-- removing a group doesn't change its parent
 without_parent : (path : List ℕ) (at : ℕ) (group : GroupLife) → (marked_removed path at group).parent ≡ group.parent
 without_parent path at group =
     elim (is_live group && bytes_eq group.path path) as (λ b. (let g : GroupLife = if b then record group { gone = Some at } else group in g.parent) ≡ group.parent) [ true ↦ refl | false ↦ refl ]
 
--- removing a group leaves its path
+-- removing a group doesn't change its path
 without_path : (path : List ℕ) (at : ℕ) (group : GroupLife) → (marked_removed path at group).path ≡ group.path
 without_path path at group =
     elim (is_live group && bytes_eq group.path path) as (λ b. (let g : GroupLife = if b then record group { gone = Some at } else group in g.path) ≡ group.path) [ true ↦ refl | false ↦ refl ]
 
--- removing a group leaves all parents
+-- removing a group doesn't change any parent
 pub parents_without : (path : List ℕ) (at : ℕ) (groups : List GroupLife) → parents_of (map (marked_removed path at) groups) ≡ parents_of groups
 parents_without path at [] = refl
 parents_without path at (group ∷ groups) =
@@ -217,7 +220,7 @@ parents_without path at (group ∷ groups) =
     let rest = parents_without path at groups in
     cc (here, rest)
 
--- removing a group leaves all paths
+-- removing a group doesn't change any path
 pub paths_without : (path : List ℕ) (at : ℕ) (groups : List GroupLife) → map (λ (group : GroupLife). group.path) (map (marked_removed path at) groups) ≡ map (λ (group : GroupLife). group.path) groups
 paths_without path at [] = refl
 paths_without path at (group ∷ groups) =
@@ -225,7 +228,7 @@ paths_without path at (group ∷ groups) =
     let rest = paths_without path at groups in
     cc (here, rest)
 
--- the path of a group that stays isn't the removed one
+-- a live group that isn't removed doesn't have the removed path
 other_path : (path : List ℕ) (old new : GroupLife) → (is_live old && bytes_eq old.path path) ≡ false → old ≡ new → is_live old ≡ true → bytes_eq path new.path ≡ false
 other_path path old new differ same live =
     elim (bytes_eq path new.path) as (λ b. bytes_eq path new.path ≡ b → b ≡ false) [
@@ -236,7 +239,7 @@ other_path path old new differ same live =
       | false ↦ λ _. refl
     ] refl
 
--- a group that is live after one was removed was live before, and isn't that one
+-- a group that is live after a removal was live before it, and isn't the removed group
 still_live : (path : List ℕ) (at : ℕ) (old new : GroupLife) → marked_removed path at old ≡ new → is_live new ≡ true → (old ≡ new) × (is_live old ≡ true) × (bytes_eq path new.path ≡ false)
 still_live path at old new is live =
     elim (is_live old && bytes_eq old.path path) as (λ b. (is_live old && bytes_eq old.path path) ≡ b → (if b then record old { gone = Some at } else old) ≡ new → (old ≡ new) × (is_live old ≡ true) × (bytes_eq path new.path ≡ false)) [
@@ -244,12 +247,12 @@ still_live path at old new is live =
       | false ↦ λ differ i. (i, ap is_live i ∙ live, other_path path old new differ i (ap is_live i ∙ live))
     ] refl is
 
--- a found group, seen through a map
+-- a group in the mapped list comes from a group in the original list
 mapped_from : (f : GroupLife → GroupLife) (o : Option GroupLife) (new : GroupLife) → option_map f o ≡ Some new → (old : GroupLife) × (o ≡ Some old) × (f old ≡ new)
 mapped_from f None new is = absurd (cc is)
 mapped_from f (Some old) new is = (old, refl, cc is)
 
--- so each live one is still found
+-- after a removal, looking up the path of a live group still finds it
 pub one_live_without : (path : List ℕ) (at : ℕ) (groups : List GroupLife) → IsOneLive groups → IsOneLive (map (marked_removed path at) groups)
 one_live_without path at groups one slot new is live =
     let old = mapped_from (marked_removed path at) (slice_get groups slot) new (sym (slice_get-map (marked_removed path at) groups slot) ∙ is) in

@@ -1,4 +1,5 @@
--- What the absence of a cause says of an event, and small laws of tests.
+-- Proofs about legal events: the conditions that don't apply to them. Also small lemmas about
+-- tests.
 use Rattle.std.proofs.Common.{◌≡◌, ℕ, zero, suc, List, [], ◌∷◌, refl, subst, Bool, true, false, cond, Option, None, Some}
 use Rattle.std.specs.Prelude.{find, ◌&&◌, not, is_some, slice_get}
 use Rattle.psi_base.specs.declared.event.Event.{Event}
@@ -7,9 +8,9 @@ use Rattle.psi_base.specs.declared.event.Cause.TheVariants as cause
 use Rattle.psi_spec.specs.World.{World, Limits}
 use Rattle.psi_spec.specs.Refusal.{cause_of, applies, cause_order}
 
--- ---- the absence of a cause
+-- ---- causes that don't apply
 
--- a cause that a search passes doesn't apply
+-- if a search for a cause finds none, no cause of the list applies
 pub passed : (test : Cause → Bool) (causes : List Cause) (at : ℕ) (why : Cause) → find test causes ≡ None → slice_get causes at ≡ Some why → test why ≡ false
 passed test [] at why none is = absurd (cc is)
 passed test (first ∷ causes) zero why none is =
@@ -23,7 +24,7 @@ passed test (first ∷ causes) (suc at) why none is =
       | false ↦ λ i. passed test causes at why i is
     ] none
 
--- causes that don't apply to a legal event
+-- some of the causes that don't apply to a legal event
 pub record NoneIn (limits : Limits) (w : World) (event : Event) : Type 0 where
   pub unknown_group : applies cause.UnknownGroup limits w event ≡ false
   pub unknown_task : applies cause.UnknownTask limits w event ≡ false
@@ -46,22 +47,22 @@ none_found_in limits w event legal =
       wrong_how = off 20 cause.WrongHow refl;
     }
 
--- a negation that fails
+-- if `not b` is false, `b` is true
 pub not_false : (b : Bool) → not b ≡ false → b ≡ true
 not_false true h = refl
 not_false false h = cc h
 
--- no value, by its test
+-- an option without a value is `None`
 pub is_none : {A : Type 0} (o : Option A) → is_some o ≡ false → o ≡ None
 is_none None h = refl
 is_none (Some x) h = cc h
 
--- the first of two tests that hold
+-- if a conjunction is true, its first test is true
 pub first_true : (a b : Bool) → (a && b) ≡ true → a ≡ true
 first_true true b h = refl
 first_true false b h = h
 
--- the second of two tests that hold
+-- if a conjunction is true, its second test is true
 pub second_true : (a b : Bool) → (a && b) ≡ true → b ≡ true
 second_true true b h = h
 second_true false b h = cc h

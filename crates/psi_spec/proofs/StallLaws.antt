@@ -1,4 +1,4 @@
--- How stall time grows, event by event and with time.
+-- Proofs that stall time grows event by event, and with time.
 use Rattle.std.proofs.Common.{◌≡◌, ℕ, zero, suc, Some, ◌+◌, ◌-◌, ◌≤◌, ◌<◌, List, [], ◌∷◌, ◌++◌, length, take, map, refl, sym, ◌∙◌, arith, ◌⊎◌, ⊎_elim}
 use Rattle.std.specs.Prelude.{if◌then◌else◌, slice_get, slice_index_or}
 use Rattle.std.specs.List.{range_with_len}
@@ -11,7 +11,7 @@ use Rattle.psi_spec.specs.World.{after}
 use Rattle.psi_spec.specs.Stall.{holds, irq_by, irq_from, irq_time, stall, stall_after, moment_of}
 use Rattle.psi_spec.specs.Laws.{GrowsByEvent, GrowsWithTime, IrqByEvent}
 
--- functions that agree on n numbers have the same list of values there
+-- functions that agree on a range of numbers map it to the same list
 pub map_same : (f g : ℕ → ℕ) (from n : ℕ) → ((i : ℕ) → from ≤ i → i < from + n → f i ≡ g i) → map f (range_with_len from n) ≡ map g (range_with_len from n)
 map_same f g from zero same = refl
 map_same f g from (suc n) same =
@@ -19,7 +19,7 @@ map_same f g from (suc n) same =
     let rest = map_same f g (from + 1) n (λ i low high. same i (omega (arith, low)) (omega (arith, high))) in
     cc (here, rest)
 
--- the elements of a list with another list after it
+-- appending a list doesn't change the earlier elements
 pub get_left : {A : Type 0} (xs ys : List A) (i : ℕ) → i < length xs → slice_get (xs ++ ys) i ≡ slice_get xs i
 get_left [] ys i low = absurd (omega (arith, low))
 get_left (x ∷ xs) ys zero low = refl
@@ -35,7 +35,7 @@ times events = map (λ (event : Event). event.at) events
 times-push : (events : List Event) (event : Event) → times (events ++ event ∷ []) ≡ times events ++ event.at ∷ []
 times-push events event = map-append (λ (e : Event). e.at) events (event ∷ [])
 
--- times up to the last event don't depend on later events
+-- appending an event doesn't change the times of earlier events
 moment_kept : (events : List Event) (event : Event) (at i : ℕ) → i ≤ length events → slice_index_or (times (events ++ event ∷ [])) i at ≡ slice_index_or (times events) i event.at
 moment_kept events event at i within =
     let len : length (times events) ≡ length events = length-map events (λ (e : Event). e.at) in
@@ -51,7 +51,7 @@ moment_past events event at =
     let len : length (times (events ++ event ∷ [])) ≡ length events + 1 = length-map (events ++ event ∷ []) (λ (e : Event). e.at) ∙ length-append events (event ∷ []) in
     get_or_past (times (events ++ event ∷ [])) (length events + 1) at (omega (arith, len))
 
--- what an event added to the sum isn't changed by a later one
+-- appending an event doesn't change the stall time after earlier events
 stall_kept : (state : State) (cpu slot : ℕ) (events : List Event) (event : Event) (at i : ℕ) → 1 ≤ i → i < 1 + length events → stall_after state cpu slot (events ++ event ∷ []) at i ≡ stall_after state cpu slot events event.at i
 stall_kept state cpu slot events event at i low high =
     let prefix : take i (events ++ event ∷ []) ≡ take i events = take-append-le i events (event ∷ []) (omega (arith, high)) in
@@ -60,7 +60,7 @@ stall_kept state cpu slot events event at i low high =
     let now : moment_of (events ++ event ∷ []) at i ≡ moment_of events event.at i = moment_kept events event at (i - 1) (omega (arith, low, high)) in
     rw (prefix, later, now) refl
 
--- the last event's part of the sum
+-- the stall time after the appended event, up to time `at`
 stall_last : (state : State) (cpu slot : ℕ) (events : List Event) (event : Event) (at : ℕ) → stall_after state cpu slot (events ++ event ∷ []) at (1 + length events) ≡ (if holds state cpu slot (after (events ++ event ∷ [])) then at - event.at else 0)
 stall_last state cpu slot events event at =
     let len : length (events ++ event ∷ []) ≡ length events + 1 = length-append events (event ∷ []) in
@@ -85,14 +85,14 @@ with_time state cpu slot events event at later from to =
 
 -- ---- interrupt time
 
--- what an event added to the sum isn't changed by a later one
+-- appending an event doesn't change the interrupt time of earlier events
 irq_kept : (cpu slot : ℕ) (events : List Event) (event : Event) (i : ℕ) → 1 ≤ i → i < 1 + length events → irq_by cpu slot (events ++ event ∷ []) i ≡ irq_by cpu slot events i
 irq_kept cpu slot events event i low high =
     let prefix : take (i - 1) (events ++ event ∷ []) ≡ take (i - 1) events = take-append-le (i - 1) events (event ∷ []) (omega (arith, high)) in
     let here : slice_get (events ++ event ∷ []) (i - 1) ≡ slice_get events (i - 1) = get_left events (event ∷ []) (i - 1) (omega (arith, low, high)) in
     rw (prefix, here) refl
 
--- the last event's part of the sum
+-- the interrupt time of the appended event
 irq_last : (cpu slot : ℕ) (events : List Event) (event : Event) → irq_by cpu slot (events ++ event ∷ []) (1 + length events) ≡ irq_from cpu slot (after events) (Some event)
 irq_last cpu slot events event =
     let before : (1 + length events) - 1 ≡ length events = omega arith in

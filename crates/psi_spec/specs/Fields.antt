@@ -1,5 +1,5 @@
--- The kinds of fields of an event line: the values of each kind, and the one word that spells a
--- value.
+-- The kinds of fields of an event line: the values of each kind, their ranges, and their spelling.
+-- Each value has exactly one spelling.
 use Rattle.std.specs.Prelude.{◌≡◌, ◌⊎◌, ℕ, ◌≤◌, ◌<◌, ◌^◌, List, [], ◌∷◌, nat_lt, nat_le, ◌&&◌, Bool, true, false, if◌then◌else◌, codes, decimal, Option, None, Some, IfSome, option_map}
 use Rattle.psi_base.specs.Number.{number_of}
 use Rattle.psi_base.specs.Path.{is_path}
@@ -11,9 +11,9 @@ use Rattle.psi_base.specs.declared.event.Preference.{Preference}
 use Rattle.psi_base.specs.declared.event.Res.{Res}
 use Rattle.psi_base.specs.declared.event.Level.{Level}
 
--- what a field of an event line is: a task, the next task or none, a processor, a group's path, how
--- a task leaves its processor, a group's kill preference, a size or count of at most 2^60, any
--- 64-bit number, a resource, a level, or whether a group's accounting is on
+-- The kind of a field: a task (pid), the next task or none, a processor, a group's path, how a task
+-- leaves its processor, a group's kill preference, a size or count of at most 2^60, any 64-bit
+-- number, a resource, a level, or whether a group's accounting is on.
 pub data Kind : Type 0 where
   pid : Kind
   next : Kind
@@ -27,7 +27,7 @@ pub data Kind : Type 0 where
   level : Kind
   account : Kind
 
--- the values of a kind
+-- the type of the values of a kind
 abbrev pub Value : Kind → Type 0
 Value pid = Pid
 Value next = Option Pid
@@ -41,11 +41,11 @@ Value resource = Res
 Value level = Level
 Value account = Bool
 
--- a PID is from 1 to 2^32 - 1
+-- a pid is between 1 and 2^32 - 1
 abbrev pub IsPid : Pid → Type 0
 IsPid task = (0 < task.0) × (task.0 < 2 ^ 32)
 
--- a value is in the range that a trace allows
+-- the value is in the range that a trace allows for its kind
 abbrev pub InRange : (kind : Kind) → Value kind → Type 0
 InRange pid task = IsPid task
 InRange next task = IfSome task IsPid
@@ -59,17 +59,17 @@ InRange resource which = Unit {0}
 InRange level which = Unit {0}
 InRange account on = Unit {0}
 
--- the PID of the next task, or 0
+-- the spelling of the next task: its pid, or 0 for no task
 abbrev pub next_word : Option Pid → List ℕ
 next_word None = codes "0"
 next_word (Some task) = decimal task.0
 
--- whether a group's accounting is on
+-- the spelling of a group's accounting: `on` or `off`
 abbrev pub account_word : Bool → List ℕ
 account_word true = codes "on"
 account_word false = codes "off"
 
--- the one word that spells a value
+-- the spelling of a value
 abbrev pub word : (kind : Kind) → Value kind → List ℕ
 word pid task = decimal task.0
 word next task = next_word task
@@ -83,29 +83,29 @@ word resource which = resource_word which
 word level which = level_word which
 word account on = account_word on
 
--- the element is in the list
+-- the list contains the element
 abbrev pub IsAmong : {A : Type 0} → A → List A → Type 0
 IsAmong x [] = ⊥
 IsAmong x (y ∷ ys) = (x ≡ y) ⊎ IsAmong x ys
 
--- the number if it is in the range, or None
+-- the number if it satisfies `holds`, or `None`
 abbrev pub accepted_if : (ℕ → Bool) → Option ℕ → Option ℕ
 accepted_if holds None = None
 accepted_if holds (Some n) = if holds n then Some n else None
 
--- the number that a word spells, if it is in the range
+-- the number that a word spells, if it satisfies `holds`, or `None`
 abbrev pub number_in : (ℕ → Bool) → List ℕ → Option ℕ
 number_in holds text = accepted_if holds (number_of text)
 
--- 0 means no task
+-- the task with pid `n`, or no task for n = 0
 abbrev pub task_or_none : ℕ → Option Pid
 task_or_none n = if nat_lt 0 n then Some (record { 0 = n }) else None
 
--- accounting is on, or off
+-- the settings of a group's accounting: on and off
 abbrev pub accounts : List Bool
 accounts = true ∷ false ∷ []
 
--- the value that a word spells
+-- the value that a word spells, or `None` if it spells no value of this kind
 unfoldable pub value_of : (kind : Kind) → List ℕ → Option (Value kind)
 value_of pid text = option_map (λ n. let task : Pid = record { 0 = n } in task) (number_in (λ n. nat_lt 0 n && nat_lt n (2 ^ 32)) text)
 value_of next text = option_map task_or_none (number_in (λ n. nat_lt n (2 ^ 32)) text)

@@ -1,5 +1,5 @@
--- The lines of a trace: which bytes spell a header or an event, which event a line spells, and the
--- cause if it spells none.
+-- The grammar of the lines of a trace: which bytes spell a header or an event, and the cause of
+-- rejection for all other lines.
 use Rattle.std.specs.Prelude.{ℕ, ◌+◌, ◌<◌, ◌^◌, List, [], ◌∷◌, ◌++◌, map, codes, decimal, Option, None, Some, Result, Ok, Err}
 use Rattle.std.specs.List.{flat_map, range_with_len}
 use Rattle.psi_base.specs.Number.{number_of}
@@ -24,25 +24,25 @@ pub data Version : Type 0 where
   One : Version
   Two : Version
 
--- all of them
+-- all versions
 abbrev pub versions : List Version
 versions = One ∷ Two ∷ []
 
--- the number of a version in the header
+-- the number of a version, as the header spells it
 abbrev pub version_number : Version → ℕ
 version_number One = 1
 version_number Two = 2
 
--- a header: the version and the number of processors
+-- the content of a header line: the version of the format and the number of processors
 pub record Header : Type 0 where
   pub version : Version
   pub cpus : ℕ
 
--- the header line of a trace of this version, for n processors
+-- the header line for a version number and a number of processors, without its newline
 unfoldable pub header : ℕ → ℕ → List ℕ
 header version cpus = codes "psitrace " ++ decimal version ++ codes " cpus=" ++ decimal cpus
 
--- a function from values of kinds, in order, to an act
+-- a function that takes one value of each kind, in order, and returns an act (what an event does)
 abbrev pub Maker : List Kind → Type 0
 Maker [] = Act
 Maker (k ∷ ks) = Value k → Maker ks
@@ -66,17 +66,18 @@ pub data Verb : Type 0 where
   Pressure : Verb
   End : Verb
 
--- the word of a verb, the kinds of its fields, and the act that their values give
+-- the syntax of a verb: its word, the kinds of its fields, and the function from their values to
+-- the act
 pub record Form : Type 0 where
   pub word : List ℕ
   pub kinds : List Kind
   pub act : Maker kinds
 
--- the form with these parts
+-- the syntax with these components
 abbrev pub form : (text : List ℕ) (kinds : List Kind) → Maker kinds → Form
 form text kinds act = record { word = text; kinds = kinds; act = act }
 
--- the table of verbs
+-- the table of verbs: the syntax of each
 abbrev pub form_of : Verb → Form
 form_of Group = form (codes "group") (kind.path ∷ []) act.Group
 form_of Remove = form (codes "rmgroup") (kind.path ∷ []) act.Remove
@@ -95,7 +96,7 @@ form_of Irq = form (codes "irq") (kind.cpu ∷ kind.number ∷ []) act.Irq
 form_of Pressure = form (codes "pressure") (kind.path ∷ kind.account ∷ []) act.Pressure
 form_of End = form (codes "end") [] act.End
 
--- the word of a verb
+-- the word of a verb, as a line spells it
 abbrev pub verb_word : Verb → List ℕ
 verb_word verb = (form_of verb).word
 
@@ -103,11 +104,11 @@ verb_word verb = (form_of verb).word
 abbrev pub kinds_of : Verb → List Kind
 kinds_of verb = (form_of verb).kinds
 
--- the verbs of every version, the most frequent ones first
+-- the verbs of every version, with the most frequent verbs first
 abbrev pub first_verbs : List Verb
 first_verbs = Switch ∷ Wake ∷ Stall ∷ Unstall ∷ Migrate ∷ Move ∷ Fork ∷ Mem ∷ Host ∷ Group ∷ Remove ∷ Prefer ∷ Trigger ∷ End ∷ []
 
--- the additional verbs of a version
+-- the verbs that a version adds to the verbs of every version
 abbrev pub more_verbs : Version → List Verb
 more_verbs One = []
 more_verbs Two = Irq ∷ Pressure ∷ []
@@ -116,21 +117,21 @@ more_verbs Two = Irq ∷ Pressure ∷ []
 abbrev pub verbs_of : Version → List Verb
 verbs_of version = first_verbs ++ more_verbs version
 
--- one value of each kind
+-- a tuple with one value of each kind
 abbrev pub Values : List Kind → Type 0
 Values [] = Unit {0}
 Values (k ∷ ks) = Value k × Values ks
 
--- a verb with the values of its fields
+-- an act as its verb and the values of its fields
 pub record Phrase : Type 0 where
   pub verb : Verb
   pub values : Values (kinds_of verb)
 
--- the phrase of a verb and values
+-- the phrase with this verb and these values
 abbrev pub phrase : (verb : Verb) → Values (kinds_of verb) → Phrase
 phrase verb values = record { verb = verb; values = values }
 
--- the verb of an act, and the values of its fields
+-- the verb of an act and the values of its fields
 abbrev pub phrase_of : Act → Phrase
 phrase_of (act.Group path) = phrase Group (path, tt)
 phrase_of (act.Remove path) = phrase Remove (path, tt)
@@ -151,51 +152,51 @@ phrase_of act.End = phrase End tt
 
 -- ---- spelling
 
--- the words of values
+-- the spellings of values, in order
 abbrev pub field_words : (ks : List Kind) → Values ks → List (List ℕ)
 field_words [] values = []
 field_words (k ∷ ks) values = word k values.0 ∷ field_words ks values.1
 
--- each value is in the range that a trace allows
+-- each value is in the range that a trace allows for its kind
 abbrev pub AreInRange : (ks : List Kind) → Values ks → Type 0
 AreInRange [] values = Unit {0}
 AreInRange (k ∷ ks) values = InRange k values.0 × AreInRange ks values.1
 
--- the verb of an act and its fields
+-- the words of an act: its verb, followed by the spellings of its fields
 abbrev pub act_words : Act → List (List ℕ)
 act_words what = verb_word (phrase_of what).verb ∷ field_words (kinds_of (phrase_of what).verb) (phrase_of what).values
 
--- the one spelling of an event
+-- the spelling of an event as a line without its newline; each event has exactly one spelling
 unfoldable pub spelling : Event → List ℕ
 spelling event = joined (decimal event.at ∷ act_words event.act)
 
--- the values of an act are in the ranges that a trace allows
+-- the values of an act are in range
 abbrev pub ActFits : Act → Type 0
 ActFits what = AreInRange (kinds_of (phrase_of what).verb) (phrase_of what).values
 
--- the values of an event are in the ranges that a trace allows
+-- the time and the values of an event are in range
 pub record Fits (event : Event) : Type 0 where
   pub at : event.at < 2 ^ 64
   pub act : ActFits event.act
 
--- the verb of an event is in the list
+-- the list contains the verb of the event
 abbrev pub IsKnown : List Verb → Event → Type 0
 IsKnown verbs event = IsAmong (phrase_of event.act).verb verbs
 
--- ---- reading
+-- ---- parsing
 
--- a value and the remaining words, or BadField with this number if there is no value
+-- the value and the remaining words, or the cause that field number `i` is bad
 abbrev pub or_bad : {A : Type 0} → ℕ → Option A → List (List ℕ) → Result (A × List (List ℕ)) Cause
 or_bad i None words = Err (cause.BadField i)
 or_bad i (Some x) words = Ok (x, words)
 
--- the value of the first word, which is the field with this number, and the words after it
+-- parses the first word as field number `i` of kind `k`; returns its value and the remaining words
 abbrev pub field : ℕ → (k : Kind) → List (List ℕ) → Result (Value k × List (List ℕ)) Cause
 field i k [] = Err (cause.BadField i)
 field i k (text ∷ words) = or_bad i (value_of k text) words
 
--- the act from the values of words, the first of them the field with this number, or the leftmost
--- bad field
+-- parses the words as fields of these kinds, numbered from `i`, and passes their values to `make`;
+-- the cause is the leftmost bad field, including a missing or a superfluous field
 abbrev pub made_from : ℕ → (ks : List Kind) → Maker ks → List (List ℕ) → Result Act Cause
 made_from i [] made [] = Ok made
 made_from i [] made (text ∷ words) = Err (cause.BadField i)
@@ -203,48 +204,50 @@ made_from i (k ∷ ks) make words = do
   first ← field i k words
   made_from (i + 1) ks (make first.0) first.1
 
--- the act that the fields of a verb make
+-- parses the fields of a verb, and returns the act
 unfoldable pub act_from : Verb → List (List ℕ) → Result Act Cause
 act_from verb words = made_from 1 (kinds_of verb) (form_of verb).act words
 
--- the verb of the list with this word, or None
+-- the verb of the list with this word, or `None`
 unfoldable pub verb_of : List Verb → List ℕ → Option Verb
 verb_of verbs text = named verb_word verbs text
 
--- the act of a verb that was found, and its fields
+-- parses the fields of the given verb; the cause is BadVerb if there is no verb
 abbrev pub act_in : Option Verb → List (List ℕ) → Result Act Cause
 act_in None words = Err cause.BadVerb
 act_in (Some verb) words = act_from verb words
 
--- the act that a verb of the list and its fields spell
+-- parses a verb of the list and its fields
 unfoldable pub act_at : List Verb → List (List ℕ) → Result Act Cause
 act_at verbs [] = Err cause.BadVerb
 act_at verbs (text ∷ words) = act_in (verb_of verbs text) words
 
--- the event at a time that was found, with the verb and its fields
+-- parses the verb and fields of an event at the given time; the cause is BadTime if there is no
+-- time
 abbrev pub event_in : List Verb → Option ℕ → List (List ℕ) → Result Event Cause
 event_in verbs None words = Err cause.BadTime
 event_in verbs (Some at) words = do
   what ← act_at verbs words
   Ok (record { at = at; act = what })
 
--- the event that the parts of a line spell
+-- parses the words of a line: a time, a verb of the list, and the fields
 unfoldable pub event_at : List Verb → List (List ℕ) → Result Event Cause
 event_at verbs [] = Err cause.BadTime
 event_at verbs (time ∷ words) = event_in verbs (number_of time) words
 
--- the event that a line spells by these verbs, or the first cause against it
+-- parses a line without its newline as an event with one of the verbs, or returns the first cause
+-- against it
 unfoldable pub event_of : List Verb → List ℕ → Result Event Cause
 event_of verbs line = event_at verbs (parts_at 32 line)
 
--- the line of a header
+-- the line of a header, without its newline
 abbrev pub header_line : Header → List ℕ
 header_line head = header (version_number head.version) head.cpus
 
--- the headers of a version: for 1 to 64 processors
+-- the headers of a version, for 1 to 64 processors
 abbrev pub headers_of : Version → List Header
 headers_of version = map (λ cpus. let head : Header = record { version = version; cpus = cpus } in head) (range_with_len 1 64)
 
--- the header that a line spells, with a version of the list, or None
+-- parses a line as a header with one of the versions; `None` if it isn't one
 unfoldable pub header_of : List Version → List ℕ → Option Header
 header_of versions line = named header_line (flat_map headers_of versions) line

@@ -1,4 +1,4 @@
--- The groups of a world at a time: which are live, and in which order they are printed.
+-- The groups of a world at a time: which groups are live, and the order in which they are printed.
 use Rattle.std.specs.Prelude.{ℕ, ◌+◌, if◌then◌else◌, List, [], ◌∷◌, map, slice_index_or, nat_le, not, ◌&&◌, Bool, false, Option, None, Some}
 use Rattle.std.specs.Ordering.{nat_cmp}
 use Rattle.std.specs.Cmp.Lexicographic.{slice_cmp}
@@ -12,27 +12,28 @@ path_at groups slot = slice_index_or (map (λ group. group.path) groups) slot []
 
 -- ---- live groups at a time
 
--- the group was removed by this time (ns)
+-- the group was removed at or before time `at` (ns)
 abbrev pub is_gone_by : Option ℕ → ℕ → Bool
 is_gone_by None at = false
 is_gone_by (Some gone) at = nat_le gone at
 
--- A group is live at a time (ns) if it was created by then and not removed by then.
+-- A group is live at time `at` (ns) if it was created at or before `at`, and wasn't removed at or
+-- before `at`.
 abbrev pub is_live_at : GroupLife → ℕ → Bool
 is_live_at life at = nat_le life.made at && not (is_gone_by life.gone at)
 
 -- ---- live groups in the order in which they are printed
 
--- the paths of the live groups, each with its slot, counting slots from this number
+-- the paths and slots of the live groups, if the first group of the list is in slot `slot`
 abbrev pub live_from : ℕ → List GroupLife → List (List ℕ × ℕ)
 live_from slot [] = []
 live_from slot (group ∷ groups) = if is_live group then (group.path, slot) ∷ live_from (slot + 1) groups else live_from (slot + 1) groups
 
--- pairs sorted by the bytes of their paths
+-- sorts pairs by the bytes of their paths
 abbrev pub in_order : List (List ℕ × ℕ) → List (List ℕ × ℕ)
 in_order [] = []
 in_order (pair ∷ pairs) = entries.put (slice_cmp nat_cmp) pair.0 pair.1 (in_order pairs)
 
--- the live groups, sorted by the bytes of their paths
+-- the paths and slots of the live groups, sorted by the bytes of the paths
 abbrev pub live_groups : List GroupLife → List (List ℕ × ℕ)
 live_groups groups = in_order (live_from 0 groups)

@@ -1,15 +1,15 @@
--- A header by the number of its version.
+-- The header of a trace, given the number of its version.
 use Rattle.std.specs.Prelude.{◌≡◌, ◌⊎◌, ℕ, ◌==◌, if◌then◌else◌}
 use Rattle.psi_spec.specs.Grammar.{Version, One, Two, Header}
 
--- a number is that of a version
+-- the number is the number of a version
 abbrev pub IsVersion : ℕ → Type 0
 IsVersion number = (number ≡ 1) ⊎ (number ≡ 2)
 
--- the version with this number, or version 1 if there is none
+-- the version with this number, or version 1 for any other number
 abbrev pub version_of : ℕ → Version
 version_of number = if number == 2 then Two else One
 
--- the header with this version number
+-- the header with this version number and number of processors
 abbrev pub header_with : ℕ → ℕ → Header
 header_with number cpus = record { version = version_of number; cpus = cpus }

@@ -1,4 +1,4 @@
--- What follows from the definitions of groups, of stall time and of traces.
+-- Laws that follow from the definitions of groups, of stall time and of traces.
 use Rattle.std.specs.Prelude.{◌≡◌, ◌≢◌, ◌↔◌, ◌⊎◌, ℕ, ◌+◌, ◌-◌, ◌≤◌, ◌<◌, ◌==◌, ◌||◌, true, if◌then◌else◌, List, [], ◌∷◌, ◌++◌, length, slice_index, slice_index_or, Option, None, Some, Ok, Err}
 use Rattle.psi_base.specs.declared.event.Cause.{Cause}
 use Rattle.psi_base.specs.declared.event.Event.{Event}
@@ -14,17 +14,17 @@ use Rattle.psi_spec.specs.Trace.{Accepts, AllFit, AreKnown, IsAccepted, IsCpuCou
 
 -- ---- groups
 
--- The root alone is a legal list of groups.
+-- The list with only the root satisfies the invariant of groups.
 abbrev pub AreGroupsFirst : Type 0
 AreGroupsFirst = AreGroups (root ∷ [])
 
--- A legal event preserves that.
+-- A legal event preserves the invariant of groups.
 abbrev pub AreGroupsKept : Type 0
 AreGroupsKept =
     (limits : Limits) (w : World) (event : Event) → cause_of limits w event ≡ None → AreGroups w.groups
     → AreGroups (after_event w event).groups
 
--- Parents never change: an event only appends those of new groups.
+-- Parents never change: an event only appends the parents of new groups.
 abbrev pub ParentsKept : Type 0
 ParentsKept = (w : World) (event : Event) → parents_of (after_event w event).groups ≡ parents_of w.groups ++ new_parents w.groups event.act
 
@@ -34,44 +34,47 @@ ClimbsKept =
     (parents more : List (Option ℕ)) (low high : ℕ) → AreOlder parents → low < length parents
     → is_under (parents ++ more) low high ≡ is_under parents low high
 
--- A slot is under another one if and only if it is that slot or its parent is under it.
+-- Slot `low` is at or below slot `high` if and only if the two are equal or the parent of `low` is
+-- at or below `high`.
 abbrev pub UnderByStep : Type 0
 UnderByStep =
     (parents : List (Option ℕ)) (low high : ℕ) → AreOlder parents
     → is_under parents low high ≡ (low == high || leads_to parents (slice_index_or parents low None) high)
 
--- Ancestors have smaller slots.
+-- The slot of an ancestor is at most the slot of its descendant.
 abbrev pub AncestorsAreOlder : Type 0
 AncestorsAreOlder = (parents : List (Option ℕ)) (low high : ℕ) → AreOlder parents → is_under parents low high ≡ true → high ≤ low
 
--- Each group is the root or below it.
+-- Each group is the root or a descendant of the root.
 abbrev pub RootIsAbove : Type 0
 RootIsAbove = (groups : List GroupLife) (slot : ℕ) → AreGroups groups → slot < length groups → is_under (parents_of groups) slot 0 ≡ true
 
 -- ---- stall time and interrupt time
 
--- Stall time with one more event: the time before it up to the event, and after it the rest of the
--- time if the group is in the state then.
+-- Stall time after one more event is the sum of the stall time up to that event, and of the time
+-- since then if the group is in the state after the event.
 abbrev pub GrowsByEvent : Type 0
 GrowsByEvent = (state : State) (cpu slot : ℕ) (events : List Event) (event : Event) (at : ℕ) →
     stall state cpu slot (events ++ event ∷ []) at ≡ stall state cpu slot events event.at
     + (if holds state cpu slot (after (events ++ event ∷ [])) then at - event.at else 0)
 
--- After the last event, stall time grows with time exactly if the group is in the state then.
+-- After the last event, stall time grows with time if the group is in the state then, and is
+-- constant if it isn't.
 abbrev pub GrowsWithTime : Type 0
 GrowsWithTime = (state : State) (cpu slot : ℕ) (events : List Event) (event : Event) (at later : ℕ) → event.at ≤ at → at ≤ later →
     stall state cpu slot (events ++ event ∷ []) later
     ≡ stall state cpu slot (events ++ event ∷ []) at + (if holds state cpu slot (after (events ++ event ∷ [])) then later - at else 0)
 
--- Interrupt time with one more event grows by what the event adds in the world before it.
+-- One more event increases the interrupt time by the amount that the event adds in the world before
+-- it.
 abbrev pub IrqByEvent : Type 0
 IrqByEvent = (cpu slot : ℕ) (events : List Event) (event : Event) →
     irq_time cpu slot (events ++ event ∷ []) ≡ irq_time cpu slot events + irq_from cpu slot (after events) (Some event)
 
 -- ---- traces
 
--- what it means that bytes are a trace, without referring to a parser: they are its text, its
--- version is accepted, and its events have accepted verbs and make up a trace
+-- The bytes are the text of an acceptable trace: its version is accepted, its events have accepted
+-- verbs, and they are legal. This definition doesn't refer to a parser.
 pub record IsTrace (accepts : Accepts) (bytes : List ℕ) (trace : Trace) : Type 0 where
   pub text : bytes ≡ text_of trace
   pub version : IsAmong trace.version accepts.versions
@@ -79,33 +82,34 @@ pub record IsTrace (accepts : Accepts) (bytes : List ℕ) (trace : Trace) : Type
   pub known : AreKnown (accepts.verbs trace.version) trace.events
   pub accepted : IsAccepted (limits_of accepts.tick trace.cpus) trace.events
 
--- bytes are accepted as a trace if and only if they are its text
+-- Bytes are parsed as a trace if and only if they are its text and it is acceptable (`IsTrace`).
 abbrev pub Accepted : Type 0
 Accepted = (accepts : Accepts) (bytes : List ℕ) (trace : Trace) → (trace_of accepts bytes ≡ Ok trace) ↔ IsTrace accepts bytes trace
 
--- no newline is among the bytes
+-- the bytes contain no newline
 abbrev pub NoNewline : List ℕ → Type 0
 NoNewline bytes = (k : ℕ) → k < length bytes → slice_index bytes k ≢ 10
 
--- The input at the start of a line: a line with its newline, or a rest without one.
+-- The input at the start of a line: either a line followed by its newline (`IsFirstLine`), or an
+-- incomplete last line (`IsRest`).
 abbrev pub IsFirstLine : List ℕ → List ℕ → Type 0
 IsFirstLine rest line = NoNewline line × ((suffix : List ℕ) × (rest ≡ line ++ 10 ∷ suffix))
 
 abbrev pub IsRest : List ℕ → Type 0
 IsRest rest = NoNewline rest
 
--- the cause against this input at the start of a line, in a world
+-- the cause against the input at the start of a line after the header, in world `w`
 abbrev pub IsLineCause : List Verb → Limits → World → List ℕ → Cause → Type 0
 IsLineCause verbs limits w rest why =
     ((line : List ℕ) × IsFirstLine rest line × (line_event verbs limits w line ≡ Err why)) ⊎ (IsRest rest × (rest_cause w rest ≡ Some why))
 
--- the same for the first line
+-- the cause against the input at the start of the first line, which must be a header
 abbrev pub IsFirstLineCause : List Version → List ℕ → Cause → Type 0
 IsFirstLineCause versions rest why =
     ((line : List ℕ) × IsFirstLine rest line × (first_line versions line ≡ Err why)) ⊎ (IsRest rest × (first_rest rest ≡ why))
 
--- the first bad line is after the header: the lines before it are a header and legal events, and in
--- the world after these the cause applies to the input there
+-- The first bad line comes after the header: the lines before it are a header and legal events, and
+-- in the world after these events `why` is the cause against the rest of the input.
 pub record IsRefusedLater (accepts : Accepts) (bytes : List ℕ) (line : ℕ) (why : Cause) : Type 0 where
   pub version : Version
   pub cpus : ℕ
@@ -120,12 +124,13 @@ pub record IsRefusedLater (accepts : Accepts) (bytes : List ℕ) (line : ℕ) (w
   pub line_is : line ≡ length prefix + 2
   pub has : IsLineCause (accepts.verbs version) (limits_of accepts.tick cpus) (after prefix) rest why
 
--- what it means that bytes are rejected at a line, without referring to a parser
+-- The bytes are rejected at line `line` with cause `why`. This definition doesn't refer to a
+-- parser.
 abbrev pub IsRefused : Accepts → List ℕ → ℕ → Cause → Type 0
 IsRefused accepts bytes line why = ((line ≡ 1) × IsFirstLineCause accepts.versions bytes why) ⊎ IsRefusedLater accepts bytes line why
 
--- bytes are rejected at a line with a cause if and only if it is the first bad line and its first
--- cause
+-- The parser rejects bytes at a line with a cause if and only if that is the first bad line and its
+-- first cause.
 abbrev pub FirstRefused : Type 0
 FirstRefused =
     (accepts : Accepts) (bytes : List ℕ) (line : ℕ) (why : Cause)

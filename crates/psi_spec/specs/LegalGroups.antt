@@ -1,4 +1,4 @@
--- Invariants of the groups in each legal world, the ancestors of a group step by step, and the
+-- The invariant of the groups in each legal world, the ancestors of a group step by step, and the
 -- order in which groups are printed.
 use Rattle.std.specs.Prelude.{◌≡◌, ℕ, ◌<◌, ◌≤◌, List, [], ◌∷◌, length, take, slice_get, slice_index_or, Bool, true, false, Option, None, Some, IsSome, IsPermutation, IsSortedByKey}
 use Rattle.std.specs.List.{range_with_len}
@@ -14,7 +14,7 @@ use Rattle.psi_spec.specs.Groups.{path_at}
 
 -- ---- groups of legal worlds
 
--- each parent has a smaller slot
+-- the parent of a slot has a smaller slot
 abbrev pub AreOlder : List (Option ℕ) → Type 0
 AreOlder parents = (slot parent : ℕ) → slice_index_or parents slot None ≡ Some parent → parent < slot
 
@@ -28,14 +28,15 @@ AreAbove groups =
     (slot parent : ℕ) → slice_index_or (parents_of groups) slot None ≡ Some parent
     → path_at groups parent ≡ parent_path (path_at groups slot)
 
--- looking up the path of a live group finds that group, so no two live groups have the same path
+-- looking up the path of a live group finds the slot of that group, so no two live groups have the
+-- same path
 abbrev pub IsOneLive : List GroupLife → Type 0
 IsOneLive groups =
     (slot : ℕ) (group : GroupLife) → slice_get groups slot ≡ Some group → is_live group ≡ true → slot_of groups group.path ≡ Some slot
 
--- The invariant of the groups in each legal world: there are at most 1,024; the first is the root,
--- live and with its accounting on; parents have smaller slots and match the paths; and no two live
--- groups have the same path.
+-- The invariant of the groups in each legal world: there are at most 1,024 groups; the first is the
+-- root, live and with its accounting on; parents have smaller slots and match the paths; and no two
+-- live groups have the same path.
 pub record AreGroups (groups : List GroupLife) : Type 0 where
   pub few : length groups ≤ most_groups
   pub rooted : take 1 groups ≡ root ∷ []
@@ -48,26 +49,26 @@ pub record AreGroups (groups : List GroupLife) : Type 0 where
 abbrev pub is_live_in : List GroupLife → ℕ → Bool
 is_live_in groups slot = is_some_and (slice_get groups slot) is_live
 
--- ---- the groups above a group
+-- ---- the ancestors of a group
 
--- a slot (None is under nothing) is another one or below it
+-- an optional slot is at or below slot `high`; `None` isn't below any slot
 abbrev pub leads_to : List (Option ℕ) → Option ℕ → ℕ → Bool
 leads_to parents None high = false
 leads_to parents (Some low) high = is_under parents low high
 
--- the parent of the group that an act creates
+-- the parent of the group that is created with this path; no element if no group is created
 abbrev pub parent_of_new : List GroupLife → Option (List ℕ) → List (Option ℕ)
 parent_of_new groups None = []
 parent_of_new groups (Some path) = slot_of groups (parent_path path) ∷ []
 
--- the parents that an act appends: that of a new group
+-- the parents that an act appends: the parent of the new group, if it creates one
 abbrev pub new_parents : List GroupLife → Act → List (Option ℕ)
 new_parents groups what = parent_of_new groups (names what).new_path
 
--- ---- an order of all slots
+-- ---- the order of all slots
 
--- An order of slots by path: each slot occurs once, and the paths are in byte order. Slots with the
--- same path may be in any order.
+-- An order of the slots by path: each slot occurs once, and the paths are in ascending byte order.
+-- Slots with the same path may be in any order.
 pub record IsPathOrder (groups : List GroupLife) (order : List ℕ) : Type 0 where
   pub each : IsPermutation (range_with_len 0 (length groups)) order
   pub sorted : IsSortedByKey (path_at groups) (slice_cmp nat_cmp) order

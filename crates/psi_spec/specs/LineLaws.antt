@@ -9,37 +9,37 @@ use Rattle.psi_spec.specs.Fields.{Kind, Value, InRange, word, IsAmong}
 use Rattle.psi_spec.specs.Fields as kind
 use Rattle.psi_spec.specs.Grammar.{Header, Verb, Version, Fits, IsKnown, event_of, header, header_line, header_of, kinds_of, spelling, verb_word}
 
--- a word spells a value of a kind
+-- the word spells some value of kind `k`
 abbrev pub Spells : Kind → List ℕ → Type 0
 Spells k text = (value : Value k) × (InRange k value × (text ≡ word k value))
 
--- there is a next part, and it spells a value of its kind
+-- a part is present and spells a value of the required kind
 abbrev pub IsGood : Option Kind → Option (List ℕ) → Type 0
 IsGood (Some k) (Some text) = Spells k text
 IsGood (Some k) None = ⊥
 IsGood None part = ⊥
 
--- a part is missing, spells no value of its kind, or is superfluous
+-- a part is missing, spells no value of the required kind, or is superfluous
 abbrev pub IsBad : Option Kind → Option (List ℕ) → Type 0
 IsBad (Some k) (Some text) = Spells k text → ⊥
 IsBad (Some k) None = Unit {0}
 IsBad None (Some text) = Unit {0}
 IsBad None None = ⊥
 
--- the leftmost bad part is at this place
+-- part `at` is the leftmost bad part
 pub record IsFirstBad (ks : List Kind) (parts : List (List ℕ)) (at : ℕ) : Type 0 where
   pub before : (i : ℕ) → i < at → IsGood (slice_get ks i) (slice_get parts i)
   pub here : IsBad (slice_get ks at) (slice_get parts at)
 
--- the first part of a line is a time, below 2^64 ns
+-- the first part of a line is a time (ns) below 2^64
 abbrev pub HasTime : List (List ℕ) → Type 0
 HasTime parts = IsGood (Some kind.number) (slice_get parts 0)
 
--- the second part of a line is the word of this verb, which is in the list
+-- the second part of a line is the word of this verb, and the list contains the verb
 abbrev pub HasVerb : List Verb → List (List ℕ) → Verb → Type 0
 HasVerb verbs parts verb = IsAmong verb verbs × (slice_get parts 1 ≡ Some (verb_word verb))
 
--- the leftmost bad part after the verb is the field with this number, from 1
+-- the time and the verb are valid, and the leftmost bad field has number `number` (from 1)
 pub record HasBadField (verbs : List Verb) (parts : List (List ℕ)) (number : ℕ) : Type 0 where
   pub time : HasTime parts
   pub verb : Verb
@@ -48,45 +48,46 @@ pub record HasBadField (verbs : List Verb) (parts : List (List ℕ)) (number : �
   pub is_number : number ≡ at + 1
   pub first : IsFirstBad (kinds_of verb) (drop 2 parts) at
 
--- The cause against the parts of a line, judging the text alone: the first part isn't a time; or
--- else the second part is missing or isn't a verb of the list; or else the leftmost field that is
--- missing, malformed or superfluous. There is no other.
+-- The cause against a line by its text alone. BadTime: the first part isn't a time. BadVerb: the
+-- time is valid, but the second part is missing or isn't a verb of the list. BadField: time and
+-- verb are valid; the cause has the number of the leftmost field that is missing, malformed or
+-- superfluous. No other cause applies.
 abbrev pub IsCause : List Verb → List (List ℕ) → Cause → Type 0
 IsCause verbs parts cause.BadTime = HasTime parts → ⊥
 IsCause verbs parts cause.BadVerb = HasTime parts × ((verb : Verb) → HasVerb verbs parts verb → ⊥)
 IsCause verbs parts (cause.BadField number) = HasBadField verbs parts number
 IsCause verbs parts _ = ⊥
 
--- A line is parsed as an event if and only if it is the spelling of an event with values in range
--- and one of the verbs.
+-- A line is parsed as an event if and only if it is the spelling of that event, the event's values
+-- are in range, and its verb is one of the verbs.
 abbrev pub ReadsSpelled : Type 0
 ReadsSpelled =
     (verbs : List Verb) (line : List ℕ) (event : Event)
     → (event_of verbs line ≡ Ok event) ↔ (Fits event × IsKnown verbs event × (line ≡ spelling event))
 
--- A line is rejected exactly for its leftmost error.
+-- A line is rejected with a cause if and only if that is the cause of its leftmost error.
 abbrev pub FindsCauses : Type 0
 FindsCauses = (verbs : List Verb) (line : List ℕ) (why : Cause) → (event_of verbs line ≡ Err why) ↔ IsCause verbs (parts_at 32 line) why
 
--- A line is parsed as a header if and only if it is the header of one of the versions with 1 to 64
--- processors.
+-- A line is parsed as a header if and only if it is the line of that header, the version is one of
+-- the versions, and there are 1 to 64 processors.
 abbrev pub HeadersSpelled : Type 0
 HeadersSpelled = (versions : List Version) (line : List ℕ) (head : Header) →
     (header_of versions line ≡ Some head) ↔ (IsAmong head.version versions × (1 ≤ head.cpus) × (head.cpus ≤ 64) × (line ≡ header_line head))
 
--- bytes that may be a line: no newline, and at most 512 of them
+-- the bytes are a valid line: they contain no newline, and there are at most 512 of them
 pub record IsLine (bytes : List ℕ) : Type 0 where
   pub one : EachIndex bytes (λ k. slice_index bytes k ≢ 10)
   pub short : length bytes ≤ 512
 
--- The spelling of an event is a line.
+-- The spelling of an event in range is a valid line.
 abbrev pub SpelledInLine : Type 0
 SpelledInLine = (event : Event) → Fits event → IsLine (spelling event)
 
--- A header is a line.
+-- A header line is a valid line.
 abbrev pub HeadedByLine : Type 0
 HeadedByLine = (version cpus : ℕ) → version < 2 ^ 64 → cpus < 2 ^ 64 → IsLine (header version cpus)
 
--- Two events with the same spelling are equal.
+-- Spelling is injective: two events with the same spelling are equal.
 abbrev pub SpelledApart : Type 0
 SpelledApart = (first second : Event) → Fits first → Fits second → spelling first ≡ spelling second → first ≡ second

@@ -1,12 +1,13 @@
--- What the line of an act names, one row for each verb.
+-- The groups, tasks and processors that the line of an act names, one row per verb. An *act* is
+-- what an event does.
 use Rattle.std.specs.Prelude.{ℕ, List, Bool, Option, None, Some}
 use Rattle.psi_base.specs.declared.event.Pid.{Pid}
 use Rattle.psi_base.specs.declared.event.Act.{Act}
 use Rattle.psi_base.specs.declared.event.Act.TheVariants as act
 
--- what an act names: the paths of a group that must exist, of a new group, of a group to remove and
--- of a group whose accounting is switched (and whether on), a task that must exist, a new task, and
--- a processor that must exist
+-- What an act names: the path of a group that must be live, of a new group, of a group to remove,
+-- and of a group whose accounting is switched (and whether it is switched on); a task that must be
+-- live, a new task, and a processor that must exist.
 pub record Names : Type 0 where
   pub live_path : Option (List ℕ)
   pub new_path : Option (List ℕ)
@@ -16,11 +17,11 @@ pub record Names : Type 0 where
   pub new_task : Option Pid
   pub cpu : Option ℕ
 
--- an act that names nothing
+-- the value for an act that names nothing
 abbrev pub no_names : Names
 no_names = record { live_path = None; new_path = None; removed_path = None; switched = None; live_task = None; new_task = None; cpu = None }
 
--- what each act names
+-- the groups, tasks and processor that each act names
 abbrev pub names : Act → Names
 names (act.Group path) = record no_names { new_path = Some path }
 names (act.Remove path) = record no_names { live_path = Some path; removed_path = Some path }

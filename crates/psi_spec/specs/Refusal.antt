@@ -1,4 +1,4 @@
--- Which events are legal in a world, and the cause against an illegal one.
+-- The legality of events in a world, and the first cause against an illegal event.
 use Rattle.std.specs.Prelude.{◌≡◌, ℕ, ◌-◌, List, [], ◌∷◌, length, slice_index_or, nat_lt, nat_le, ◌==◌, ◌&&◌, ◌||◌, not, Bool, true, false, Option, None, Some, is_some, find}
 use Rattle.std.specs.List.{list_any}
 use Rattle.std.specs.FinMap as tasks_by
@@ -17,62 +17,63 @@ use Rattle.psi_spec.specs.declared.machine.GroupLife.{GroupLife}
 use Rattle.psi_spec.specs.Names.{names}
 use Rattle.psi_spec.specs.World.{World, Limits, Tasks, task_of, running_on, task_part, is_running, is_ready, is_active, is_ready_on, is_live, is_trigger, is_pressure, slot_of, parent_path, is_root, after_event, most_groups, most_tasks, most_events, most_pressures, longest_irq}
 
--- ---- single tests
+-- ---- single conditions
 
--- a path that must be that of a live group isn't
+-- an act names a group that must be live, and there is no live group with this path
 abbrev pub lacks_group : List GroupLife → Option (List ℕ) → Bool
 lacks_group groups None = false
 lacks_group groups (Some path) = not (is_some (slot_of groups path))
 
--- a task that must exist doesn't
+-- an act names a task that must be live, and there is no such task
 abbrev pub lacks_task : Tasks → Option Pid → Bool
 lacks_task tasks None = false
 lacks_task tasks (Some pid) = not (is_some (task_of tasks pid.0))
 
--- a processor that must exist doesn't
+-- an act names a processor that must exist, and the machine has no such processor
 abbrev pub lacks_cpu : ℕ → Option ℕ → Bool
 lacks_cpu cpus None = false
 lacks_cpu cpus (Some cpu) = nat_le cpus cpu
 
--- a path that must be new is that of a live group
+-- an act creates a group, and a live group has this path
 abbrev pub has_group : List GroupLife → Option (List ℕ) → Bool
 has_group groups None = false
 has_group groups (Some path) = is_some (slot_of groups path)
 
--- the parent of a new group isn't live
+-- an act creates a group whose parent isn't live
 abbrev pub lacks_parent : List GroupLife → Option (List ℕ) → Bool
 lacks_parent groups None = false
 lacks_parent groups (Some path) = not (is_some (slot_of groups (parent_path path)))
 
--- the slot equals this one
+-- both slots are present and equal
 abbrev pub is_slot : Option ℕ → Option Slot → Bool
 is_slot (Some n) (Some slot) = slot.0 == n
 is_slot _ _ = false
 
--- a live group has a live child
+-- the group in `slot` has a live child
 abbrev pub has_child : List GroupLife → Option ℕ → Bool
 has_child groups slot = list_any (λ group. is_live group && is_slot slot group.parent) groups
 
--- a live group has a live task in it
+-- the group in `slot` has a live task
 abbrev pub has_member : Tasks → Option ℕ → Bool
 has_member tasks slot = list_any (λ task. is_slot slot (Some task.slot)) (tasks_by.values tasks)
 
--- a group to be removed is the root, or has a live child or a live task
+-- the group to be removed is the root, or has a live child or a live task
 abbrev pub is_busy : World → Option (List ℕ) → Bool
 is_busy w None = false
 is_busy w (Some path) = is_root path || has_child w.groups (slot_of w.groups path) || has_member w.tasks (slot_of w.groups path)
 
--- the group whose accounting is to be switched is the root
+-- the group whose accounting is switched is the root
 abbrev pub switches_root : Option (List ℕ × Bool) → Bool
 switches_root None = false
 switches_root (Some switched) = is_root switched.0
 
--- a task that must be new exists
+-- an act creates a task, and a live task has this pid
 abbrev pub has_task : Tasks → Option Pid → Bool
 has_task tasks None = false
 has_task tasks (Some pid) = is_some (task_of tasks pid.0)
 
--- a switch says `idle` although a task is running, or another way to leave although none is
+-- a switch says `idle` although a task is running, or another way to leave although no task is
+-- running
 abbrev pub is_wrong : How → Option (ℕ × Task) → Bool
 is_wrong Idle running = is_some running
 is_wrong Preempt running = not (is_some running)
@@ -85,44 +86,44 @@ abbrev pub is_exit : How → Bool
 is_exit Exit = true
 is_exit _ = false
 
--- the next task isn't ready on the processor
+-- the next task isn't ready on processor `cpu`
 abbrev pub isnt_ready : Tasks → ℕ → Option Pid → Bool
 isnt_ready tasks cpu None = false
 isnt_ready tasks cpu (Some pid) = not (is_some_and (task_of tasks pid.0) (is_ready_on cpu))
 
--- a window (us) from half a second to ten seconds, and a threshold (us) from one up to the window
+-- the window is between 0.5 s and 10 s, and the threshold between 1 us and the window (both in us)
 abbrev pub is_window : ℕ → ℕ → Bool
 is_window threshold window = nat_le 500000 window && nat_le window 10000000 && nat_le 1 threshold && nat_le threshold window
 
--- a stall starts or ends although its task isn't running
+-- a memory stall begins or ends although its task isn't running
 abbrev pub not_running : Tasks → Act → Bool
 not_running tasks (act.Stall pid) = is_some_and (task_of tasks pid.0) (λ task. not (is_running task.mode))
 not_running tasks (act.Unstall pid) = is_some_and (task_of tasks pid.0) (λ task. not (is_running task.mode))
 not_running tasks _ = false
 
--- the next task isn't ready on that processor, or the task that migrates isn't ready
+-- the next task isn't ready on the switched processor, or the task that migrates isn't ready
 abbrev pub not_ready : Tasks → Act → Bool
 not_ready tasks (act.Switch cpu next how) = isnt_ready tasks cpu.0 next
 not_ready tasks (act.Migrate pid cpu) = is_some_and (task_of tasks pid.0) (λ task. not (is_ready task.mode))
 not_ready tasks _ = false
 
--- the task that is woken is ready or running
+-- the task that is woken isn't blocked: it is ready or running
 abbrev pub not_blocked : Tasks → Act → Bool
 not_blocked tasks (act.Wake pid cpu) = is_some_and (task_of tasks pid.0) (λ task. is_active task.mode)
 not_blocked tasks _ = false
 
--- a switch says `idle` although a task is running, or another way to leave although none is
+-- the way in which a switch leaves the processor doesn't fit the running task (see `is_wrong`)
 abbrev pub wrong_how : Tasks → Act → Bool
 wrong_how tasks (act.Switch cpu next how) = is_wrong how (running_on tasks cpu.0)
 wrong_how tasks _ = false
 
--- a stall starts in a stall, or a task exits in one
+-- a memory stall begins in a task that is in one already, or a task exits in a memory stall
 abbrev pub in_stall : Tasks → Act → Bool
 in_stall tasks (act.Stall pid) = is_some_and (task_of tasks pid.0) (λ task. task.stalled)
 in_stall tasks (act.Switch cpu next how) = is_exit how && is_some_and (task_part (running_on tasks cpu.0)) (λ task. task.stalled)
 in_stall tasks _ = false
 
--- a stall ends although there is none
+-- a memory stall ends in a task that isn't in one
 abbrev pub not_in_stall : Tasks → Act → Bool
 not_in_stall tasks (act.Unstall pid) = is_some_and (task_of tasks pid.0) (λ task. not task.stalled)
 not_in_stall tasks _ = false
@@ -132,16 +133,16 @@ abbrev pub bad_window : Act → Bool
 bad_window (act.Trigger path res level threshold_us window_us) = not (is_window threshold_us window_us)
 bad_window _ = false
 
--- interrupts took more than a second, or more than the time (ns) since the last `irq` line of the
--- processor
+-- the interrupts of an `irq` line took more than a second, or more than the time (ns) since the
+-- previous `irq` line of the processor
 abbrev pub irq_too_long : List ℕ → ℕ → Act → Bool
 irq_too_long irqs at (act.Irq cpu ns) = nat_lt longest_irq ns || nat_lt (at - slice_index_or irqs cpu.0 0) ns
 irq_too_long irqs at _ = false
 
 -- ---- causes
 
--- When each cause applies to an event in a world. Causes that concern only the bytes of a line
--- apply to no event.
+-- Each cause applies to an event in a world under this condition. Causes that concern only the
+-- bytes of a line apply to no event.
 abbrev pub applies : Cause → Limits → World → Event → Bool
 applies cause.AfterEnd limits w event = w.ended
 applies cause.TimeBack limits w event = nat_lt event.at w.last
@@ -174,7 +175,7 @@ applies cause.BadVerb limits w event = false
 applies (cause.BadField i) limits w event = false
 applies cause.NoEnd limits w event = false
 
--- the order of causes: if several apply, the first one is reported
+-- the precedence of causes: if several causes apply, the first of this list is reported
 abbrev pub cause_order : List Cause
 cause_order =
     cause.AfterEnd ∷ cause.TimeBack ∷ cause.TimeTooLate
@@ -184,11 +185,11 @@ cause_order =
     ∷ cause.NotRunning ∷ cause.NotReady ∷ cause.NotBlocked ∷ cause.WrongHow ∷ cause.InStall ∷ cause.NotInStall
     ∷ cause.IrqTooLong ∷ []
 
--- the first cause against an event, or None if the event is legal
+-- the first cause against an event, or `None` if the event is legal
 unfoldable pub cause_of : Limits → World → Event → Option Cause
 cause_of limits w event = find (λ why. applies why limits w event) cause_order
 
--- each event is legal in the world after those before it
+-- each event is legal in the world after the events before it
 abbrev pub AreLegal : Limits → World → List Event → Type 0
 AreLegal limits w [] = Unit {0}
 AreLegal limits w (event ∷ events) = (cause_of limits w event ≡ None) × AreLegal limits (after_event w event) events

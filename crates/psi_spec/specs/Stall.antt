@@ -1,4 +1,4 @@
--- When a group is in a state on a processor and for how long, and how much time interrupts took
+-- The states of a group on a processor, how long it was in each, and how much time interrupts took
 -- from it there.
 use Rattle.std.specs.Prelude.{ℕ, zero, suc, ◌+◌, ◌-◌, List, [], ◌∷◌, length, sum, map, take, filter, slice_get, slice_index_or, ◌==◌, ◌&&◌, ◌||◌, not, Bool, false, if◌then◌else◌, Option, None, Some}
 use Rattle.std.specs.List.{list_any, list_all, range_with_len}
@@ -14,31 +14,32 @@ use Rattle.psi_spec.specs.declared.machine.Task.{Task}
 use Rattle.psi_spec.specs.declared.machine.GroupLife.{GroupLife}
 use Rattle.psi_spec.specs.World.{World, Tasks, is_on, is_waiting, is_ready, is_running, is_active, after}
 
--- ---- groups below groups
+-- ---- ancestors of groups
 
--- the number of a slot
+-- an optional slot as an optional number
 abbrev pub number_of_slot : Option Slot → Option ℕ
 number_of_slot None = None
 number_of_slot (Some slot) = Some slot.0
 
--- the parents of all slots
+-- the parents of all slots, as numbers
 abbrev pub parents_of : List GroupLife → List (Option ℕ)
 parents_of groups = map (λ group. number_of_slot group.parent) groups
 
--- a slot is another one or has it among its ancestors, at most n steps up
+-- starting at an optional slot, at most `n` steps to a parent lead to slot `high`
 abbrev pub climbs : ℕ → List (Option ℕ) → Option ℕ → ℕ → Bool
 climbs n parents None high = false
 climbs zero parents (Some slot) high = slot == high
 climbs (suc n) parents (Some slot) high = slot == high || climbs n parents (slice_index_or parents slot None) high
 
--- A slot is another one or has it among its ancestors. Parents have smaller slots, so the slot's
--- own number bounds the steps.
+-- Slot `low` is slot `high` or one of its descendants. Parents have smaller slots, so `low` is an
+-- upper bound on the number of steps.
 unfoldable pub is_under : List (Option ℕ) → ℕ → ℕ → Bool
 is_under parents low high = climbs low parents (Some low) high
 
 -- ---- states
 
--- a task counts for a group on a processor: it is on that processor, and in the group or below it
+-- a task counts for a group on a processor: it is assigned to that processor, and it is in the
+-- group or in a descendant
 abbrev pub is_in : List (Option ℕ) → ℕ → ℕ → Task → Bool
 is_in parents cpu slot task = task.cpu.0 == cpu && is_under parents task.slot.0 slot
 
@@ -66,10 +67,11 @@ is_up task = is_active task.mode
 abbrev pub stalls : Task → Bool
 stalls task = task.stalled
 
--- The states, as in the kernel's psi.c, over the tasks that count. IO: some task waits for IO; full
--- if also none is ready or running. Memory: some task is in a memory stall; full if also all ready
--- or running tasks are in one, or the running task is. CPU: some task is ready; full if also none
--- is running. Nonidle: some task waits for IO, is in a memory stall, is ready or is running.
+-- The states, as in the kernel's psi.c, for the tasks that count for a group on a processor. IO
+-- some: a task waits for IO. IO full: in addition, no task is ready or running. Memory some: a task
+-- is in a memory stall. Memory full: in addition, every ready or running task is in a memory stall,
+-- or the running task is. CPU some: a task is ready. CPU full: in addition, no task is running.
+-- Nonidle: a task waits for IO, is in a memory stall, is ready or is running.
 abbrev pub holds_of : State → List Task → Bool
 holds_of IoSome tasks = list_any waits tasks
 holds_of IoFull tasks = list_any waits tasks && not (list_any is_up tasks)
@@ -80,52 +82,56 @@ holds_of CpuSome tasks = list_any queues tasks
 holds_of CpuFull tasks = list_any queues tasks && not (list_any runs tasks)
 holds_of Nonidle tasks = list_any (λ task. waits task || stalls task || is_up task) tasks
 
--- the states, ordered by number
+-- the states, in the order of their numbers
 abbrev pub states : List State
 states = IoSome ∷ IoFull ∷ MemSome ∷ MemFull ∷ CpuSome ∷ CpuFull ∷ Nonidle ∷ []
 
--- a group is in a state on a processor: its accounting is on, and the tasks that count for it there
--- are in that state
+-- a group is in a state on processor `cpu`: its accounting is on, and the tasks that count for it
+-- there satisfy the state's condition
 unfoldable pub holds : State → ℕ → ℕ → World → Bool
 holds state cpu slot w = is_on w.groups slot && holds_of state (tasks_in (parents_of w.groups) cpu slot w.tasks)
 
 -- ---- stall time
 
--- the time of the event with this number (from 1), or `at` if the number is above the last
+-- the time (ns) of event number `i` (from 1), or `at` if there is no such event
 abbrev pub moment_of : List Event → ℕ → ℕ → ℕ
 moment_of events at i = slice_index_or (map (λ (event : Event). event.at) events) (i - 1) at
 
--- the time (ns) from an event to the next, if the group is in the state after it, or 0
+-- the time (ns) from event number `i` to the next event (or to `at`), if the group is in the state
+-- after event `i`, or 0
 abbrev pub stall_after : State → ℕ → ℕ → List Event → ℕ → ℕ → ℕ
 stall_after state cpu slot events at i =
     if holds state cpu slot (after (take i events)) then moment_of events at (i + 1) - moment_of events at i else 0
 
--- how long (ns) a group was in a state on a processor up to a time: the sum over the events
+-- The stall time: how long (ns) a group was in a state on processor `cpu` up to time `at`. It is
+-- the sum over the intervals between events.
 unfoldable pub stall : State → ℕ → ℕ → List Event → ℕ → ℕ
 stall state cpu slot events at = sum (map (stall_after state cpu slot events at) (range_with_len 1 (length events)))
 
 -- ---- interrupt time
 
--- a task is running on a processor, in a group or below it
+-- a task of the group or of a descendant is running on processor `cpu`
 unfoldable pub has_running : ℕ → ℕ → World → Bool
 has_running cpu slot w = list_any runs (tasks_in (parents_of w.groups) cpu slot w.tasks)
 
--- the time (ns) that interrupts took on a processor, by an act
+-- the time (ns) that interrupts took on processor `cpu` according to an act, or 0
 abbrev pub irq_time_by : ℕ → Act → ℕ
 irq_time_by cpu (act.Irq named ns) = if named.0 == cpu then ns else 0
 irq_time_by cpu _ = 0
 
--- the time (ns) that interrupts took from a group on a processor, by an event (None adds nothing)
--- in a world: the event's time if the group's accounting is on and a task of it is running there
+-- the time (ns) that interrupts took from a group on processor `cpu` according to an event in world
+-- `w`: the event's interrupt time, if the group's accounting is on and a task of it is running
+-- there, or 0
 abbrev pub irq_from : ℕ → ℕ → World → Option Event → ℕ
 irq_from cpu slot w None = 0
 irq_from cpu slot w (Some event) = if is_on w.groups slot && has_running cpu slot w then irq_time_by cpu event.act else 0
 
--- the time (ns) that interrupts took from a group on a processor, by the event with this number
--- (from 1) in the world before it
+-- the time (ns) that interrupts took from a group on processor `cpu` according to event number `i`
+-- (from 1), in the world before the event
 abbrev pub irq_by : ℕ → ℕ → List Event → ℕ → ℕ
 irq_by cpu slot events i = irq_from cpu slot (after (take (i - 1) events)) (slice_get events (i - 1))
 
--- how long (ns) interrupts took from a group on a processor: the sum over the events
+-- the interrupt time: how long (ns) interrupts took from a group on processor `cpu`, summed over
+-- all events
 unfoldable pub irq_time : ℕ → ℕ → List Event → ℕ
 irq_time cpu slot events = sum (map (irq_by cpu slot events) (range_with_len 1 (length events)))

@@ -1,4 +1,4 @@
--- The trace that bytes spell, or the first bad line with its cause.
+-- Parsing of a trace: the trace that bytes spell, or the first bad line with its cause.
 use Rattle.std.specs.Prelude.{◌≡◌, ℕ, ◌+◌, ◌*◌, ◌≤◌, List, [], ◌∷◌, ◌++◌, length, nat_lt, if◌then◌else◌, Option, None, Some, Result, Ok, Err}
 use Rattle.std.specs.List.{flat_map}
 use Rattle.psi_base.specs.Path.{parts_at}
@@ -11,18 +11,18 @@ use Rattle.psi_spec.specs.Grammar.{Fits, Header, IsKnown, Verb, Version, event_o
 use Rattle.psi_spec.specs.World.{World, Limits, first_world, after_event, most_cpus}
 use Rattle.psi_spec.specs.Refusal.{cause_of, AreLegal}
 
--- an accepted trace: its version, its number of processors, and its events
+-- a trace: the version of its format, its number of processors, and its events
 pub record Trace : Type 0 where
   pub version : Version
   pub cpus : ℕ
   pub events : List Event
 
--- the number of processors that a trace may have
+-- the number of processors is allowed in a trace: from 1 to 64
 abbrev pub IsCpuCount : ℕ → Type 0
 IsCpuCount cpus = (1 ≤ cpus) × (cpus ≤ most_cpus)
 
--- the limits of a trace with this tick length (ns) and number of processors: times up to a million
--- ticks
+-- the limits of a trace with this tick length (ns) and number of processors: its times are at most
+-- a million ticks
 abbrev pub limits_of : ℕ → ℕ → Limits
 limits_of tick cpus = record { cpus = cpus; latest = 1000000 * tick }
 
@@ -32,104 +32,105 @@ limits_of tick cpus = record { cpus = cpus; latest = 1000000 * tick }
 abbrev pub lines_of : List Event → List ℕ
 lines_of events = flat_map (λ event. spelling event ++ 10 ∷ []) events
 
--- the text of a trace: the header line and the event lines, and nothing else
+-- the text of a trace: the header line followed by the event lines
 abbrev pub text_of : Trace → List ℕ
 text_of trace = header (version_number trace.version) trace.cpus ++ 10 ∷ lines_of trace.events
 
--- each event has a spelling
+-- the values of each event are in range
 abbrev pub AllFit : List Event → Type 0
 AllFit [] = Unit {0}
 AllFit (event ∷ events) = Fits event × AllFit events
 
--- the last event is the end
+-- the last event is `end`
 abbrev pub EndsLast : List Event → Type 0
 EndsLast events = (prefix : List Event) × (at : ℕ) × (events ≡ prefix ++ record { at = at; act = act.End } ∷ [])
 
--- Events make up a trace within limits: each has a spelling, each is legal in its turn, and the
--- last one is `end`.
+-- Events form a trace within the limits: the values of each event are in range, each event is legal
+-- in the world before it, and the last event is `end`.
 pub record IsAccepted (limits : Limits) (events : List Event) : Type 0 where
   pub fit : AllFit events
   pub legal : AreLegal limits first_world events
   pub ends : EndsLast events
 
--- the verb of each event is in the list
+-- the list contains the verb of each event
 abbrev pub AreKnown : List Verb → List Event → Type 0
 AreKnown verbs [] = Unit {0}
 AreKnown verbs (event ∷ events) = IsKnown verbs event × AreKnown verbs events
 
--- What is accepted: with which tick length (ns), which versions, and which verbs in a trace of each
--- version.
+-- What a parser accepts: the tick length (ns), which limits the times, the versions, and the verbs
+-- of each version.
 pub record Accepts : Type 0 where
   pub tick : ℕ
   pub versions : List Version
   pub verbs : Version → List Verb
 
--- traces of these versions with all their verbs, with this tick length (ns)
+-- accepts these versions with all their verbs, and this tick length (ns)
 abbrev pub accepts_with : List Version → ℕ → Accepts
 accepts_with versions tick = record { tick = tick; versions = versions; verbs = verbs_of }
 
--- ---- one line
+-- ---- parsing one line
 
--- an event, or the cause against it
+-- the event, or the cause against it
 abbrev pub if_legal : Option Cause → Event → Result Event Cause
 if_legal None event = Ok event
 if_legal (Some why) event = Err why
 
--- the parsed event, if it is also legal
+-- checks a parsed event: the event if it is legal in world `w`, or the first cause against it
 abbrev pub then_legal : Limits → World → Result Event Cause → Result Event Cause
 then_legal limits w (Err why) = Err why
 then_legal limits w (Ok event) = if_legal (cause_of limits w event) event
 
--- the event of a line after the header, or the first cause against the line: nothing may follow the
--- end, a line has at most 512 bytes, it spells an event with one of the verbs, and the event is
--- legal
+-- Parses a line after the header, without its newline. The first cause that applies is returned:
+-- the trace has ended, the line is longer than 512 bytes, it spells no event with one of the verbs,
+-- or the event isn't legal.
 unfoldable pub line_event : List Verb → Limits → World → List ℕ → Result Event Cause
 line_event verbs limits w line =
     if w.ended then Err cause.AfterEnd else if nat_lt 512 (length line) then Err cause.LineTooLong
     else then_legal limits w (event_of verbs line)
 
--- the cause against input that ends with this incomplete line, or None: after the `end` line
--- nothing may follow, and before it the input may not end
+-- The cause against input that ends with the incomplete line `rest`, or `None`. After `end` the
+-- rest must be empty; before `end` the input may not end.
 unfoldable pub rest_cause : World → List ℕ → Option Cause
 rest_cause w rest =
     if w.ended then (if nat_lt 0 (length rest) then Some cause.AfterEnd else None) else if nat_lt 512 (length rest)
     then Some cause.LineTooLong else Some cause.NoEnd
 
--- a parsed header, or BadHeader
+-- the parsed header, or the cause BadHeader
 abbrev pub or_bad_header : Option Header → Result Header Cause
 or_bad_header None = Err cause.BadHeader
 or_bad_header (Some head) = Ok head
 
--- the header in the first line, or the cause against it
+-- parses the first line, which must be a header of at most 512 bytes
 unfoldable pub first_line : List Version → List ℕ → Result Header Cause
 first_line versions line = if nat_lt 512 (length line) then Err cause.LineTooLong else or_bad_header (header_of versions line)
 
--- the cause against input that ends inside its first line
+-- the cause against input that ends before the newline of its first line
 unfoldable pub first_rest : List ℕ → Cause
 first_rest rest = if nat_lt 512 (length rest) then cause.LineTooLong else cause.BadHeader
 
--- ---- all lines
+-- ---- parsing all lines
 
 abbrev pub refused : ℕ → Cause → Refusal
 refused line why = record { line = line; cause = why }
 
--- no event, or a refusal at a line
+-- no events, or a refusal at line `line` if there is a cause
 abbrev pub at_end : ℕ → Option Cause → Result (List Event) Refusal
 at_end line None = Ok []
 at_end line (Some why) = Err (refused line why)
 
--- an event followed by the later ones
+-- the events `prefix` followed by the later events, or the refusal at a later line
 abbrev pub followed : List Event → Result (List Event) Refusal → Result (List Event) Refusal
 followed prefix (Ok events) = Ok (prefix ++ events)
 followed prefix (Err refusal) = Err refusal
 
--- a refusal at a line, or the event and what follows it
+-- a refusal at line `line`, or the result of `next` for the event
 abbrev pub or_refused : {A : Type 0} → ℕ → Result A Cause → (A → Result (List Event) Refusal) → Result (List Event) Refusal
 or_refused line (Err why) next = Err (refused line why)
 or_refused line (Ok event) next = next event
 
--- The events of the parts of the input between newlines, or the first bad line. The first part is
--- the line with this number, and the last part is what follows the last newline.
+-- Parses the parts of the input between newlines: the first part is line number `line`, and the
+-- last part is the rest after the last newline. The result is the events, or the first bad line and
+-- its cause.
 unfoldable pub events_from : List Verb → Limits → World → ℕ → List (List ℕ) → Result (List Event) Refusal
 events_from verbs limits w line [] = at_end line (rest_cause w [])
 events_from verbs limits w line (rest ∷ []) = at_end line (rest_cause w rest)
@@ -137,12 +138,12 @@ events_from verbs limits w line (part ∷ next ∷ parts) =
     or_refused line (line_event verbs limits w part) (λ event. followed (event ∷ [])
     (events_from verbs limits (after_event w event) (line + 1) (next ∷ parts)))
 
--- the trace with this header and these events
+-- the trace with this header and these events, or the refusal
 abbrev pub with_events : Header → Result (List Event) Refusal → Result Trace Refusal
 with_events head (Ok events) = Ok (record { version = head.version; cpus = head.cpus; events = events })
 with_events head (Err refusal) = Err refusal
 
--- the trace after this header, or the header's refusal
+-- parses the parts after the header, or returns the refusal of the header, which is line 1
 abbrev pub headed : Accepts → Result Header Cause → List (List ℕ) → Result Trace Refusal
 headed accepts (Err why) parts = Err (refused 1 why)
 headed accepts (Ok head) parts =
@@ -153,6 +154,7 @@ trace_of_parts accepts [] = Err (refused 1 cause.BadHeader)
 trace_of_parts accepts (rest ∷ []) = Err (refused 1 (first_rest rest))
 trace_of_parts accepts (line ∷ next ∷ parts) = headed accepts (first_line accepts.versions line) (next ∷ parts)
 
--- the trace that bytes spell, among those accepted, or the first bad line with its first cause
+-- parses bytes as a trace that `accepts` allows; the error is the first bad line and its first
+-- cause
 unfoldable pub trace_of : Accepts → List ℕ → Result Trace Refusal
 trace_of accepts bytes = trace_of_parts accepts (parts_at 10 bytes)

@@ -1,4 +1,5 @@
--- The tasks and groups of a machine, and what an event does to them.
+-- The world (the tasks and groups of a machine and the state of its trace), and the effect of each
+-- event on it.
 use Rattle.std.specs.Prelude.{ℕ, ◌+◌, List, [], ◌∷◌, ◌++◌, map, filter, nat_le, ◌==◌, ◌&&◌, ◌||◌, not, Bool, true, false, if◌then◌else◌, codes, Option, None, Some, is_some, find, unwrap_or, replicate, slice_get, slice_set}
 use Rattle.std.specs.List.{list_any}
 use Rattle.std.specs.Str.{bytes_eq}
@@ -45,55 +46,56 @@ is_running Blocked = false
 abbrev pub is_active : Mode → Bool
 is_active mode = is_ready mode || is_running mode
 
--- the live tasks by PID: no PID occurs twice
+-- the live tasks, keyed by pid
 abbrev pub Tasks : Type 0
 Tasks = tasks_by.FinMap nat_cmp Task
 
--- no task
+-- the empty set of tasks
 abbrev pub no_tasks : Tasks
 no_tasks = tasks_by.empty
 
--- the live task with a PID
+-- the live task with a pid, or `None`
 abbrev pub task_of : Tasks → ℕ → Option Task
 task_of tasks pid = tasks_by.get tasks pid
 
--- the tasks with one added or replaced, under a PID
+-- adds a task under a pid, or replaces the task with that pid
 abbrev pub put : Tasks → ℕ → Task → Tasks
 put tasks pid task = tasks_by.insert tasks pid task
 
--- the tasks without the one with a PID
+-- removes the task with a pid
 abbrev pub remove : Tasks → ℕ → Tasks
 remove tasks pid = tasks_by.remove tasks pid
 
--- the task is running on a processor
+-- the task is running on processor `cpu`
 abbrev pub is_running_on : ℕ → Task → Bool
 is_running_on cpu task = task.cpu.0 == cpu && is_running task.mode
 
--- the task is ready on a processor
+-- the task is ready on processor `cpu`
 abbrev pub is_ready_on : ℕ → Task → Bool
 is_ready_on cpu task = task.cpu.0 == cpu && is_ready task.mode
 
--- the running task of a processor, with its PID
+-- the running task of processor `cpu` with its pid, or `None`
 abbrev pub running_on : Tasks → ℕ → Option (ℕ × Task)
 running_on tasks cpu = find (λ e. is_running_on cpu e.1) (tasks_by.entries tasks)
 
--- the task of such a pair
+-- the task without its pid
 abbrev pub task_part : Option (ℕ × Task) → Option Task
 task_part None = None
 task_part (Some e) = Some e.1
 
 -- ---- groups
 
--- a group that was not removed
+-- the group wasn't removed
 abbrev pub is_live : GroupLife → Bool
 is_live group = not (is_some group.gone)
 
--- the slot of the live group with a path, counting slots from this number
+-- the slot of the live group with a path, or `None`, if the first group of the list is in slot
+-- `slot`
 abbrev pub slot_from : ℕ → List GroupLife → List ℕ → Option ℕ
 slot_from slot [] path = None
 slot_from slot (group ∷ groups) path = if is_live group && bytes_eq group.path path then Some slot else slot_from (slot + 1) groups path
 
--- the slot of the live group with a path
+-- the slot of the live group with a path, or `None`
 abbrev pub slot_of : List GroupLife → List ℕ → Option ℕ
 slot_of groups path = slot_from 0 groups path
 
@@ -102,7 +104,7 @@ abbrev pub before_last_slash : List ℕ → List ℕ
 before_last_slash [] = []
 before_last_slash (byte ∷ bytes) = if list_any (λ b. b == 47) bytes then byte ∷ before_last_slash bytes else []
 
--- the root if no byte remains
+-- the path, or the root's path if it is empty
 abbrev pub or_root : List ℕ → List ℕ
 or_root [] = codes "/"
 or_root (byte ∷ bytes) = byte ∷ bytes
@@ -111,28 +113,29 @@ or_root (byte ∷ bytes) = byte ∷ bytes
 abbrev pub parent_path : List ℕ → List ℕ
 parent_path path = or_root (before_last_slash path)
 
--- the path is the root's
+-- the path is the path of the root
 abbrev pub is_root : List ℕ → Bool
 is_root path = bytes_eq path (codes "/")
 
--- a group's number as a slot
+-- an optional number as an optional slot
 abbrev pub as_slot : Option ℕ → Option Slot
 as_slot None = None
 as_slot (Some n) = Some (record { 0 = n })
 
--- the group that the machine starts with
+-- the root group, which exists from the start
 abbrev pub root : GroupLife
 root = record { path = codes "/"; parent = None; made = 0; gone = None; on = true }
 
--- a new group below the live group with its parent's path; its accounting is on
+-- a new group that is created at time `at` (ns): its parent is the live group with the parent's
+-- path, and its accounting is on
 abbrev pub new_group : List GroupLife → List ℕ → ℕ → GroupLife
 new_group groups path at = record { path = path; parent = as_slot (slot_of groups (parent_path path)); made = at; gone = None; on = true }
 
--- a group after the live one with a path is removed
+-- marks the live group with a path as removed at time `at` (ns); any other group is unchanged
 abbrev pub marked_removed : List ℕ → ℕ → GroupLife → GroupLife
 marked_removed path at group = if is_live group && bytes_eq group.path path then record group { gone = Some at } else group
 
--- a group after the accounting of the live one with a path is switched on or off
+-- switches the accounting of the live group with a path on or off; any other group is unchanged
 abbrev pub marked_switched : List ℕ → Bool → GroupLife → GroupLife
 marked_switched path on group = if is_live group && bytes_eq group.path path then record group { on = on } else group
 
@@ -147,8 +150,8 @@ is_on groups slot = is_on_life (slice_get groups slot)
 
 -- ---- the world
 
--- the limits: processors of a machine, event lines of a trace, `pressure` lines, groups ever
--- created including the root, and live tasks
+-- The limits of a trace: the number of processors, of event lines, of `pressure` lines, of groups
+-- ever created (including the root), and of live tasks.
 abbrev pub most_cpus : ℕ
 most_cpus = 64
 
@@ -164,18 +167,18 @@ most_groups = 1024
 abbrev pub most_tasks : ℕ
 most_tasks = 65536
 
--- the longest interrupt time (ns) of one line: a second
+-- the longest interrupt time (ns) of one `irq` line: a second
 abbrev pub longest_irq : ℕ
 longest_irq = 1000000000
 
--- the limits of a trace: its number of processors, and the latest time (ns)
+-- the limits that depend on the trace: its number of processors, and its latest time (ns)
 pub record Limits : Type 0 where
   pub cpus : ℕ
   pub latest : ℕ
 
--- the live tasks; all groups ever created, by slot; for each processor the time (ns) of its last
--- `irq` line, or 0; the numbers of triggers, `pressure` lines and event lines so far; the time of
--- the last line (ns); and whether the trace has ended
+-- The world: the live tasks; all groups ever created, by slot; for each processor the time (ns) of
+-- its last `irq` line, or 0; the numbers of triggers, `pressure` lines and event lines up to now;
+-- the time (ns) of the last event; and whether the trace has ended.
 pub record World : Type 0 where
   pub tasks : Tasks
   pub groups : List GroupLife
@@ -186,7 +189,7 @@ pub record World : Type 0 where
   pub last : ℕ
   pub ended : Bool
 
--- the root alone, and no task
+-- the world at the start: the root is the only group, and there are no tasks
 abbrev pub first_world : World
 first_world =
     record {
@@ -202,25 +205,25 @@ first_world =
 
 -- ---- effects
 
--- the task with a PID after a change, or no task if there is none
+-- applies `f` to the task with this pid, or changes nothing if there is no such task
 abbrev pub change_to : Tasks → ℕ → (Task → Task) → Option Task → Tasks
 change_to tasks pid f None = tasks
 change_to tasks pid f (Some task) = put tasks pid (f task)
 
--- the tasks after a change of the one with a PID
+-- applies `f` to the task with this pid, if there is one
 abbrev pub change : Tasks → ℕ → (Task → Task) → Tasks
 change tasks pid f = change_to tasks pid f (task_of tasks pid)
 
--- a new task: ready, and not in a memory stall
+-- a new task on processor `cpu` in the group with a path: it is ready, and not in a memory stall
 abbrev pub new_task : List GroupLife → List ℕ → ℕ → Task
 new_task groups path cpu =
     record { slot = record { 0 = unwrap_or (slot_of groups path) 0 }; cpu = record { 0 = cpu }; mode = Ready; stalled = false }
 
--- a task that is put on the run queue of a processor; its memory stall continues
+-- puts a task on the run queue of processor `cpu`; its memory stall continues
 abbrev pub prepared_changes : ℕ → Task → Task
 prepared_changes cpu task = record task { mode = Ready; cpu = record { 0 = cpu } }
 
--- the running task after it left its processor, or None if it exited
+-- the running task after it left its processor in this way, or `None` if it exited
 abbrev pub left_by : How → Task → Option Task
 left_by Preempt task = Some (record task { mode = Ready })
 left_by Sleep task = Some (record task { mode = Blocked })
@@ -228,25 +231,26 @@ left_by IoWait task = Some (record task { mode = Waiting })
 left_by Exit task = None
 left_by Idle task = Some task
 
--- the tasks with the one with a PID replaced, or removed if there is no task
+-- replaces the task with this pid, or removes it for `None`
 abbrev pub placed : Tasks → ℕ → Option Task → Tasks
 placed tasks pid None = remove tasks pid
 placed tasks pid (Some task) = put tasks pid task
 
--- the tasks after the running one left
+-- the tasks after the running task, if any, left its processor
 abbrev pub leave : How → Tasks → Option (ℕ × Task) → Tasks
 leave how tasks None = tasks
 leave how tasks (Some e) = placed tasks e.0 (left_by how e.1)
 
--- the tasks after the next task, if any, started to run
+-- the tasks after the next task, if any, began to run
 abbrev pub start : Option Pid → Tasks → Tasks
 start None tasks = tasks
 start (Some pid) tasks = change tasks pid.0 (λ task. record task { mode = Running })
 
--- what an act does to tasks: nothing; create a task in a group on a processor; put a task on the
--- run queue of a processor; start or end its memory stall; move it to another group; switch from
--- the running task of a processor to the next one; delay the running task by interrupts, which
--- changes no task; or switch the accounting of a group on all processors, which changes no task
+-- The effect of an act on tasks: none; create a task in a group on a processor; put a task on the
+-- run queue of a processor; begin or end a task's memory stall; move a task to another group;
+-- switch from the running task of a processor to the next task; delay the running task by
+-- interrupts, which changes no task; or switch the accounting of a group on all processors, which
+-- changes no task.
 pub data Effect : Type 0 where
   none : Effect
   forks : Pid → List ℕ → Cpu → Effect
@@ -257,7 +261,7 @@ pub data Effect : Type 0 where
   interrupts : Cpu → Effect
   switches_account : Effect
 
--- what each act does to tasks
+-- the effect of each act on tasks
 abbrev pub effect_of : Act → Effect
 effect_of (act.Group path) = none
 effect_of (act.Remove path) = none
@@ -288,31 +292,31 @@ tasks_by_effect groups tasks (switches cpu next how) = start next (leave how tas
 tasks_by_effect groups tasks (interrupts cpu) = tasks
 tasks_by_effect groups tasks switches_account = tasks
 
--- what an act does to the tasks
+-- the tasks after an act
 abbrev pub tasks_after : List GroupLife → Tasks → Act → Tasks
 tasks_after groups tasks what = tasks_by_effect groups tasks (effect_of what)
 
--- the groups with a new one, if one is created
+-- appends the group that is created at time `at` (ns), if any
 abbrev pub with_new : ℕ → Option (List ℕ) → List GroupLife → List GroupLife
 with_new at None groups = groups
 with_new at (Some path) groups = groups ++ new_group groups path at ∷ []
 
--- the groups after one is removed, if any
+-- marks the group that is removed at time `at` (ns), if any
 abbrev pub with_removed : ℕ → Option (List ℕ) → List GroupLife → List GroupLife
 with_removed at None groups = groups
 with_removed at (Some path) groups = map (marked_removed path at) groups
 
--- the groups after the accounting of one is switched, if any
+-- switches the accounting of a group, if any
 abbrev pub with_switched : Option (List ℕ × Bool) → List GroupLife → List GroupLife
 with_switched None groups = groups
 with_switched (Some switched) groups = map (marked_switched switched.0 switched.1) groups
 
--- what an act at a time does to the groups
+-- the groups after an act at time `at` (ns)
 abbrev pub groups_after : ℕ → List GroupLife → Act → List GroupLife
 groups_after at groups what =
     with_new at (names what).new_path (with_removed at (names what).removed_path (with_switched (names what).switched groups))
 
--- the times (ns) of the last `irq` lines of all processors after an act at a time
+-- the times (ns) of the last `irq` lines of all processors after an act at time `at`
 abbrev pub irqs_after : ℕ → List ℕ → Act → List ℕ
 irqs_after at irqs (act.Irq cpu ns) = slice_set irqs cpu.0 at
 irqs_after at irqs _ = irqs
@@ -345,19 +349,20 @@ after_event w event = record {
   ended = w.ended || ends event.act;
 }
 
--- the world after events, in order
+-- the world after a list of events, starting from world `w`
 abbrev pub after_from : World → List Event → World
 after_from w [] = w
 after_from w (event ∷ events) = after_from (after_event w event) events
 
--- the world after the events of a trace
+-- the world after a list of events, starting from the first world
 abbrev pub after : List Event → World
 after events = after_from first_world events
 
--- the events up to and including a time (ns): a prefix, if times never fall
+-- the events up to and including time `at` (ns); they are a prefix of `events` if the times are
+-- non-decreasing
 abbrev pub up_to : List Event → ℕ → List Event
 up_to events at = filter (λ (event : Event). nat_le event.at at) events
 
--- acts as events at one time (ns)
+-- the acts as events at time `at` (ns)
 abbrev pub events_at : ℕ → List Act → List Event
 events_at at acts = map (λ what. let event : Event = record { at = at; act = what } in event) acts

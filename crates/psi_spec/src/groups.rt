@@ -1,9 +1,9 @@
-//! Laws of groups and their ancestors. Each function has an empty body: its contract is the law.
+//! Laws about groups and their ancestors. Each function has an empty body: its contract is the law.
 ghost use Rattle.psi_spec.specs.Laws.{AncestorsAreOlder, AreGroupsFirst, AreGroupsKept, ClimbsKept, ParentsKept, RootIsAbove, UnderByStep};
 
-/// Initially and after each legal event there are at most 1,024 groups, the first is the root, with
-/// its accounting on, parents are older than their children and match the paths, and no two live
-/// groups have the same path.
+/// The invariant of the groups, which holds initially and after each legal event: there are at most
+/// 1,024 groups; the first is the root, with its accounting on; parents are older than their
+/// children and match the paths; and no two live groups have the same path.
 pub fn law_legal_groups()
     ensures first { AreGroupsFirst }
     ensures unchanged { AreGroupsKept }

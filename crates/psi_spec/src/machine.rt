@@ -1,17 +1,18 @@
-//! The types of a machine's record: groups and tasks.
+//! The types for the state of the traced machine: groups and tasks. What an event does to them is
+//! defined in `specs/World`.
 
 use psi_base::{Cpu, Ns, Path, Slot};
 
 /// A control group: its path, the slot of its parent, and the times (ns) at which it was created
-/// and removed.
+/// and removed (`gone` is `None` while it is live).
 #[derive(Drop)]
 pub struct GroupLife {
     pub path: Path,
     pub parent: Option<Slot>,
     pub made: Ns,
     pub gone: Option<Ns>,
-    /// Its accounting is on: stalls and interrupts are counted for it. Ancestors and children have
-    /// accounting of their own.
+    /// The group's accounting is on: stalls and interrupts are counted for it. Ancestors and
+    /// children have their own setting.
     pub on: bool,
 }
 
@@ -28,12 +29,13 @@ pub enum Mode {
     Running,
 }
 
-/// A live task. The processor of a blocked task is the one on which it last ran or was ready.
+/// A live task. `cpu` is the processor on which it runs or is ready, or the last such processor of
+/// a blocked task.
 #[derive(Clone, Copy, Debug, PartialEq, Eq)]
 pub struct Task {
     pub slot: Slot,
     pub cpu: Cpu,
     pub mode: Mode,
-    /// It is in a memory stall, blocked or not.
+    /// The task is in a memory stall, which may continue while it is blocked.
     pub stalled: bool,
 }
