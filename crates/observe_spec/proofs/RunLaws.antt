@@ -1,4 +1,4 @@
--- Laws of a run: it accepts the same traces as `replay`, and reports a missing trace.
+-- Proofs that psi_observe accepts the same traces as `replay`, and reports a missing trace.
 use Rattle.std.proofs.Common.{◌≡◌, ◌⊎◌, inl, inr, ℕ, Bool, true, false, true≢false, List, [], ◌∷◌, refl, sym, ◌∙◌, Option, None, Some}
 use Rattle.std.specs.Prelude.{codes, ◌==◌, ◌&&◌, not}
 use Rattle.psi_base.specs.Memory.{no_memory}
@@ -27,7 +27,7 @@ and_false : (a : Bool) → a && false ≡ false
 and_false true = refl
 and_false false = refl
 
--- the first of two that hold
+-- if a conjunction is true, its first test is true
 first_holds : (a b : Bool) → a && b ≡ true → a ≡ true
 first_holds true b both = refl
 first_holds false b both = both

@@ -1,11 +1,11 @@
--- Laws of samples that observers took.
+-- Proofs about the samples that observers take.
 use Rattle.std.proofs.Common.{◌≡◌, ℕ, zero, suc, ◌≤◌, Bool, true, false, List, [], ◌∷◌, length, map, refl, ap, ◌∙◌, subst, arith, rules, Some}
 use Rattle.std.specs.Prelude.{cond, filter, slice_get}
 use Rattle.psi_spec.specs.Changes.{RiseWithin}
 use Rattle.observe_spec.specs.Samples.{AreDone, Due, Look, is_of}
 use Rattle.observe_spec.specs.Laws.{CountsAreOfChanges, EachTakesItsShare}
 
--- if numbers rise within bounds, the lower bound is at most the upper
+-- if non-decreasing numbers are within bounds, the lower bound is at most the upper bound
 rise_bounds : (low : ℕ) (numbers : List ℕ) (high : ℕ) → RiseWithin low numbers high → low ≤ high
 rise_bounds low [] high rise = rise
 rise_bounds low (number ∷ numbers) high rise =
@@ -14,7 +14,7 @@ rise_bounds low (number ∷ numbers) high rise =
 abbrev counts : List Look → List ℕ
 counts looks = map (λ (look : Look). look.count) looks
 
--- so each of the chosen samples is within the bounds
+-- the change count of each chosen sample is at most the upper bound
 chosen_within : (chosen : Look → Bool) (looks : List Look) (k : ℕ) (look : Look) → slice_get looks k ≡ Some look → chosen look ≡ true →
     (low high : ℕ) → RiseWithin low (counts (filter chosen looks)) high → look.count ≤ high
 chosen_within chosen [] k look at is low high rise = absurd (cc)
@@ -35,7 +35,7 @@ pub counts_of_changes : CountsAreOfChanges
 counts_of_changes trace timing path observers looks all k look at =
     chosen_within (is_of look.observer look.cpu) looks k look at (search rules) 0 _ (all.rise look.observer look.cpu)
 
--- as many samples were taken as were due
+-- samples that match the due samples one by one are as many
 done_all : (dues : List Due) (looks : List Look) → AreDone dues looks → length looks ≡ length dues
 done_all [] [] done = refl
 done_all [] (look ∷ looks) done = absurd done

@@ -1,4 +1,5 @@
--- Consequences of what a run with observers promises, and of which samples are taken.
+-- Laws that follow from the definitions: about the samples that observers take, and about runs of
+-- psi_observe.
 use Rattle.std.specs.Prelude.{◌≡◌, ℕ, ◌<◌, ◌≤◌, List, [], ◌∷◌, length, slice_get, Option, None, Some, ◌⊎◌, codes, true}
 use Rattle.psi_spec.specs.Changes.{changes_of}
 use Rattle.psi_spec.specs.Trace.{Trace, trace_of}
@@ -16,13 +17,13 @@ use Rattle.observe_spec.specs.declared.status.ObserveStatus.TheVariants as statu
 
 -- ---- samples
 
--- Each sample is taken after at most as many changes as its processor has.
+-- The number of changes of each sample is at most the number of changes of its processor.
 abbrev pub CountsAreOfChanges : Type 0
 CountsAreOfChanges = (trace : Trace) (timing : Timing) (path : List ℕ) (observers : ℕ) (looks : List Look) →
     AreObserved trace timing path observers looks → (k : ℕ) (look : Look) → slice_get looks k ≡ Some look →
     look.count ≤ length (changes_of look.cpu trace.events)
 
--- Each observer took exactly the samples that were due.
+-- Each observer took exactly as many samples as were due.
 abbrev pub EachTakesItsShare : Type 0
 EachTakesItsShare = (trace : Trace) (timing : Timing) (path : List ℕ) (observers : ℕ) (looks : List Look) →
     AreObserved trace timing path observers looks → (observer : ℕ) → observer < observers →
@@ -30,17 +31,19 @@ EachTakesItsShare = (trace : Trace) (timing : Timing) (path : List ℕ) (observe
 
 -- ---- runs
 
--- `replay` with the name of a trace and no option has these options, without a path.
+-- The options of `replay TRACE` without further words are the options that psi_observe uses, except
+-- that no path is watched.
 abbrev pub ReplayHasThese : Type 0
 ReplayHasThese = (name : List ℕ) → is_trace_name name ≡ true →
     command_of (codes "replay" ∷ name ∷ []) ≡ Some (Replay name (options_on None))
 
--- The trace is the same as for `replay` without options, and is rejected in the same cases with the
--- same status.
+-- psi_observe parses a trace like `replay TRACE`: it accepts the same traces, and rejects all
+-- others with the same status.
 abbrev pub TracesAreThoseOfReplay : Type 0
 TracesAreThoseOfReplay = (name bytes : List ℕ) → or_refused_trace (trace_of accepts bytes) ≡ parse_of (Replay name (options_on None)) bytes
 
--- If the trace's file is known to be missing, a run reports that, or another failure.
+-- If the trace's file is known to be missing, the run reports that, or fails to read, or runs out
+-- of memory.
 abbrev pub MissingTraceShows : Type 0
 MissingTraceShows = (request : Request) (files : Option Files) (old new : Option (List ℕ)) (result : ObserveStatus) →
     ObservingEnds request files old new result → IsAbsent files request.trace →

@@ -1,5 +1,5 @@
--- What observers of one group print for a trace: their samples, the last state of the board that
--- each read, and the end.
+-- The output of psi_observe for a trace: the samples of all observers, the last state of the board
+-- (where a replay publishes its progress) that each observer read, and the end.
 use Rattle.std.specs.Prelude.{◌≡◌, ℕ, List, [], ◌∷◌, ◌++◌, length, map, slice_index_or, codes, decimal}
 use Rattle.std.specs.List.{flat_map, range_with_len}
 use Rattle.psi_base.specs.declared.event.Event.{Event}
@@ -10,46 +10,46 @@ use Rattle.run_spec.specs.Replay.{Timing, signals_until, tick_count}
 use Rattle.run_spec.specs.Text.{end_of}
 use Rattle.observe_spec.specs.Samples.{AreObserved, Look}
 
--- the time (ns) of the event with this number (from 1), and 0 for 0
+-- the time (ns) of event number `i` (from 1); 0 for i = 0
 abbrev pub moment_at : ℕ → List Event → ℕ
 moment_at i events = slice_index_or (0 ∷ map (λ (event : Event). event.at) events) i 0
 
--- the time (ns) of a processor's change with this number (from 1), and 0 for 0
+-- the time (ns) of change number `count` (from 1) of processor `cpu`; 0 for count = 0
 abbrev pub moment_after : Trace → ℕ → ℕ → ℕ
 moment_after trace cpu count = moment_at (event_of_change cpu trace.events count) trace.events
 
--- the times (ns) of a sample: those of its slot after its number of changes, at the time of the
--- last of them
+-- the times (ns) of a sample in the states: the times of its slot after `count` changes of its
+-- processor, at the time of the last of these changes
 abbrev pub times_of : Trace → Look → List ℕ
 times_of trace look = times_after look.cpu look.slot trace.events look.count (moment_after trace look.cpu look.count)
 
--- the line of a sample: its observer, processor, number of changes, time (ns) and times in the
--- states (ns)
+-- the line of a sample: its observer, its processor, its number of changes, the time of the last
+-- change (ns), and the times in the states (ns)
 abbrev pub sample_line : Trace → Look → List ℕ
 sample_line trace look =
     line_of (codes "sample" ∷ labelled (codes "observer=") look.observer ∷ labelled (codes "cpu=") look.cpu
     ∷ labelled (codes "count=") look.count ∷ labelled (codes "at=") (moment_after trace look.cpu look.count)
     ∷ map decimal (times_of trace look))
 
--- the line of an observer's last read of the board: the last tick, the signals up to it, and 0
--- kills
+-- the line of an observer's last read of the board: the last tick, the number of signals up to it,
+-- and the number of kills, which is 0
 abbrev pub board_line : Trace → Timing → ℕ → List ℕ
 board_line trace timing observer =
     line_of (codes "board" ∷ labelled (codes "observer=") observer ∷ labelled (codes "tick=") (tick_count trace timing)
     ∷ labelled (codes "events=") (signals_until trace timing (tick_count trace timing)) ∷ labelled (codes "kills=") 0 ∷ [])
 
--- the last line: the end time (ns), and the number of samples
+-- the last line: the end time (ns) and the number of samples
 abbrev pub observed_last_line : Trace → List Look → List ℕ
 observed_last_line trace looks =
     line_of (codes "end" ∷ decimal (end_of trace.events) ∷ labelled (codes "samples=") (length looks) ∷ [])
 
--- the text of samples that n observers took
+-- the output for these samples of `observers` observers
 unfoldable pub observed_text : Trace → Timing → ℕ → List Look → List ℕ
 observed_text trace timing observers looks =
     flat_map (sample_line trace) looks ++ flat_map (board_line trace timing) (range_with_len 0 observers) ++ observed_last_line trace looks
 
--- A text is valid output of n observers of the group with a path: it has samples that they may have
--- taken.
+-- The text is a valid output for `observers` observers of the group with a path: it is the output
+-- for some samples that they may have taken.
 abbrev pub IsObservedText : Trace → Timing → List ℕ → ℕ → List ℕ → Type 0
 IsObservedText trace timing path observers text =
     (looks : List Look) × AreObserved trace timing path observers looks × (text ≡ observed_text trace timing observers looks)

@@ -1,5 +1,5 @@
--- What a run of psi_observe promises: what each status means for the trace and the output, and
--- which counts of failures increase.
+-- The contract of a run of psi_observe: what each status implies for the trace and the output, and
+-- which failure counts increase.
 use Rattle.std.specs.Prelude.{◌≡◌, ◌⊎◌, ℕ, ◌+◌, ◌-◌, ◌*◌, ◌<◌, ◌≤◌, List, Option, None, Some, Ok, Err, ⊤}
 use Rattle.std.specs.Io.KnownBytes.{Appends, Keeps}
 use Rattle.psi_base.specs.Memory.{no_memory}
@@ -22,7 +22,7 @@ use Rattle.observe_spec.specs.Words.{Request}
 
 -- ---- how a trace is replayed
 
--- the options of `replay` at their defaults, except that a path may be watched
+-- the default options of `replay`, except that a path may be watched
 abbrev pub options_on : Option (List ℕ) → Options
 options_on path = record {
   rules = None;
@@ -35,33 +35,34 @@ options_on path = record {
   live_count = 1;
 }
 
--- the timing of a replay with observers of a path
+-- the timing of a replay in which observers watch a path
 abbrev pub timing_on : List ℕ → Timing
 timing_on path = timing_of (options_on (Some path))
 
--- the length of its ticks (ns); the latest time of a trace is a million ticks
+-- the length of a tick (ns); a trace may last at most a million ticks
 abbrev pub observed_tick_length : ℕ
 observed_tick_length = 2000000000
 
--- what is accepted as a trace: any version, at the length of these ticks
+-- the traces that are accepted: all versions with all their verbs, at this tick length
 abbrev pub accepts : Accepts
 accepts = accepts_with versions observed_tick_length
 
--- A trace is valid for the request: its verbs are those of its version, and its events are a legal
--- trace. If the bytes of the file are known, it is the trace that they spell.
+-- `trace` is a valid trace for the request: the verbs of its events are those of its version, and
+-- its events are legal. If the content of the file is known, `trace` is parsed from it.
 pub record TakesRequestedTrace (request : Request) (files : Option Files) (trace : Trace) : Type 0 where
   pub cpus : IsCpuCount trace.cpus
   pub known : AreKnown (verbs_of trace.version) trace.events
   pub accepted : IsAccepted (limits_of observed_tick_length trace.cpus) trace.events
   pub read : (bytes : List ℕ) → content_of files request.trace ≡ Some bytes → trace_of accepts bytes ≡ Ok trace
 
--- ---- how many samples there may be
+-- ---- the number of samples
 
--- the most samples that a run takes
+-- the maximum number of samples in a run
 abbrev pub most_samples : ℕ
 most_samples = 1000000
 
--- the largest possible number of samples: one at each tick, for each observer and each processor
+-- the number of samples if the path is live at every tick: one for each tick, observer and
+-- processor
 abbrev pub samples_requested : Request → Trace → ℕ
 samples_requested request trace = tick_count trace (timing_on request.path) * request.observers * trace.cpus
 
@@ -71,18 +72,19 @@ samples_requested request trace = tick_count trace (timing_on request.path) * re
 abbrev pub IsTraceThere : Request → Option Files → Type 0
 IsTraceThere request files = IsAbsent files request.trace → ⊥
 
--- The whole output has a property: its samples are some that the observers may have taken of an
--- accepted trace, and they aren't too many. The file isn't missing.
+-- A valid output, for an accepted trace with at most a million samples, satisfies the property
+-- `IsSo`, and the trace's file isn't missing.
 abbrev pub HasObservedOutput : Request → Option Files → (List ℕ → Type 0) → Type 0
 HasObservedOutput request files IsSo =
     (trace : Trace) × TakesRequestedTrace request files trace × IsTraceThere request files
     × (samples_requested request trace ≤ most_samples)
     × ((text : List ℕ) × IsObservedText trace (timing_on request.path) request.path request.observers text × IsSo text)
 
--- What a status says about a request, with the files of the shelf if known, and with the sink's
--- bytes before and after: the whole output or a prefix of it; the first rejected line of the trace;
--- that there would be too many samples, and how many; or that the file is missing. Unless the
--- status is Done or WriteFault, the sink is unchanged.
+-- What a status implies, given the content of the file (if known) and the bytes of the output
+-- before and after. Done: a whole valid output was written. WriteFault: a prefix of a valid output
+-- was written. Trace: the first rejected line of the trace. TooManySamples: the number of samples,
+-- which is too large. NoFile: the trace's file is missing. For every status except Done and
+-- WriteFault the output is unchanged.
 abbrev pub ObservingEnds : Request → Option Files → Option (List ℕ) → Option (List ℕ) → ObserveStatus → Type 0
 ObservingEnds request files old new status.Done = HasObservedOutput request files (λ text. Appends old new text)
 ObservingEnds request files old new status.WriteFault = HasObservedOutput request files (λ text. AppendsPrefix old new text)
@@ -97,37 +99,39 @@ ObservingEnds request files old new status.ReadFault = Keeps old new
 ObservingEnds request files old new (status.NoMemory _) = Keeps old new
 ObservingEnds request files old new status.Usage = ⊥
 
--- Each count increased exactly if the status reports its failure: so no failure is silently
+-- Each failure count increased exactly if the status reports its failure, so no failure is silently
 -- ignored.
 pub record ObserverFailuresAreCounted (before now : RunCounts) (result : ObserveStatus) : Type 0 where
   pub faults : RisesWhere (result ≡ status.ReadFault) before.shelf.faults now.shelf.faults
   pub absent : RisesWhere (result ≡ status.NoFile) before.shelf.absent now.shelf.absent
   pub writes : RisesWhere (result ≡ status.WriteFault) before.writes now.writes
 
--- A run of a request: what its status says, and the counts.
+-- The contract of a run for a request: what its status implies, and the failure counts.
 pub record Observes (request : Request) (files : Option Files) (before now : RunCounts) (old new : Option (List ℕ))
     (result : ObserveStatus) : Type 0 where
   pub ends : ObservingEnds request files old new result
   pub counts : ObserverFailuresAreCounted before now result
 
--- ---- promises about accepted and rejected traces
+-- ---- results for accepted and rejected traces
 
--- An accepted trace with at most a million samples gives the whole output, unless a read or write
--- failed or memory ran out.
+-- If the trace is accepted and the number of samples is at most a million, the result is Done with
+-- the whole output, unless a read or a write fails or memory runs out.
 abbrev pub ObservesAll : Request → Option Files → RunCounts → RunCounts → ObserveStatus → Type 0
 ObservesAll request files before now result = (bytes : List ℕ) (trace : Trace)
     → content_of files request.trace ≡ Some bytes → trace_of accepts bytes ≡ Ok trace → samples_requested request trace ≤ most_samples
     → (Increased before.shelf.faults now.shelf.faults → ⊥) → (Increased before.writes now.writes → ⊥)
     → (result ≡ status.Done) ⊎ (result ≡ status.NoMemory no_memory)
 
--- More samples of an accepted trace are too many, unless a read failed or memory ran out.
+-- If the trace is accepted and the number of samples is more than a million, the result is
+-- TooManySamples, unless a read fails or memory runs out.
 abbrev pub RejectsManySamples : Request → Option Files → RunCounts → RunCounts → ObserveStatus → Type 0
 RejectsManySamples request files before now result = (bytes : List ℕ) (trace : Trace)
     → content_of files request.trace ≡ Some bytes → trace_of accepts bytes ≡ Ok trace → most_samples < samples_requested request trace
     → (Increased before.shelf.faults now.shelf.faults → ⊥)
     → (result ≡ status.TooManySamples (samples_requested request trace)) ⊎ (result ≡ status.NoMemory no_memory)
 
--- A rejected trace gives its first rejected line, unless a read failed or memory ran out.
+-- If the trace is rejected, the result is the status with its first rejected line, unless a read
+-- fails or memory runs out.
 abbrev pub RejectsTrace : Request → Option Files → RunCounts → RunCounts → ObserveStatus → Type 0
 RejectsTrace request files before now result = (bytes : List ℕ) (refusal : Refusal)
     → content_of files request.trace ≡ Some bytes → trace_of accepts bytes ≡ Err refusal
@@ -136,10 +140,10 @@ RejectsTrace request files before now result = (bytes : List ℕ) (refusal : Ref
 
 -- ---- where reading stops
 
--- Reading the trace stops at its first rejected line, if these are the numbers of bytes read before
--- a run and up to its end. If the run ends with that line, only the lines before it and the
--- buffered bytes were read. If it ends with a failed read, that line was incomplete in what was
--- read.
+-- Reading stops at the first rejected line; `bytes_read` and `read_now` are the numbers of bytes
+-- read before the run and at its end. If the run reports a rejected line, it read at most the lines
+-- before it and the buffered bytes. If the run ends with ReadFault although the content has a
+-- rejected line, that line was incomplete in the bytes read.
 abbrev pub StopsObserving : Request → Option Files → ℕ → ℕ → ObserveStatus → Type 0
 StopsObserving request files bytes_read read_now (status.Trace line why) = read_now ≤ bytes_read + most_until line
 StopsObserving request files bytes_read read_now status.ReadFault =
@@ -149,7 +153,7 @@ StopsObserving request files bytes_read read_now _ = ⊤
 
 -- ---- the order of reads
 
--- A log grew by the reads of the trace, in order from its first byte. Nothing is read after a
+-- The log grew by the reads of the trace, in order from its first byte. Nothing is read after a
 -- failed read, which the status reports.
 abbrev pub ReadsTraceInOrder : Request → List ReadCall → List ReadCall → ObserveStatus → Type 0
 ReadsTraceInOrder request before now status.ReadFault = ReadsFile request.trace 0 before now (Some shelf.Failed)

@@ -1,5 +1,5 @@
--- The samples that observers of one group take of a trace: who takes them, when they are due, and
--- after how many changes.
+-- The samples that observers of one group take of its clocks: which samples are due, and which
+-- samples the observers may have taken.
 use Rattle.std.specs.Prelude.{◌≡◌, ℕ, ◌-◌, ◌<◌, ◌≤◌, Bool, ◌&&◌, ◌==◌, List, [], ◌∷◌, length, map, filter, Option, None, Some}
 use Rattle.std.specs.List.{flat_map, range_with_len}
 use Rattle.psi_spec.specs.Changes.{RiseWithin, changes_of}
@@ -8,50 +8,51 @@ use Rattle.pressure_spec.specs.Ticks.{tick_moment}
 use Rattle.run_spec.specs.Live.{changes_until, live_slot_at}
 use Rattle.run_spec.specs.Replay.{Timing, tick_count}
 
--- a sample: the number of the observer that took it, the processor, the slot, and after how many
--- changes of the processor
+-- A sample (a *look*): the number of the observer that took it, the processor, the slot, and the
+-- number of changes of the processor before it.
 pub record Look : Type 0 where
   pub observer : ℕ
   pub cpu : ℕ
   pub slot : ℕ
   pub count : ℕ
 
--- the sample is from this observer, of this processor
+-- the sample was taken by `observer` on processor `cpu`
 abbrev pub is_of : ℕ → ℕ → Look → Bool
 is_of observer cpu look = look.observer == observer && look.cpu == cpu
 
--- an observer's samples
+-- the samples of `observer`
 abbrev pub looks_by : ℕ → List Look → List Look
 looks_by observer looks = filter (λ (look : Look). look.observer == observer) looks
 
--- the numbers of changes of an observer's samples of a processor
+-- the change counts of the samples that `observer` took on processor `cpu`
 abbrev pub counts_by : ℕ → ℕ → List Look → List ℕ
 counts_by observer cpu looks = map (λ (look : Look). look.count) (filter (is_of observer cpu) looks)
 
--- ---- when they are due
+-- ---- samples that are due
 
--- a sample that is due for each observer: its processor, its slot, and a lower bound on its number
--- of changes
+-- a sample that each observer must take: its processor, its slot, and a lower bound on its change
+-- count
 pub record Due : Type 0 where
   pub cpu : ℕ
   pub slot : ℕ
   pub least : ℕ
 
--- The samples of the interval that ends with a tick (ns its length), if the path has this slot
--- then: one on each processor, after at least the changes up to the previous tick.
+-- The samples that are due in the interval that ends with tick `i` (`tick` is the length of a tick
+-- in ns): one on each processor, after at least the changes up to the previous tick. None are due
+-- if the path has no slot at the tick.
 abbrev pub due_at : Trace → ℕ → ℕ → Option ℕ → List Due
 due_at trace tick i None = []
 due_at trace tick i (Some slot) =
     map (λ cpu. record { cpu = cpu; slot = slot; least = changes_until trace tick cpu (i - 1) }) (range_with_len 0 trace.cpus)
 
--- all samples that are due for each observer: those of the ticks at which the path is live, in
--- order
+-- all samples that are due for each observer, in order: the samples of all ticks at which the path
+-- is live
 abbrev pub all_due : Trace → Timing → List ℕ → List Due
 all_due trace timing path =
     flat_map (λ i. due_at trace timing.length i (live_slot_at trace.events path (tick_moment timing.length i)))
     (range_with_len 1 (tick_count trace timing))
 
--- these samples are those that were due, in order
+-- the samples `looks` match the due samples one by one, in order
 abbrev pub AreDone : List Due → List Look → Type 0
 AreDone [] [] = Unit {0}
 AreDone [] (look ∷ looks) = ⊥
@@ -59,10 +60,10 @@ AreDone (due ∷ dues) [] = ⊥
 AreDone (due ∷ dues) (look ∷ looks) =
     (look.cpu ≡ due.cpu) × (look.slot ≡ due.slot) × (due.least ≤ look.count) × AreDone dues looks
 
--- Samples that n observers may have taken. Each took those that were due for it, in order, and
--- there are no others. The counts of an observer's samples of a processor never fall, and are at
--- most the number of the processor's changes. The order of different observers' samples and the
--- exact counts are left open.
+-- Samples that `observers` observers may have taken. Each observer took exactly the samples that
+-- were due, in order. The change counts of an observer's samples on a processor never decrease, and
+-- are at most the number of the processor's changes. The order of the samples of different
+-- observers and the exact change counts may vary between runs.
 pub record AreObserved (trace : Trace) (timing : Timing) (path : List ℕ) (observers : ℕ) (looks : List Look) : Type 0 where
   pub done : (observer : ℕ) → observer < observers → AreDone (all_due trace timing path) (looks_by observer looks)
   pub none : (observer : ℕ) → observers ≤ observer → looks_by observer looks ≡ []

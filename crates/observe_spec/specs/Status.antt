@@ -1,4 +1,4 @@
--- The exit codes of statuses, and the text that reports each status.
+-- The exit status for each status of a run of psi_observe, and the message that reports it.
 use Rattle.std.specs.Prelude.{ℕ, List, [], ◌++◌, codes, Option, None, Some}
 use Rattle.run_spec.specs.Status.{refusal_text}
 use Rattle.observe_spec.specs.declared.status.ObserveStatus.{ObserveStatus}
@@ -16,12 +16,12 @@ code_of status.WriteFault = 6
 code_of (status.NoMemory _) = 7
 code_of (status.TooManySamples samples) = 8
 
--- the name of the trace's file, if the words are a request
+-- the name of the trace's file, or no bytes if the words aren't a request
 abbrev pub trace_text : Option Request → List ℕ
 trace_text None = []
 trace_text (Some request) = request.trace
 
--- the line that reports a status, with its newline; nothing for Done
+-- the message for a status: one line with its newline, or no bytes for Done
 abbrev pub observe_status_text : Option Request → ObserveStatus → List ℕ
 observe_status_text request status.Done = []
 observe_status_text request status.Usage = codes "usage: psi_observe TRACE OBSERVERS PATH\n"

@@ -1,11 +1,11 @@
-//! What several observers of one group see of a trace, what they print, and what a run of
-//! psi_observe promises: definitions that contracts cite, and laws about them. The code is in
-//! `observe_core`.
+//! The specification of psi_observe, which replays a trace while several observer threads sample
+//! one group: which samples they take, what is printed, and what a run returns. This crate contains
+//! only definitions and laws; the code is in `observe_core`.
 //!
 //! Read the files of `specs/` in this order: `Samples` (which samples are due for an observer, and
-//! which may have been taken), `Observed` (their lines, the last read of the board, and the whole
-//! text), `Words` (which words are a request), `Status` (exit status and message), `Run` (what a
-//! run promises); and `Laws`, their consequences.
+//! which may have been taken), `Observed` (the printed lines and the whole output), `Words` (which
+//! words are a request), `Status` (exit status and message), `Run` (the contract of a run) and
+//! `Laws` (consequences of these definitions).
 #![tactic(auto)]
 
 mod laws;

@@ -1,27 +1,28 @@
-//! How a run ends.
+//! The status that a run of psi_observe returns, and its exit status.
 ghost use Rattle.std.specs.Prelude.{◌≡◌};
 ghost use Rattle.observe_spec.specs.Status.{code_of};
 
 use psi_base::{Cause, NoMemory};
 
-/// How a run of psi_observe ended.
+/// The result of a run of psi_observe.
 #[derive(Clone, Copy, Debug, PartialEq, Eq)]
 pub enum ObserveStatus {
     /// The whole output was written.
     Done,
-    /// The words aren't a name, a number and a path.
+    /// The words aren't the name of a trace, a number of observers and a path.
     Usage,
-    /// The trace is rejected at this line (from 1), for this cause.
+    /// The trace is rejected at this line (numbered from 1), for this cause.
     Trace { line: u32, cause: Cause },
-    /// There is no file with this name.
+    /// The trace's file doesn't exist.
     NoFile,
     /// A read failed.
     ReadFault,
-    /// A write failed, after a prefix of the output.
+    /// A write failed; a prefix of the output was written.
     WriteFault,
     /// Out of memory.
     NoMemory(NoMemory),
-    /// There would be more than 1,000,000 samples: this many, if the group were live at each tick.
+    /// If the group were live at each tick, there would be this many samples, which is more than
+    /// 1,000,000.
     TooManySamples { samples: u64 },
 }
 
