@@ -1,5 +1,5 @@
--- A trace without the tasks of a group that is killed: its events up to the kill, the exits of the
--- tasks, and the remaining events without them.
+-- A trace without the tasks of a killed group: the events up to the kill, events that make the
+-- tasks exit, and the remaining events without these tasks.
 use Rattle.std.specs.Prelude.{ℕ, ◌+◌, List, [], ◌∷◌, ◌++◌, drop, length, map, filter, nat_lt, ◌==◌, not, Bool, false, if◌then◌else◌, Option, None, Some}
 use Rattle.std.specs.List.{list_any}
 use Rattle.std.specs.FinMap as tasks_by
@@ -15,28 +15,29 @@ use Rattle.psi_spec.specs.World.{World, after, after_event, after_from, events_a
 use Rattle.psi_spec.specs.Stall.{is_under, parents_of}
 use Rattle.psi_spec.specs.Trace.{Trace}
 
--- ---- the exits
+-- ---- the exits of the removed tasks
 
--- the PIDs of the live tasks in a group or below it, ascending
+-- the pids of the live tasks in group `slot` or its descendants, ascending
 abbrev pub members : World → ℕ → List ℕ
 members w slot = map (λ e. e.0) (filter (λ e. is_under (parents_of w.groups) e.1.slot.0 slot) (tasks_by.entries w.tasks))
 
--- an optional PID
+-- an optional task as its pid
 abbrev pub pid_part : Option (ℕ × Task) → Option Pid
 pid_part None = None
 pid_part (Some e) = Some (record { 0 = e.0 })
 
--- how the running task, if any, makes way for another one
+-- how the running task, if any, leaves its processor when another task needs it
 abbrev pub making_room : Option Pid → How
 making_room None = Idle
 making_room (Some pid) = Preempt
 
--- these acts if the condition is true, and none otherwise
+-- the acts (what events do) if the condition is true, and none if it is false
 abbrev pub acts_if : Bool → List Act → List Act
 acts_if test acts = if test then acts else []
 
--- How a task exits, given the running task of its processor: it wakes if it sleeps, runs if it
--- isn't running, ends its memory stall, and exits; then the task that made way for it continues.
+-- The acts that make a task exit, given the running task of its processor. The task is woken if it
+-- is blocked, starts to run if it isn't running, ends its memory stall, and exits. Then the task
+-- that was running before continues.
 abbrev pub exit_acts : ℕ → Task → Option Pid → List Act
 exit_acts pid task running =
     acts_if (not (is_active task.mode)) (act.Wake (record { 0 = pid }) task.cpu ∷ [])
@@ -44,46 +45,48 @@ exit_acts pid task running =
     ++ acts_if task.stalled (act.Unstall (record { 0 = pid }) ∷ [])
     ++ act.Switch task.cpu (if is_running task.mode then None else running) Exit ∷ []
 
--- the exit of a task (None gives nothing) in a world
+-- the acts that make a task exit in world `w`; none if it doesn't exist
 abbrev pub exit_of : World → ℕ → Option Task → List Act
 exit_of w pid None = []
 exit_of w pid (Some task) = exit_acts pid task (pid_part (running_on w.tasks task.cpu.0))
 
--- the exits of tasks at a time (ns), one after another, each in the world after the previous ones
+-- the events at time `at` (ns) that make the tasks exit one after another, each in the world after
+-- the exits before it
 abbrev pub exits_from : ℕ → World → List ℕ → List Event
 exits_from at w [] = []
 exits_from at w (pid ∷ pids) =
     events_at at (exit_of w pid (task_of w.tasks pid))
     ++ exits_from at (after_from w (events_at at (exit_of w pid (task_of w.tasks pid)))) pids
 
--- ---- the rest
+-- ---- the remaining events
 
--- a PID is in this list
+-- the list contains the pid
 abbrev pub is_pid_among : List ℕ → ℕ → Bool
 is_pid_among pids pid = list_any (λ dead. pid == dead) pids
 
--- an optional task isn't dead
+-- an optional task is present and isn't dead (removed)
 abbrev pub is_alive : List ℕ → Option Pid → Bool
 is_alive dead None = false
 is_alive dead (Some pid) = not (is_pid_among dead pid.0)
 
--- a task unless it is dead, and None if it is
+-- the task, or `None` if it is dead
 abbrev pub if_alive : List ℕ → Option Pid → Option Pid
 if_alive dead next = if is_alive dead next then next else None
 
--- A switch without dead tasks, given the task that leaves, if any: a dead task neither leaves nor
--- comes. If the task that leaves is dead, the processor was idle; if none comes either, nothing
--- happens.
+-- The acts that remain of a switch, given the task that leaves, if any. A dead task neither leaves
+-- nor starts. If the task that leaves is dead, the processor is idle in the resulting trace; if no
+-- task starts either, no act remains.
 abbrev pub switch_without : List ℕ → Cpu → Option Pid → Option Pid → How → List Act
 switch_without dead cpu leaving next how =
     if is_alive dead leaving then act.Switch cpu (if_alive dead next) how ∷ [] else
     if is_alive dead next then act.Switch cpu next Idle ∷ [] else []
 
--- an act of a task, unless the task is dead
+-- an act of task `pid`, or no act if the task is dead
 abbrev pub act_of : List ℕ → Pid → Act → List Act
 act_of dead pid what = acts_if (not (is_pid_among dead pid.0)) (what ∷ [])
 
--- What remains of an act in a world of the trace in which these tasks are dead.
+-- The acts that remain of an act of the original trace. `w` is the world of that trace before the
+-- act, and `dead` are the pids of the removed tasks.
 abbrev pub act_without : List ℕ → World → Act → List Act
 act_without dead w (act.Wake pid cpu) = act_of dead pid (act.Wake pid cpu)
 act_without dead w (act.Stall pid) = act_of dead pid (act.Stall pid)
@@ -93,32 +96,33 @@ act_without dead w (act.Move pid path) = act_of dead pid (act.Move pid path)
 act_without dead w (act.Switch cpu next how) = switch_without dead cpu (pid_part (running_on w.tasks cpu.0)) next how
 act_without dead w what = what ∷ []
 
--- the PIDs without one, if one is given
+-- removes an optional pid from a list
 abbrev pub without_pid : List ℕ → Option Pid → List ℕ
 without_pid dead None = dead
 without_pid dead (Some pid) = filter (λ other. not (other == pid.0)) dead
 
--- The dead tasks after an act: the PID of a task that exits in the trace may be reused.
+-- The dead tasks after an act. A dead task that exits in the original trace is no longer dead,
+-- because its pid may be used for a new task.
 abbrev pub dead_after : List ℕ → World → Act → List ℕ
 dead_after dead w (act.Switch cpu next Exit) = without_pid dead (pid_part (running_on w.tasks cpu.0))
 dead_after dead w what = dead
 
--- events of the trace, from a world on, without these tasks
+-- the events that remain of the events of the original trace after world `w`
 abbrev pub rest_without : List ℕ → World → List Event → List Event
 rest_without dead w [] = []
 rest_without dead w (event ∷ events) =
     events_at event.at (act_without dead w event.act)
     ++ rest_without (dead_after dead w event.act) (after_event w event) events
 
--- ---- the whole
+-- ---- the whole trace
 
--- the events after a time (ns)
+-- the events after time `at` (ns)
 abbrev pub suffix : List Event → ℕ → List Event
 suffix events at = drop (length (up_to events at)) events
 
--- The events of a trace without the tasks that are in a group or below it at a time (ns): the
--- events up to that time, the exits of these tasks one nanosecond later, and the remaining events
--- without them. If the time isn't before the end, nothing changes.
+-- The events of a trace without the tasks that are in group `victim` or its descendants at time
+-- `at` (ns): the events up to `at`, the exits of these tasks one nanosecond later, and the
+-- remaining events without these tasks. The events are unchanged if `at` is at or after the end.
 unfoldable pub without : List Event → ℕ → ℕ → List Event
 without events at victim =
     if nat_lt at (after events).last
@@ -127,6 +131,6 @@ without events at victim =
     ++ rest_without (members (after (up_to events at)) victim) (after (up_to events at)) (suffix events at)
     else events
 
--- a trace without the tasks that are in a group or below it at a time (ns)
+-- the trace without the tasks that are in group `victim` or its descendants at time `at` (ns)
 abbrev pub trace_without : Trace → ℕ → ℕ → Trace
 trace_without trace at victim = record trace { events = without trace.events at victim }
