@@ -1,29 +1,32 @@
--- First and last places are found exactly where they are.
+-- Proofs that the searches find the first and the last position that passes a test.
 use Rattle.std.proofs.Common.{◌≡◌, ℕ, ◌+◌, List, [], ◌∷◌, length, refl, ap, Bool, true, false, arith, add-one, cond, Option, None, Some}
 use Rattle.std.specs.Prelude.{zero, suc, option_map, MatchOption}
 use Rattle.import_spec.specs.Places.{first_place, last_place, or_here}
 use Rattle.import_spec.specs.Laws.{IsFirstPlace, IsLastPlace, NonePasses, FindsFirst, FindsLast, FindsNone}
 
--- ---- no place
+-- ---- no position passes
 
--- a test that passes at no place in the rest of the bytes passes at none of the following places
+-- if no position in a range passes the test in `bytes`, none in the range shifted by one passes
+-- after a byte is put before them
 none_following : (test : List ℕ → Bool) (byte : ℕ) (bytes : List ℕ) (low high : ℕ) → NonePasses test bytes low high → NonePasses test (byte ∷ bytes) (low + 1) (high + 1)
 none_following test byte bytes low high none zero above below = absurd (omega (arith, above))
 none_following test byte bytes low high none (suc k) above below = none k (omega (arith, above)) (omega (arith, below))
 
--- the other way round
+-- if no position in a range passes the test after a byte is put before `bytes`, none in the range
+-- shifted back passes in `bytes`
 none_within : (test : List ℕ → Bool) (byte : ℕ) (bytes : List ℕ) (low high : ℕ) → NonePasses test (byte ∷ bytes) low (high + 1) → NonePasses test bytes low high
 none_within test byte bytes low high none k above below = none (suc k) (omega (arith, above)) (omega (arith, below))
 
 none_above : (test : List ℕ → Bool) (byte : ℕ) (bytes : List ℕ) (low high above suffix : ℕ) → above ≡ low + 1 → suffix ≡ high + 1 → NonePasses test (byte ∷ bytes) above suffix → NonePasses test bytes low high
 none_above test byte bytes low high above suffix one other none k over below = none (suc k) (omega (arith, one, over)) (omega (arith, other, below))
 
--- the same with the first place, which doesn't pass
+-- if the first byte doesn't pass the test, and no position of the rest up to `high` does, then no
+-- position of the whole up to `high + 1` does
 none_with : (test : List ℕ → Bool) (byte : ℕ) (bytes : List ℕ) (high : ℕ) → test (byte ∷ bytes) ≡ false → NonePasses test bytes 0 high → NonePasses test (byte ∷ bytes) 0 (high + 1)
 none_with test byte bytes high here none zero above below = here
 none_with test byte bytes high here none (suc k) above below = none k (omega arith) (omega (arith, below))
 
--- ---- the first place
+-- ---- the first position
 
 first_further : (test : List ℕ → Bool) (byte : ℕ) (bytes : List ℕ) (found : Option ℕ) → test (byte ∷ bytes) ≡ false → MatchOption found (NonePasses test bytes 0 (length bytes)) (λ at. IsFirstPlace test bytes at) → MatchOption (option_map (λ at. at + 1) found) (NonePasses test (byte ∷ bytes) 0 (length (byte ∷ bytes))) (λ at. IsFirstPlace test (byte ∷ bytes) at)
 first_further test byte bytes None here none = rw (← add-one (length bytes)) (none_with test byte bytes (length bytes) here none)
@@ -64,7 +67,7 @@ first_none test (byte ∷ bytes) none =
     let further : first_place test bytes ≡ None = first_none test bytes (none_within test byte bytes 0 (length bytes) (rw add-one none)) in
     rw (here, further) refl
 
--- ---- the last place
+-- ---- the last position
 
 last_here : (test : List ℕ → Bool) (byte : ℕ) (bytes : List ℕ) (found : Option ℕ) (passes : Bool) → test (byte ∷ bytes) ≡ passes → MatchOption found (NonePasses test bytes 0 (length bytes)) (λ at. IsLastPlace test bytes at) → MatchOption (or_here found passes) (NonePasses test (byte ∷ bytes) 0 (length (byte ∷ bytes))) (λ at. IsLastPlace test (byte ∷ bytes) at)
 last_here test byte bytes None true here none = record {

@@ -1,4 +1,5 @@
--- The events of a line, given the world after the events so far.
+-- The trace events of one ftrace line, given the world (the tasks and groups) after the events of
+-- the lines before it.
 use Rattle.std.specs.Prelude.{ℕ, ◌+◌, ◌-◌, ◌*◌, max, List, [], ◌∷◌, ◌++◌, length, nat_lt, nat_le, ◌==◌, ◌&&◌, not, Bool, false, if◌then◌else◌, codes, Option, None, Some, is_some, unwrap_or, Result, Ok, Err}
 use Rattle.std.specs.List.{list_any}
 use Rattle.std.specs.FinMap as tasks_by
@@ -22,49 +23,50 @@ use Rattle.import_spec.specs.declared.seen.Seen.TheVariants as seen
 use Rattle.import_spec.specs.declared.seen.Sighting.{Sighting}
 use Rattle.import_spec.specs.Marked.{read_line}
 
--- ---- what a line does
+-- ---- the acts of a line
 
--- a task is created in the root group
+-- the act (what an event does) that creates a task in the root group
 abbrev pub made : Pid → Cpu → Act
 made pid cpu = act.Fork pid (codes "/") cpu
 
--- a wakeup creates its task if it doesn't exist, and wakes it if it sleeps
+-- a wakeup creates its task if it doesn't exist, wakes it if it is blocked, and does nothing if it
+-- is ready or running
 abbrev pub wakeup_acts : Pid → Cpu → Option Task → List Act
 wakeup_acts pid cpu None = made pid cpu ∷ []
 wakeup_acts pid cpu (Some task) = if is_active task.mode then [] else act.Wake pid cpu ∷ []
 
--- a migration moves a ready task to another processor
+-- a migration moves a task that is ready on another processor, and does nothing for any other task
 abbrev pub migration_acts : Pid → Cpu → Option Task → List Act
 migration_acts pid cpu None = []
 migration_acts pid cpu (Some task) =
     if is_ready task.mode && not (task.cpu.0 == cpu.0) then act.Migrate pid cpu ∷ [] else []
 
--- What brings an existing task to a processor on which it is to run: a sleeping task is woken
--- there; a task that is ready elsewhere migrates; a task that is running elsewhere is preempted
--- first.
+-- The acts that make an existing task ready on processor `cpu`: a blocked task is woken there; a
+-- task that is ready on another processor migrates; a task that is running on another processor is
+-- preempted, and migrates.
 abbrev pub coming_acts : Pid → Cpu → Cpu → Mode → List Act
 coming_acts pid cpu from Blocked = act.Wake pid cpu ∷ []
 coming_acts pid cpu from Waiting = act.Wake pid cpu ∷ []
 coming_acts pid cpu from Ready = if from.0 == cpu.0 then [] else act.Migrate pid cpu ∷ []
 coming_acts pid cpu from Running = act.Switch from None Preempt ∷ act.Migrate pid cpu ∷ []
 
--- what brings a task to a processor; it is created if it doesn't exist
+-- the acts that make a task ready on processor `cpu`; the task is created if it doesn't exist
 abbrev pub arrival_acts : Pid → Cpu → Option Task → List Act
 arrival_acts pid cpu None = made pid cpu ∷ []
 arrival_acts pid cpu (Some task) = coming_acts pid cpu task.cpu task.mode
 
--- what brings the next task, if any
+-- the acts that make the next task, if any, ready on processor `cpu`
 abbrev pub next_acts : Tasks → Cpu → Option Pid → List Act
 next_acts tasks cpu None = []
 next_acts tasks cpu (Some pid) = arrival_acts pid cpu (task_of tasks pid.0)
 
--- a task, if one is named, is running on a processor
+-- the task, if any, is running on processor `cpu`
 abbrev pub runs_there : Tasks → Cpu → Option Pid → Bool
 runs_there tasks cpu None = false
 runs_there tasks cpu (Some pid) = is_some_and (task_of tasks pid.0) (is_running_on cpu.0)
 
--- how the running task of a processor leaves: as the line says if the line names that task, and
--- otherwise it is preempted
+-- how the running task leaves processor `cpu`: as the switch line says if that line names the
+-- running task, and by preemption if it names another task
 abbrev pub leaving : Tasks → Cpu → Option Pid → How → How
 leaving tasks cpu previous how = if runs_there tasks cpu previous then how else Preempt
 
@@ -73,48 +75,48 @@ abbrev pub start_acts : Cpu → Option Pid → List Act
 start_acts cpu None = []
 start_acts cpu (Some pid) = act.Switch cpu (Some pid) Idle ∷ []
 
--- the running task of a processor leaves, and the next one starts
+-- the running task of processor `cpu`, if any, leaves, and the next task, if any, starts
 abbrev pub turn_acts : Tasks → Cpu → Option Pid → Option Pid → How → List Act
 turn_acts tasks cpu previous next how =
     if is_some (running_on tasks cpu.0) then act.Switch cpu next (leaving tasks cpu previous how) ∷ []
     else start_acts cpu next
 
--- A switch does nothing if its next task is running there already. Otherwise that task is brought
--- there, and the running one leaves; bringing the next task doesn't change which task is running
--- there.
+-- The acts of a switch line. There are none if the next task is running on the processor already.
+-- If it isn't, the next task is made ready there, the running task leaves, and the next task
+-- starts. Making the next task ready doesn't change which task is running there.
 abbrev pub switch_acts : Tasks → Cpu → Option Pid → Option Pid → How → List Act
 switch_acts tasks cpu previous next how =
     if runs_there tasks cpu next then [] else next_acts tasks cpu next ++ turn_acts tasks cpu previous next how
 
--- the acts of a line
+-- the acts of a line, given the live tasks
 abbrev pub acts_of : Tasks → Seen → List Act
 acts_of tasks (seen.Switch cpu previous next how) = switch_acts tasks cpu previous next how
 acts_of tasks (seen.Wakeup pid cpu) = wakeup_acts pid cpu (task_of tasks pid.0)
 acts_of tasks (seen.Migration pid cpu) = migration_acts pid cpu (task_of tasks pid.0)
 
--- ---- moments and causes
+-- ---- times and causes
 
--- How far an import has come: the time (ns) of the first marked line, if any; the trace time (ns)
--- of the last one, or 0; and the world after the events so far.
+-- The progress of an import: the time (ns) of the first marked line, if any; the trace time (ns) of
+-- the last marked line, or 0; and the world after the events of the lines before this point.
 pub record Reached : Type 0 where
   pub first : Option ℕ
   pub moment : ℕ
   pub world : World
 
--- before the first line
+-- the progress before the first line
 abbrev pub unreached : Reached
 unreached = record { first = None; moment = 0; world = first_world }
 
--- the time (ns) of the first marked line, if the next one has this time
+-- the time (ns) of the first marked line, which is `at` if no marked line came before
 abbrev pub first_time : Reached → ℕ → ℕ
 first_time reached at = unwrap_or reached.first at
 
--- the trace time (ns) of a line at this time: the time since the first marked line, but not before
--- the previous marked line's
+-- the trace time (ns) of a line with time `at`: the time since the first marked line, but at least
+-- the trace time of the previous marked line
 abbrev pub line_moment : Reached → ℕ → ℕ
 line_moment reached at = max reached.moment (at - first_time reached at)
 
--- the default length of a tick (ns), 2 s
+-- the default length of a tick (ns): 2 s
 abbrev pub default_tick : ℕ
 default_tick = 2000000000
 
@@ -122,21 +124,23 @@ default_tick = 2000000000
 abbrev pub latest_moment : ℕ
 latest_moment = 1000000 * default_tick
 
--- the maximum number of events before the end
+-- the maximum number of events before `end`
 abbrev pub most_imported : ℕ
 most_imported = 3999999
 
--- the processor that must exist: a switch's own, otherwise the target
+-- the processor that a line requires: the processor of a switch, or the target processor of a
+-- wakeup or migration
 abbrev pub needed_cpu : Seen → Cpu
 needed_cpu (seen.Switch cpu previous next how) = cpu
 needed_cpu (seen.Wakeup pid cpu) = cpu
 needed_cpu (seen.Migration pid cpu) = cpu
 
--- one of these acts creates a task
+-- one of the acts creates a task
 abbrev pub make_task : List Act → Bool
 make_task acts = list_any (λ (what : Act). is_some (names what).new_task) acts
 
--- the first cause against a line with these acts at a trace time (ns), in a world
+-- the first cause against a line with these acts at trace time `moment` (ns) in world `w`, or
+-- `None`
 abbrev pub acts_cause : ℕ → World → ℕ → Cpu → List Act → Option ImportCause
 acts_cause cpus w moment cpu acts =
     if nat_le cpus cpu.0 then Some cause.BadCpu
@@ -147,12 +151,13 @@ acts_cause cpus w moment cpu acts =
 
 -- ---- one line
 
--- the result of a line: its events, and how far the import has come after it
+-- the result of a line: its events, and the progress after it
 pub record LineEvents : Type 0 where
   pub events : List Event
   pub reached : Reached
 
--- the result of a line with this time and these acts at a trace time (ns), or the cause against it
+-- the result of a line with time `at` and these acts at trace time `moment` (ns), or the cause
+-- against it
 abbrev pub events_or : Reached → ℕ → ℕ → List Act → Option ImportCause → Result LineEvents ImportCause
 events_or reached at moment acts (Some why) = Err why
 events_or reached at moment acts None = Ok (record {
@@ -164,18 +169,19 @@ events_or reached at moment acts None = Ok (record {
   };
 })
 
--- the result of a line that reports this at a time (ns), with n processors
+-- the result of a line that reports `what` at time `at` (ns) on a machine with `cpus` processors,
+-- or the cause against it
 unfoldable pub line_events_at : ℕ → Reached → ℕ → Seen → Result LineEvents ImportCause
 line_events_at cpus reached at what =
     events_or reached at (line_moment reached at) (acts_of reached.world.tasks what)
     (acts_cause cpus reached.world (line_moment reached at) (needed_cpu what) (acts_of reached.world.tasks what))
 
--- the same for a parsed line: an unmarked line gives nothing
+-- the result of a parsed line; an unmarked line gives no events and no progress
 abbrev pub events_read : ℕ → Reached → Result (Option Sighting) ImportCause → Result LineEvents ImportCause
 events_read cpus reached (Err why) = Err why
 events_read cpus reached (Ok None) = Ok (record { events = []; reached = reached })
 events_read cpus reached (Ok (Some sighting)) = line_events_at cpus reached sighting.at sighting.seen
 
--- the result of a line, or the cause against it
+-- parses a line and returns its result, or the cause against it
 unfoldable pub events_of_line : ℕ → Reached → List ℕ → Result LineEvents ImportCause
 events_of_line cpus reached line = events_read cpus reached (read_line line)

@@ -1,4 +1,4 @@
--- The events of an ftrace text, or the first bad line.
+-- The import of a whole ftrace text: its trace events, or the first bad line.
 use Rattle.std.specs.Prelude.{ℕ, ◌+◌, List, [], ◌∷◌, ◌++◌, length, nat_lt, if◌then◌else◌, Option, None, Some, Result, Ok, Err}
 use Rattle.psi_base.specs.Path.{parts_at}
 use Rattle.psi_base.specs.declared.event.Act.TheVariants as act
@@ -9,31 +9,32 @@ use Rattle.import_spec.specs.declared.cause.ImportCause.{ImportCause}
 use Rattle.import_spec.specs.declared.cause.ImportCause.TheVariants as cause
 use Rattle.import_spec.specs.Events.{LineEvents, Reached, events_of_line, unreached}
 
--- the rejected line, by its number from 1, and the cause
+-- a rejected line with its number (from 1), and the cause
 pub record Refused : Type 0 where
   pub line : ℕ
   pub cause : ImportCause
 
--- a refusal of the line with this number
+-- a refusal of line `line`
 abbrev pub import_refused : ℕ → ImportCause → Refused
 import_refused line why = record { line = line; cause = why }
 
--- the maximum number of lines
+-- the maximum number of lines of an ftrace text
 abbrev pub most_text_lines : ℕ
 most_text_lines = 16000000
 
--- the end, at the trace time (ns) that was reached
+-- the `end` event, at the trace time (ns) of the last marked line
 abbrev pub end_at : Reached → Event
 end_at reached = record { at = reached.moment; act = act.End }
 
--- the result of a whole line: there are at most 16,000,000 lines, and a line has at most 512 bytes
+-- the result of line number `number` without its newline, or the cause against it: a text has at
+-- most 16,000,000 lines, and a line has at most 512 bytes
 unfoldable pub yield_of_line : ℕ → Reached → ℕ → List ℕ → Result LineEvents ImportCause
 yield_of_line cpus reached number line =
     if nat_lt most_text_lines number then Err cause.TooManyLines
     else if nat_lt 512 (length line) then Err cause.LineTooLong
     else events_of_line cpus reached line
 
--- the cause against what follows the last newline, or None if nothing does
+-- the cause against the bytes after the last newline, which must be empty; `None` if they are
 unfoldable pub tail_cause : ℕ → List ℕ → Option ImportCause
 tail_cause number [] = None
 tail_cause number (byte ∷ rest) =
@@ -41,23 +42,23 @@ tail_cause number (byte ∷ rest) =
     else if nat_lt 512 (length (byte ∷ rest)) then Some cause.LineTooLong
     else Some cause.Cut
 
--- the end of the text, or a refusal
+-- the `end` event, or a refusal if there is a cause
 abbrev pub ends_or : Reached → ℕ → Option ImportCause → Result (List Event) Refused
 ends_or reached number None = Ok (end_at reached ∷ [])
 ends_or reached number (Some why) = Err (import_refused number why)
 
--- events, and the later events after them
+-- the events `prefix` followed by the later events, or the refusal of a later line
 abbrev pub events_followed : List Event → Result (List Event) Refused → Result (List Event) Refused
 events_followed prefix (Ok events) = Ok (prefix ++ events)
 events_followed prefix (Err refusal) = Err refusal
 
--- a refusal of a line, or its events and those after them
+-- a refusal of line `number`, or its events followed by the events of the later lines
 abbrev pub or_refused_line : ℕ → Result LineEvents ImportCause → (Reached → Result (List Event) Refused) → Result (List Event) Refused
 or_refused_line number (Err why) suffix = Err (import_refused number why)
 or_refused_line number (Ok line_events) suffix = events_followed line_events.events (suffix line_events.reached)
 
--- The events of these parts of a text between newlines, or the first bad line. The first part is
--- the line with this number, and the last part is what follows the last newline.
+-- Imports the parts of a text between newlines: the first part is line number `number`, and the
+-- last part is the rest after the last newline. The result is the events, or the first bad line.
 unfoldable pub import_from : ℕ → Reached → ℕ → List (List ℕ) → Result (List Event) Refused
 import_from cpus reached number [] = Ok (end_at reached ∷ [])
 import_from cpus reached number (rest ∷ []) = ends_or reached number (tail_cause number rest)
@@ -65,10 +66,11 @@ import_from cpus reached number (line ∷ next ∷ parts) =
     or_refused_line number (yield_of_line cpus reached number line)
     (λ suffix. import_from cpus suffix (number + 1) (next ∷ parts))
 
--- the events of a text, including the end, on a machine with n processors; or the first bad line
+-- imports a text from a machine with `cpus` processors: the result is the events, including `end`,
+-- or the first bad line
 unfoldable pub import_of : ℕ → List ℕ → Result (List Event) Refused
 import_of cpus bytes = import_from cpus unreached 1 (parts_at 10 bytes)
 
--- the trace with these events
+-- the trace with these events on `cpus` processors, in version 1
 abbrev pub import_trace : ℕ → List Event → Trace
 import_trace cpus events = record { version = One; cpus = cpus; events = events }

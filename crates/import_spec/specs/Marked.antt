@@ -1,4 +1,5 @@
--- Which lines of an ftrace text are marked, and what each of them reports.
+-- Parsing of a line of an ftrace text. A marked line contains the name of one of the tracepoints
+-- that are imported; other lines are ignored.
 use Rattle.std.specs.Prelude.{ℕ, ◌+◌, List, [], ◌∷◌, take, drop, length, find, Bool, if◌then◌else◌, codes, Option, None, Some, is_some, Result, Ok, Err}
 use Rattle.import_spec.specs.declared.cause.ImportCause.{ImportCause}
 use Rattle.import_spec.specs.declared.cause.ImportCause.TheVariants as cause
@@ -13,7 +14,7 @@ use Rattle.import_spec.specs.Tails.{cpu_in, field_in, how_in, pid_in, time_in}
 
 -- ---- marks
 
--- a mark, and the kind of line that it marks
+-- a mark (a tracepoint's name as it occurs in a line) and the kind of line that contains it
 pub record Mark : Type 0 where
   pub text : List ℕ
   pub kind : LineKind
@@ -30,7 +31,7 @@ marks =
     ∷ mark (codes ": sched_wakeup_new: ") kind.Wakeup
     ∷ mark (codes ": sched_migrate_task: ") kind.Migration ∷ []
 
--- the mark with which the bytes begin, if any
+-- the mark at the beginning of the bytes, or `None`
 unfoldable pub mark_of : List ℕ → Option Mark
 mark_of bytes = find (λ (each : Mark). begins_with each.text bytes) marks
 
@@ -38,22 +39,24 @@ mark_of bytes = find (λ (each : Mark). begins_with each.text bytes) marks
 abbrev pub begins_marked : List ℕ → Bool
 begins_marked bytes = is_some (mark_of bytes)
 
--- a marked line: its kind, the head before its mark and the tail after it
+-- a marked line: its kind, the bytes before its mark (the head), and the bytes after its mark (the
+-- tail)
 pub record Marked : Type 0 where
   pub kind : LineKind
   pub head : List ℕ
   pub tail : List ℕ
 
--- The marked line that bytes are, by the leftmost mark; a line that begins with `#` isn't marked.
+-- Splits a line at its leftmost mark. `None` if it contains no mark, or begins with `#`.
 unfoldable pub marked_of : List ℕ → Option Marked
 marked_of line = if begins_with (codes "#") line then None else do
   at ← first_place begins_marked line
   found ← mark_of (drop at line)
   Some (record { kind = found.kind; head = take at line; tail = drop (at + length found.text) line })
 
--- ---- the meaning of a marked line
+-- ---- the content of a marked line
 
--- a switch on a processor, from its tail: two parts, split at the last arrow
+-- parses the tail of a `sched_switch` line on processor `cpu`: the previous task before the last
+-- arrow, and the next task after it; `None` if it is malformed
 unfoldable pub switch_in : ℕ → List ℕ → Option Seen
 switch_in cpu tail = do
   arrow ← last_place (begins_with (codes " ==> ")) tail
@@ -63,7 +66,7 @@ switch_in cpu tail = do
   next ← field_in (codes " next_pid=") (drop (arrow + length (codes " ==> ")) tail)
   Some (seen.Switch (record { 0 = cpu }) (pid_in previous) (pid_in next) how)
 
--- a wakeup, from its tail
+-- parses the tail of a wakeup line; `None` if it is malformed
 unfoldable pub wakeup_in : List ℕ → Option Seen
 wakeup_in tail = do
   number ← field_in (codes " pid=") tail
@@ -71,7 +74,7 @@ wakeup_in tail = do
   target ← field_in (codes " target_cpu=") tail
   Some (seen.Wakeup pid (record { 0 = target }))
 
--- a migration, from its tail
+-- parses the tail of a migration line; `None` if it is malformed
 unfoldable pub migration_in : List ℕ → Option Seen
 migration_in tail = do
   number ← field_in (codes " pid=") tail
@@ -79,13 +82,13 @@ migration_in tail = do
   target ← field_in (codes " dest_cpu=") tail
   Some (seen.Migration pid (record { 0 = target }))
 
--- what a line of this kind on this processor reports, from its tail
+-- parses the tail of a line of this kind on processor `cpu`; `None` if it is malformed
 abbrev pub seen_in : LineKind → ℕ → List ℕ → Option Seen
 seen_in kind.Switch cpu tail = switch_in cpu tail
 seen_in kind.Wakeup cpu tail = wakeup_in tail
 seen_in kind.Migration cpu tail = migration_in tail
 
--- what a marked line reports, and when; None if it is malformed
+-- parses a marked line: its time and what it reports; `None` if it is malformed
 unfoldable pub sighting_of : Marked → Option Sighting
 sighting_of line = do
   time ← time_in line.head
@@ -93,7 +96,8 @@ sighting_of line = do
   what ← seen_in line.kind cpu line.tail
   Some (record { at = time; seen = what })
 
--- what a line reports, and when; nothing if it isn't marked; a fault if it is marked but malformed
+-- Parses a line (`read_line`): the time and what it reports. `Ok None` if it isn't marked, and the
+-- cause BadLine if it is marked but malformed.
 abbrev pub if_formed : Option Sighting → Result (Option Sighting) ImportCause
 if_formed None = Err cause.BadLine
 if_formed (Some sighting) = Ok (Some sighting)

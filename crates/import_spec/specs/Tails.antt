@@ -1,4 +1,4 @@
--- The parts of a marked line: numbers, the time and the processor of its head, and the fields of
+-- The parts of a marked line: numbers, the time and the processor in its head, and the fields in
 -- its tail.
 use Rattle.std.specs.Prelude.{ℕ, ◌+◌, ◌-◌, ◌*◌, ◌^◌, List, [], ◌∷◌, take, drop, length, nat_lt, nat_le, ◌==◌, ◌&&◌, ◌||◌, Bool, if◌then◌else◌, codes, Option, None, Some}
 use Rattle.std.specs.List.{after_first, before_first, prefix_len}
@@ -12,33 +12,33 @@ use Rattle.import_spec.specs.Places.{begins_with, after_last, last_place}
 
 -- ---- numbers
 
--- a byte is a space (32)
+-- the byte is a space (32)
 abbrev pub is_space : ℕ → Bool
 is_space byte = byte == 32
 
--- a byte is a point (46)
+-- the byte is a point (46)
 abbrev pub is_point : ℕ → Bool
 is_point byte = byte == 46
 
--- the value of one to n digits; leading zeros are allowed
+-- the value of 1 to `most` digits, with leading zeros allowed, or `None`
 abbrev pub short_number : ℕ → List ℕ → Option ℕ
 short_number most digits = if nat_lt 0 (length digits) && nat_le (length digits) most then digits_of digits else None
 
--- a number, if it is below 2^32
+-- the number if it is below 2^32, or `None`
 abbrev pub if_small : ℕ → Option ℕ
 if_small number = if nat_lt number (2 ^ 32) then Some number else None
 
 -- ---- the head
 
--- the time (ns) that a word spells: seconds of 1 to 10 digits, a point, and 1 to 9 digits of the
--- fraction
+-- the time (ns) that a word spells, as seconds with 1 to 10 digits, a point, and a fraction with 1
+-- to 9 digits; `None` if it is malformed
 unfoldable pub time_of : List ℕ → Option ℕ
 time_of word = do
   seconds ← short_number 10 (before_first is_point word)
   fraction ← short_number 9 (after_first is_point word)
   Some (seconds * 10 ^ 9 + fraction * 10 ^ (9 - length (after_first is_point word)))
 
--- the time (ns) of a head: the word after its last space
+-- the time (ns) in a head, which is the word after its last space
 unfoldable pub time_in : List ℕ → Option ℕ
 time_in head = do
   word ← after_last (codes " ") head
@@ -48,13 +48,13 @@ time_in head = do
 abbrev pub digit_count : List ℕ → ℕ
 digit_count bytes = prefix_len is_ascii_digit bytes
 
--- the bytes begin with `[`, one or more digits, and `]`
+-- the bytes begin with a number in brackets: `[`, one or more digits, and `]`
 unfoldable pub is_bracketed : List ℕ → Bool
 is_bracketed bytes =
     begins_with (codes "[") bytes && nat_lt 0 (digit_count (drop 1 bytes))
     && begins_with (codes "]") (drop (digit_count (drop 1 bytes)) (drop 1 bytes))
 
--- the processor of a head: the last number in brackets, with at most 3 digits
+-- the processor in a head: the last number in brackets, which has at most 3 digits
 unfoldable pub cpu_in : List ℕ → Option ℕ
 cpu_in head = do
   at ← last_place is_bracketed head
@@ -62,20 +62,21 @@ cpu_in head = do
 
 -- ---- the tail
 
--- the number of a field: 1 to 10 digits after the last occurrence of its key, up to a space or the
--- end
+-- the number of the field `key`, below 2^32: 1 to 10 digits after the last occurrence of `key`,
+-- followed by a space or the end
 unfoldable pub field_in : List ℕ → List ℕ → Option ℕ
 field_in key part = do
   rest ← after_last key part
   number ← short_number 10 (before_first is_space rest)
   if_small number
 
--- a PID, unless it is 0
+-- the task with this pid, or `None` for pid 0 (the idle task)
 abbrev pub pid_in : ℕ → Option Pid
 pid_in number = if number == 0 then None else Some (record { 0 = number })
 
--- how a task leaves, by the first byte of its state: `R` (82) is ready, `D` (68) waits for IO, `X`
--- (88) and `Z` (90) have exited, and any other state sleeps
+-- how a task leaves its processor, by the first byte of its state: `R` (82) means that it is still
+-- ready, `D` (68) that it waits for IO, `X` (88) and `Z` (90) that it exits, and any other state
+-- that it sleeps
 unfoldable pub how_in : List ℕ → Option How
 how_in [] = None
 how_in (first ∷ rest) =

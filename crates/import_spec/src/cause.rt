@@ -1,23 +1,25 @@
-//! Why an ftrace text is rejected.
+//! The causes for which a line of an ftrace text is rejected. They are printed with the line's
+//! number.
 
-/// Why a line is rejected, in the order in which causes are checked; `TooManyLines` comes before
-/// the others.
+/// The cause for which a line is rejected. If several causes apply, `TooManyLines` is reported
+/// first, and the other causes take precedence in the order of the variants.
 #[derive(Clone, Copy, Debug, PartialEq, Eq)]
 pub enum ImportCause {
     /// A line has more than 512 bytes before its newline.
     LineTooLong,
-    /// The text ends inside a line.
+    /// The text ends inside a line: its last byte isn't a newline.
     Cut,
-    /// A marked line is malformed.
+    /// A line with the name of an imported tracepoint is malformed.
     BadLine,
-    /// There is no such processor: a switch's own, otherwise the target.
+    /// The line names a processor that the machine doesn't have: the processor of a switch, or the
+    /// target processor of a wakeup or migration.
     BadCpu,
-    /// The time is after the latest that a trace may have.
+    /// The trace time of the line is after the latest time that a trace may have.
     TooLate,
-    /// A task would be created, but 65,536 are live.
+    /// The line would create a task, but 65,536 tasks are live.
     TooManyTasks,
     /// There would be more than 3,999,999 events before the end.
     TooManyEvents,
-    /// The text goes on after 16,000,000 lines.
+    /// The text has more than 16,000,000 lines.
     TooManyLines,
 }

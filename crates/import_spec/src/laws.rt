@@ -1,7 +1,8 @@
-//! Laws of the definitions. Each function has an empty body: its contract is the law.
+//! Laws about the searches for positions. Each function has an empty body: its contract is the law.
 ghost use Rattle.import_spec.specs.Laws.{FindsFirst, FindsLast, FindsNone};
 
-/// A search finds the first and last places if and only if they exist.
+/// A search finds the first or the last position that passes a test, and finds nothing only if no
+/// position passes.
 pub fn law_places()
     ensures first { FindsFirst }
     ensures last { FindsLast }

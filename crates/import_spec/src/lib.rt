@@ -1,10 +1,10 @@
-//! What a text of the kernel's ftrace means as a trace: the definitions that the contracts of the
-//! importer cite, their types, and laws about them. It parses nothing.
+//! The conversion of a text of the kernel's ftrace to a trace: the definitions that the contracts
+//! of the importer use, their types, and laws about them. This crate parses nothing.
 //!
-//! In `specs/`, in reading order: `Places` (first and last occurrences), `Tails` (numbers and
-//! fields), `Marked` (which lines are marked, and what each reports), `Events` (the events of a
-//! line, given the world so far), `Import` (the events of a text, or the first bad line). `Laws`
-//! contains only laws.
+//! Read the files of `specs/` in this order: `Places` (first and last occurrences), `Tails`
+//! (numbers and fields), `Marked` (the lines that are imported, and what each reports), `Events`
+//! (the trace events of a line), `Import` (the trace events of a text, or the first bad line) and
+//! `Laws` (consequences of these definitions).
 #![tactic(auto)]
 
 mod cause;

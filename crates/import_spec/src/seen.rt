@@ -1,45 +1,47 @@
-//! What lines of an ftrace text report.
+//! The content of the lines of an ftrace text that are imported, as types. Parsing is done
+//! elsewhere.
 
 use psi_base::{Cpu, How, Ns, Pid};
 
-/// The kinds of lines that are read.
+/// The kinds of lines that are imported, by their tracepoints.
 #[derive(Clone, Copy, Debug, PartialEq, Eq)]
 pub enum LineKind {
     /// `sched_switch`.
     Switch,
-    /// `sched_wakeup`, and `sched_wakeup_new` of a new task.
+    /// `sched_wakeup`, or `sched_wakeup_new` for a new task.
     Wakeup,
     /// `sched_migrate_task`.
     Migration,
 }
 
-/// What a line reports.
+/// The content of a line.
 #[derive(Clone, Copy, Debug, PartialEq, Eq)]
 pub enum Seen {
-    /// On a processor a task in some state made way for the next one. The idle task is `None`.
+    /// Processor `cpu` switched from task `previous`, which leaves as `how` says, to task `next`.
+    /// `None` means the idle task.
     Switch {
         cpu: Cpu,
         previous: Option<Pid>,
         next: Option<Pid>,
         how: How,
     },
-    /// A task was woken, on a processor.
+    /// Task `pid` was woken on processor `cpu`.
     Wakeup {
         pid: Pid,
         cpu: Cpu,
     },
-    /// A task migrated to a processor.
+    /// Task `pid` migrated to processor `cpu`.
     Migration {
         pid: Pid,
         cpu: Cpu,
     },
 }
 
-/// What a line reports, and when.
+/// The content of a line, with its time.
 #[derive(Clone, Copy, Debug, PartialEq, Eq)]
 pub struct Sighting {
-    /// The time, in ns of the trace's clock.
+    /// The time (ns of ftrace's clock).
     pub at: Ns,
-    /// What happened then.
+    /// What happened at this time.
     pub seen: Seen,
 }
