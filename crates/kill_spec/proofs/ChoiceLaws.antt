@@ -1,4 +1,4 @@
--- The choices of actions are the groups that no other beats.
+-- Proofs that an action chooses the group that no other group beats.
 use Rattle.std.proofs.Common.{◌≡◌, ℕ, ◌<◌, List, [], ◌∷◌, refl, sym, ap, ◌∙◌, arith, true, false}
 use Rattle.std.proofs.Common.{◌⊎◌, ⊎_elim, inl, inr, subst}
 use Rattle.std.specs.Prelude.{Bool, Option, None, Some, ◌&&◌, ◌||◌, ◌==◌, map, nat_lt}
@@ -21,7 +21,7 @@ use Rattle.kill_spec.proofs.Foremost.{walk_best}
 
 -- ---- orders of groups
 
--- one group's path comes before another's
+-- the path of `first` is before the path of `second`
 abbrev pub IsBefore : List GroupLife → GroupReading → GroupReading → Type 0
 IsBefore lives first second = ComesBefore (path_of lives first) (path_of lives second)
 
@@ -30,7 +30,8 @@ less_is Less is = refl
 less_is Equal is = absurd (false≢true is)
 less_is Greater is = absurd (false≢true is)
 
--- by a measure, and for two groups with the same one by another relation
+-- `first` has a greater ranking value than `second`, or the same value and beats it by another
+-- relation
 abbrev pub by_then : (GroupReading → ℕ) → (GroupReading → GroupReading → Bool) → GroupReading →
     GroupReading → Bool
 by_then measure beats first second = nat_lt (measure second) (measure first) ||
@@ -87,12 +88,12 @@ then_order P R beats leads measure order = record {
       (order.first x y before) trails;
 }
 
--- a later group beats an earlier one if its measure is greater
+-- a group that is later in path order beats an earlier group if its ranking value is greater
 abbrev pub leads_larger : (GroupReading → ℕ) → GroupReading → GroupReading → Bool
 leads_larger measure = by_then measure no_lead
 
--- a later group beats an earlier one if its preference is better, or equal and its measure is
--- greater
+-- a group that is later in path order beats an earlier group if its preference is better, or the
+-- preferences are the same and its ranking value is greater
 abbrev pub leads_by : (GroupReading → ℕ) → GroupReading → GroupReading → Bool
 leads_by measure = by_then rank_of (leads_larger measure)
 
@@ -130,7 +131,7 @@ in_order lives (first ∷ groups) ascend = (
   in_order lives groups (ascend_after lives first groups ascend),
 )
 
--- ---- the walk finds the choice
+-- ---- one pass over the groups finds the choice
 
 pub walk_unbeaten : (P : GroupReading → Type 0) (R : GroupReading → GroupReading → Type 0)
     (beats leads : GroupReading → GroupReading → Bool) → Orders P R beats leads →
@@ -158,7 +159,7 @@ not_empty : (X : Type 0) (first : GroupReading) (groups : List GroupReading) →
 not_empty X first groups is = absurd (false≢true
     (ap (λ (l : List GroupReading). elim l as (λ _. Bool) [ [] ↦ true | x ∷ xs ↦ false ]) is))
 
--- the best of groups is their choice by a test that decides the relation
+-- if a test decides the relation `Beats`, the best group by the test is the choice by the relation
 choice_is : (Beats : GroupReading → GroupReading → Type 0)
     (beats : GroupReading → GroupReading → Bool) →
     ((x y : GroupReading) → beats x y ≡ true → Beats x y) →
@@ -210,7 +211,7 @@ unbeaten_choice lives Beats beats leads order shows known (first ∷ groups) asc
     (choice_is Beats beats shows known order.one_way first groups (foremost_of leads first groups)
     best)
 
--- ---- the results of the tests
+-- ---- the tests decide their relations
 
 pub then_shows : (a b : ℕ) (f : Bool) (F : Type 0) → (f ≡ true → F) →
     (nat_lt b a || (a == b && f)) ≡ true → (b < a) ⊎ ((a ≡ b) × F)

@@ -1,4 +1,4 @@
--- Conditions for a duration: when they have held, and from when on.
+-- Proofs about conditions for a duration: when they are true, and from which reading on.
 use Rattle.std.proofs.Common.{◌≡◌, suc, ◌⊎◌, inl, inr, ⊎_elim, ℕ, ◌-◌, ◌≤◌, List, [], ◌∷◌, ◌++◌, refl, ap, ◌∙◌, arith}
 use Rattle.std.specs.Prelude.{All, Bool, true, false, ◌&&◌, ◌||◌, nat_le}
 use Rattle.std.proofs.lemmas.Bool.{leb-true, le-leb}
@@ -7,9 +7,9 @@ use Rattle.kill_spec.specs.Readings.{Reading}
 use Rattle.kill_spec.specs.Detectors.{held_for, of_seconds}
 use Rattle.kill_spec.specs.Laws.{HeldFor, BreakStartsAnew, HeldForShows, LongerIsLater}
 
--- ---- tests
+-- ---- Boolean tests
 
--- what follows if one test holds and one of two others
+-- if `a && (b || c)` is true, then `a` is true, and `b` or `c` is
 either : (a b c : Bool) → (a && (b || c)) ≡ true → (a ≡ true) × ((b ≡ true) ⊎ (c ≡ true))
 either true true c is = (refl, inl refl)
 either true false c is = (refl, inr is)
@@ -27,9 +27,10 @@ weakened a b c d e first second is =
     let parts = either a b c is in
     ⊎_elim (λ holds. first_holds a d e parts.0 (first holds)) (λ holds. last_holds a d e parts.0 (second holds)) parts.1
 
--- ---- when a condition has held
+-- ---- conditions that have been true for a duration
 
--- a condition that holds has held if it had before
+-- a condition that is true at the newest reading, and has been true for the duration before, has
+-- been true for the duration
 held_more : (condition : Reading → Bool) (duration at : ℕ) (reading : Reading) (past : List Reading) → condition reading ≡ true →
     HeldFor condition duration at past → HeldFor condition duration at (reading ∷ past)
 held_more condition duration at reading past holds held = record {
@@ -64,7 +65,8 @@ known condition duration at (reading ∷ past) is =
     (λ held. held_more condition duration at reading past parts.0 (known condition duration at past held))
     parts.1
 
--- it has held since the first of readings at all of which it holds
+-- a condition that is true at every reading since `first` has been true for the duration if `first`
+-- is early enough
 since_holds : (condition : Reading → Bool) (duration at : ℕ) (since : List Reading) (first : Reading) (earlier : List Reading) →
     All (λ r. condition r ≡ true) since → condition first ≡ true → duration ≤ at - first.at →
     held_for condition duration at (since ++ first ∷ earlier) ≡ true
@@ -83,9 +85,9 @@ shows condition duration at readings = (
       ∙ since_holds condition duration at held.since held.first held.earlier held.each held.starts held.long,
 )
 
--- ---- breaks
+-- ---- interruptions
 
--- what was before a break counts for nothing
+-- readings before an interruption don't count
 broken_off : (condition : Reading → Bool) (duration at : ℕ) (broken : Reading) (newer older : List Reading) → condition broken ≡ false →
     held_for condition duration at (newer ++ broken ∷ older) ≡ held_for condition duration at newer
 broken_off condition duration at broken [] older fails = rw fails refl

@@ -1,4 +1,5 @@
--- The group that none beats is found by walking the groups once, with the best so far.
+-- Proofs that one pass over a list of groups, with the best group up to each point, finds the
+-- unbeaten group.
 use Rattle.std.proofs.Common.{◌≡◌, zero, suc, List, [], ◌∷◌, refl, sym, ap, ◌∙◌, arith, true, false}
 use Rattle.std.proofs.Common.{◌⊎◌, ⊎_elim, inl, inr, subst}
 use Rattle.std.specs.Prelude.{All, Bool, Contains, Option, None, Some, filter, find, if◌then◌else◌}
@@ -8,19 +9,19 @@ use Rattle.std.proofs.lemmas.Bool.{true≢false, not_from_true, not_from_false}
 use Rattle.kill_spec.specs.declared.reading.GroupReading.{GroupReading}
 use Rattle.kill_spec.specs.Victims.{unbeaten}
 
--- ---- members, by recursion
+-- ---- members of a list, by recursion
 
--- a group is in the list
+-- the list contains the group
 abbrev pub Has : List GroupReading → GroupReading → Type 0
 Has [] group = ⊥
 Has (first ∷ groups) group = (first ≡ group) ⊎ Has groups group
 
--- each of groups is so
+-- each group of the list satisfies `P`
 abbrev pub Each : (GroupReading → Type 0) → List GroupReading → Type 0
 Each P [] = Unit {0}
 Each P (first ∷ groups) = P first × Each P groups
 
--- a relation holds between each group and all later ones
+-- the relation `R` holds between each group and all groups after it in the list
 abbrev pub Pairs : (GroupReading → GroupReading → Type 0) → List GroupReading → Type 0
 Pairs R [] = Unit {0}
 Pairs R (first ∷ groups) = Each (R first) groups × Pairs R groups
@@ -59,7 +60,7 @@ each_all P (first ∷ groups) all = (
   each_all P groups (λ k d less. all (suc k) d (omega (arith, less))),
 )
 
--- a test passes or fails
+-- case distinction on a test: it is true or false
 pub by_test : (X : Type 0) (b : Bool) → (b ≡ true → X) → (b ≡ false → X) → X
 by_test X true holds fails = holds refl
 by_test X false holds fails = fails refl
@@ -85,7 +86,7 @@ pairs_filter R p (first ∷ groups) pairs = by_test _ (p first)
     (λ holds. rw holds (each_filter (R first) p groups pairs.0, pairs_filter R p groups pairs.1))
     (λ fails. rw fails (pairs_filter R p groups pairs.1))
 
--- ---- tests of members
+-- ---- tests of list members
 
 pub any_has : (p : GroupReading → Bool) (groups : List GroupReading) (group : GroupReading) →
     Has groups group → p group ≡ true → list_any p groups ≡ true
@@ -100,7 +101,7 @@ pub any_none : (p : GroupReading → Bool) (groups : List GroupReading) →
 any_none p [] each = refl
 any_none p (first ∷ groups) each = rw each.0 (any_none p groups each.1)
 
--- the one of groups that passes is found
+-- if exactly one group of the list passes the test, the search finds it
 find_one : (p : GroupReading → Bool) (groups : List GroupReading) (group : GroupReading) →
     Has groups group → p group ≡ true → Each (λ other. p other ≡ true → other ≡ group) groups →
     find p groups ≡ Some group
@@ -112,15 +113,14 @@ find_one p (first ∷ groups) group there passes each = by_test _ (p first)
     (λ suffix. find_one p groups group suffix passes each.1)
     there))
 
--- ---- the walk
+-- ---- one pass over the list
 
--- the better of two groups, the first of which is before the second: by a test that the second
--- beats the first
+-- the better of two groups; `next` is after `best` in the list, and `leads` decides if it is better
 abbrev pub better : (GroupReading → GroupReading → Bool) → GroupReading → GroupReading →
     GroupReading
 better leads best next = if leads next best then next else best
 
--- the best of groups, if there is one so far
+-- the best group of a list, starting with `best` as the best group up to here
 abbrev pub foremost_of : (GroupReading → GroupReading → Bool) → GroupReading → List GroupReading →
     GroupReading
 foremost_of leads best [] = best
@@ -132,8 +132,8 @@ foremost leads (Some best) groups = Some (foremost_of leads best groups)
 foremost leads None [] = None
 foremost leads None (next ∷ groups) = Some (foremost_of leads next groups)
 
--- A relation orders groups: no two beat each other, and beating is transitive. For two groups, the
--- first of which is before the second, one beats the other, and the second does if it leads.
+-- `beats` is an order of groups: no two groups beat each other, and beating is transitive. If `x`
+-- is before `y` in the list, then `y` beats `x` if it leads, and `x` beats `y` if it doesn't.
 pub record Orders (P : GroupReading → Type 0) (R : GroupReading → GroupReading → Type 0)
     (beats leads : GroupReading → GroupReading → Bool) : Type 0 where
   pub one_way : (x y : GroupReading) → beats x y ≡ true → beats y x ≡ false
@@ -142,11 +142,11 @@ pub record Orders (P : GroupReading → Type 0) (R : GroupReading → GroupReadi
   pub second : (x y : GroupReading) → R x y → leads y x ≡ true → beats y x ≡ true
   pub first : (x y : GroupReading) → R x y → leads y x ≡ false → beats x y ≡ true
 
--- a group is another or is beaten by it
+-- `group` is `best` or is beaten by `best`
 abbrev pub IsBelow : (GroupReading → GroupReading → Bool) → GroupReading → GroupReading → Type 0
 IsBelow beats best group = (group ≡ best) ⊎ (beats best group ≡ true)
 
--- one of groups that beats each other
+-- `best` is in the list, and beats each other group of the list
 abbrev pub IsBest : (GroupReading → GroupReading → Bool) → List GroupReading → GroupReading → Type 0
 IsBest beats groups best = Has groups best × Each (IsBelow beats best) groups
 
@@ -203,7 +203,7 @@ walk_best P R beats leads order best (next ∷ groups) p each before pairs =
       ),
     ))
 
--- the best of groups is the unbeaten one
+-- the best group of a list is the group that the search for an unbeaten group finds
 pub best_unbeaten : (beats : GroupReading → GroupReading → Bool) →
     ((x y : GroupReading) → beats x y ≡ true → beats y x ≡ false) →
     (groups : List GroupReading) (best : GroupReading) → IsBest beats groups best →

@@ -1,4 +1,4 @@
--- How kills follow from chains: whose victim each is, and how far apart chain-ending kills are.
+-- Proofs about kills: which action's victim each kill is, and how far apart chain-ending kills are.
 use Rattle.std.proofs.Common.{◌≡◌, ℕ, zero, suc, ◌+◌, ◌≤◌, List, [], ◌∷◌, refl, sym, ap, subst, Bool, true, false, None, Some, arith, ◌⊎◌, ⊎_elim, inl, inr}
 use Rattle.std.specs.Prelude.{find, ◌&&◌, not, slice_get, Contains, if◌then◌else◌}
 use Rattle.psi_spec.specs.declared.machine.GroupLife.{GroupLife}
@@ -14,16 +14,16 @@ use Rattle.kill_spec.specs.Laws.{EndedBy, EndingsApart, EndsOnce, KillsAreOfActi
 
 -- ---- lists
 
--- what a list has is its first or in its rest
+-- an element of `x ∷ xs` is `x` or an element of `xs`
 contains_cons : {X : Type 0} → (x : X) (xs : List X) (y : X) → Contains (x ∷ xs) y → (x ≡ y) ⊎ Contains xs y
 contains_cons x xs y (zero, few, is) = inl is
 contains_cons x xs y (suc i, few, is) = inr (i, omega (arith, few), is)
 
--- an empty list has nothing
+-- an empty list contains nothing
 contains_none : {X : Type 0} → (y : X) (P : Type 0) → Contains [] y → P
 contains_none y P (i, few, is) = absurd (omega (arith, few))
 
--- what a search finds is in the list and passes
+-- an element that a search finds is in the list and passes the test
 find_found : {X : Type 0} → (test : X → Bool) (xs : List X) (x : X) → find test xs ≡ Some x → Contains xs x × (test x ≡ true)
 find_found test [] x is = absurd (cc is)
 find_found test (first ∷ xs) x is =
@@ -34,7 +34,7 @@ find_found test (first ∷ xs) x is =
 
 -- ---- chains
 
--- actions that are in a list from a number on
+-- the actions `rest` are in the list `actions` from index `act` on
 abbrev IsPlacedFrom : List Action → ℕ → List Action → Type 0
 IsPlacedFrom actions act rest = (i : ℕ) → slice_get actions (act + i) ≡ slice_get rest i
 
@@ -47,7 +47,7 @@ here_in actions act first rest here = let e : act ≡ act + 0 = omega arith in r
 all_represent : (actions : List Action) → IsPlacedFrom actions 0 actions
 all_represent actions i = let e : 0 + i ≡ i = omega arith in rw e refl
 
--- a kill of a chain: by whom, and whom
+-- a kill of a chain belongs to one of the chain's actions, and kills that action's victim
 record IsOfChain (lives : List GroupLife) (number : ℕ) (actions : List Action) (now : Reading) (past : List Reading) (kill : Kill) : Type 0 where
   pub at : kill.at ≡ now.at
   pub rule_is : kill.rule ≡ number
@@ -74,7 +74,7 @@ chain_kills lives number act actions (first ∷ rest) now past kill here has =
           (contains_cons _ _ kill c)
     ] refl has
 
--- a chain has one kill that ends it, and the first such kill is it
+-- a chain has at most one kill that ends it, so a search for the first one finds it
 one_ending : (lives : List GroupLife) (number act : ℕ) (actions rest : List Action) (now : Reading) (past : List Reading) (kill : Kill) → IsPlacedFrom actions act rest → Contains (chain lives number act rest now past) kill → ends_chain actions kill ≡ true → find (ends_chain actions) (chain lives number act rest now past) ≡ Some kill
 one_ending lives number act actions [] now past kill here has ends = contains_none kill _ has
 one_ending lives number act actions (first ∷ rest) now past kill here has ends =
@@ -93,9 +93,9 @@ one_ending lives number act actions (first ∷ rest) now past kill here has ends
           ] mine c
     ] has
 
--- ---- a ruleset at a reading
+-- ---- the kills of a ruleset at a reading
 
--- a ruleset with a kill at a reading fires there, doesn't rest, and its chain has the kill
+-- a ruleset with a kill at a reading fires there and doesn't pause, and its chain contains the kill
 record IsTaken (lives : List GroupLife) (number : ℕ) (rule : Rule) (now : Reading) (past : List Reading) (earlier : List (List Kill)) (kill : Kill) : Type 0 where
   pub fired : ruleset_fires lives rule now past ≡ true
   pub rests : is_resting rule.actions now.at (last_ending rule.actions earlier) ≡ false
@@ -120,19 +120,20 @@ of_actions lives number rule now past kill has =
     let k = chain_kills lives number 0 rule.actions rule.actions now past kill (all_represent rule.actions) t.has in
     record { at = k.at; rule_is = k.rule_is; act = k.act; by = k.by; group = k.group; chosen = k.chosen; slot = k.slot; fired = t.fired }
 
--- ---- rests
+-- ---- pauses of rulesets
 
--- when the rest ends (ns) that a kill gave
+-- the time (ns) at which the pause after a kill ends
 abbrev rest_of : List Action → Kill → ℕ
 rest_of actions kill = kill.at + delay_of (slice_get actions kill.action)
 
--- the last chain-ending kill of these rests at least as long as this kill
+-- the pause after the latest chain-ending kill of the lists ends no earlier than the pause after
+-- `kill`
 record IsOutlasted (actions : List Action) (lists : List (List Kill)) (kill : Kill) : Type 0 where
   pub last : Kill
   pub is_last : last_ending actions lists ≡ Some last
   pub longer : rest_of actions kill ≤ rest_of actions last
 
--- a ruleset that doesn't rest is past the rest of its last chain-ending kill
+-- if a ruleset doesn't pause at time `at`, the pause after its latest chain-ending kill has ended
 over : (actions : List Action) (at : ℕ) (last : Kill) → is_resting actions at (Some last) ≡ false → rest_of actions last ≤ at
 over actions at last is = grind (arith, is)
 

@@ -1,4 +1,4 @@
--- Victims are populated and match, and choices among children come to an end.
+-- Proofs that victims are populated and match, and that the descent through children ends.
 use Rattle.std.proofs.Common.{◌≡◌, ℕ, zero, suc, ◌+◌, ◌<◌, ◌≤◌, List, [], ◌∷◌, length, refl, sym}
 use Rattle.std.proofs.Common.{ap, ◌∙◌, arith, true, ◌⊎◌, ⊎_elim, inl, inr, subst}
 use Rattle.std.specs.Prelude.{Bool, Option, None, Some, filter, find, option_map, slice_index_or}
@@ -23,7 +23,7 @@ use Rattle.kill_spec.specs.Victims.{action_patterns, largest_few, unbeaten, vict
 use Rattle.kill_spec.proofs.Foremost.{Has, by_test, contains_at}
 use Rattle.kill_spec.proofs.ChoiceLaws.{not_none, same_some}
 
--- ---- the chosen group is among them
+-- ---- the chosen group is one of the groups
 
 found_has : (p : GroupReading → Bool) (groups : List GroupReading) (group : GroupReading) →
     find p groups ≡ Some group → Has groups group
@@ -158,13 +158,13 @@ victims_match lives act now past group is = by_test _ (after_of act).recursive
     (rw fails at is)) in
     (candidate.0, λ alone. candidate.1))
 
--- ---- the descent
+-- ---- the descent through children
 
 parent_is : (slot : ℕ) (parent : Option ℕ) → names_slot slot parent ≡ true → parent ≡ Some slot
 parent_is slot None is = absurd (false≢true is)
 parent_is slot (Some other) is = ap Some (grind (arith, nat_tests))
 
--- a child that is chosen has a greater slot than its parent, and there is a group in it
+-- a chosen child has a greater slot than its parent, and its slot exists
 child_within : (lives : List GroupLife) (act : Action) (now : Reading) (past : List Reading) →
     AreOlder (parents_of lives) → IsReading lives now →
     (group child : GroupReading) → choice lives act now past (children lives group.slot.0 now) ≡

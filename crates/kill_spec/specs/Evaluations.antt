@@ -1,4 +1,4 @@
--- The readings of a trace: what the rules see at each of its evaluations.
+-- The readings of a trace: the pressure and memory that the rules see at each evaluation.
 use Rattle.std.specs.Prelude.{ℕ, zero, suc, ◌==◌, List, [], ◌∷◌, map, take, Bool, if◌then◌else◌}
 use Rattle.std.specs.List.{list_any}
 use Rattle.std.specs.FinMap as tasks_by
@@ -20,12 +20,12 @@ use Rattle.kill_spec.specs.declared.reading.GroupReading.{GroupReading}
 use Rattle.kill_spec.specs.declared.reading.HostReading.{HostReading}
 use Rattle.kill_spec.specs.Readings.{Reading, no_host}
 
--- the last element of a list, or a default if it is empty
+-- the last element of a list, or the default `before` if it is empty
 abbrev pub last_or : {A : Type 0} → A → List A → A
 last_or before [] = before
 last_or before (x ∷ xs) = last_or x xs
 
--- ---- the last samples
+-- ---- the latest samples
 
 -- a sample of a group's memory: memory and swap in use (bytes), and the number of scanned pages
 pub record MemorySample : Type 0 where
@@ -33,51 +33,52 @@ pub record MemorySample : Type 0 where
   pub swap : ℕ
   pub scan : ℕ
 
--- the memory of a group without a sample
+-- the memory sample of a group before its first sample: zeros
 abbrev pub no_memory_sample : MemorySample
 no_memory_sample = record { current = 0; swap = 0; scan = 0 }
 
--- the memory sample of an act for the group in a slot, as a list of one element or none
+-- the memory sample that an act (what an event does) gives for the group in `slot`, as a list of at
+-- most one element
 abbrev pub memory_known : ℕ → List GroupLife → Act → List MemorySample
 memory_known slot groups (act.Mem path current swap scan) =
     if (slot_named groups path).0 == slot then record { current = current; swap = swap; scan = scan } ∷ [] else []
 memory_known slot groups _ = []
 
--- the last memory sample of the group in a slot, or zeros if there is none
+-- the latest memory sample of the group in `slot`, or zeros if there is none
 abbrev pub memory_of : ℕ → List Event → MemorySample
 memory_of slot events =
     last_or no_memory_sample (values_from (λ (w : World) (event : Event). memory_known slot w.groups event.act) first_world events)
 
--- the kill preference that an act sets for the group in a slot, as a list of one element or none
+-- the kill preference that an act sets for the group in `slot`, as a list of at most one element
 abbrev pub preference_known : ℕ → List GroupLife → Act → List Preference
 preference_known slot groups (act.Prefer path preference) =
     if (slot_named groups path).0 == slot then preference ∷ [] else []
 preference_known slot groups _ = []
 
--- the last kill preference of the group in a slot; initially it is neither preferred nor avoided
+-- the latest kill preference of the group in `slot`; initially it is neither preferred nor avoided
 abbrev pub preference_of : ℕ → List Event → Preference
 preference_of slot events =
     last_or Plain (values_from (λ (w : World) (event : Event). preference_known slot w.groups event.act) first_world events)
 
--- the host memory sample of an act, as a list of one element or none
+-- the sample of the host's memory that an act gives, as a list of at most one element
 abbrev pub host_known : Act → List HostReading
 host_known (act.Host mem_total swap_total swap_free) =
     record { mem_total = mem_total; swap_total = swap_total; swap_free = swap_free } ∷ []
 host_known _ = []
 
--- the last sample of the host's memory, or zeros if there is none
+-- the latest sample of the host's memory, or zeros if there is none
 abbrev pub host_of : List Event → HostReading
 host_of events =
     last_or no_host (values_from (λ (w : World) (event : Event). host_known event.act) first_world events)
 
--- some live task is in the group in a slot, or below it
+-- some live task is in the group in `slot` or in a descendant
 abbrev pub is_populated : World → ℕ → Bool
 is_populated w slot =
     list_any (λ (task : Task). is_under (parents_of w.groups) task.slot.0 slot) (tasks_by.values w.tasks)
 
 -- ---- readings
 
--- the group in a slot after these events, with its averages over 10, 60 and 300 seconds
+-- the reading of the group in `slot` after these events, given its averages over 10, 60 and 300 s
 abbrev pub group_seen : List Event → List (List ℕ) → ℕ → GroupReading
 group_seen events averages slot = record {
   slot = record { 0 = slot };
@@ -89,15 +90,15 @@ group_seen events averages slot = record {
   populated = is_populated (after events) slot;
 }
 
--- the averages of the group in a slot after the tick with this number, for a trace with n
--- processors and ticks of this length (ns); only those of states, so interrupt time, the last
--- quantity, decides nothing
+-- The averages of the group in `slot` after tick number `i`, for a trace with `cpus` processors and
+-- ticks of `length` ns. Only the averages of states are included. Interrupt time, which is the last
+-- quantity, isn't, because no rule uses it.
 abbrev pub averages_at : ℕ → List Event → ℕ → ℕ → ℕ → List (List ℕ)
 averages_at cpus events length i slot =
     take irq_quantity
     (group_averages cpus (after events).groups (ticks_of cpus events length i) slot).averages
 
--- the reading at the tick with this number: the groups that are live then, in byte order of their
+-- the reading at tick number `i`: the groups that are live at the tick, in byte order of their
 -- paths
 unfoldable pub reading_at : ℕ → List Event → ℕ → ℕ → Reading
 reading_at cpus events length i = record {
@@ -108,8 +109,7 @@ reading_at cpus events length i = record {
       (live_groups (after (up_to events (tick_moment length i))).groups);
 }
 
--- the numbers of the evaluations among the first n ticks, the newest first: the ticks at which the
--- interval (ns) is due
+-- the numbers of the ticks at which an evaluation is due, from a given tick back to tick 1
 abbrev pub evaluations : ℕ → ℕ → ℕ → List ℕ
 evaluations interval length zero = []
 evaluations interval length (suc i) =
@@ -117,7 +117,7 @@ evaluations interval length (suc i) =
     then suc i ∷ evaluations interval length i
     else evaluations interval length i
 
--- the readings at those evaluations, the newest first
+-- the readings at the evaluations among the first `count` ticks, the newest first
 unfoldable pub readings_until : ℕ → List Event → ℕ → ℕ → ℕ → List Reading
 readings_until cpus events length interval count =
     map (reading_at cpus events length) (evaluations interval length count)

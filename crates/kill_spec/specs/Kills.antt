@@ -1,5 +1,5 @@
--- Which groups are killed at an evaluation: chains of actions, and rulesets that pause after a
--- kill.
+-- The groups that are killed at an evaluation: chains of actions, and the pause of a ruleset after
+-- a kill.
 use Rattle.std.specs.Prelude.{ℕ, ◌+◌, List, [], ◌∷◌, ◌++◌, find, nat_lt, ◌&&◌, not}
 use Rattle.std.specs.Prelude.{Bool, false, if◌then◌else◌, slice_get, Option, None, Some}
 use Rattle.psi_base.specs.Missing.{is_some_and}
@@ -14,55 +14,58 @@ use Rattle.kill_spec.specs.Victims.{◌or_else◌, after_of, victim}
 
 -- ---- chains
 
--- the kill of a group by an action of a ruleset (both numbered from 0) at a time (ns)
+-- the kill of a group at time `at` (ns) by an action of a ruleset (both numbered from 0)
 abbrev pub kill_of : ℕ → ℕ → ℕ → GroupReading → Kill
 kill_of at rule act group = record { at = at; rule = rule; action = act; victim = group.slot }
 
--- the kills from an action on: without a victim, those of the rest of the chain; otherwise its
--- kill, followed by those of the rest if the action always continues
+-- The kills of an action followed by the rest of a chain. Without a kill these are the kills of the
+-- rest. With a kill it comes first, and the rest follows only if the action always continues.
 abbrev pub and_then : Bool → Option Kill → List Kill → List Kill
 and_then goes_on None rest = rest
 and_then goes_on (Some kill) rest = kill ∷ (if goes_on then rest else [])
 
--- the kill of an action, if it has a victim
+-- the kill of an action whose victim is given, or `None` if there is no victim
 abbrev pub kill_by : ℕ → ℕ → Reading → Option GroupReading → Option Kill
 kill_by rule act now None = None
 kill_by rule act now (Some group) = Some (kill_of now.at rule act group)
 
--- The kills of a chain of actions at a reading, after earlier readings: actions are taken in order,
--- each action with a victim kills it, and the first such action that doesn't always continue ends
--- the chain. `rule` and `act` are the numbers of the ruleset and of the first action.
+-- The kills of a chain of actions at the reading `now`, after the readings `past`. The actions are
+-- tried in order, and each action that has a victim kills it. The first such action that doesn't
+-- always continue ends the chain. `rule` and `act` are the numbers of the ruleset and of the first
+-- action.
 abbrev pub chain : List GroupLife → ℕ → ℕ → List Action → Reading → List Reading → List Kill
 chain lives rule act [] now past = []
 chain lives rule act (first ∷ rest) now past =
     and_then (after_of first).always_continue (kill_by rule act now (victim lives first now past))
     (chain lives rule (act + 1) rest now past)
 
--- ---- rests
+-- ---- pauses of rulesets
 
--- a kill ended its chain, since its action (by its number) doesn't always continue
+-- the kill ended its chain, because its action doesn't always continue
 abbrev pub ends_chain : List Action → Kill → Bool
 ends_chain actions kill = is_some_and (slice_get actions kill.action) (λ act. not (after_of act).always_continue)
 
--- the last kill that ended a chain, given the kills at each reading, the newest first
+-- the latest kill that ended a chain, given the kills at each reading, the newest first
 abbrev pub last_ending : List Action → List (List Kill) → Option Kill
 last_ending actions [] = None
 last_ending actions (kills ∷ earlier) = find (ends_chain actions) kills or_else last_ending actions earlier
 
--- the delay (ns) of the action of a kill, or 0 if there is no such action
+-- the delay (ns) of an action, or 0 for `None`
 abbrev pub delay_of : Option Action → ℕ
 delay_of None = 0
 delay_of (Some act) = of_seconds (after_of act).delay_s
 
--- a ruleset pauses at a time (ns): its last chain-ending kill is less than the action's delay ago
+-- the ruleset pauses at time `at` (ns): its latest chain-ending kill is less than the delay of that
+-- kill's action ago
 abbrev pub is_resting : List Action → ℕ → Option Kill → Bool
 is_resting actions at None = false
 is_resting actions at (Some kill) = nat_lt at (kill.at + delay_of (slice_get actions kill.action))
 
 -- ---- kills
 
--- the kills of a ruleset at a reading, after earlier readings with these kills: those of its chain,
--- if it fires and doesn't pause
+-- The kills of a ruleset at the reading `now`, after the readings `past`, at which it had the kills
+-- `earlier`. These are the kills of its chain if it fires and doesn't pause, and none if it doesn't
+-- fire or pauses.
 abbrev pub kills_at : List GroupLife → ℕ → Rule → Reading → List Reading → List (List Kill) → List Kill
 kills_at lives number rule now past earlier =
     if ruleset_fires lives rule now past && not (is_resting rule.actions now.at (last_ending rule.actions earlier))
@@ -75,14 +78,14 @@ kills_of lives number rule [] = []
 kills_of lives number rule (now ∷ past) =
     kills_at lives number rule now past (kills_of lives number rule past) ∷ kills_of lives number rule past
 
--- the kills of rulesets at a reading, after earlier readings, ordered by ruleset and action; the
--- first ruleset has this number
+-- the kills of rulesets at the reading `now`, after the readings `past`, ordered by ruleset and
+-- action; `number` is the number of the first ruleset
 abbrev pub kills_from : List GroupLife → ℕ → List Rule → Reading → List Reading → List Kill
 kills_from lives number [] now past = []
 kills_from lives number (rule ∷ rules) now past =
     kills_at lives number rule now past (kills_of lives number rule past)
     ++ kills_from lives (number + 1) rules now past
 
--- the kills of a rules file's rulesets at a reading, after earlier readings
+-- the kills of all rulesets of a rules file at the reading `now`, after the readings `past`
 unfoldable pub kills : List GroupLife → List Rule → Reading → List Reading → List Kill
 kills lives rules now past = kills_from lives 0 rules now past

@@ -1,4 +1,4 @@
--- Laws of detectors, victims and chains of actions.
+-- Laws of detectors, victims and chains of actions that follow from the definitions.
 use Rattle.std.specs.Prelude.{◌≡◌, ◌↔◌, ℕ, ◌-◌, ◌≤◌, List, ◌∷◌, ◌++◌, All, Bool, true, false, ◌+◌, length, Some, Contains, slice_get, Any}
 use Rattle.psi_spec.specs.declared.machine.GroupLife.{GroupLife}
 use Rattle.path_match.specs.Match.{is_match}
@@ -16,8 +16,9 @@ use Rattle.kill_spec.specs.Kills.{delay_of, ends_chain, kills, kills_at, kills_o
 
 -- ---- detectors
 
--- A condition has been true for a duration (ns) at a time (ns), as a relation: readings, the newest
--- first, in which it is true at some reading at least that much earlier and at every later one.
+-- The condition has been true for `duration` (ns) at time `at` (ns), as a relation. Among the
+-- readings (the newest first) there is a reading at least that much earlier at which the condition
+-- is true, and the condition is true at every later reading.
 pub record HeldFor (condition : Reading → Bool) (duration at : ℕ) (readings : List Reading) : Type 0 where
   pub since : List Reading
   pub first : Reading
@@ -27,42 +28,41 @@ pub record HeldFor (condition : Reading → Bool) (duration at : ℕ) (readings 
   pub starts : condition first ≡ true
   pub long : duration ≤ at - first.at
 
--- The Boolean test agrees with the relation.
+-- The Boolean test `held_for` decides the relation `HeldFor`.
 abbrev pub HeldForShows : Type 0
 HeldForShows = (condition : Reading → Bool) (duration at : ℕ) (readings : List Reading) →
     (held_for condition duration at readings ≡ true) ↔ HeldFor condition duration at readings
 
--- For a duration of 0 a condition counts if it is true at the current reading.
+-- For a duration of 0 the condition counts exactly if it is true at the current reading.
 abbrev pub HoldsAtOnce : Type 0
 HoldsAtOnce = (condition : Reading → Bool) (now : Reading) (past : List Reading) →
     holds_for condition 0 now past ≡ condition now
 
--- A reading at which the condition is false restarts its duration: earlier readings no longer
--- count.
+-- A reading at which the condition is false restarts the duration: earlier readings don't count.
 abbrev pub BreakStartsAnew : Type 0
 BreakStartsAnew = (condition : Reading → Bool) (duration_s : ℕ) (now broken : Reading) (newer older : List Reading) →
     condition broken ≡ false →
     holds_for condition duration_s now (newer ++ broken ∷ older) ≡ holds_for condition duration_s now newer
 
--- A condition that has been true for a duration has been true for every shorter one.
+-- A condition that has been true for a duration has also been true for every shorter duration.
 abbrev pub LongerIsLater : Type 0
 LongerIsLater = (condition : Reading → Bool) (shorter_s longer_s : ℕ) (now : Reading) (past : List Reading) →
     shorter_s ≤ longer_s → holds_for condition longer_s now past ≡ true → holds_for condition shorter_s now past ≡ true
 
 -- ---- victims
 
--- A group is live at a reading, and some live task is in it or below it.
+-- The group is live at the reading, and some live task is in the group or in a descendant.
 abbrev pub IsPopulatedIn : Reading → GroupReading → Type 0
 IsPopulatedIn reading group = Contains reading.groups group × (group.populated ≡ true)
 
--- The victim of an action is populated, and matches the action's patterns unless the action is
+-- The victim of an action is populated. It matches the action's patterns unless the action is
 -- recursive.
 abbrev pub VictimsMatch : Type 0
 VictimsMatch = (lives : List GroupLife) (act : Action) (now : Reading) (past : List Reading) (group : GroupReading) →
     victim lives act now past ≡ Some group →
     IsPopulatedIn now group × ((after_of act).recursive ≡ false → is_match (action_patterns act) (path_of lives group) ≡ true)
 
--- Allowing more steps of descent changes nothing once there are as many as groups.
+-- The descent takes at most as many steps as there are groups: allowing more steps changes nothing.
 abbrev pub DescentEnds : Type 0
 DescentEnds = (lives : List GroupLife) (act : Action) (now : Reading) (past : List Reading) (more : ℕ) (group : GroupReading) →
     AreOlder (parents_of lives) → IsReading lives now →
@@ -70,12 +70,13 @@ DescentEnds = (lives : List GroupLife) (act : Action) (now : Reading) (past : Li
 
 -- ---- kills
 
--- A kill ended the chain of a ruleset at a time: it is among the ruleset's kills at some reading.
+-- The kill is among the ruleset's kills at some reading, and ended its chain.
 abbrev pub EndedBy : List GroupLife → ℕ → Rule → List Reading → Kill → Type 0
 EndedBy lives number rule readings kill =
     Any (λ kills. Contains kills kill) (kills_of lives number rule readings) × (ends_chain rule.actions kill ≡ true)
 
--- Two chain-ending kills of a ruleset are at least the delay of the earlier one's action apart.
+-- The times of two chain-ending kills of a ruleset differ by at least the delay of the earlier
+-- kill's action.
 abbrev pub EndingsApart : Type 0
 EndingsApart = (lives : List GroupLife) (number : ℕ) (rule : Rule) (now : Reading) (past : List Reading) (first second : Kill) →
     AreReadings lives (now ∷ past) →
@@ -84,7 +85,7 @@ EndingsApart = (lives : List GroupLife) (number : ℕ) (rule : Rule) (now : Read
     ends_chain rule.actions second ≡ true →
     first.at + delay_of (slice_get rule.actions first.action) ≤ second.at
 
--- At one reading there is at most one: the first kill that ends a chain is its last.
+-- At one reading a ruleset has at most one chain-ending kill.
 abbrev pub EndsOnce : Type 0
 EndsOnce = (lives : List GroupLife) (number : ℕ) (rule : Rule) (now : Reading) (past : List Reading)
     (first second : Kill) →
@@ -92,7 +93,8 @@ EndsOnce = (lives : List GroupLife) (number : ℕ) (rule : Rule) (now : Reading)
     Contains (kills_at lives number rule now past (kills_of lives number rule past)) second →
     ends_chain rule.actions first ≡ true → ends_chain rule.actions second ≡ true → first ≡ second
 
--- A kill belongs to its ruleset and action, and kills that action's victim.
+-- The kill was decided by an action of the ruleset `rule` at the reading `now`: the ruleset fires,
+-- and the killed group is the victim of that action.
 pub record IsKillOf (lives : List GroupLife) (number : ℕ) (rule : Rule) (now : Reading) (past : List Reading) (kill : Kill) : Type 0 where
   pub at : kill.at ≡ now.at
   pub rule_is : kill.rule ≡ number
@@ -103,8 +105,8 @@ pub record IsKillOf (lives : List GroupLife) (number : ℕ) (rule : Rule) (now :
   pub slot : kill.victim ≡ group.slot
   pub fired : ruleset_fires lives rule now past ≡ true
 
--- So does every kill of a ruleset: a group is killed only as the victim of an action of a ruleset
--- that fires.
+-- Every kill of a ruleset was decided by one of its actions: a group is killed only as the victim
+-- of an action of a ruleset that fires.
 abbrev pub KillsAreOfActions : Type 0
 KillsAreOfActions = (lives : List GroupLife) (number : ℕ) (rule : Rule) (now : Reading) (past : List Reading) (kill : Kill) →
     Contains (kills_at lives number rule now past (kills_of lives number rule past)) kill →

@@ -1,4 +1,4 @@
--- Invariants of the readings of each replay.
+-- The invariants of the readings in every replay: ranges, order, and distinct paths.
 use Rattle.std.specs.Prelude.{◌≡◌, ℕ, ◌^◌, ◌≤◌, ◌<◌, List, [], ◌∷◌, length, map, All}
 use Rattle.std.specs.Ordering.{nat_cmp}
 use Rattle.std.specs.declared.cmp.Ordering.TheVariants.{Less}
@@ -10,8 +10,8 @@ use Rattle.kill_spec.specs.declared.reading.GroupReading.{GroupReading}
 use Rattle.kill_spec.specs.declared.reading.HostReading.{HostReading}
 use Rattle.kill_spec.specs.Readings.{Reading, path_of}
 
--- a group of a reading has a slot below n, bytes and counts of at most 2^60, and for each quantity
--- before interrupt time three averages of at most 100 percent
+-- the reading of a group is in range: its slot is below `slots`, sizes (bytes) and counts are at
+-- most 2^60, and each quantity except interrupt time has three averages of at most 100 percent
 pub record IsGroupReading (slots : ℕ) (group : GroupReading) : Type 0 where
   pub slot : group.slot.0 < slots
   pub current : group.current ≤ 2 ^ 60
@@ -20,34 +20,35 @@ pub record IsGroupReading (slots : ℕ) (group : GroupReading) : Type 0 where
   pub rows : length group.averages ≡ irq_quantity
   pub each : All IsRow group.averages
 
--- a sample of the host is in range: at most 2^60 bytes each
+-- a sample of the host's memory is in range: each size is at most 2^60 bytes
 pub record IsHostReading (host : HostReading) : Type 0 where
   pub mem_total : host.mem_total ≤ 2 ^ 60
   pub swap_total : host.swap_total ≤ 2 ^ 60
   pub swap_free : host.swap_free ≤ 2 ^ 60
 
--- one path comes before another in byte order
+-- `first` is before `second` in byte order
 abbrev pub ComesBefore : List ℕ → List ℕ → Type 0
 ComesBefore first second = slice_cmp nat_cmp first second ≡ Less
 
--- paths ascend in byte order, so no path occurs twice
+-- the paths are in strictly ascending byte order, so no path occurs twice
 abbrev pub Ascend : List (List ℕ) → Type 0
 Ascend [] = Unit {0}
 Ascend (first ∷ []) = Unit {0}
 Ascend (first ∷ second ∷ paths) = ComesBefore first second × Ascend (second ∷ paths)
 
--- a reading within `lives`: each group is in range, and their paths ascend
+-- A legal reading for the groups `lives` (all groups that a trace ever creates): each group is in
+-- range, and the paths are in ascending order.
 pub record IsReading (lives : List GroupLife) (reading : Reading) : Type 0 where
   pub host : IsHostReading reading.host
   pub each : All (IsGroupReading (length lives)) reading.groups
   pub order : Ascend (map (path_of lives) reading.groups)
 
--- a reading is later than the newest earlier one
+-- the reading is later than all earlier readings; `past` has the newest first
 abbrev pub IsLater : Reading → List Reading → Type 0
 IsLater now [] = Unit {0}
 IsLater now (before ∷ past) = before.at < now.at
 
--- readings within `lives`, the newest first, each later than those before it
+-- legal readings for the groups `lives`, the newest first, each later than the readings before it
 abbrev pub AreReadings : List GroupLife → List Reading → Type 0
 AreReadings lives [] = Unit {0}
 AreReadings lives (now ∷ past) = IsReading lives now × IsLater now past × AreReadings lives past

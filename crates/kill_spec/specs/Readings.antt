@@ -1,5 +1,6 @@
--- What rules see at an evaluation: the live groups with their pressure, memory, kill preference and
--- whether they have live tasks, and the host's memory. Lists of readings have the newest first.
+-- The readings on which rules decide. A reading is the state of the machine at an evaluation: the
+-- live groups with their pressure, memory, kill preference and whether they have live tasks, and
+-- the host's memory. Lists of readings have the newest reading first.
 use Rattle.std.specs.Prelude.{ℕ, ◌-◌, List, [], ◌∷◌, slice_index, slice_index_or}
 use Rattle.std.specs.Prelude.{find, ◌==◌, Option, None, Some}
 use Rattle.psi_base.specs.declared.event.Res.{Res}
@@ -11,49 +12,50 @@ use Rattle.pressure_spec.specs.Samples.{state_of}
 use Rattle.kill_spec.specs.declared.reading.GroupReading.{GroupReading}
 use Rattle.kill_spec.specs.declared.reading.HostReading.{HostReading}
 
--- A reading: its time (ns), the last sample of the host's memory, and the live groups in byte order
--- of their paths.
+-- A reading: its time (ns), the latest sample of the host's memory, and the live groups in byte
+-- order of their paths.
 pub record Reading : Type 0 where
   pub at : ℕ
   pub host : HostReading
   pub groups : List GroupReading
 
--- the memory of a host without a sample
+-- the sample of the host's memory before the first sample: zeros
 abbrev pub no_host : HostReading
 no_host = record { mem_total = 0; swap_total = 0; swap_free = 0 }
 
--- the path of a group of a reading, by its slot among all groups that a trace ever creates
+-- the path of a group in a reading, found by its slot among all groups that a trace ever creates
 abbrev pub path_of : List GroupLife → GroupReading → List ℕ
 path_of lives group = path_at lives group.slot.0
 
--- the group in a slot, if it was live at the reading
+-- the group in `slot` if it was live at the reading, or `None`
 abbrev pub group_in : Reading → ℕ → Option GroupReading
 group_in reading slot = find (λ (group : GroupReading). group.slot.0 == slot) reading.groups
 
 -- ---- pressure
 
--- the places of the averages over 10 s and 60 s among a state's averages
+-- the indexes of the averages over 10 s and 60 s in the list of a state's averages
 abbrev pub ten_seconds : ℕ
 ten_seconds = 0
 
 abbrev pub sixty_seconds : ℕ
 sixty_seconds = 1
 
--- the full average of a resource over a window, by the window's place (fixed point)
+-- the full average of a resource over the window with index `window` (fixed point; 2,048 is 1
+-- percent)
 abbrev pub full_average : Res → ℕ → GroupReading → ℕ
 full_average resource window group =
     slice_index (slice_index_or group.averages (state_number (state_of resource FullStalled)) []) window
 
--- ---- scans of pages
+-- ---- scanned pages
 
--- by how much a count of scans exceeds that of the group at an earlier reading, or 0 if it wasn't
--- live then
+-- the increase from the count of scanned pages at an earlier reading to `scan`; 0 if the group
+-- wasn't live then, or if the count decreased
 abbrev pub grown_from : ℕ → Option GroupReading → ℕ
 grown_from scan None = 0
 grown_from scan (Some before) = scan - before.scan
 
--- the number of pages scanned for a group since the previous reading; 0 if there is none, if the
--- group wasn't live then, or if the count fell
+-- the number of pages scanned for a group since the previous reading; 0 if there is no previous
+-- reading, if the group wasn't live then, or if the count decreased
 abbrev pub rise : List Reading → GroupReading → ℕ
 rise [] group = 0
 rise (before ∷ past) group = grown_from group.scan (group_in before group.slot.0)

@@ -1,10 +1,12 @@
-//! Laws of the definitions. Each function has an empty body: its contract is the law.
+//! Laws about detectors, choices, victims and kills. Each function has an empty body: its contract
+//! is the law.
 ghost use Rattle.kill_spec.specs.Choices.{LargestIsChoice, UnbeatenIsChoice};
 ghost use Rattle.kill_spec.specs.Laws.{BreakStartsAnew, HeldForShows, HoldsAtOnce, LongerIsLater, EndingsApart, EndsOnce, KillsAreOfActions, DescentEnds, VictimsMatch};
 
 /// When a condition has been true for a duration: it was true at some reading at least that much
-/// earlier and at every one since. For a duration of 0 it is the condition itself; a reading at
-/// which it is false restarts it; and a longer duration is never reached earlier.
+/// earlier, and at every later reading. For a duration of 0 only the current reading counts; a
+/// reading at which the condition is false restarts the duration; and a condition that has been
+/// true for a duration has been true for every shorter duration.
 pub fn law_durations()
     ensures shows { HeldForShows }
     ensures at_once { HoldsAtOnce }
@@ -12,22 +14,23 @@ pub fn law_durations()
     ensures later { LongerIsLater }
 {}
 
-/// A choice by a measure, or of the largest, is `None` exactly for an empty list, and otherwise the
-/// group that no other one beats.
+/// The choice by a ranking value and the choice of the largest group are `None` exactly for an
+/// empty list. If they choose a group, it is the group that no other group beats.
 pub fn law_choices()
     ensures by_measure { UnbeatenIsChoice }
     ensures largest { LargestIsChoice }
 {}
 
-/// A victim is populated and matches its action's patterns; for a recursive action it may be below
-/// a match. A descent ends after at most as many steps as there are groups.
+/// A victim is populated and matches its action's patterns; for a recursive action it may be a
+/// descendant of a matching group. A descent ends after at most as many steps as there are groups.
 pub fn law_victims()
     ensures matching { VictimsMatch }
     ensures ends { DescentEnds }
 {}
 
-/// Two chain-ending kills of a ruleset are at least the first one's delay apart, and never at one
-/// reading; and a group is killed only as the victim of an action of a ruleset that fires.
+/// Two chain-ending kills of a ruleset are apart by at least the delay of the first kill's action,
+/// and never at the same reading. A group is killed only as the victim of an action of a ruleset
+/// that fires.
 pub fn law_kills()
     ensures apart { EndingsApart }
     ensures once { EndsOnce }

@@ -1,10 +1,11 @@
-//! What rules decide: the definitions of readings, detectors, victims and kills that the contracts
-//! of the crates above cite, their types, and laws about them. It computes nothing.
+//! The meaning of rules: the definitions of readings, detectors, victims and kills that the
+//! contracts of the crates above use, their types, and laws about them. This crate computes
+//! nothing.
 //!
-//! In `specs/`, in reading order: `Readings` (what rules see at an evaluation), `Detectors` (when a
-//! detector is true and a ruleset fires), `Victims` (which group an action kills), `Kills` (which
-//! groups are killed at an evaluation), `Evaluations` (the readings of a trace). `Laws` and
-//! `Choices` contain only laws.
+//! Read the files of `specs/` in this order: `Readings` (the state that rules see at an
+//! evaluation), `LegalReadings` (invariants of readings), `Detectors` (when a detector is true and
+//! a ruleset fires), `Victims` (which group an action kills), `Kills` (which groups are killed at
+//! an evaluation), `Evaluations` (the readings of a trace). `Laws` and `Choices` contain only laws.
 #![tactic(auto)]
 
 mod kill;
