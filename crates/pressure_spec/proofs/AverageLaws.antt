@@ -1,4 +1,5 @@
--- Powers by halves, how an average moves, and what every list of ticks keeps.
+-- Proofs about powers by squaring, how an average moves, and the invariant of averages over any
+-- list of ticks.
 use Rattle.std.proofs.Common.{◌≡◌, ℕ, zero, suc, ◌+◌, ◌-◌, ◌*◌, ◌/◌, ◌%◌, ◌≤◌, ◌<◌, List, [], ◌∷◌, length, refl, sym, ap, ◌∙◌, arith, true, false}
 use Rattle.std.specs.Prelude.{◌==◌, if◌then◌else◌, nat_lt}
 use Rattle.std.specs.Prelude.{min, All}
@@ -13,7 +14,7 @@ use Rattle.pressure_spec.specs.Laws.{average_of, sampled_of, HasTotals, NeverFal
 use Rattle.pressure_spec.specs.Samples.{last_totals}
 use Rattle.pressure_spec.proofs.ShareLaws.{length-zip_with, get_or-zip_with}
 
--- digits that aren't there don't count
+-- additional digits don't change the power if there are enough for `n`
 within_same : (f g result x n : ℕ) → n ≤ f → n ≤ g → power_within f result x n ≡ power_within g result x n
 within_same zero zero result x n few many = refl
 within_same zero (suc g) result x n few many = grind arith
@@ -23,7 +24,7 @@ within_same (suc f) (suc g) result x n few many =
     let even : 0 < n → power_within f result (product x x) (n / 2) ≡ power_within g result (product x x) (n / 2) = λ some. within_same f g result (product x x) (n / 2) (omega arith) (omega arith) in
     grind (arith, odd, even)
 
--- one digit of a power
+-- a power, by its lowest binary digit
 pub power_from_step : (result x n : ℕ) → 0 < n → power_from result x n ≡ (if n % 2 == 1 then power_from (product result x) (product x x) (n / 2) else power_from result (product x x) (n / 2))
 unfolding power_from
 power_from_step result x zero some = absurd (omega arith)
@@ -47,19 +48,19 @@ within_most (suc digits) result x n result_most x_most =
     let even = within_most digits result (product x x) (n / 2) result_most square in
     grind (arith, odd, even, result_most)
 
--- a power of a number up to one is at most one
+-- if a number is at most 1 (2,048 in fixed point), so is each of its powers
 pub power_most : (x n : ℕ) → x ≤ 2048 → power x n ≤ 2048
 unfolding power_from
 power_most x n x_most = within_most n 2048 x n (omega arith) x_most
 
--- a sample by the place of its quantity
+-- the sample of a quantity, by its index
 pub get_or-samples_of : (time : ℕ) (sampled totals : List ℕ) (k o : ℕ) → length sampled ≡ 7 → length totals ≡ 7 → k < 7 → get_or (samples_of time sampled totals) k o ≡ min (get_or totals k 0 - get_or sampled k 0) time
 get_or-samples_of time sampled totals k o seven also below = get_or-zip_with (sample_of time) sampled totals k 0 0 o (omega arith) (omega arith)
 
 pub length-samples_of : (time : ℕ) (sampled totals : List ℕ) → length sampled ≡ 7 → length totals ≡ 7 → length (samples_of time sampled totals) ≡ 7
 length-samples_of time sampled totals seven also = length-zip_with (sample_of time) sampled totals (omega arith) ∙ seven
 
--- a sample is at most the time
+-- a sample is at most the covered time
 pub samples_most : (time : ℕ) (sampled totals : List ℕ) → length sampled ≡ 7 → length totals ≡ 7 → All (λ sample. sample ≤ time) (samples_of time sampled totals)
 samples_most time sampled totals seven also = λ k d below. let is = get_or-samples_of time sampled totals k d seven also (omega (arith, length-samples_of time sampled totals seven also)) in omega (arith, is)
 
@@ -85,7 +86,7 @@ power_halves = record {
   odd = λ result x n. odd_power result x n;
 }
 
--- a mean of two numbers with weights of together 2048 lies between them
+-- a mean of two numbers with weights that sum to 2,048 is between them
 mean_up : (low high f g : ℕ) → f + g ≡ 2048 → low ≤ high → (low * 2048 ≤ low * f + high * g) × (low * f + high * g ≤ high * 2048)
 mean_up low high f g all order =
     let lows : low * (f + g) ≡ low * 2048 = ap (λ n. low * n) all in
@@ -94,7 +95,8 @@ mean_up low high f g all order =
     let by_g : g * low ≤ g * high = mul-le-mul_left g order in
     (omega (arith, lows, highs, by_f, by_g), omega (arith, lows, highs, by_f, by_g))
 
--- and away from the one whose weight isn't all
+-- if `low` is less than `high` and the second weight `g` isn't 0, the mean of `low` and `high` is
+-- strictly above `low`, and the mean of `high` and `low` is strictly below `high`
 mean_off : (low high f g : ℕ) → f + g ≡ 2048 → 0 < g → low < high → (low * 2048 + 1 ≤ low * f + high * g) × (high * f + low * g + 1 ≤ high * 2048)
 mean_off low high f g all some order =
     let lows : low * (f + g) ≡ low * 2048 = ap (λ n. low * n) all in
@@ -135,7 +137,7 @@ load_approaches = record {
   falls = load_falls;
 }
 
--- what is loaded is at most 100 percent
+-- one step of an average stays at most 100 percent
 load_most : (average factor percent : ℕ) → average ≤ 204800 → factor ≤ 2048 → percent ≤ 100 → load average factor (percent * 2048) ≤ 204800
 load_most average factor percent average_most factor_most percent_most =
     let active : percent * 2048 ≤ 204800 = omega arith in
@@ -146,7 +148,7 @@ load_most average factor percent average_most factor_most percent_most =
 
 -- ---- one update
 
--- an average stays at most 100 percent
+-- an average is at most 100 percent after an update
 average_after_most : (missed_periods percent average factor : ℕ) → average ≤ 204800 → factor ≤ 2048 → percent ≤ 100 → average_after missed_periods percent average factor ≤ 204800
 average_after_most missed_periods percent average factor average_most factor_most percent_most =
     let decay : power factor missed_periods ≤ 2048 = power_most factor missed_periods factor_most in
@@ -161,11 +163,11 @@ factor_below (suc zero) below = lit< tt
 factor_below (suc (suc zero)) below = lit< tt
 factor_below (suc (suc (suc j))) below = absurd (omega arith)
 
--- a sample is at most all of the time
+-- a sample is at most 100 percent of the covered time
 percent_most : (time sample : ℕ) → 0 < time → sample ≤ time → percent_of time sample ≤ 100
 percent_most time sample some within = grind arith
 
--- an average of a row after an update
+-- an average of a quantity after an update, by its index
 get_or-row_after : (missed_periods time : ℕ) (row : List ℕ) (sample j : ℕ) → length row ≡ 3 → j < 3 → get_or (row_after missed_periods time row sample) j 0 ≡ average_after missed_periods (percent_of time sample) (get_or row j 0) (get_or factors j 0)
 get_or-row_after missed_periods time row sample j three below = get_or-zip_with (average_after missed_periods (percent_of time sample)) row factors j 0 0 0 (omega arith) below
 
@@ -183,7 +185,7 @@ row_kept missed_periods time row sample some within is =
           (average_after_most missed_periods (percent_of time sample) (get_or row j 0) (get_or factors j 0) old one (percent_most time sample some within));
     }
 
--- the time that an update samples is more than none
+-- the time that an update covers isn't 0
 time_some : (old : AverageState) (now : ℕ) → IsAverageState old → old.next ≤ now → 0 < sampled_time old now
 time_some old now is due =
     let later : old.last < old.next = is.later in
@@ -225,7 +227,7 @@ step_keeps old now totals is seven =
     let kept : old.next ≤ now → IsAverageState (updated old now totals) = update_keeps old now totals is seven in
     elim (nat_lt now old.next) as (λ test. nat_lt now old.next ≡ test → IsAverageState (if test then old else updated old now totals)) [ true ↦ λ early. is | false ↦ λ due. kept (grind (arith, due)) ] refl
 
--- ---- every list of ticks
+-- ---- the invariant over any list of ticks
 
 from_keeps : (old : AverageState) (ticks : List (ℕ × List ℕ)) → IsAverageState old → HasTotals ticks → IsAverageState (averages_from old ticks)
 from_keeps old [] is all = is
@@ -276,7 +278,7 @@ old_most old i j is below place =
     let row = is.each i [] inside in
     row.most j 0 (omega (arith, row.three))
 
--- a load with all of the time
+-- an update at 100 percent raises an average, unless it is 100 percent already
 full_load : (missed_periods average factor percent : ℕ) → missed_periods ≡ 0 → average ≤ 204800 → factor < 2048 → percent ≡ 100 →
     (average ≤ average_after missed_periods percent average factor) × (average_after missed_periods percent average factor ≤ 204800) × (average < 204800 → average < average_after missed_periods percent average factor)
 full_load missed_periods average factor percent none most within all =
@@ -284,7 +286,7 @@ full_load missed_periods average factor percent none most within all =
     let up = load_up average factor 204800 (omega arith) most in
     rw (none, active) (up.0, up.1, λ order. load_rises average factor 204800 within order)
 
--- a load with nothing
+-- an update at 0 percent lowers an average, unless it is 0 already
 empty_load : (missed_periods average factor percent : ℕ) → factor < 2048 → percent ≡ 0 → (average_after missed_periods percent average factor ≤ average) × (0 < average → average_after missed_periods percent average factor < average)
 empty_load missed_periods average factor percent within none =
     let active : percent * 2048 ≡ 0 = omega arith in
@@ -323,7 +325,7 @@ carries_the_rest old now totals i is seven below due =
     (get_or-zip_with (λ sampled sample. sampled + sample) old.sampled samples i 0 0 0 (omega (arith, is.sampled)) (omega (arith, long))
     ∙ ap (λ n. sampled_of old i + n) (get_or-samples_of time old.sampled totals i 0 is.sampled seven below))
 
--- what was sampled stays within the totals
+-- the sampled part stays at most the total
 sampled_within : (old : AverageState) (now : ℕ) (totals : List ℕ) (i : ℕ) → IsAverageState old → length totals ≡ 7 → i < 7 → sampled_of old i ≤ get_or totals i 0 → sampled_of (average_step old now totals) i ≤ get_or totals i 0
 unfolding average_step
 sampled_within old now totals i is seven below within =

@@ -1,4 +1,5 @@
--- How one more tick changes the history of a group, its totals and averages, and its triggers.
+-- Proofs about one more tick: how it changes the history of a group, its totals and averages, and
+-- its triggers.
 use Rattle.std.proofs.Common.{◌≡◌, ℕ, suc, ◌+◌, ◌≤◌, ◌<◌, List, [], ◌∷◌, ◌++◌, length, get_or, refl, sym, ap, ◌∙◌, arith, true, false, ◌⊎◌, ⊎_elim}
 use Rattle.std.specs.Prelude.{All, Bool, map, filter, nat_le, nat_lt, sum_by, if◌then◌else◌, ◌&&◌}
 use Rattle.std.proofs.lemmas.List.{get_or_past, get_or-map, get_or-replicate, get_or_at, get_or-append-add, length-append, map-append, append-nil}
@@ -23,18 +24,18 @@ use Rattle.pressure_spec.proofs.SignalLaws.{signals_apart}
 
 -- ---- histories
 
--- the times of a group at the last tick, or those before the ticks if there is none
+-- the times of a group at the last tick of a list, or `before` if the list is empty
 abbrev pub last_row : ℕ → List (List ℕ) → List Tick → List (List ℕ)
 last_row slot before [] = before
 last_row slot before (tick ∷ ticks) = last_row slot (row_at tick slot) ticks
 
--- the totals at the end of a longer history
+-- the last totals of a history after more entries are appended
 pub last_totals-append : (before : List ℕ) (history more : List (ℕ × List ℕ)) → last_totals before (history ++ more) ≡ last_totals (last_totals before history) more
 last_totals-append before [] more = refl
 last_totals-append before (entry ∷ history) more = last_totals-append entry.1 history more
 
--- a history over more ticks continues with the times and the totals at the last of the earlier
--- ticks
+-- the history over more ticks continues with the group's times and totals at the last of the
+-- earlier ticks
 history_from-append : (life : GroupLife) (slot : ℕ) (before : List (List ℕ)) (totals : List ℕ) (ticks more : List Tick) →
     history_from life slot before totals (ticks ++ more)
     ≡ history_from life slot before totals ticks ++ history_from life slot (last_row slot before ticks) (last_totals totals (history_from life slot before totals ticks)) more
@@ -51,7 +52,7 @@ history_from-append life slot before totals (tick ∷ ticks) more =
     ++ history_from life slot suffix (last_totals totals (if live then (tick.at, now) ∷ history_from life slot row now ticks else history_from life slot row totals ticks)) more)
     [ true ↦ ap (λ rest. (tick.at, now) ∷ rest) there | false ↦ gone ]
 
--- the history of a group over more ticks
+-- the part of a group's history that more ticks append
 abbrev pub history_on : ℕ → List GroupLife → List Tick → List Tick → ℕ → List (ℕ × List ℕ)
 history_on cpus lives ticks more slot = history_from (life_of lives slot) slot (last_row slot (no_row cpus) ticks) (totals_after cpus lives ticks slot) more
 
@@ -66,9 +67,9 @@ unfolding totals_after
 totals_after-append cpus lives ticks more slot =
     ap (last_totals no_totals) (history_of-append cpus lives ticks more slot) ∙ last_totals-append no_totals (history_of cpus lives ticks slot) (history_on cpus lives ticks more slot)
 
--- ---- one tick more
+-- ---- one more tick
 
--- the totals of a group that is live at one tick more
+-- the totals of a group that is live at one more tick
 pub totals_live : (cpus : ℕ) (lives : List GroupLife) (ticks : List Tick) (tick : Tick) (slot : ℕ) → is_live_at (life_of lives slot) tick.at ≡ true →
     totals_after cpus lives (ticks ++ tick ∷ []) slot ≡ with_shares (totals_after cpus lives ticks slot) (last_row slot (no_row cpus) ticks) (row_at tick slot)
 totals_live cpus lives ticks tick slot live = totals_after-append cpus lives ticks (tick ∷ []) slot ∙ rw live refl
@@ -77,7 +78,7 @@ pub totals_gone : (cpus : ℕ) (lives : List GroupLife) (ticks : List Tick) (tic
     totals_after cpus lives (ticks ++ tick ∷ []) slot ≡ totals_after cpus lives ticks slot
 totals_gone cpus lives ticks tick slot gone = totals_after-append cpus lives ticks (tick ∷ []) slot ∙ rw gone refl
 
--- the entry of a tick in the history of a group that is live at it
+-- the entry of a tick in the history of a group that is live at the tick
 abbrev pub entry_at : ℕ → List GroupLife → List Tick → Tick → ℕ → ℕ × List ℕ
 entry_at cpus lives ticks tick slot = (tick.at, totals_after cpus lives (ticks ++ tick ∷ []) slot)
 
@@ -114,15 +115,16 @@ averages_gone cpus lives ticks tick slot gone = ap (averages_after (life_of live
 
 -- ---- triggers
 
--- the times of a history aren't before this one
+-- all times of the history are at or after `at`
 abbrev pub NotBefore : ℕ → List (ℕ × List ℕ) → Type 0
 NotBefore at history = All (λ (entry : ℕ × List ℕ). at ≤ entry.0) history
 
--- the times of a history are before this one
+-- all times of the history are before `at`
 abbrev pub Before : ℕ → List (ℕ × List ℕ) → Type 0
 Before at history = All (λ (entry : ℕ × List ℕ). entry.0 < at) history
 
--- a filter whose test all elements fail is empty, and one whose test all pass changes nothing
+-- a filter is empty if every element fails its test (`filter_none`), and changes nothing if every
+-- element passes (`filter_all`)
 pub filter_none : {X : Type 0} (p : X → Bool) → (xs : List X) → All (λ x. p x ≡ false) xs → filter p xs ≡ []
 filter_none p [] all = refl
 filter_none p (x ∷ xs) all = rw (all 0 x (omega arith)) (filter_none p xs (λ k d below. all (suc k) d (omega arith)))
@@ -134,7 +136,7 @@ filter_all p (x ∷ xs) all = rw (all 0 x (omega arith)) (ap (λ rest. x ∷ res
 is_late : (a b : ℕ) → b ≤ a → nat_lt a b ≡ false
 is_late a b late = grind arith
 
--- a time that isn't after another, as a test
+-- if `a` is at most `b`, the test `nat_le a b` is true
 pub is_there : (a b : ℕ) → a ≤ b → nat_le a b ≡ true
 is_there a b there = grind arith
 
@@ -147,14 +149,14 @@ is_early a b early = grind arith
 is_ahead : (a b : ℕ) → b < a → nat_le a b ≡ false
 is_ahead a b ahead = grind arith
 
--- what a trigger begins with is settled before its line
+-- the initial total of a trigger doesn't depend on entries at or after the time when it is set
 first_value-append : (trigger : TriggerSpec) (history more : List (ℕ × List ℕ)) → NotBefore trigger.at more → first_value trigger (history ++ more) ≡ first_value trigger history
 first_value-append trigger history more late =
     let test = λ (entry : ℕ × List ℕ). nat_lt entry.0 trigger.at in
     let none : filter test more ≡ [] = filter_none test more (λ k d below. is_late (get_or more k d).0 trigger.at (late k d below)) in
     ap (λ entries. at_state (last_totals no_totals entries) (watched_state trigger)) (filter-append test history more ∙ ap (λ rest. filter test history ++ rest) none ∙ append-nil (filter test history))
 
--- what a trigger sees of a history
+-- a history as the trigger sees it: times and totals of the state that it watches
 abbrev pub values_of : TriggerSpec → List (ℕ × List ℕ) → List (ℕ × ℕ)
 values_of trigger history = map (λ (entry : ℕ × List ℕ). (entry.0, at_state entry.1 (watched_state trigger))) history
 
@@ -165,11 +167,11 @@ seen_by-append trigger history more late =
     let all : filter test more ≡ more = filter_all test more (λ k d below. is_there trigger.at (get_or more k d).0 (late k d below)) in
     ap (map value) (filter-append test history more ∙ ap (λ rest. filter test history ++ rest) all) ∙ map-append value (filter test history) more
 
--- the step of a trigger at a tick
+-- one step of a trigger at a tick
 abbrev pub trigger_fold : TriggerState → ℕ × ℕ → TriggerState
 trigger_fold state tick = trigger_step state tick.0 tick.1
 
--- a trigger over a longer history, whose rest isn't before its line
+-- the state of a trigger after entries are appended that are at or after the time when it is set
 pub trigger_over-append : (trigger : TriggerSpec) (history more : List (ℕ × List ℕ)) → NotBefore trigger.at more →
     trigger_over trigger (history ++ more) ≡ trigger_after (trigger_over trigger history) (values_of trigger more)
 trigger_over-append trigger history more late =
@@ -178,7 +180,7 @@ trigger_over-append trigger history more late =
     ∙ ap (trigger_after first) (seen_by-append trigger history more late)
     ∙ fold-append trigger_fold first (seen_by trigger history) (values_of trigger more)
 
--- a trigger over a history that is all before its line is new
+-- a trigger is in its initial state if all entries are before the time when it is set
 pub trigger_over_first : (trigger : TriggerSpec) (history : List (ℕ × List ℕ)) → Before trigger.at history →
     trigger_over trigger history ≡ new_trigger trigger.at (at_state (last_totals no_totals history) (watched_state trigger)) trigger.threshold_us trigger.window_us
 trigger_over_first trigger history early =
@@ -189,9 +191,9 @@ trigger_over_first trigger history early =
     ap (λ entries. trigger_after (new_trigger trigger.at (first_value trigger history) trigger.threshold_us trigger.window_us) (values_of trigger entries)) none
     ∙ ap (λ entries. new_trigger trigger.at (at_state (last_totals no_totals entries) (watched_state trigger)) trigger.threshold_us trigger.window_us) all
 
--- ---- times of a history
+-- ---- the times of a history
 
--- the times of a history are those of its ticks
+-- a property of the times of all ticks also holds for the times of the history
 history_moments : (P : ℕ → Type 0) (life : GroupLife) (slot : ℕ) (before : List (List ℕ)) (totals : List ℕ) (ticks : List Tick) →
     All (λ (tick : Tick). P tick.at) ticks → All (λ (entry : ℕ × List ℕ). P entry.0) (history_from life slot before totals ticks)
 history_moments P life slot before totals [] all = All-nil _
@@ -205,18 +207,18 @@ history_moments P life slot before totals (tick ∷ ticks) all =
     elim (is_live_at life tick.at) as (λ live. All Q (if live then (tick.at, now) ∷ history_from life slot row now ticks else history_from life slot row totals ticks))
     [ true ↦ All-cons Q (tick.at, now) (history_from life slot row now ticks) (all 0 tick (omega arith)) there | false ↦ gone ]
 
--- the history of ticks before a time is before it
+-- if all ticks are before time `at`, so are the times of the history
 pub history_before : (cpus : ℕ) (lives : List GroupLife) (ticks : List Tick) (slot at : ℕ) → All (λ (tick : Tick). tick.at < at) ticks → Before at (history_of cpus lives ticks slot)
 history_before cpus lives ticks slot at all = history_moments (λ moment. moment < at) (life_of lives slot) slot (no_row cpus) no_totals ticks all
 
 -- ---- seven totals
 
--- totals with shares are as many
+-- adding shares doesn't change the number of totals
 length-with_shares : (totals : List ℕ) (before now : List (List ℕ)) → length totals ≡ length pressure_places → length (with_shares totals before now) ≡ length pressure_places
 unfolding shares
 length-with_shares totals before now seven = length-zip_with (λ x y. x + y) totals (shares (growths before now)) seven ∙ seven
 
--- a history has totals of the pressure quantities
+-- each entry of a history has seven totals
 history_has : (life : GroupLife) (slot : ℕ) (before : List (List ℕ)) (totals : List ℕ) (ticks : List Tick) → length totals ≡ length pressure_places → HasTotals (history_from life slot before totals ticks)
 history_has life slot before totals [] seven = All-nil _
 history_has life slot before totals (tick ∷ ticks) seven =
@@ -233,14 +235,14 @@ last_has : (before : List ℕ) (history : List (ℕ × List ℕ)) → length bef
 last_has before [] seven has = seven
 last_has before (entry ∷ history) seven has = last_has entry.1 history (has 0 entry (omega arith)) (λ k d below. has (suc k) d (omega arith))
 
--- there are totals of the pressure quantities
+-- a group has seven totals
 pub length-totals_after : (cpus : ℕ) (lives : List GroupLife) (ticks : List Tick) (slot : ℕ) → length (totals_after cpus lives ticks slot) ≡ length pressure_places
 unfolding totals_after
 length-totals_after cpus lives ticks slot = last_has no_totals (history_of cpus lives ticks slot) refl (history_has (life_of lives slot) slot (no_row cpus) no_totals ticks refl)
 
 -- ---- laws
 
--- a history adds to the totals before it what its samples have
+-- the last totals of a history are the totals before it plus the shares of its samples
 sum_from : (life : GroupLife) (slot : ℕ) (before : List (List ℕ)) (totals : List ℕ) (ticks : List Tick) (i : ℕ) → length totals ≡ length pressure_places → i < length pressure_places →
     get_or (last_totals totals (history_from life slot before totals ticks)) i 0 ≡ get_or totals i 0 + sum_by (λ (sample : ℕ × List ℕ). get_or sample.1 i 0) (samples_from life slot before ticks)
 unfolding shares
@@ -282,12 +284,12 @@ totals_never_fall cpus lives ticks more slot i =
     let case : (i < length pressure_places) ⊎ (length pressure_places ≤ i) = grind arith in
     ⊎_elim inside past case
 
--- a group's averages are averages
+-- the averages of a group satisfy the invariant of averages
 pub group_averages_are : (cpus : ℕ) (lives : List GroupLife) (ticks : List Tick) (slot : ℕ) → IsAverageState (group_averages cpus lives ticks slot)
 unfolding group_averages
 group_averages_are cpus lives ticks slot = at_most_hundred (life_of lives slot).made (history_of cpus lives ticks slot) (history_has (life_of lives slot) slot (no_row cpus) no_totals ticks refl)
 
--- no average of averages is above 100 percent
+-- if averages satisfy their invariant, each is at most 100 percent
 average_most : (s : AverageState) (place factor : ℕ) → IsAverageState s → average_of s place factor ≤ 204800
 average_most s place factor is =
     let row = get_or s.averages place [] in
@@ -301,7 +303,7 @@ average_most s place factor is =
 pub groups_at_most_hundred : GroupsAtMostHundred
 groups_at_most_hundred cpus lives ticks slot place factor = average_most (group_averages cpus lives ticks slot) place factor (group_averages_are cpus lives ticks slot)
 
--- what it takes for a trigger to have fired
+-- the conditions under which a trigger has fired
 pub record HasFired (cpus : ℕ) (lives : List GroupLife) (ticks : List Tick) (tick : Tick) (trigger : TriggerSpec) : Type 0 where
   pub live : is_live_at (life_of lives trigger.slot.0) tick.at ≡ true
   pub begun : trigger.at ≤ tick.at
@@ -324,7 +326,7 @@ has_fired_parts cpus lives ticks tick trigger is =
     let there : nat_le trigger.at tick.at ≡ true = and_right live (nat_le trigger.at tick.at) both in
     record { live = and_left live (nat_le trigger.at tick.at) both; begun = grind (arith, there); fired = and_right (live && nat_le trigger.at tick.at) signals is }
 
--- later ticks come no earlier
+-- later ticks aren't before `at` if the times of the ticks are non-decreasing
 later_ticks : (before between : List Tick) (first : Tick) (at : ℕ) → IsNonDecreasingBy (λ (tick : Tick). tick.at) (before ++ first ∷ between) → at ≤ first.at → All (λ (tick : Tick). at ≤ tick.at) (first ∷ between)
 later_ticks before between first at rises from = λ k d below.
     let ticks = before ++ first ∷ between in
@@ -357,14 +359,14 @@ fired_apart cpus lives trigger before between first second rises fired again =
     signals_apart trigger.at (first_value trigger history) trigger.threshold_us trigger.window_us (seen_by trigger history) rest (first.at, value) (second.at, later) one.fired
     (rw whole at two.fired)
 
--- ---- ticks in order
+-- ---- successive ticks
 
--- the last of more ticks
+-- the last tick after one tick is appended is that tick
 pub last_tick-push : (before : Tick) (ticks : List Tick) (tick : Tick) → last_tick before (ticks ++ tick ∷ []) ≡ tick
 last_tick-push before [] tick = refl
 last_tick-push before (first ∷ ticks) tick = last_tick-push first ticks tick
 
--- the row of a group at the last of ticks
+-- the last row of a group is its row at the last tick
 pub last_row_is : (slot : ℕ) (before : Tick) (ticks : List Tick) → last_row slot (row_at before slot) ticks ≡ row_at (last_tick before ticks) slot
 last_row_is slot before [] = refl
 last_row_is slot before (tick ∷ ticks) = last_row_is slot tick ticks
@@ -372,16 +374,16 @@ last_row_is slot before (tick ∷ ticks) = last_row_is slot tick ticks
 pub no_tick_row : (cpus slots slot : ℕ) → slot < slots → row_at (no_tick cpus slots) slot ≡ no_row cpus
 no_tick_row cpus slots slot below = get_or-replicate slots slot (no_row cpus) [] below
 
--- the row of a group at the last of ticks with n groups
+-- the last row of a group is its row at the last tick, starting before the first tick
 pub last_row_at : (cpus slots slot : ℕ) (ticks : List Tick) → slot < slots → last_row slot (no_row cpus) ticks ≡ row_at (last_tick (no_tick cpus slots) ticks) slot
 last_row_at cpus slots slot ticks below = ap (λ row. last_row slot row ticks) (sym (no_tick_row cpus slots slot below)) ∙ last_row_is slot (no_tick cpus slots) ticks
 
--- the next tick keeps them in order
+-- appending a tick that may follow the last tick preserves the order of ticks
 pub are_next_push : (before : Tick) (ticks : List Tick) (tick : Tick) → AreNextTicks before ticks → IsNextTick (last_tick before ticks) tick → AreNextTicks before (ticks ++ tick ∷ [])
 are_next_push before [] tick all next = (next, tt)
 are_next_push before (first ∷ ticks) tick all next = (all.0, are_next_push first ticks tick all.1 next)
 
--- no tick is later than the last
+-- the last tick is the latest
 last_is_latest : (before : Tick) (ticks : List Tick) → AreNextTicks before ticks → before.at ≤ (last_tick before ticks).at
 last_is_latest before [] all = omega arith
 last_is_latest before (tick ∷ ticks) all = let rest = last_is_latest tick ticks all.1 in omega (arith, all.0.later, rest)

@@ -1,4 +1,5 @@
--- Lists that are made place by place from two others.
+-- Proofs about shares and weighted means, and about lists that are computed from two other lists
+-- element by element.
 use Rattle.std.proofs.Common.{◌≡◌, ℕ, zero, suc, ◌+◌, ◌*◌, ◌/◌, ◌≤◌, ◌<◌, List, [], ◌∷◌, length, get_or, refl, sym, ap, ◌∙◌, arith}
 use Rattle.std.specs.Prelude.{map, max, sum_by, All}
 use Rattle.std.proofs.Common.{◌++◌, ◌⊎◌, ⊎_elim}
@@ -23,7 +24,7 @@ get_or-zip_with f (x ∷ xs) [] k d e o in_xs in_ys = absurd (omega arith)
 get_or-zip_with f (x ∷ xs) (y ∷ ys) zero d e o in_xs in_ys = refl
 get_or-zip_with f (x ∷ xs) (y ∷ ys) (suc k) d e o in_xs in_ys = get_or-zip_with f xs ys k d e o (omega arith) (omega arith)
 
--- a list that has f of the elements of two others at each place
+-- a list whose elements are `f` of the elements of two others equals `zip_with f`
 pub zip_with_all : {A B C : Type 0} (f : A → B → C) → (xs : List A) (ys : List B) (zs : List C) (n : ℕ) (d : A) (e : B) (o : C) → length xs ≡ n → length ys ≡ n → length zs ≡ n → ((k : ℕ) → k < n → get_or zs k o ≡ f (get_or xs k d) (get_or ys k e)) → zs ≡ zip_with f xs ys
 zip_with_all f [] ys [] n d e o xn yn zn each = refl
 zip_with_all f [] ys (z ∷ zs) n d e o xn yn zn each = absurd (omega arith)
@@ -36,17 +37,17 @@ zip_with_all f (x ∷ xs) (y ∷ ys) (z ∷ zs) n d e o xn yn zn each =
 
 -- ---- lists with one number for each pressure quantity
 
--- lists of seven numbers that agree at each place are the same
+-- two lists of seven numbers are equal if they are equal at each index
 pub same_seven : (xs ys : List ℕ) → length xs ≡ 7 → length ys ≡ 7 → ((k : ℕ) → k < 7 → get_or xs k 0 ≡ get_or ys k 0) → xs ≡ ys
 same_seven xs ys seven also each =
     fill_by_all (λ k. get_or ys k 0) xs 7 0 seven each ∙ sym (fill_by_all (λ k. get_or ys k 0) ys 7 0 also (λ k below. refl))
 
--- a share, by the number of its quantity
+-- a share, by the index of its quantity
 pub get_or-shares : (rows : List (List ℕ)) (k o : ℕ) → k < 7 → get_or (shares rows) k o ≡ share_of rows (get_or pressure_places k 0)
 unfolding shares
 get_or-shares rows k o below = get_or-map (share_of rows) pressure_places k 0 o below
 
--- the sum of the times of each quantity, each with the weight of its processor
+-- dividing the weighted sums of all quantities by the total weight gives the shares
 pub shares_all : (rows : List (List ℕ)) (sums : List ℕ) (divisor : ℕ) → length sums ≡ 7 → divisor ≡ max (total_weight rows) 1 →
     ((k : ℕ) → k < 7 → get_or sums k 0 ≡ sum_by (λ times. get_or times (get_or pressure_places k 0) 0 * weight times) rows) →
     map (λ sum. sum / divisor) sums ≡ shares rows
@@ -60,7 +61,8 @@ shares_all rows sums divisor seven divisor_is each =
 
 -- ---- laws
 
--- a sum of times with weights is between the least and the most time with all of the weight
+-- a weighted sum of times is between the lower bound and the upper bound, each times the total
+-- weight
 sum_between : (rows : List (List ℕ)) (place least most : ℕ) → All (λ times. (least ≤ get_or times place 0) × (get_or times place 0 ≤ most)) rows →
     (least * total_weight rows ≤ weighted_time rows place) × (weighted_time rows place ≤ most * total_weight rows)
 sum_between [] place least most all = (omega arith, omega arith)
@@ -86,7 +88,7 @@ share_is_mean rows place least most all =
           (le-div_iff_mul-le some).1 low,
     )
 
--- the places of the states are in their order
+-- the index of a state among the pressure quantities is its index among the times
 pub state_place : (quantity : ℕ) → quantity < irq_quantity → get_or pressure_places quantity 0 ≡ quantity
 state_place zero below = refl
 state_place (suc zero) below = refl
@@ -96,7 +98,7 @@ state_place (suc (suc (suc (suc zero)))) below = refl
 state_place (suc (suc (suc (suc (suc zero))))) below = refl
 state_place (suc (suc (suc (suc (suc (suc k)))))) below = absurd (omega arith)
 
--- no time of an interval is longer than the longest tick and a second
+-- each time of an interval is at most the longest tick plus a second
 time_most : (times : List ℕ) (place : ℕ) → place ≤ irq_place → AreTimesWithin longest_tick (longest_tick + longest_irq) times → get_or times place 0 ≤ longest_tick + longest_irq
 time_most times place within is =
     let state : place < irq_place → get_or times place 0 ≤ longest_tick + longest_irq = λ below. let most = is.states place below in omega (arith, most) in
@@ -104,7 +106,7 @@ time_most times place within is =
     let case : (place < irq_place) ⊎ (place ≡ irq_place) = grind arith in
     ⊎_elim state irq case
 
--- a share isn't above what no time at its place is above
+-- a share is at most an upper bound of the processors' times
 share_most : (rows : List (List ℕ)) (place most : ℕ) → All (λ times. get_or times place 0 ≤ most) rows → share_of rows place ≤ most
 share_most rows place most all = (share_is_mean rows place 0 most (λ k d below. (omega arith, all k d below))).0
 
@@ -117,7 +119,7 @@ shares_within rows most most_irq all = record {
   irq = rw (get_or-shares rows irq_quantity 0 (omega arith)) (share_most rows irq_place most_irq (λ k d inside. (all k d inside).irq));
 }
 
--- a time of one of the rows is at most all of them together
+-- the time of one processor is at most the sum over all processors
 time_within_sum : (rows : List (List ℕ)) (place k : ℕ) (d : List ℕ) → k < length rows → get_or (get_or rows k d) place 0 ≤ time_sum rows place
 time_within_sum [] place k d below = absurd (omega arith)
 time_within_sum (times ∷ rows) place zero d below =
@@ -129,7 +131,7 @@ time_within_sum (times ∷ rows) place (suc k) d below =
 pub share_within_sum : ShareWithinSum
 share_within_sum rows place = share_most rows place (time_sum rows place) (λ k d below. time_within_sum rows place k d below)
 
--- the sum of the weights of processors, each of which is at most this
+-- the total weight is at most the number of processors times an upper bound of their weights
 weight_most : (rows : List (List ℕ)) (most : ℕ) → All (λ times. weight times ≤ most) rows → total_weight rows ≤ length rows * most
 weight_most [] most all = omega arith
 weight_most (times ∷ rows) most all =
@@ -147,7 +149,7 @@ share_sum_fits rows place few within all =
     let wide : most * total_weight rows ≤ most * (64 * (longest_tick / 1000000)) = mul-le-mul_left most all_weights in
     (omega (arith, sum, wide), omega (arith, sum, wide))
 
--- without weight there is no time
+-- if the total weight is 0, so is the weighted sum
 no_weight : (rows : List (List ℕ)) (place : ℕ) → total_weight rows ≡ 0 → weighted_time rows place ≡ 0
 no_weight [] place none = refl
 no_weight (times ∷ rows) place none =

@@ -1,18 +1,19 @@
--- When triggers signal, over every list of ticks.
+-- Proofs about the times at which triggers signal, over any list of ticks.
 use Rattle.std.proofs.Common.{◌≡◌, ℕ, suc, ◌+◌, ◌*◌, ◌≤◌, List, [], ◌∷◌, ◌++◌, refl, ap, ◌∙◌, arith, true, false}
 use Rattle.std.specs.Prelude.{All, Option, Some}
 use Rattle.std.proofs.lemmas.List.Sums.{fold-append}
 use Rattle.pressure_spec.specs.Signal.{TriggerState, new_trigger, is_free, seen, trigger_step, fires, trigger_after}
 use Rattle.pressure_spec.specs.Laws.{fired_after, SignalsApart, PendingIsSignalled, RemembersLast, QuietWhenStill, still}
 
--- the last signal was at a time or after it
+-- the trigger's window has the length `size` (ns), and its last signal was at or after time `from`
+-- (ns)
 pub record SignalledSince (trigger : TriggerState) (size from : ℕ) : Type 0 where
   pub size_is : trigger.size ≡ size
   pub last : ℕ
   pub last_is : trigger.last_event ≡ Some last
   pub since : from ≤ last
 
--- seeing a total leaves the window's size and the last signal
+-- seeing a total changes neither the length of the window nor the time of the last signal
 seen_size : (old : TriggerState) (now value : ℕ) → (seen old now value).size ≡ old.size
 seen_size old now value = grind arith
 
@@ -34,7 +35,7 @@ forgets_not old now value quiet = grind (arith, quiet, seen_last old now value)
 pub remembers_last : RemembersLast
 remembers_last old now value = (remembers old now value, forgets_not old now value)
 
--- a signal comes a window after the last one
+-- a signal is at least a window after the last signal
 fires_later : (old : TriggerState) (now value last : ℕ) → old.last_event ≡ Some last → fires old now value ≡ true → last + old.size ≤ now
 unfolding fires
 fires_later old now value last is fired = grind (arith, fired, is, seen_size old now value, seen_last old now value)

@@ -1,5 +1,5 @@
--- How much totals can be: those of states are within the time that passed, that of interrupts
--- within the processors' own interrupt times.
+-- Proofs of upper bounds of totals: the total of a state is at most the time that passed, and the
+-- total of interrupts is at most the sum of the processors' interrupt times.
 use Rattle.std.proofs.Common.{◌≡◌, ℕ, zero, suc, ◌+◌, ◌-◌, ◌*◌, ◌≤◌, ◌<◌, List, [], ◌∷◌, length, get_or, subst, arith, refl, true, false, ◌⊎◌, ⊎_elim}
 use Rattle.std.specs.Prelude.{All, if◌then◌else◌}
 use Rattle.std.proofs.lemmas.List.{get_or_past, get_or-replicate, length-replicate}
@@ -18,7 +18,7 @@ use Rattle.pressure_spec.specs.Laws.{IrqTotalBound, NextSharesWithin, TotalsWith
 use Rattle.pressure_spec.proofs.ShareLaws.{get_or-shares, share_within_sum, shares_within}
 use Rattle.pressure_spec.proofs.SampleLaws.{no_tick_row}
 
--- no amount is above the greater of two bounds
+-- every amount is at most the greater of the two bounds
 pub amount_most : (amounts : List ℕ) (most most_irq quantity : ℕ) → AreAmountsWithin most most_irq amounts → most ≤ most_irq → quantity < 7 → get_or amounts quantity 0 ≤ most_irq
 amount_most amounts most most_irq quantity within order below =
     let state : quantity < irq_quantity → get_or amounts quantity 0 ≤ most_irq = λ inside. let least = within.states quantity inside in omega (arith, least, order) in
@@ -26,9 +26,9 @@ amount_most amounts most most_irq quantity within order below =
     let case : (quantity < irq_quantity) ⊎ (quantity ≡ irq_quantity) = grind arith in
     ⊎_elim state irq case
 
--- ---- growths
+-- ---- growth of times
 
--- a time grew by at most as much as it is more
+-- the growth of a time is at most `most` if the time is at most `most` greater than before
 growth_most : (now before : List ℕ) (place most : ℕ) → get_or now place 0 ≤ get_or before place 0 + most → get_or (zip_with (λ time earlier. time - earlier) now before) place 0 ≤ most
 growth_most [] before place most is = omega arith
 growth_most (time ∷ now) [] place most is = omega arith
@@ -48,7 +48,7 @@ growths_within (earlier ∷ before) (times ∷ now) most most_irq each irq =
     })
     (growths_within before now most most_irq (λ cpu. each (suc cpu)) (λ cpu. irq (suc cpu)))
 
--- the growths of a group at the next tick
+-- the growth of a group's times at the next tick is within bounds
 pub growths_next : (last tick : Tick) (slot : ℕ) → IsNextTick last tick → All (AreTimesWithin (tick.at - last.at) (tick.at - last.at + longest_irq)) (growths (row_at last slot) (row_at tick slot))
 growths_next last tick slot next =
     growths_within (row_at last slot) (row_at tick slot) (tick.at - last.at) (tick.at - last.at + longest_irq) (next.grown slot) (λ cpu. let most = next.irq_grown slot cpu in omega (arith, most))
@@ -57,14 +57,14 @@ pub next_shares_within : NextSharesWithin
 next_shares_within last tick slot next =
     shares_within (growths (row_at last slot) (row_at tick slot)) (tick.at - last.at) (tick.at - last.at + longest_irq) (growths_next last tick slot next)
 
--- what a time grew by and what it was are together no more than it is
+-- the growth of a time plus the earlier time is at most the time now
 growth_sum : (now before : List ℕ) (place : ℕ) → get_or before place 0 ≤ get_or now place 0 → get_or (zip_with (λ time earlier. time - earlier) now before) place 0 + get_or before place 0 ≤ get_or now place 0
 growth_sum [] before place kept = omega (arith, kept)
 growth_sum (time ∷ now) [] place kept = omega arith
 growth_sum (time ∷ now) (earlier ∷ before) zero kept = omega (arith, kept)
 growth_sum (time ∷ now) (earlier ∷ before) (suc place) kept = growth_sum now before place kept
 
--- the sum of a time and those of other processors
+-- the sum over processors is the time of the first processor plus the sum over the others
 sum_more : (times : List ℕ) (rows : List (List ℕ)) (place : ℕ) → time_sum (times ∷ rows) place ≡ get_or times place 0 + time_sum rows place
 sum_more times rows place = sum_by-cons (λ (times : List ℕ). get_or times place 0) times rows
 
@@ -92,12 +92,13 @@ plus_most (x ∷ xs) [] k = omega arith
 plus_most (x ∷ xs) (y ∷ ys) zero = omega arith
 plus_most (x ∷ xs) (y ∷ ys) (suc k) = plus_most xs ys k
 
--- no total of a group is longer than what passed up to a tick: the time, or the interrupt times of
--- the processors together
+-- The totals of a group are within the bounds of a tick: for a state the time of the tick, and for
+-- interrupts the sum of the processors' interrupt times.
 abbrev pub AreTotalsUntil : Tick → ℕ → List ℕ → Type 0
 AreTotalsUntil tick slot totals = AreAmountsWithin tick.at (time_sum (row_at tick slot) irq_place) totals
 
--- totals of a group that isn't sampled at the next tick
+-- totals within the bounds of a tick are within the bounds of the next tick if the group isn't
+-- sampled there
 pub totals_kept : (last tick : Tick) (slot : ℕ) (totals : List ℕ) → IsNextTick last tick → AreTotalsUntil last slot totals → AreTotalsUntil tick slot totals
 totals_kept last tick slot totals next within =
     let sum = growths_sum (row_at last slot) (row_at tick slot) irq_place (λ cpu. next.kept slot cpu irq_place) in
@@ -106,7 +107,8 @@ totals_kept last tick slot totals next within =
       irq = omega (arith, within.irq, sum);
     }
 
--- and of a legal one
+-- totals within the bounds of a tick are within the bounds of the next tick if the group is sampled
+-- there
 pub totals_sampled : (last tick : Tick) (slot : ℕ) (totals : List ℕ) → IsNextTick last tick → AreTotalsUntil last slot totals →
     AreTotalsUntil tick slot (plus totals (shares (growths (row_at last slot) (row_at tick slot))))
 totals_sampled last tick slot totals next within =
@@ -122,7 +124,7 @@ totals_sampled last tick slot totals next within =
       irq = omega (arith, within.irq, irq, sum, plus_most totals (shares grown) irq_quantity);
     }
 
--- totals that were within a tick stay so over more ticks
+-- totals within the bounds of a tick stay within bounds over more ticks
 totals_from : (life : GroupLife) (slot : ℕ) (totals : List ℕ) (before : Tick) (ticks : List Tick) → AreNextTicks before ticks → AreTotalsUntil before slot totals →
     AreTotalsUntil (last_tick before ticks) slot (last_totals totals (history_from life slot (row_at before slot) totals ticks))
 totals_from life slot totals before [] ordered within = within
@@ -134,7 +136,7 @@ totals_from life slot totals before (tick ∷ ticks) ordered within =
     elim (is_live_at life tick.at) as (λ live. AreTotalsUntil (last_tick tick ticks) slot (last_totals totals (if live then (tick.at, now) ∷ history_from life slot row now ticks else history_from life slot row totals ticks)))
     [ true ↦ there | false ↦ gone ]
 
--- a list of zeros has no more anywhere
+-- each of the initial totals is 0
 zero_at : (quantity : ℕ) → quantity < irq_quantity → get_or no_totals quantity 0 ≤ 0
 zero_at zero below = omega arith
 zero_at (suc zero) below = omega arith
@@ -147,7 +149,7 @@ zero_at (suc (suc (suc (suc (suc (suc k)))))) below = absurd (omega arith)
 zero_irq : get_or no_totals irq_quantity 0 ≡ 0
 zero_irq = refl
 
--- before any sample there are no totals
+-- the initial totals are within any bounds
 pub none_within : (most most_irq : ℕ) → AreAmountsWithin most most_irq no_totals
 none_within most most_irq = record {
   states = λ quantity below. let zeros = zero_at quantity below in omega (arith, zeros);
@@ -164,7 +166,8 @@ totals_within cpus lives ticks slot below ordered =
 
 -- ---- the bound of interrupt totals
 
--- no interrupt time exceeds the time of a tick, which is at most the latest time
+-- the interrupt time of each processor is at most the time of the tick, which is at most the latest
+-- time of a trace
 pub record IsIrqEarly (tick : Tick) (slot : ℕ) : Type 0 where
   pub moment : tick.at ≤ last_moment
   pub irq : (cpu : ℕ) → time_in tick.table slot cpu irq_place ≤ tick.at
@@ -173,7 +176,7 @@ pub last_early : (before : Tick) (ticks : List Tick) (slot : ℕ) → AreNextTic
 last_early before [] slot ordered is = is
 last_early before (tick ∷ ticks) slot ordered is = last_early tick ticks slot ordered.1 (record { moment = ordered.0.early; irq = ordered.0.irq_early slot })
 
--- zeros at the first tick
+-- all interrupt times are 0 before the first tick
 zero_row : (cpus cpu : ℕ) → time_of (no_row cpus) cpu irq_place ≡ 0
 zero_row cpus cpu =
     let inside : cpu < cpus → time_of (no_row cpus) cpu irq_place ≡ 0 = λ below. rw (get_or-replicate cpus cpu (times_with (λ state. 0) 0) [] below) refl in
@@ -194,7 +197,7 @@ sum_most (times ∷ rows) place most each =
     let rest = sum_most rows place most (λ cpu. each (suc cpu)) in
     omega (arith, sum_more times rows place, here, rest)
 
--- the interrupt times of at most 64 processors together
+-- the sum of the interrupt times of at most 64 processors is at most 64 times the latest time
 pub irq_sum_most : (tick : Tick) (slot : ℕ) → IsIrqEarly tick slot → length (row_at tick slot) ≤ 64 → time_sum (row_at tick slot) irq_place ≤ 64 * last_moment
 irq_sum_most tick slot is few =
     let sum = sum_most (row_at tick slot) irq_place tick.at is.irq in

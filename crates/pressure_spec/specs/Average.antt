@@ -1,51 +1,56 @@
--- The averages over 10, 60 and 300 seconds: the kernel's calc_load, fixed_power_int,
--- update_averages and calc_avgs. They are fixed-point numbers with 11 fraction bits: 2048 is 1, and
--- 204800 is 100 percent.
+-- The averages over 10, 60 and 300 s, as in the kernel's calc_load, fixed_power_int,
+-- update_averages and calc_avgs. All numbers are fixed-point numbers with 11 fraction bits, in
+-- which 2,048 represents 1. Averages are in percent, so 204,800 is 100 percent; decay factors are
+-- fractions of 1.
 use Rattle.std.specs.Prelude.{ℕ, zero, suc, ◌+◌, ◌-◌, ◌*◌, ◌/◌, ◌%◌, min, List, [], ◌∷◌, map, fold, nat_le, nat_lt, ◌==◌, if◌then◌else◌}
 use Rattle.pressure_spec.specs.Share.{zip_with, pressure_places}
 
--- the time (ns) from one update of the averages to the next: two seconds
+-- the time (ns) between two updates of the averages: two seconds
 abbrev pub period : ℕ
 period = 2000000000
 
--- the part of an average over 10, 60 and 300 seconds that remains after one idle period, in units
--- of 1/2048
+-- the decay factors of the averages over 10, 60 and 300 s: the fraction of an average that remains
+-- after one idle period, in units of 1/2048
 abbrev pub factors : List ℕ
 factors = 1677 ∷ 1981 ∷ 2034 ∷ []
 
--- an average that decays by a factor and takes in what was active, rounded up unless it falls
+-- an average after one period with pressure `active`: its weight is `factor`, and `active` has the
+-- remaining weight (2048 - `factor`). The result is rounded down if the average falls, and up if it
+-- doesn't.
 abbrev pub load : ℕ → ℕ → ℕ → ℕ
 load average factor active = (average * factor + active * (2048 - factor) + (if nat_le average active then 2047 else 0)) / 2048
 
--- the product of two fixed-point numbers, rounded to nearest
+-- the product of two fixed-point numbers, rounded to the nearest number
 abbrev pub product : ℕ → ℕ → ℕ
 product x y = (x * y + 1024) / 2048
 
--- a result times x to the power n, by the binary digits of n from the lowest one, using at most
--- `digits` of them
+-- `result` times `x` to the power `n`, by squaring: it processes the binary digits of `n` from the
+-- lowest digit, at most `digits` of them
 abbrev pub power_within : ℕ → ℕ → ℕ → ℕ → ℕ
 power_within zero result x n = result
 power_within (suc digits) result x n =
     if n == 0 then result else
     if n % 2 == 1 then power_within digits (product result x) (product x x) (n / 2) else power_within digits result (product x x) (n / 2)
 
--- a result times x to the power n: n has at most n binary digits
+-- `result` times `x` to the power `n`; `n` digits are enough, because `n` has at most `n` binary
+-- digits
 unfoldable pub power_from : ℕ → ℕ → ℕ → ℕ
 power_from result x n = power_within n result x n
 
--- x to the power n
+-- `x` to the power `n`, in fixed point
 abbrev pub power : ℕ → ℕ → ℕ
 power x n = power_from 2048 x n
 
--- The averages of a group: the times (ns) of the last update and of the next one, the part (ns) of
--- each pressure quantity's total that was sampled so far, and the three averages of each quantity.
+-- The state of a group's averages: the times (ns) of the last update and of the next update, the
+-- part (ns) of each pressure quantity's total that earlier updates have sampled, and the three
+-- averages of each quantity.
 pub record AverageState : Type 0 where
   pub last : ℕ
   pub next : ℕ
   pub sampled : List ℕ
   pub averages : List (List ℕ)
 
--- the averages of a group that is created at this time (ns)
+-- the initial averages of a group that is created at time `at` (ns): all are 0
 abbrev pub new_averages : ℕ → AverageState
 new_averages at = record {
   last = at;
@@ -54,25 +59,25 @@ new_averages at = record {
   averages = map (λ place. map (λ factor. 0) factors) pressure_places;
 }
 
--- the number of whole periods that have passed since an update was due
+-- the number of whole periods that passed since the update was due
 abbrev pub missed : AverageState → ℕ → ℕ
 missed old now = (now - old.next) / period
 
--- the time (ns) that an update covers: the time since the last one, less the missed periods
+-- the time (ns) that an update covers: the time since the last update, without the missed periods
 abbrev pub sampled_time : AverageState → ℕ → ℕ
 sampled_time old now = now - (old.last + missed old now * period)
 
--- the sample (ns) of a total: the part not sampled yet, but at most the covered time; the rest is
--- carried over
+-- the sample (ns) that an update takes of a total: the part that wasn't sampled before, but at most
+-- the covered time. The remainder is left for later updates.
 abbrev pub sample_of : ℕ → ℕ → ℕ → ℕ
 sample_of time sampled total = min (total - sampled) time
 
--- a sample as a whole percentage of the covered time
+-- a sample (ns) as a whole percentage of the covered time (ns), rounded down
 abbrev pub percent_of : ℕ → ℕ → ℕ
 percent_of time sample = sample * 100 / time
 
--- an average after an update: it decays over the missed periods as if idle, and then takes in the
--- sample
+-- an average after an update: it decays over the missed periods as if they were idle, and then
+-- takes in the sample's percentage
 abbrev pub average_after : ℕ → ℕ → ℕ → ℕ → ℕ
 average_after missed_periods percent average factor =
     load (if nat_lt 0 missed_periods then load average (power factor missed_periods) 0 else average) factor (percent * 2048)
@@ -81,11 +86,11 @@ average_after missed_periods percent average factor =
 abbrev pub row_after : ℕ → ℕ → List ℕ → ℕ → List ℕ
 row_after missed_periods time averages sample = zip_with (average_after missed_periods (percent_of time sample)) averages factors
 
--- the samples (ns) of the pressure quantities
+-- the samples (ns) that an update takes of all pressure quantities
 abbrev pub samples_of : ℕ → List ℕ → List ℕ → List ℕ
 samples_of time sampled totals = zip_with (sample_of time) sampled totals
 
--- the averages after an update at a time (ns), with the totals (ns) of the pressure quantities
+-- the averages after an update at time `now` (ns), given the totals (ns) of the pressure quantities
 abbrev pub updated : AverageState → ℕ → List ℕ → AverageState
 updated old now totals = record {
   last = now;
@@ -95,14 +100,16 @@ updated old now totals = record {
       zip_with (row_after (missed old now) (sampled_time old now)) old.averages (samples_of (sampled_time old now) old.sampled totals);
 }
 
--- the averages after a tick: updated if an update is due
+-- the averages after a tick at time `now` (ns): updated if an update is due, and unchanged if none
+-- is
 unfoldable pub average_step : AverageState → ℕ → List ℕ → AverageState
 average_step old now totals = if nat_lt now old.next then old else updated old now totals
 
--- the averages after ticks, each a time (ns) and the totals (ns) of the pressure quantities
+-- the averages after a list of ticks; each tick is a time (ns) and the totals (ns) of the pressure
+-- quantities
 abbrev pub averages_from : AverageState → List (ℕ × List ℕ) → AverageState
 averages_from old ticks = fold (λ state tick. average_step state tick.0 tick.1) old ticks
 
--- the averages of a group created at this time (ns), after ticks
+-- the averages of a group that is created at time `at` (ns), after a list of ticks
 abbrev pub averages_after : ℕ → List (ℕ × List ℕ) → AverageState
 averages_after at ticks = averages_from (new_averages at) ticks

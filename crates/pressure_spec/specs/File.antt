@@ -1,5 +1,5 @@
--- The pressure files io.pressure, memory.pressure, cpu.pressure and irq.pressure of a group, as in
--- Documentation/accounting/psi.rst.
+-- The text of a group's pressure files io.pressure, memory.pressure, cpu.pressure and irq.pressure,
+-- as in the kernel's Documentation/accounting/psi.rst.
 use Rattle.std.specs.Prelude.{ℕ, ◌+◌, ◌*◌, ◌/◌, ◌%◌, List, [], ◌++◌, slice_index, slice_index_or, codes, decimal, ◌&&◌, Bool, true, false, if◌then◌else◌}
 use Rattle.psi_base.specs.declared.event.Res.{Res}
 use Rattle.psi_base.specs.declared.event.Res.TheVariants.{Io, Memory, Cpu}
@@ -9,20 +9,20 @@ use Rattle.psi_spec.specs.Fields.{level_word}
 use Rattle.psi_spec.specs.Stall.{state_number}
 use Rattle.pressure_spec.specs.Samples.{state_of}
 
--- a number below 100 as two digits
+-- a number below 100 as two decimal digits
 abbrev pub two_digits : ℕ → List ℕ
 two_digits n = decimal (n / 10) ++ decimal (n % 10)
 
--- the fraction of an average (2048 is 1 percent) in hundredths of a percent, rounded down
+-- the fraction of an average (2,048 is 1 percent) in hundredths of a percent, rounded down
 abbrev pub hundredths : ℕ → ℕ
 hundredths average = (average % 2048) * 100 / 2048
 
--- an average in percent with two decimals: the kernel's LOAD_INT and LOAD_FRAC
+-- an average in percent with two decimals, as the kernel's LOAD_INT and LOAD_FRAC print it
 abbrev pub percent_text : ℕ → List ℕ
 percent_text average = decimal (average / 2048) ++ codes "." ++ two_digits (hundredths average)
 
--- a line of a pressure file: the averages over 10, 60 and 300 seconds, and the total (given in ns)
--- in whole microseconds
+-- a line of a pressure file: the averages over 10, 60 and 300 s in percent, and the total (given in
+-- ns) in whole microseconds
 abbrev pub file_line : Level → List ℕ → ℕ → List ℕ
 file_line level averages total =
     level_word level ++ codes " avg10=" ++ percent_text (slice_index averages 0)
@@ -30,7 +30,7 @@ file_line level averages total =
     ++ codes " avg300=" ++ percent_text (slice_index averages 2)
     ++ codes " total=" ++ decimal (total / 1000) ++ codes "\n"
 
--- the line of a resource at a level, from the totals (ns) and averages of the states
+-- the line of a resource at level `some` or `full`, from the totals (ns) and averages of all states
 abbrev pub state_line : Res → Level → List ℕ → List (List ℕ) → List ℕ
 state_line res level totals averages =
     file_line level (slice_index_or averages (state_number (state_of res level)) [])
@@ -42,16 +42,16 @@ is_cpu Io = false
 is_cpu Memory = false
 is_cpu Cpu = true
 
--- the `full` line of a resource; for CPU of the whole machine it is all zeros, as in the kernel
+-- the `full` line of a resource; for CPU of the root it is all zeros, as in the kernel
 abbrev pub full_line : Res → Bool → List ℕ → List (List ℕ) → List ℕ
 full_line res is_root totals averages =
     if is_root && is_cpu res then file_line FullStalled [] 0 else state_line res FullStalled totals averages
 
--- a pressure file: the `some` line and the `full` line
+-- the pressure file of a resource: the `some` line and the `full` line
 unfoldable pub file_text : Res → Bool → List ℕ → List (List ℕ) → List ℕ
 file_text res is_root totals averages = state_line res SomeStalled totals averages ++ full_line res is_root totals averages
 
--- the pressure file of interrupts, from its averages and total (ns): only the `full` line, since no
--- task runs on a processor during an interrupt
+-- the pressure file of interrupts, from its averages and total (ns). It has only the `full` line,
+-- because no task runs on a processor during an interrupt.
 abbrev pub irq_text : List ℕ → ℕ → List ℕ
 irq_text averages total = file_line FullStalled averages total

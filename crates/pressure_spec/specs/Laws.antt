@@ -1,4 +1,5 @@
--- Laws of pressure: of shares, averages and signals, and of groups over any list of ticks.
+-- Laws of pressure: of shares, averages and signals, and of groups over any list of ticks. A
+-- *place* is the index of a quantity in a list of times.
 use Rattle.std.specs.Prelude.{◌≡◌, ℕ, ◌+◌, ◌-◌, ◌*◌, ◌≤◌, ◌<◌, List, [], ◌∷◌, ◌++◌, length, map, slice_index, sum_by, true, if◌then◌else◌, ◌/◌, ◌^◌, All, min, slice_index_or, Bool, false, Some}
 use Rattle.std.specs.List.{range_with_len}
 use Rattle.std.specs.List.Sorted.{IsNonDecreasingBy}
@@ -18,14 +19,14 @@ use Rattle.pressure_spec.specs.Signal.{TriggerState, fires, is_free, new_trigger
 
 -- ---- shares
 
--- A share is a mean: at most the longest time at its place on any processor, and at least the
--- shortest if some processor has weight.
+-- A share is a mean of the processors' times: it is at most any upper bound of them, and at least
+-- any lower bound of them if some processor has weight.
 abbrev pub ShareIsMean : Type 0
 ShareIsMean = (rows : List (List ℕ)) (place least most : ℕ) →
     All (λ times. (least ≤ slice_index times place) × (slice_index times place ≤ most)) rows →
     (share_of rows place ≤ most) × (0 < total_weight rows → least ≤ share_of rows place)
 
--- So a share is at most any bound of the processors' times.
+-- A share is at most any upper bound of the processors' times.
 abbrev pub SharesWithin : Type 0
 SharesWithin =
     (rows : List (List ℕ)) (most most_irq : ℕ) → All (AreTimesWithin most most_irq) rows → AreAmountsWithin most most_irq (shares rows)
@@ -34,25 +35,26 @@ SharesWithin =
 abbrev pub ShareWithinSum : Type 0
 ShareWithinSum = (rows : List (List ℕ)) (place : ℕ) → share_of rows place ≤ time_sum rows place
 
--- The sum in a share fits in 64 bits: each of at most 64 processors has at most the longest tick
--- (for interrupts a second more), and a weight of at most the longest tick in ms.
+-- The weighted sum in a share fits in 64 bits. There are at most 64 processors, each with a time of
+-- at most the longest tick (for interrupts a second more), and with a weight of at most the longest
+-- tick in ms.
 abbrev pub ShareSumFits : Type 0
 ShareSumFits =
     (rows : List (List ℕ)) (place : ℕ) → length rows ≤ 64 → place ≤ irq_place
     → All (AreTimesWithin longest_tick (longest_tick + longest_irq)) rows →
     (weighted_time rows place ≤ 64 * (longest_tick + longest_irq) * (longest_tick / 1000000)) × (weighted_time rows place < 2 ^ 64)
 
--- If no processor has weight, which takes 1 ms of work, all shares are 0.
+-- If no processor has weight (less than 1 ms of nonidle time on each), all shares are 0.
 abbrev pub IdleHasNone : Type 0
 IdleHasNone = (rows : List (List ℕ)) (place : ℕ) → total_weight rows ≡ 0 → share_of rows place ≡ 0
 
 -- ---- averages
 
--- an average, by the places of its quantity and its factor
+-- an average, by the indexes of its quantity and of its averaging window
 abbrev pub average_of : AverageState → ℕ → ℕ → ℕ
 average_of s place factor = slice_index (slice_index_or s.averages place []) factor
 
--- the part (ns) of a quantity's total that was sampled, by its place
+-- the part (ns) of a quantity's total that was sampled, by the index of the quantity
 abbrev pub sampled_of : AverageState → ℕ → ℕ
 sampled_of s place = slice_index s.sampled place
 
@@ -60,20 +62,20 @@ sampled_of s place = slice_index s.sampled place
 abbrev pub HasTotals : List (ℕ × List ℕ) → Type 0
 HasTotals ticks = All (λ tick. length tick.1 ≡ length pressure_places) ticks
 
--- no total falls from one tick to the next
+-- the totals are non-decreasing from tick to tick, starting from the totals `before`
 abbrev pub NeverFalls : List ℕ → List (ℕ × List ℕ) → Type 0
 NeverFalls before [] = Unit {0}
 NeverFalls before (tick ∷ ticks) = ((place : ℕ) → slice_index before place ≤ slice_index tick.1 place) × NeverFalls tick.1 ticks
 
--- Exponentiation by squaring: x to the power 0 is the result so far; an odd exponent multiplies by
--- x once, and the exponent halves as x is squared.
+-- Exponentiation by squaring: for the exponent 0 the product is `result`; for an even exponent, `x`
+-- is squared and the exponent is halved; for an odd exponent, `result` is also multiplied by `x`.
 pub record PowerHalves : Type 0 where
   pub zero : (result x : ℕ) → power_from result x 0 ≡ result
   pub even : (result x n : ℕ) → power_from result x (2 * n) ≡ power_from result (product x x) n
   pub odd : (result x n : ℕ) → power_from result x (2 * n + 1) ≡ power_from (product result x) (product x x) n
 
--- An average moves toward what is active and never past it. It stays constant only there, if the
--- factor is below one.
+-- An average moves toward the active pressure and never past it. If the factor is below 1, it stays
+-- constant only at the active pressure.
 pub record LoadApproaches : Type 0 where
   pub up : (average factor active : ℕ) → factor ≤ 2048 → average ≤ active
       → (average ≤ load average factor active) × (load average factor active ≤ active)
@@ -82,13 +84,13 @@ pub record LoadApproaches : Type 0 where
   pub rises : (average factor active : ℕ) → factor < 2048 → average < active → average < load average factor active
   pub falls : (average factor active : ℕ) → factor < 2048 → active < average → load average factor active < average
 
--- After any list of ticks every average is at most 100 percent, and the next update is due within a
--- period.
+-- After any list of ticks every average is at most 100 percent, and the next update is due within
+-- one period.
 abbrev pub AtMostHundred : Type 0
 AtMostHundred = (at : ℕ) (ticks : List (ℕ × List ℕ)) → HasTotals ticks → IsAverageState (averages_after at ticks)
 
--- An update without missed periods whose whole time was stalled raises each average of the quantity
--- toward 100 percent, and not past it.
+-- If the whole covered time was stalled and no period was missed, an update raises each average of
+-- the quantity toward 100 percent, and not above it.
 abbrev pub RisesWhenStalled : Type 0
 RisesWhenStalled = (old : AverageState) (now : ℕ) (totals : List ℕ) (place factor : ℕ) →
     IsAverageState old → length totals ≡ length pressure_places → place < length pressure_places → factor < 3 →
@@ -97,7 +99,7 @@ RisesWhenStalled = (old : AverageState) (now : ℕ) (totals : List ℕ) (place f
     × (average_of (average_step old now totals) place factor ≤ 204800)
     × (average_of old place factor < 204800 → average_of old place factor < average_of (average_step old now totals) place factor)
 
--- An update in which nothing was stalled lowers each average of the quantity toward 0.
+-- If nothing of a quantity is left to be sampled, an update lowers each of its averages toward 0.
 abbrev pub FallsWhenFree : Type 0
 FallsWhenFree = (old : AverageState) (now : ℕ) (totals : List ℕ) (place factor : ℕ) →
     IsAverageState old → length totals ≡ length pressure_places → place < length pressure_places → factor < 3 →
@@ -105,15 +107,15 @@ FallsWhenFree = (old : AverageState) (now : ℕ) (totals : List ℕ) (place fact
     (average_of (average_step old now totals) place factor ≤ average_of old place factor)
     × (0 < average_of old place factor → average_of (average_step old now totals) place factor < average_of old place factor)
 
--- What an update can't sample is carried over to a later one: it takes the part not sampled yet,
--- but at most the covered time.
+-- An update samples the part of a total that wasn't sampled before, but at most the covered time.
+-- The remainder is left for later updates.
 abbrev pub CarriesTheRest : Type 0
 CarriesTheRest = (old : AverageState) (now : ℕ) (totals : List ℕ) (place : ℕ) →
     IsAverageState old → length totals ≡ length pressure_places → place < length pressure_places → old.next ≤ now →
     sampled_of (average_step old now totals) place ≡ sampled_of old place
     + min (slice_index totals place - sampled_of old place) (sampled_time old now)
 
--- No more is sampled than there was: the sampled part and the remainder add up to the total.
+-- The sampled part of a total is at most the total.
 abbrev pub SamplesWithinTotal : Type 0
 SamplesWithinTotal =
     (at : ℕ) (ticks : List (ℕ × List ℕ)) (place : ℕ) → HasTotals ticks → NeverFalls [] ticks → place < length pressure_places →
@@ -121,32 +123,33 @@ SamplesWithinTotal =
 
 -- ---- signals
 
--- the trigger fires at a tick after other ticks
+-- the trigger fires at a tick that comes after other ticks
 abbrev pub fired_after : TriggerState → List (ℕ × ℕ) → ℕ × ℕ → Bool
 fired_after trigger ticks tick = fires (trigger_after trigger ticks) tick.0 tick.1
 
--- Two signals of a trigger are at least its window apart, whatever happens in between.
+-- Two signals of a trigger are at least its window apart, for any ticks between them.
 abbrev pub SignalsApart : Type 0
 SignalsApart = (at value threshold_us window_us : ℕ) (before between : List (ℕ × ℕ)) (first second : ℕ × ℕ) →
     fired_after (new_trigger at value threshold_us window_us) before first ≡ true →
     fired_after (new_trigger at value threshold_us window_us) (before ++ first ∷ between) second ≡ true →
     first.0 + window_us * 1000 ≤ second.0
 
--- A pending event isn't lost: the first tick that is at least a window after the last signal fires,
--- whatever happens in between.
+-- A pending event isn't lost: the trigger fires at the first tick that is at least a window after
+-- its last signal, whatever the totals of the ticks before it are.
 abbrev pub PendingIsSignalled : Type 0
 PendingIsSignalled = (trigger : TriggerState) (waits : List (ℕ × ℕ)) (tick : ℕ × ℕ) → trigger.pending ≡ true →
     All (λ (wait : ℕ × ℕ). is_free trigger.last_event trigger.size wait.0 ≡ false) waits →
     is_free trigger.last_event trigger.size tick.0 ≡ true →
     fired_after trigger waits tick ≡ true
 
--- A trigger remembers only the time of its last signal.
+-- A step at which a trigger fires sets the time of its last signal; any other step leaves that time
+-- unchanged.
 abbrev pub RemembersLast : Type 0
 RemembersLast = (trigger : TriggerState) (now value : ℕ) →
     (fires trigger now value ≡ true → (trigger_step trigger now value).last_event ≡ Some now)
     × (fires trigger now value ≡ false → (trigger_step trigger now value).last_event ≡ trigger.last_event)
 
--- ticks with the same total
+-- ticks at these times, all with the same total
 abbrev pub still : ℕ → List ℕ → List (ℕ × ℕ)
 still value moments = map (λ now. (now, value)) moments
 
@@ -157,8 +160,8 @@ QuietWhenStill = (at value threshold_us window_us now : ℕ) (moments : List ℕ
 
 -- ---- groups over ticks
 
--- the totals (ns) of a group: for each quantity the sum of its shares, over a list of samples that
--- each have a share of each quantity
+-- the totals (ns) of a group: for each quantity the sum of its shares over a list of samples; each
+-- sample has a share of each quantity
 unfoldable pub totals_of : List (List ℕ) → List ℕ
 totals_of samples = map (λ i. sum_by (λ sample. slice_index sample i) samples) (range_with_len 0 (length pressure_places))
 
@@ -167,8 +170,9 @@ abbrev pub TotalsGrow : Type 0
 TotalsGrow = (samples : List (List ℕ)) (sample : List ℕ) → length sample ≡ length pressure_places →
     totals_of (samples ++ sample ∷ []) ≡ plus (totals_of samples) sample
 
--- A group is sampled at the ticks at which it is live: each sample is the tick's time and the
--- group's shares (ns) of the interval since the previous tick, with these times at its ends.
+-- The samples of a group: for each tick at which it is live, the tick's time and the group's shares
+-- (ns) of the interval since the previous tick. `before` are the group's times at the tick before
+-- the first.
 abbrev pub samples_from : GroupLife → ℕ → List (List ℕ) → List Tick → List (ℕ × List ℕ)
 samples_from life slot before [] = []
 samples_from life slot before (tick ∷ ticks) =
@@ -176,28 +180,28 @@ samples_from life slot before (tick ∷ ticks) =
     then (tick.at, shares (growths before (row_at tick slot))) ∷ samples_from life slot (row_at tick slot) ticks
     else samples_from life slot (row_at tick slot) ticks
 
--- the samples of a group over ticks, on n processors
+-- the samples of a group over a list of ticks, on `cpus` processors
 abbrev pub group_samples : ℕ → List GroupLife → List Tick → ℕ → List (ℕ × List ℕ)
 group_samples cpus lives ticks slot = samples_from (life_of lives slot) slot (no_row cpus) ticks
 
--- A total is the sum of the shares of its quantity.
+-- The total of a quantity is the sum of its shares.
 abbrev pub TotalIsSum : Type 0
 TotalIsSum = (cpus : ℕ) (lives : List GroupLife) (ticks : List Tick) (slot i : ℕ) → i < length pressure_places →
     slice_index (totals_after cpus lives ticks slot) i ≡ sum_by (λ sample. slice_index sample.1 i) (group_samples cpus lives ticks slot)
 
--- So no total ever falls.
+-- Totals never decrease.
 abbrev pub TotalsNeverFall : Type 0
 TotalsNeverFall = (cpus : ℕ) (lives : List GroupLife) (ticks more : List Tick) (slot i : ℕ) →
     slice_index (totals_after cpus lives ticks slot) i ≤ slice_index (totals_after cpus lives (ticks ++ more) slot) i
 
--- No share of a state is longer than the time since the previous tick, and no share of interrupts
--- is more than a second longer.
+-- The share of a state is at most the time since the previous tick, and the share of interrupts is
+-- at most a second longer.
 abbrev pub NextSharesWithin : Type 0
 NextSharesWithin = (last tick : Tick) (slot : ℕ) → IsNextTick last tick →
     AreAmountsWithin (tick.at - last.at) (tick.at - last.at + longest_irq) (shares (growths (row_at last slot) (row_at tick slot)))
 
--- No total of a state is longer than the time up to the last tick, and an interrupt total is at
--- most the sum of the processors' interrupt times.
+-- The total of a state is at most the time of the last tick, and the total of interrupts is at most
+-- the sum of the processors' interrupt times.
 abbrev pub TotalsWithin : Type 0
 TotalsWithin =
     (cpus : ℕ) (lives : List GroupLife) (ticks : List Tick) (slot : ℕ) → slot < length lives
@@ -206,8 +210,8 @@ TotalsWithin =
     (time_sum (row_at (last_tick (no_tick cpus (length lives)) ticks) slot) irq_place)
     (totals_after cpus lives ticks slot)
 
--- So the interrupt totals of up to 64 processors are bounded, because no interrupt time exceeds the
--- time of its tick.
+-- The interrupt total of up to 64 processors is at most `most_irq_total`, because the interrupt
+-- time of each processor is at most the time of the tick.
 abbrev pub IrqTotalBound : Type 0
 IrqTotalBound =
     (cpus : ℕ) (lives : List GroupLife) (ticks : List Tick) (slot : ℕ) → slot < length lives
@@ -215,13 +219,14 @@ IrqTotalBound =
     length (row_at (last_tick (no_tick cpus (length lives)) ticks) slot) ≤ 64 →
     slice_index (totals_after cpus lives ticks slot) irq_quantity ≤ most_irq_total
 
--- After any ticks every average of a group is at most 100 percent.
+-- After any list of ticks every average of a group is at most 100 percent.
 abbrev pub GroupsAtMostHundred : Type 0
 GroupsAtMostHundred =
     (cpus : ℕ) (lives : List GroupLife) (ticks : List Tick) (slot place factor : ℕ)
     → average_of (group_averages cpus lives ticks slot) place factor ≤ 204800
 
--- Two signals of a trigger are at least its window apart, if the times of ticks never fall.
+-- Two signals of a trigger are at least its window apart, if the times of the ticks are
+-- non-decreasing.
 abbrev pub FiredApart : Type 0
 FiredApart = (cpus : ℕ) (lives : List GroupLife) (trigger : TriggerSpec) (before between : List Tick) (first second : Tick) →
     IsNonDecreasingBy (λ (tick : Tick). tick.at) (before ++ first ∷ between) →

@@ -1,10 +1,11 @@
--- What a line of a pressure file prints, from hundredths of a percent.
+-- The values that a line of a pressure file prints: averages in hundredths of a percent, and totals
+-- in us.
 use Rattle.std.specs.Prelude.{◌≡◌, ℕ, ◌+◌, ◌*◌, ◌/◌, ◌%◌, ◌^◌, ◌≤◌, ◌<◌, All, length, List, ◌++◌, slice_index, codes, decimal}
 use Rattle.psi_base.specs.declared.event.Level.{Level}
 use Rattle.psi_spec.specs.Fields.{level_word}
 use Rattle.pressure_spec.specs.File.{two_digits, hundredths}
 
--- an average (2048 is 1 percent) in whole hundredths of a percent
+-- an average (2,048 is 1 percent) in whole hundredths of a percent, rounded down
 abbrev pub in_hundredths : ℕ → ℕ
 in_hundredths average = average / 2048 * 100 + hundredths average
 
@@ -12,8 +13,8 @@ in_hundredths average = average / 2048 * 100 + hundredths average
 abbrev pub hundredths_text : ℕ → List ℕ
 hundredths_text n = decimal (n / 100) ++ codes "." ++ two_digits (n % 100)
 
--- the line of averages over 10, 60 and 300 seconds in hundredths of a percent, and a total
--- in us
+-- the line with these averages over 10, 60 and 300 s (in hundredths of a percent) and this total
+-- (us)
 abbrev pub known_line : Level → List ℕ → ℕ → List ℕ
 known_line level averages total =
     level_word level ++ codes " avg10=" ++ hundredths_text (slice_index averages 0)
@@ -21,7 +22,8 @@ known_line level averages total =
     ++ codes " avg300=" ++ hundredths_text (slice_index averages 2)
     ++ codes " total=" ++ decimal total ++ codes "\n"
 
--- values that a line can print: three averages from 0.00 to 100.00 percent each, and a 64-bit total
+-- the values are in the range of a line: three averages of at most 100.00 percent each, and a
+-- 64-bit total
 pub record CanShow (averages : List ℕ) (total : ℕ) : Type 0 where
   pub three : length averages ≡ 3
   pub most : All (λ average. average ≤ 10000) averages

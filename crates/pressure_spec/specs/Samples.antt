@@ -1,4 +1,4 @@
--- The pressure of groups over any list of ticks: what each tick adds to a group's totals, its
+-- The pressure of groups over any list of ticks: the totals of a group after each tick, its
 -- averages, and the signals of triggers.
 use Rattle.std.specs.Prelude.{ℕ, ◌-◌, List, [], ◌∷◌, ◌++◌, length, map, filter, slice_get, slice_index_or, nat_le, nat_lt, ◌&&◌, Bool, if◌then◌else◌}
 use Rattle.std.specs.List.{range_with_len}
@@ -16,7 +16,7 @@ use Rattle.pressure_spec.specs.Signal.{TriggerState, fires, new_trigger, trigger
 
 -- ---- the history of a group
 
--- the life of the group in a slot
+-- the group in `slot`
 abbrev pub life_of : List GroupLife → ℕ → GroupLife
 life_of lives slot = slice_index_or lives slot root
 
@@ -24,17 +24,18 @@ life_of lives slot = slice_index_or lives slot root
 abbrev pub row_at : Tick → ℕ → List (List ℕ)
 row_at tick slot = slice_index_or tick.table slot []
 
--- by how much each time (ns) of each processor grew from one tick to the next
+-- the growth of each time (ns) on each processor from one tick to the next
 abbrev pub growths : List (List ℕ) → List (List ℕ) → List (List ℕ)
 growths before now = zip_with (zip_with (λ time earlier. time - earlier)) now before
 
--- totals (ns) plus a group's shares of an interval, with these times at its start and end
+-- the totals (ns) after an interval: the shares of the interval are added to them. `before` and
+-- `now` are the group's times on each processor at its start and end.
 abbrev pub with_shares : List ℕ → List (List ℕ) → List (List ℕ) → List ℕ
 with_shares totals before now = plus totals (shares (growths before now))
 
--- The history of a group over ticks: for each tick at which it is live, the time and the group's
--- totals (ns). Such a tick adds the shares of the interval since the previous tick, at which the
--- group's times were these.
+-- The history of a group over a list of ticks: for each tick at which it is live, the tick's time
+-- and the group's totals (ns). Such a tick adds the shares of the interval since the previous tick.
+-- `before` and `totals` are the group's times and its totals before the first tick.
 abbrev pub history_from : GroupLife → ℕ → List (List ℕ) → List ℕ → List Tick → List (ℕ × List ℕ)
 history_from life slot before totals [] = []
 history_from life slot before totals (tick ∷ ticks) =
@@ -43,61 +44,61 @@ history_from life slot before totals (tick ∷ ticks) =
     ∷ history_from life slot (row_at tick slot) (with_shares totals before (row_at tick slot)) ticks
     else history_from life slot (row_at tick slot) totals ticks
 
--- the history of the group in a slot, from before the first tick, on n processors
+-- the history of the group in `slot` over a list of ticks from the first, on `cpus` processors
 abbrev pub history_of : ℕ → List GroupLife → List Tick → ℕ → List (ℕ × List ℕ)
 history_of cpus lives ticks slot = history_from (life_of lives slot) slot (no_row cpus) no_totals ticks
 
 -- ---- totals and averages
 
--- the totals (ns) at the last tick of a history, or these totals if it is empty
+-- the totals (ns) at the end of a history, or `before` if the history is empty
 abbrev pub last_totals : List ℕ → List (ℕ × List ℕ) → List ℕ
 last_totals before [] = before
 last_totals before (tick ∷ history) = last_totals tick.1 history
 
--- the totals (ns) of a group after ticks: the last of its history
+-- the totals (ns) of a group after a list of ticks
 unfoldable pub totals_after : ℕ → List GroupLife → List Tick → ℕ → List ℕ
 totals_after cpus lives ticks slot = last_totals no_totals (history_of cpus lives ticks slot)
 
--- the averages of a group after ticks: they start when the group is created, and take in each tick
--- of its history
+-- the averages of a group after a list of ticks: they start when the group is created, and each
+-- tick of its history is a step
 unfoldable pub group_averages : ℕ → List GroupLife → List Tick → ℕ → AverageState
 group_averages cpus lives ticks slot = averages_after (life_of lives slot).made (history_of cpus lives ticks slot)
 
 -- ---- signals
 
--- the state that a trigger watches
+-- the state that a trigger watches, for example memory `some`
 abbrev pub watched_state : TriggerSpec → State
 watched_state trigger = state_of trigger.res trigger.level
 
--- the initial total (ns) of a trigger: that of its state at the last tick strictly before its line,
--- or 0 if its group was sampled at none
+-- The initial total (ns) of a trigger: the total of the state that it watches at the last tick
+-- strictly before it was set, or 0 if its group wasn't sampled before.
 abbrev pub first_value : TriggerSpec → List (ℕ × List ℕ) → ℕ
 first_value trigger history =
     at_state (last_totals no_totals (filter (λ (at : ℕ × List ℕ). nat_lt at.0 trigger.at) history)) (watched_state trigger)
 
--- what a trigger sees after its line: each tick at which its group is live, with the total (ns) of
--- its state
+-- the ticks that a trigger sees: all ticks of its group's history at or after it was set, each with
+-- the total (ns) of the state that it watches
 abbrev pub seen_by : TriggerSpec → List (ℕ × List ℕ) → List (ℕ × ℕ)
 seen_by trigger history =
     map (λ (at : ℕ × List ℕ). (at.0, at_state at.1 (watched_state trigger))) (filter (λ (at : ℕ × List ℕ). nat_le trigger.at at.0) history)
 
--- a trigger after ticks
+-- the state of a trigger after its group's history
 abbrev pub trigger_over : TriggerSpec → List (ℕ × List ℕ) → TriggerState
 trigger_over trigger history =
     trigger_after (new_trigger trigger.at (first_value trigger history) trigger.threshold_us trigger.window_us) (seen_by trigger history)
 
--- A trigger fires at a tick after other ticks: its group is live then, its line isn't later, and it
--- fires on the total of its state.
+-- The trigger fires at `tick` after the earlier `ticks`: its group is live at the tick, it was set
+-- at or before the tick, and the total of the state that it watches makes it fire.
 unfoldable pub has_fired : ℕ → List GroupLife → List Tick → Tick → TriggerSpec → Bool
 has_fired cpus lives ticks tick trigger =
     is_live_at (life_of lives trigger.slot.0) tick.at && nat_le trigger.at tick.at
     && fires (trigger_over trigger (history_of cpus lives ticks trigger.slot.0)) tick.at
     (at_state (totals_after cpus lives (ticks ++ tick ∷ []) trigger.slot.0) (watched_state trigger))
 
--- the trigger with this number (from 0) fires
+-- trigger number `i` (from 0) fires at `tick`
 abbrev pub fires_by_number : ℕ → List GroupLife → List TriggerSpec → List Tick → Tick → ℕ → Bool
 fires_by_number cpus lives triggers ticks tick i = is_some_and (slice_get triggers i) (has_fired cpus lives ticks tick)
 
--- the numbers of the triggers that fire at a tick after other ticks, ascending
+-- the numbers of the triggers that fire at `tick` after the earlier `ticks`, ascending
 unfoldable pub fired_at : ℕ → List GroupLife → List TriggerSpec → List Tick → Tick → List ℕ
 fired_at cpus lives triggers ticks tick = filter (fires_by_number cpus lives triggers ticks tick) (range_with_len 0 (length triggers))

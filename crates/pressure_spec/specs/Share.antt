@@ -1,31 +1,31 @@
--- How long a group was in each state in an interval, and how long interrupts took from it, over all
--- processors: the kernel's collect_percpu_times.
+-- The shares of an interval: how long a group was in each state, and how long interrupts took from
+-- it, as a weighted mean over all processors. This is the kernel's collect_percpu_times.
 use Rattle.std.specs.Prelude.{ℕ, ◌+◌, ◌*◌, ◌/◌, max, List, [], ◌∷◌, map, sum_by, slice_index}
 use Rattle.psi_base.specs.declared.event.State.{State}
 use Rattle.psi_base.specs.declared.event.State.TheVariants.{Nonidle}
 use Rattle.psi_spec.specs.Stall.{state_number}
 
--- f applied to the elements of two lists, position by position
+-- the results of `f` for the elements at the same positions of two lists
 abbrev pub zip_with : {A B C : Type 0} → (A → B → C) → List A → List B → List C
 zip_with f [] ys = []
 zip_with f (x ∷ xs) [] = []
 zip_with f (x ∷ xs) (y ∷ ys) = f x y ∷ zip_with f xs ys
 
--- The times (ns) of a group on a processor: one for each of the seven states, ordered by number,
--- followed, at this place, by the time that interrupts took.
+-- The index of interrupt time in the times (ns) of a group on a processor. The times in the seven
+-- states come before it, in the order of the states' numbers.
 abbrev pub irq_place : ℕ
 irq_place = 7
 
--- the pressure quantities, each by its place in a list of times: all states except nonidle, and
+-- the indexes of the pressure quantities in a list of times: all states except nonidle, and
 -- interrupt time
 abbrev pub pressure_places : List ℕ
 pressure_places = 0 ∷ 1 ∷ 2 ∷ 3 ∷ 4 ∷ 5 ∷ irq_place ∷ []
 
--- the place of interrupt time in a list with one number for each pressure quantity: the last
+-- the index of interrupt time in a list with one number for each pressure quantity: the last
 abbrev pub irq_quantity : ℕ
 irq_quantity = 6
 
--- the number for a state in a list that begins with one number for each state
+-- the number of a state in a list that begins with one number for each state
 abbrev pub at_state : List ℕ → State → ℕ
 at_state numbers state = slice_index numbers (state_number state)
 
@@ -37,23 +37,24 @@ weight times = at_state times Nonidle / 1000000
 abbrev pub total_weight : List (List ℕ) → ℕ
 total_weight rows = sum_by weight rows
 
--- the sum of the times (ns) at a place, each multiplied by the weight of its processor
+-- the sum of the processors' times (ns) at index `place`, each multiplied by the weight of its
+-- processor
 abbrev pub weighted_time : List (List ℕ) → ℕ → ℕ
 weighted_time rows place = sum_by (λ times. slice_index times place * weight times) rows
 
--- the share (ns) of a quantity, by its place: the weighted mean of the processors' times, rounded
--- down
+-- the share (ns) of the quantity at index `place`: the weighted mean of the processors' times,
+-- rounded down
 abbrev pub share_of : List (List ℕ) → ℕ → ℕ
 share_of rows place = weighted_time rows place / max (total_weight rows) 1
 
--- the shares (ns) of the pressure quantities, from the times of each processor
+-- the shares (ns) of all pressure quantities, from the times on each processor
 unfoldable pub shares : List (List ℕ) → List ℕ
 shares rows = map (share_of rows) pressure_places
 
--- the sums of two lists, position by position
+-- the sums of the elements at the same positions of two lists
 abbrev pub plus : List ℕ → List ℕ → List ℕ
 plus xs ys = zip_with (λ x y. x + y) xs ys
 
--- the totals (ns) of a group without samples
+-- the initial totals (ns) of a group: zeros
 abbrev pub no_totals : List ℕ
 no_totals = map (λ place. 0) pressure_places

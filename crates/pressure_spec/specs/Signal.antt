@@ -1,9 +1,11 @@
--- When a trigger fires: the kernel's window_update and update_triggers, stepped at each tick.
+-- The state of a trigger and when it fires, as in the kernel's window_update and update_triggers.
+-- It is updated at each tick.
 use Rattle.std.specs.Prelude.{ℕ, ◌+◌, ◌-◌, ◌*◌, ◌/◌, List, fold, nat_le, nat_lt, ◌==◌, ◌&&◌, ◌||◌, Bool, true, false, if◌then◌else◌, Option, None, Some}
 
--- A trigger: its threshold and its window (ns); the time at which the window began and the total
--- (ns) then; the total at the last tick; the growth in the previous window; whether an event is
--- pending; and the time of the last signal, if any.
+-- The state of a trigger: its threshold and the length of its window (ns); the time (ns) at which
+-- the current window began, and the total (ns) at that time; the total at the last tick; the growth
+-- in the previous window; whether an event is pending; and the time (ns) of the last signal, if
+-- any.
 pub record TriggerState : Type 0 where
   pub threshold : ℕ
   pub size : ℕ
@@ -14,7 +16,8 @@ pub record TriggerState : Type 0 where
   pub pending : Bool
   pub last_event : Option ℕ
 
--- a trigger that is set at a time (ns) with a total (ns), a threshold and a window (us)
+-- the initial state of a trigger that is set at time `at` (ns) when the total is `value` (ns), with
+-- a threshold and a window (us)
 abbrev pub new_trigger : ℕ → ℕ → ℕ → ℕ → TriggerState
 new_trigger at value threshold_us window_us = record {
   threshold = threshold_us * 1000;
@@ -27,18 +30,18 @@ new_trigger at value threshold_us window_us = record {
   last_event = None;
 }
 
--- the window has expired at this time
+-- the current window has expired at time `now`
 abbrev pub is_over : TriggerState → ℕ → Bool
 is_over old now = nat_lt old.size (now - old.start)
 
--- the growth (ns) of the total in the sliding window: until the window expires, the growth of the
--- previous window counts for the remaining part
+-- The growth (ns) of the total in the sliding window. Until the current window expires, the growth
+-- of the previous window counts in proportion to the time that remains.
 abbrev pub growth : TriggerState → ℕ → ℕ → ℕ
 growth old now value =
     (value - old.start_value) + (if is_over old now then 0 else old.previous * (old.size - (now - old.start)) / old.size)
 
--- a trigger after its total changed: an expired window restarts, and growth that reaches the
--- threshold makes an event pending
+-- The state after the total changed: an expired window restarts, and growth of at least the
+-- threshold makes an event pending.
 abbrev pub grown : TriggerState → ℕ → ℕ → TriggerState
 grown old now value = record {
   threshold = old.threshold;
@@ -51,31 +54,31 @@ grown old now value = record {
   last_event = old.last_event;
 }
 
--- a trigger after the total (ns) of a tick
+-- the state after the total `value` (ns) of a tick at time `now` (ns)
 abbrev pub seen : TriggerState → ℕ → ℕ → TriggerState
 seen old now value = if value == old.last_value then old else grown old now value
 
--- a window has passed since the last signal, or there was none
+-- at least a window has passed since the last signal, or there was no signal
 abbrev pub is_free : Option ℕ → ℕ → ℕ → Bool
 is_free None size now = true
 is_free (Some last) size now = nat_le (last + size) now
 
--- the trigger signals its pending event now
+-- the trigger signals a pending event at time `now`
 abbrev pub signals : TriggerState → ℕ → Bool
 signals trigger now = trigger.pending && is_free trigger.last_event trigger.size now
 
--- a trigger after its pending event was signalled, if it was
+-- the state after the pending event was signalled, if the trigger signals at time `now`
 abbrev pub settled : TriggerState → ℕ → TriggerState
 settled trigger now = if signals trigger now then record trigger { pending = false; last_event = Some now } else trigger
 
--- a trigger after a tick at a time (ns) with a total (ns)
+-- the state after a tick at time `now` (ns) with the total `value` (ns)
 unfoldable pub trigger_step : TriggerState → ℕ → ℕ → TriggerState
 trigger_step old now value = settled (seen old now value) now
 
--- the trigger fires at a tick
+-- the trigger fires at a tick at time `now` (ns) with the total `value` (ns)
 unfoldable pub fires : TriggerState → ℕ → ℕ → Bool
 fires old now value = signals (seen old now value) now
 
--- a trigger's state after `ticks`, pairs of time (ns) and total (ns)
+-- the state after a list of ticks, each given as its time (ns) and its total (ns)
 abbrev pub trigger_after : TriggerState → List (ℕ × ℕ) → TriggerState
 trigger_after trigger ticks = fold (λ state tick. trigger_step state tick.0 tick.1) trigger ticks

@@ -1,5 +1,6 @@
--- The times at which pressure is sampled, and the tables of stall times that a trace gives then.
--- All groups are sampled at the same ticks; the kernel samples each group with a timer of its own.
+-- The ticks, which are the times at which pressure is sampled, and the tables of stall times at the
+-- ticks of a trace. All groups are sampled at the same ticks; the kernel samples each group with a
+-- timer of its own.
 use Rattle.std.specs.Prelude.{ℕ, ◌+◌, ◌++◌, ◌-◌, ◌*◌, ◌/◌, List, [], ◌∷◌, length, map, replicate, nat_lt, ◌==◌, ◌&&◌, ◌||◌, Bool}
 use Rattle.std.specs.List.{range_with_len}
 use Rattle.psi_base.specs.declared.event.Event.{Event}
@@ -9,63 +10,63 @@ use Rattle.psi_spec.specs.Stall.{irq_time, stall, states}
 
 -- ---- ticks
 
--- the time (ns) of the tick with this number (from 1), and 0 for 0
+-- the time (ns) of tick number `i` (from 1); 0 for i = 0
 abbrev pub tick_moment : ℕ → ℕ → ℕ
 tick_moment length i = i * length
 
--- the number of ticks up to and including the end (ns)
+-- the number of ticks up to and including time `end` (ns)
 abbrev pub ticks_until : ℕ → ℕ → ℕ
 ticks_until length end = end / length
 
--- a multiple of the period (ns) is after the previous tick and not after this one
+-- a multiple of the period (ns) is after the previous tick, and at or before tick number `i`
 abbrev pub is_due : ℕ → ℕ → ℕ → Bool
 is_due period length i = nat_lt (tick_moment length (i - 1) / period) (tick_moment length i / period)
 
--- rules are evaluated at a tick if the interval (ns) is due
+-- rules are evaluated at tick number `i` if a multiple of the interval (ns) is due
 abbrev pub is_evaluation : ℕ → ℕ → ℕ → Bool
 is_evaluation interval length i = is_due interval length i
 
--- a tick is reported if the report period (ns) is due, and the last tick always is; 0 means no
--- period
+-- Tick number `i` is reported if a multiple of the report period (ns) is due, or if it is the last
+-- tick. A period of 0 means that only the last tick is reported.
 abbrev pub is_report : ℕ → ℕ → ℕ → ℕ → Bool
 is_report period length last i = i == last || (nat_lt 0 period && is_due period length i)
 
 -- ---- tables
 
--- A tick: its time (ns), and a table by slot, processor and place of the times (ns) up to it in the
--- seven states and of interrupts.
+-- A tick: its time (ns), and a table of the times (ns) of all groups up to it. The table is indexed
+-- by slot, processor and place; the places are the seven states and interrupt time.
 pub record Tick : Type 0 where
   pub at : ℕ
   pub table : List (List (List ℕ))
 
--- the times (ns) of a group on a processor: those in the states, ordered by number, and then
--- interrupt time
+-- the times (ns) of a group on a processor: the times in the states, in the order of their numbers,
+-- followed by interrupt time
 abbrev pub times_with : (State → ℕ) → ℕ → List ℕ
 times_with in_state irq = map in_state states ++ irq ∷ []
 
--- the times (ns) of a group on a processor up to a time
+-- the times (ns) of the group in `slot` on processor `cpu` up to time `at`
 abbrev pub times_until : ℕ → ℕ → List Event → ℕ → List ℕ
 times_until cpu slot events at =
     times_with (λ state. stall state cpu slot (up_to events at) at) (irq_time cpu slot (up_to events at))
 
--- the times (ns) of a group on each of n processors
+-- the times (ns) of a group on each of `cpus` processors up to time `at`
 abbrev pub row_until : ℕ → ℕ → List Event → ℕ → List (List ℕ)
 row_until cpus slot events at = map (λ cpu. times_until cpu slot events at) (range_with_len 0 cpus)
 
--- the times (ns) of all groups that a trace ever creates
+-- the times (ns) up to time `at` of all groups that a trace ever creates
 abbrev pub table_until : ℕ → List Event → ℕ → List (List (List ℕ))
 table_until cpus events at = map (λ slot. row_until cpus slot events at) (range_with_len 0 (length (after events).groups))
 
--- the tick of a trace with this number (from 1)
+-- tick number `i` (from 1) of a trace
 abbrev pub tick_of : ℕ → List Event → ℕ → ℕ → Tick
 tick_of cpus events length i = record { at = tick_moment length i; table = table_until cpus events (tick_moment length i) }
 
--- the first n ticks of a trace
+-- the first `count` ticks of a trace
 unfoldable pub ticks_of : ℕ → List Event → ℕ → ℕ → List Tick
 ticks_of cpus events length count = map (tick_of cpus events length) (range_with_len 1 count)
 
 -- ---- before the first tick
 
--- before the first tick all times are 0 on each of n processors
+-- the times of a group before the first tick: all are 0, on each of `cpus` processors
 abbrev pub no_row : ℕ → List (List ℕ)
 no_row cpus = replicate cpus (times_with (λ state. 0) 0)

@@ -1,36 +1,40 @@
--- Bounds of times, totals and averages.
+-- Upper bounds of times, shares, totals and averages.
 use Rattle.std.specs.Prelude.{ℕ, ◌<◌, ◌≤◌, List, sum_by, slice_index, ◌≡◌, ◌+◌, length, All}
 use Rattle.pressure_spec.specs.Share.{pressure_places}
 use Rattle.pressure_spec.specs.Share.{irq_place, irq_quantity}
 use Rattle.pressure_spec.specs.Average.{period, AverageState}
 
--- the sum over all processors of the times (ns) at a place
+-- the sum of the times at index `place` over all processors
 abbrev pub time_sum : List (List ℕ) → ℕ → ℕ
 time_sum rows place = sum_by (λ times. slice_index times place) rows
 
--- The upper bound of an interrupt total (ns): 64 processors times the latest time of a trace.
+-- An upper bound of an interrupt total (ns): 64 processors times the latest time of a trace,
+-- rounded up.
 abbrev pub most_irq_total : ℕ
 most_irq_total = 4000000000000000000
 
--- times (ns) on a processor: at most `most` in each state, and at most `most_irq` of interrupts
+-- the times (ns) on a processor are at most `most` in each state, and at most `most_irq` for
+-- interrupts
 pub record AreTimesWithin (most most_irq : ℕ) (times : List ℕ) : Type 0 where
   pub states : (place : ℕ) → place < irq_place → slice_index times place ≤ most
   pub irq : slice_index times irq_place ≤ most_irq
 
--- shares or totals (ns): at most `most` of each state, and at most `most_irq` of interrupts
+-- the shares or totals (ns) are at most `most` for each state, and at most `most_irq` for
+-- interrupts
 pub record AreAmountsWithin (most most_irq : ℕ) (amounts : List ℕ) : Type 0 where
   pub states : (quantity : ℕ) → quantity < irq_quantity → slice_index amounts quantity ≤ most
   pub irq : slice_index amounts irq_quantity ≤ most_irq
 
 -- ---- the range of averages
 
--- three averages of at most 100 percent
+-- the row has three averages of at most 100 percent
 pub record IsRow (row : List ℕ) : Type 0 where
   pub three : length row ≡ 3
   pub most : All (λ average. average ≤ 204800) row
 
--- The next update is due after the last one and at most a period after it, there are a sample and
--- three averages for each pressure quantity, and no average is above 100 percent.
+-- The invariant of a group's averages: the next update is due after the last update and at most a
+-- period after it; there are a sampled part and three averages for each pressure quantity; and no
+-- average is above 100 percent.
 pub record IsAverageState (s : AverageState) : Type 0 where
   pub later : s.last < s.next
   pub soon : s.next ≤ s.last + period

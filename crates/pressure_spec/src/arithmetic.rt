@@ -1,19 +1,20 @@
-//! Laws of the arithmetic of pressure: averages, shares and triggers. Each function has an empty
+//! Laws about the arithmetic of pressure: averages, shares and triggers. Each function has an empty
 //! body: its contract is the law.
 
 ghost use Rattle.pressure_spec.specs.Laws.{AtMostHundred, CarriesTheRest, FallsWhenFree, FiredApart, GroupsAtMostHundred, IdleHasNone, IrqTotalBound, LoadApproaches};
 ghost use Rattle.pressure_spec.specs.Laws.{NextSharesWithin, PendingIsSignalled, PowerHalves, QuietWhenStill, RemembersLast, RisesWhenStalled, SamplesWithinTotal, ShareIsMean};
 ghost use Rattle.pressure_spec.specs.Laws.{ShareSumFits, ShareWithinSum, SharesWithin, SignalsApart, TotalIsSum, TotalsGrow, TotalsNeverFall, TotalsWithin};
 
-/// Fixed-point numbers: powers are computed by squaring, and an average moves toward what is active
-/// and never past it.
+/// Fixed-point arithmetic: powers are computed by squaring, and an average moves toward the active
+/// pressure and never past it.
 pub fn law_fixed_point()
     ensures power { PowerHalves }
     ensures load { LoadApproaches }
 {}
 
-/// The averages of a group never exceed 100 percent. They rise while all time is stalled and fall
-/// while none is. What an update can't sample is carried over to a later one.
+/// The averages of a group never exceed 100 percent. They rise while the whole time is stalled, and
+/// fall while nothing is. The part of a total that an update can't sample is left for later
+/// updates.
 pub fn law_averages()
     ensures most { AtMostHundred }
     ensures rises { RisesWhenStalled }
@@ -22,8 +23,9 @@ pub fn law_averages()
     ensures within { SamplesWithinTotal }
 {}
 
-/// The signals of a trigger: two are at least a window apart, a pending event is signalled as soon
-/// as this allows it, and there is none while the total equals that at which the trigger was set.
+/// Two signals of a trigger are at least a window apart, a pending event is signalled at the first
+/// tick at which this is possible, and a trigger doesn't signal while the total stays at its
+/// initial value.
 pub fn law_signals()
     ensures apart { SignalsApart }
     ensures pending { PendingIsSignalled }
@@ -31,8 +33,8 @@ pub fn law_signals()
     ensures quiet { QuietWhenStill }
 {}
 
-/// The shares of an interval: a weighted mean of the processors' times, and 0 if the group was
-/// idle. The totals are their sums.
+/// The shares of an interval are weighted means of the processors' times, and 0 if the group was
+/// idle. The totals are sums of shares.
 pub fn law_shares()
     ensures mean { ShareIsMean }
     ensures within { SharesWithin }
@@ -42,9 +44,9 @@ pub fn law_shares()
     ensures totals { TotalsGrow }
 {}
 
-/// Groups over any list of ticks: a total is the sum of its shares, so it never falls, and it fits
-/// its counter. No average exceeds 100 percent, and two signals of a trigger are at least a window
-/// apart.
+/// For groups over any list of ticks: a total is the sum of its shares, so it never decreases, and
+/// it is bounded, so it fits its counter. No average exceeds 100 percent, and two signals of a
+/// trigger are at least a window apart.
 pub fn law_ticks()
     ensures sum { TotalIsSum }
     ensures unchanged { TotalsNeverFall }

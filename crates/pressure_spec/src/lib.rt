@@ -1,8 +1,11 @@
-//! The definition of pressure: shares of an interval, totals, averages and the signals of triggers.
-//! No code runs here: aggregate and tick_engine compute what these definitions specify.
+//! The definition of pressure: the shares of an interval, totals, averages and the signals of
+//! triggers, and laws about them. No code runs here: the crates aggregate and tick_engine compute
+//! what these definitions specify.
 //!
-//! In `specs/`: `Share`, `Average`, `Signal`, `Ticks`, `Samples` and `File`, and their laws in
-//! `Laws`.
+//! Read the files of `specs/` in this order: `Share` (how long a group was stalled in an interval),
+//! `Average` (the averages over 10, 60 and 300 s), `Within` (upper bounds), `Signal` (when a
+//! trigger fires), `Ticks` (the ticks of a trace), `NextTick` (successive ticks), `Samples` (groups
+//! over ticks), `File` and `Printed` (pressure files) and `Laws`.
 #![tactic(auto)]
 
 mod arithmetic;

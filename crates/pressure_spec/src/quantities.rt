@@ -1,19 +1,19 @@
-//! The pressure quantities, each identified by its place.
+//! The pressure quantities and the types for their values. A quantity is identified by its index.
 
-/// The number of times stored for a group on a processor: one for each of the seven states, and
-/// interrupt time.
+/// The number of times that are stored for a group on a processor: one for each of the seven
+/// states, and interrupt time.
 pub const TIMES: usize = 8;
 
 /// The number of pressure quantities: all states except nonidle, and interrupt time.
 pub const QUANTITIES: usize = 7;
 
-/// The times of a group on a processor (ns): one for each state, in the order of the states, and
-/// then interrupt time.
+/// The times (ns) of a group on a processor: one for each state, in the order of the states,
+/// followed by interrupt time.
 pub type Times = [u64; TIMES];
 
 /// A number for each pressure quantity, such as its share of an interval or its total (ns): the
-/// states except nonidle, in their order, and then interrupt time.
+/// states except nonidle, in their order, followed by interrupt time.
 pub type Amounts = [u64; QUANTITIES];
 
-/// The averages of each quantity over 10, 60 and 300 seconds, in fixed point.
+/// The averages of each quantity over 10, 60 and 300 s, as fixed-point numbers.
 pub type AverageRows = [[u64; 3]; QUANTITIES];
