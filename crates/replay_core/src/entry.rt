@@ -1,4 +1,6 @@
-//! The public call of `psi_oomd`, with all that is promised about it.
+//! The entry point of `psi_oomd`: `run` runs one command line. Its contract is the specification of
+//! the whole program; the definitions that it uses are in the crate run_spec. Parsing words,
+//! reading files and replaying traces are done in other modules and crates.
 ghost use Rattle.std.specs.Prelude.{◌≡◌, ◌⊎◌, ◌≢◌, ◌+◌, ◌≤◌, ◌++◌, ℕ, List, Option, Some, None, Ok, Err, codes, map, string_bytes};
 ghost use Rattle.std.specs.Io.KnownBytes.{Appends, Keeps};
 ghost use Rattle.psi_base.specs.Memory.{no_memory};
@@ -34,7 +36,7 @@ use run_spec::{Command, Status};
 use std::alloc::Global;
 use std::thread::Threads;
 
-// Runs a command, and writes its output in large pieces.
+// Runs a command, and collects its output in a buffer so that it is written in large pieces.
 fn run_buffered<R: Threads + Sync, S: Shelf, K: Sink, G: Gate>(
     rt: &R,
     alloc: Global,
@@ -70,10 +72,13 @@ fn run_buffered<R: Threads + Sync, S: Shelf, K: Sink, G: Gate>(
     }
 }
 
-/// Runs the command of these words, the command line without the program's name. Writes the output
-/// to `out`, and the message of the status to `note`: one line, or nothing for `Done`. A failed
-/// write to `note` doesn't change the status. The threads of a replay call `gate` after each change
-/// that they made.
+/// Runs one command line.
+///
+/// `words` is the command line without the program's name. The files are read from `shelf` (the
+/// file store), the output is written to `out`, and the message of the status to `note` (standard
+/// error): one line, or nothing for `Done`. A failed write to `note` doesn't change the status.
+/// `gate` is a hook for tests, which may pause a thread but changes no result: the threads of a
+/// replay call it after each change of a processor's clocks, and before and after each live sample.
 pub fn run<R: Threads + Sync, S: Shelf, K: Sink, N: Sink, G: Gate>(
     rt: &R,
     alloc: Global,
@@ -83,17 +88,17 @@ pub fn run<R: Threads + Sync, S: Shelf, K: Sink, N: Sink, G: Gate>(
     note: &mut N,
     gate: &G,
 ) -> Status
-    // Files are unchanged.
+    // The run doesn't change the files.
     ensures unchanged { S.holds shelf.new ≡ S.holds shelf.old }
 
-    // The result is Usage only if the words aren't a command. Such words give Usage unless memory
-    // runs out.
+    // The result is Usage only if the words don't form a command. For such words the result is
+    // Usage, or NoMemory if memory runs out.
     ensures usage { result ≡ Status.Usage → command_of (map string_bytes words.now) ≡ None }
     ensures unknown { command_of (map string_bytes words.now) ≡ None →
         (result ≡ Status.Usage) ⊎ (result ≡ Status.NoMemory no_memory) }
 
-    // What each status says about the command's files and the output, and which failure counts
-    // increased.
+    // The general contract: what each status implies for the command's files and the output, and
+    // which failure counts increased. The clauses after this one say it for single commands.
     ensures runs { (command : Command) →
         command_of (map string_bytes words.now) ≡ Some command →
         Runs command (S.holds shelf.old)
@@ -101,10 +106,11 @@ pub fn run<R: Threads + Sync, S: Shelf, K: Sink, N: Sink, G: Gate>(
         (run_counts (S.faults shelf.new) (S.absent shelf.new) (K.faults out.new))
         (K.has out.old) (K.has out.new) result }
 
-    // The headline: if a replay is done, exactly a text was appended to the output that the
-    // definitions give for its trace and its rules, which are those of its rules file with the
-    // drop-in file applied. With `--live` each live line may have the clocks after any number of
-    // its processor's changes, from their number at the previous tick to their number at its own.
+    // The main result: if `replay` returns Done, it appended to the output exactly a text that the
+    // specification defines for the trace and the rules. The rules come from the rules file with
+    // the drop-in file applied. With `--live` there are several such texts, because a live line may
+    // show a processor's clocks after any number of changes between the count at the previous tick
+    // and the count at the line's own tick.
     ensures headline { (name bytes : List ℕ) (options : Options) (rules : List Rule) →
         command_of (map string_bytes words.now) ≡ Some (Command.Replay name options) →
         HasContent (Command.Replay name options) TraceFile (S.holds shelf.old) bytes →
@@ -114,7 +120,8 @@ pub fn run<R: Threads + Sync, S: Shelf, K: Sink, N: Sink, G: Gate>(
         × ((text : List ℕ) × IsReplayText trace (timing_of options) rules text
         × Appends (K.has out.old) (K.has out.new) text) }
 
-    // Without `--live` there is exactly one such text.
+    // Without `--live` the specification defines exactly one text: if `replay` returns Done, it
+    // appended `replay_text`.
     ensures alone { (name bytes : List ℕ) (options : Options) (rules : List Rule) →
         command_of (map string_bytes words.now) ≡ Some (Command.Replay name options) →
         options.live ≡ None →
@@ -125,8 +132,8 @@ pub fn run<R: Threads + Sync, S: Shelf, K: Sink, N: Sink, G: Gate>(
         × Appends (K.has out.old) (K.has out.new)
         (replay_text trace (timing_of options) (with_rules rules)) }
 
-    // If `import` is done, exactly the text of the trace was appended to the output that the
-    // definition gives for the bytes.
+    // If `import` returns Done, it appended to the output exactly the text of the trace that
+    // `import_of` defines for the bytes of the ftrace text.
     ensures imported { (name bytes : List ℕ) (cpus : ℕ) →
         command_of (map string_bytes words.now) ≡ Some (Command.Import name cpus) →
         HasContent (Command.Import name cpus) ImportFile (S.holds shelf.old) bytes →
@@ -134,23 +141,24 @@ pub fn run<R: Threads + Sync, S: Shelf, K: Sink, N: Sink, G: Gate>(
         (events : List Event) × (import_of cpus bytes ≡ Ok events)
         × Appends (K.has out.old) (K.has out.new) (text_of (import_trace cpus events)) }
 
-    // If `rules` is done, exactly the text of the rules and a newline were appended to the output.
+    // If `rules` returns Done, it appended to the output exactly the text of the rules and a
+    // newline.
     ensures printed { (name : List ℕ) (drop_in : Option (List ℕ)) (rules : List Rule) →
         command_of (map string_bytes words.now) ≡ Some (Command.Rules name drop_in) →
         RulesContent (Command.Rules name drop_in) (S.holds shelf.old) rules →
         result ≡ Status.Done →
         Appends (K.has out.old) (K.has out.new) (rules_text rules ++ codes "\n") }
 
-    // Accepted rules are printed, unless a read or write failed or memory ran out.
+    // If the rules are accepted, `rules` returns Done, unless a read or a write fails or memory
+    // runs out.
     ensures prints { (name : List ℕ) (drop_in : Option (List ℕ)) →
         command_of (map string_bytes words.now) ≡ Some (Command.Rules name drop_in) →
         PrintsRules name drop_in (S.holds shelf.old)
         (run_counts (S.faults shelf.old) (S.absent shelf.old) (K.faults out.old))
         (run_counts (S.faults shelf.new) (S.absent shelf.new) (K.faults out.new)) result }
 
-    // If `whatif` is done, exactly the text was appended to the output that the definitions give
-    // for the last trace: what is left after the victims of the kills were removed from the trace,
-    // one after another.
+    // If `whatif` returns Done, it appended to the output exactly the replay of the last trace. The
+    // last trace is what remains after the victims of the kills were removed, one kill per round.
     ensures supposed { (name bytes : List ℕ) (options : Options) (rules : List Rule) →
         command_of (map string_bytes words.now) ≡ Some (Command.Whatif name options) →
         HasContent (Command.Whatif name options) TraceFile (S.holds shelf.old) bytes →
@@ -162,7 +170,8 @@ pub fn run<R: Threads + Sync, S: Shelf, K: Sink, N: Sink, G: Gate>(
         × Appends (K.has out.old) (K.has out.new)
         (replay_text last (timing_of options) (with_rules rules)) }
 
-    // The result is TooLarge only if a round left that number of events. Then nothing is written.
+    // The result is TooLarge only if a round of `whatif`, which removes one kill's victim from the
+    // trace, left `events` events, which is more than a trace may have. Then nothing is written.
     ensures outgrown { (name bytes : List ℕ) (options : Options) (rules : List Rule)
         (events : ℕ) →
         command_of (map string_bytes words.now) ≡ Some (Command.Whatif name options) →
@@ -174,50 +183,52 @@ pub fn run<R: Threads + Sync, S: Shelf, K: Sink, N: Sink, G: Gate>(
         × (last_trace trace (timing_of options) rules ≡ Err events)
         × Keeps (K.has out.old) (K.has out.new) }
 
-    // If the file and the rules are accepted, the run ends as specified, with the whole output, or
-    // as TooLarge if a round of `whatif` leaves too many events; unless a read or write failed or
-    // memory ran out.
+    // If the rules and the trace or ftrace text are accepted, the result is Done with the whole
+    // output, or TooLarge if a round of `whatif` leaves too many events, unless a read or a write
+    // fails or memory runs out.
     ensures complete { (command : Command) →
         command_of (map string_bytes words.now) ≡ Some command →
         Completes command (S.holds shelf.old)
         (run_counts (S.faults shelf.old) (S.absent shelf.old) (K.faults out.old))
         (run_counts (S.faults shelf.new) (S.absent shelf.new) (K.faults out.new)) result }
 
-    // A rejected rules file gives its first error with its place, unless a read of that file failed
-    // or memory ran out.
+    // If the rules file is rejected, the result is the status with its first error and the position
+    // of that error, unless a read of that file fails or memory runs out.
     ensures faulty { (command : Command) →
         command_of (map string_bytes words.now) ≡ Some command →
         RejectsRules command (S.holds shelf.old) (S.reads shelf.old) (S.reads shelf.new) result }
 
-    // A rejected drop-in file for accepted rules gives its first error with its place, unless a
-    // read of one of the two files failed or memory ran out.
+    // If the rules file is accepted and the drop-in file is rejected, the result is the status with
+    // the first error of the drop-in file and its position, unless a read of one of the two files
+    // fails or memory runs out.
     ensures dropped { (command : Command) →
         command_of (map string_bytes words.now) ≡ Some command →
         RejectsDropIn command (S.holds shelf.old) (S.reads shelf.old) (S.reads shelf.new) result }
 
-    // After accepted rules, a rejected file gives the status of its first rejected line with the
-    // cause, unless a read failed or memory ran out.
+    // If the rules are accepted and the trace or ftrace text is rejected, the result is the status
+    // with its first rejected line and the cause, unless a read fails or memory runs out.
     ensures refuses { (command : Command) →
         command_of (map string_bytes words.now) ≡ Some command →
         RejectsSource command (S.holds shelf.old)
         (run_counts (S.faults shelf.old) (S.absent shelf.old) (K.faults out.old))
         (run_counts (S.faults shelf.new) (S.absent shelf.new) (K.faults out.new)) result }
 
-    // A command that reads no file ends with its whole output, unless a write failed or memory ran
-    // out.
+    // If the command reads no file, the result is Done with the whole output, unless a write fails
+    // or memory runs out.
     ensures made { (command : Command) →
         command_of (map string_bytes words.now) ≡ Some command →
         MakesOutput command
         (run_counts (S.faults shelf.old) (S.absent shelf.old) (K.faults out.old))
         (run_counts (S.faults shelf.new) (S.absent shelf.new) (K.faults out.new)) result }
 
-    // A failure count increased exactly if the status reports that failure.
+    // A failure count (failed reads, missing files, failed writes) increased exactly if the status
+    // reports that failure.
     ensures counts { FailuresAreCounted
         (run_counts (S.faults shelf.old) (S.absent shelf.old) (K.faults out.old))
         (run_counts (S.faults shelf.new) (S.absent shelf.new) (K.faults out.new)) result }
 
-    // Whatever the size of its files and the result, a command reads at most this many bytes. Words
-    // that aren't a command read none.
+    // Whatever the size of its files and the result, a command reads at most `most_read` bytes. If
+    // the words don't form a command, nothing is read.
     ensures reads { (command : Command) →
         command_of (map string_bytes words.now) ≡ Some command →
         S.bytes_read shelf.new ≤ S.bytes_read shelf.old + most_read command }
@@ -228,24 +239,26 @@ pub fn run<R: Threads + Sync, S: Shelf, K: Sink, N: Sink, G: Gate>(
 
     // A command reads its files in order: the rules file, then the drop-in file, then the trace or
     // the ftrace text. Each is read from its first byte without gaps, and nothing is read after a
-    // failed read. ReadFault is a failed read of a file after those before it were accepted.
+    // failed read. If the result is ReadFault, the files before the failed one were accepted.
     ensures order { (command : Command) →
         command_of (map string_bytes words.now) ≡ Some command →
         ReadsInOrder command (S.holds shelf.old) (S.reads shelf.old) (S.reads shelf.new) result }
 
-    // Reading stops at the first rejected line of a trace or of an ftrace text. If that line is the
-    // result, at most the files of rules, the lines before it and the buffered bytes were read. A
-    // failed read is the result only if that line was incomplete.
+    // Reading stops at the first rejected line of a trace or of an ftrace text. If the result
+    // reports that line, at most the rules file, the drop-in file, the lines before the rejected
+    // line, and the buffered bytes were read. If a read fails although the file has a rejected
+    // line, that line was incomplete in the bytes read before the failure.
     ensures stops { (command : Command) →
         command_of (map string_bytes words.now) ≡ Some command →
         StopsAtRefusal command (S.holds shelf.old) (S.bytes_read shelf.old) (S.bytes_read shelf.new)
         result }
 
-    // Only Done and WriteFault write to the output.
+    // Unless the result is Done or WriteFault, the output is unchanged.
     ensures quiet { result ≢ Status.Done → result ≢ Status.WriteFault →
         Keeps (K.has out.old) (K.has out.new) }
 
-    // The message of the status was written to `note`: all of it, or a prefix if a write failed.
+    // The message of the status was appended to `note`: the whole message if no write to `note`
+    // failed, and a prefix of it in any case.
     ensures note { (Increased (N.faults note.old) (N.faults note.new) → ⊥) →
         Appends (N.has note.old) (N.has note.new)
         (status_text (command_of (map string_bytes words.now)) result) }
