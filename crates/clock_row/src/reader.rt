@@ -125,7 +125,7 @@ impl ClockReader {
 
     /// Tries once to sample the clocks of all slots after one number of changes, which it returns.
     /// `into` needs an entry for each slot; after `Busy` it contains arbitrary clocks. Does not
-    /// allocate. No command calls it: a program that embeds the crate does.
+    /// allocate. The programs of this repository don't call it.
     pub fn try_sample_all(&mut self, into: &mut [Clock]) -> Result<u64, Busy>
         requires { length into.old ≡ length self.old.knows.plan.parents }
         ensures row { self.new.row ≡ self.old.row }

@@ -166,8 +166,8 @@ impl Tree {
         parent_of(&self.lives, slot)
     }
 
-    /// The slots from a group to the root, each followed by its parent. No command calls it: a
-    /// program that embeds the crate does.
+    /// The slots from a group to the root, each followed by its parent. The programs of this
+    /// repository don't call it.
     pub fn chain(&self, slot: Slot) -> Chain<'_>
         requires made { slot.0 < length self.now }
         ensures { result ≡ chain_of self.now slot.0 }

@@ -221,7 +221,7 @@ impl Lines {
     /// inside a line of at most 512 bytes. `NoFile` and `ReadFault` only if the shelf counted an
     /// absent name or a fault in this call, and `ReadFault` only if no complete line is buffered.
     ///
-    /// No command calls it: a program that embeds the crate does.
+    /// The programs of this repository don't call it.
     pub fn next<S: Shelf>(&mut self, shelf: &mut S) -> Result<Option<Line>, LineFault>
         requires { self.old.number < 2 ^ 32 }
         ensures unchanged { S.holds shelf.new ≡ S.holds shelf.old }

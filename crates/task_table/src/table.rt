@@ -265,8 +265,8 @@ impl Table {
         })
     }
 
-    /// The first cause against the event, or `None` if it is legal. No command calls it: a program
-    /// that embeds the crate does.
+    /// The first cause against the event, or `None` if it is legal. The programs of this repository
+    /// don't call it.
     pub fn check(&self, event: &Event) -> Option<Cause>
         ensures cause { result ≡ cause_of self.now.limits self.now.world event.now }
         ensures room { IfNone result (self.now.world.lines < most_events) }
@@ -301,7 +301,7 @@ impl Table {
     }
 
     /// Advances the world like [`Table::play`], and returns the event's changes of the processors
-    /// that it touches. No command calls it: a program that embeds the crate does.
+    /// that it touches. The programs of this repository don't call it.
     pub fn step(&mut self, event: &Event) -> Result<Touch, Fault<Cause>>
         ensures plays { PlaysEvent self.old event.now self.new result }
         ensures touch { IfOk result (λ touch.
