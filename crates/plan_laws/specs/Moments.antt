@@ -1,5 +1,5 @@
--- Properties of a trace at a time: how stall time and interrupt time grow, which groups are live,
--- also sorted by path, and which triggers were set.
+-- Laws of a trace at a given time (ns): how stall time and interrupt time grow, which groups are
+-- live (also sorted by path), and which triggers are set.
 use Rattle.std.specs.Prelude.{◌≡◌, ℕ, ◌+◌, ◌-◌, ◌≤◌, List, length, map, take, filter, slice_get, slice_index_or, nat_le, All, IfSome, Bool, Some}
 use Rattle.std.specs.List.Sorted.{IsNonDecreasingBy}
 use Rattle.psi_base.specs.declared.event.State.{State}
@@ -17,97 +17,98 @@ use Rattle.psi_spec.specs.Within.{AreTriggersWithin}
 
 -- ---- stall time
 
--- From one time to a later one, stall time never decreases, and grows by at most the difference.
+-- Between two times (ns), stall time never decreases, and grows by at most the elapsed time.
 abbrev pub StallGrows : Type 0
 StallGrows = (limits : Limits) (events : List Event) → AreLegal limits first_world events →
     (state : State) (cpu slot at later : ℕ) → at ≤ later →
     (stall state cpu slot (up_to events at) at ≤ stall state cpu slot (up_to events later) later)
     × (stall state cpu slot (up_to events later) later ≤ stall state cpu slot (up_to events at) at + (later - at))
 
--- Stall time up to a time is at most that time.
+-- The stall time up to a time (ns) is at most that time.
 abbrev pub StallIsWithin : Type 0
 StallIsWithin = (limits : Limits) (events : List Event) → AreLegal limits first_world events →
     (state : State) (cpu slot at : ℕ) → stall state cpu slot (up_to events at) at ≤ at
 
--- At time 0 it is 0.
+-- The stall time at time 0 is 0.
 abbrev pub NoStallAtFirst : Type 0
 NoStallAtFirst = (limits : Limits) (events : List Event) → AreLegal limits first_world events →
     (state : State) (cpu slot : ℕ) → stall state cpu slot (up_to events 0) 0 ≡ 0
 
 -- ---- interrupt time
 
--- From one time to a later one, interrupt time never decreases, and grows by at most the difference
--- plus a second: an event's interrupts may have begun a second before it, and those of later events
--- begin no sooner than that event.
+-- Between two times (ns), interrupt time never decreases, and grows by at most the elapsed time
+-- plus one second: the interrupts of an event may have begun up to one second before the event, and
+-- the interrupts of later events on the processor begin no sooner than that event.
 abbrev pub IrqGrows : Type 0
 IrqGrows = (limits : Limits) (events : List Event) → AreLegal limits first_world events → limits.cpus ≤ most_cpus →
     (cpu slot at later : ℕ) → at ≤ later →
     (irq_time cpu slot (up_to events at) ≤ irq_time cpu slot (up_to events later))
     × (irq_time cpu slot (up_to events later) ≤ irq_time cpu slot (up_to events at) + (later - at) + longest_irq)
 
--- Interrupt time up to a time is at most that time, since interrupts of one processor don't
--- overlap.
+-- The interrupt time up to a time (ns) is at most that time, because the interrupts of one
+-- processor don't overlap.
 abbrev pub IrqIsWithin : Type 0
 IrqIsWithin = (limits : Limits) (events : List Event) → AreLegal limits first_world events → limits.cpus ≤ most_cpus →
     (cpu slot at : ℕ) → irq_time cpu slot (up_to events at) ≤ at
 
--- At time 0 it is 0.
+-- The interrupt time at time 0 is 0.
 abbrev pub NoIrqAtFirst : Type 0
 NoIrqAtFirst = (limits : Limits) (events : List Event) → AreLegal limits first_world events → limits.cpus ≤ most_cpus →
     (cpu slot : ℕ) → irq_time cpu slot (up_to events 0) ≡ 0
 
--- ---- lives of groups
+-- ---- lifetimes of groups
 
--- A group was created at or before `last` (ns). If it was removed, that was at or before `last`,
--- and not before it was created.
+-- The group was created at or before `last` (ns). If the group was removed, its removal was at or
+-- before `last` and not before its creation.
 pub record IsLife (last : ℕ) (life : GroupLife) : Type 0 where
   pub made : life.made ≤ last
   pub gone : IfSome life.gone (λ gone. (life.made ≤ gone) × (gone ≤ last))
 
--- The invariant of the groups of a trace up to its last time (ns). The first group is the root,
--- which was created at 0 and is never removed. The groups are in the order in which they were
--- created. Each was created, and removed if it was, at or before the last time.
+-- Invariant of all groups of a trace whose last event is at `last` (ns). The first group is the
+-- root, which was created at 0 and is never removed. The groups are in order of creation. Each
+-- creation and each removal is at or before `last`.
 pub record AreLives (last : ℕ) (groups : List GroupLife) : Type 0 where
   pub rooted : slice_get groups 0 ≡ Some root
   pub order : IsNonDecreasingBy (λ (life : GroupLife). life.made) groups
   pub each : All (IsLife last) groups
 
--- Legal events preserve this invariant.
+-- The groups after legal events satisfy the invariant `AreLives`.
 abbrev pub LivesAreInOrder : Type 0
 LivesAreInOrder = (limits : Limits) (events : List Event) → AreLegal limits first_world events →
     AreLives (after events).last (after events).groups
 
--- The groups after all events show which groups are live at any time. A group that was created and
--- removed at one time isn't live then.
+-- The groups after all events show which groups were live at any time `at` (ns). A group that was
+-- created and removed at the same time isn't live at that time.
 abbrev pub LivesShowLive : Type 0
 LivesShowLive = (limits : Limits) (events : List Event) → AreLegal limits first_world events → (at slot : ℕ) →
     is_live_in (after (up_to events at)).groups slot
     ≡ is_some_and (slice_get (after events).groups slot) (λ life. is_live_at life at)
 
--- Some groups are a prefix of all, in their slots, paths, parents and creation times (ns).
+-- The groups `some` are a prefix of the groups `all`, with the same paths, parents and creation
+-- times (ns). Removal times may differ.
 pub record AreFirstOf (all some : List GroupLife) : Type 0 where
   pub few : length some ≤ length all
   pub paths : map (λ (life : GroupLife). life.path) some ≡ take (length some) (map (λ (life : GroupLife). life.path) all)
   pub parents : parents_of some ≡ take (length some) (parents_of all)
   pub made : map (λ (life : GroupLife). life.made) some ≡ take (length some) (map (λ (life : GroupLife). life.made) all)
 
--- The groups created up to a time are a prefix of all.
+-- The groups created up to a time (ns) are a prefix of all groups of the trace.
 abbrev pub GroupsKeepSlots : Type 0
 GroupsKeepSlots = (limits : Limits) (events : List Event) → AreLegal limits first_world events → (at : ℕ) →
     AreFirstOf (after events).groups (after (up_to events at)).groups
 
 -- ---- live groups by path
 
--- the group in a slot is live at a time (ns)
+-- whether the group in `slot` is live at `at` (ns)
 abbrev pub is_live_slot : List GroupLife → ℕ → ℕ → Bool
 is_live_slot groups at slot = is_live_at (slice_index_or groups slot root) at
 
--- a slot with its path
+-- the pair of a slot's path and the slot
 abbrev pub with_path : List GroupLife → ℕ → List ℕ × ℕ
 with_path groups slot = (path_at groups slot, slot)
 
--- One order of all slots by path gives the live groups sorted by path at every time: those in it
--- that are live then.
+-- An order of all slots by path, made once after all events, gives the live groups in path order at
+-- every time: the slots in it whose groups are live at that time.
 abbrev pub OrderShowsLive : Type 0
 OrderShowsLive =
     (limits : Limits) (events : List Event) → AreLegal limits first_world events → (order : List ℕ)
@@ -115,7 +116,7 @@ OrderShowsLive =
     live_groups (after (up_to events at)).groups
     ≡ map (with_path (after events).groups) (filter (is_live_slot (after events).groups at) order)
 
--- The same for their slots alone.
+-- Like `OrderShowsLive`, for the slots of the live groups without their paths.
 abbrev pub OrderShowsSlots : Type 0
 OrderShowsSlots =
     (limits : Limits) (events : List Event) → AreLegal limits first_world events → (order : List ℕ)
@@ -125,8 +126,8 @@ OrderShowsSlots =
 
 -- ---- triggers
 
--- The triggers of a trace are within the limits: their number, each trigger's values, and the group
--- that it watches, which exists.
+-- The triggers of a trace are within the limits: their number, the values of each trigger, and the
+-- group that each trigger watches, which exists.
 abbrev pub TriggersAreWithin : Type 0
 TriggersAreWithin = (limits : Limits) (events : List Event) → AreLegal limits first_world events →
     AreTriggersWithin limits.latest (length (after events).groups) (triggers_of events)
@@ -136,13 +137,14 @@ abbrev pub TriggersAreInOrder : Type 0
 TriggersAreInOrder = (limits : Limits) (events : List Event) → AreLegal limits first_world events →
     IsNonDecreasingBy (λ (trigger : TriggerSpec). trigger.at) (triggers_of events)
 
--- The triggers of the events up to a time are the triggers up to that time.
+-- The triggers set by the events up to a time (ns) are the trace's triggers with that time or an
+-- earlier one.
 abbrev pub TriggersUpTo : Type 0
 TriggersUpTo = (limits : Limits) (events : List Event) → AreLegal limits first_world events → (at : ℕ) →
     triggers_of (up_to events at) ≡ filter (λ (trigger : TriggerSpec). nat_le trigger.at at) (triggers_of events)
 
--- A group was created at or before a time (ns), and not removed before it. It may be removed at
--- exactly that time.
+-- The group was created at or before `at` (ns), and not removed before `at`. The removal may be at
+-- exactly `at`.
 pub record IsThere (life : GroupLife) (at : ℕ) : Type 0 where
   pub made : life.made ≤ at
   pub gone : IfSome life.gone (λ gone. at ≤ gone)

@@ -1,5 +1,5 @@
--- The changes of one processor in a trace, the states of each group that follow from them, and the
--- clocks that represent a group after some of them.
+-- The plan of one processor: the changes that a trace makes on it. From a plan follow the states of
+-- each group after its first k changes, and the clocks of each group.
 use Rattle.std.specs.Prelude.{◌≡◌, ℕ, ◌+◌, ◌-◌, ◌≤◌, ◌<◌, List, [], ◌∷◌, ◌++◌, length, sum, map, take, filter, slice_get, slice_index_or, nat_le, ◌==◌, ◌&&◌, Bool, true, false, if◌then◌else◌, Option, None, Some}
 use Rattle.std.specs.List.{range_with_len}
 use Rattle.psi_base.specs.declared.event.Slot.{Slot}
@@ -20,41 +20,46 @@ use Rattle.psi_counts.specs.Legal.{changes_from, added, taken}
 
 -- ---- what events change on a processor
 
--- the change of a processor by an event in a world; `None` if there is no event
+-- the change that an event makes on processor `cpu` in the world `w`; `None` if there is no event,
+-- or if the event doesn't touch the processor
 abbrev pub change_by : ℕ → World → Option Event → Option Change
 change_by cpu w None = None
 change_by cpu w (Some event) = change_of w event cpu
 
--- the change of a processor by event `i`, numbered from 1, in the world before it
+-- the change that event `i` (numbered from 1) makes on processor `cpu`, in the world before the
+-- event; `None` if the event doesn't touch the processor
 abbrev pub change_at : ℕ → List Event → ℕ → Option Change
 change_at cpu events i = change_by cpu (after (take (i - 1) events)) (slice_get events (i - 1))
 
 -- ---- plans
 
--- A processor's plan: its changes in order, and the parents of all slots.
+-- A processor's plan: its changes in order, and the parent of each slot.
 pub record PlanView : Type 0 where
   pub changes : List Change
   pub parents : List (Option ℕ)
 
--- the plan without changes and slots
+-- the empty plan, without changes and slots
 abbrev pub no_plan : PlanView
 no_plan = record { changes = []; parents = [] }
 
--- a processor's plan for events: its changes by them, and the parents of all groups after them
+-- the plan of processor `cpu` for a trace: the changes that the events make on the processor, and
+-- the parents of all groups ever created
 abbrev pub plan_of : ℕ → List Event → PlanView
 plan_of cpu events = record { changes = changes_from cpu first_world events; parents = parents_of (after events).groups }
 
 -- ---- the state after some changes
 
--- the sum of what the first k changes add on a slot's chain
+-- the sum of the counts that the first k changes add to the group in `slot`, for tasks in the group
+-- or below it
 abbrev pub added_after : PlanView → ℕ → ℕ → Counts
 added_after plan slot k = added plan.parents slot (take k plan.changes)
 
--- the sum of what they subtract there
+-- the sum of the counts that the first k changes subtract from the group in `slot`, for tasks in
+-- the group or below it
 abbrev pub taken_after : PlanView → ℕ → ℕ → Counts
 taken_after plan slot k = taken plan.parents slot (take k plan.changes)
 
--- counts minus others that aren't larger
+-- the difference of two counts, field by field, for counts `fewer` that are at most `more`
 abbrev pub less : Counts → Counts → Counts
 less more fewer =
     record {
@@ -64,42 +69,45 @@ less more fewer =
       stalled_running = more.stalled_running - fewer.stalled_running;
     }
 
--- the numbers of a group's tasks after k changes: the sum added minus the sum subtracted
+-- the counts of the group in `slot` after the first k changes: the sum added minus the sum
+-- subtracted
 abbrev pub counts_after : PlanView → ℕ → ℕ → Counts
 counts_after plan slot k = less (added_after plan slot k) (taken_after plan slot k)
 
--- a sum subtracted is at most the sum added, and the difference is at most 65,536, the limit of
--- live tasks
+-- The sum `taken` is at most the sum `added`, and their difference is at most 65,536, the limit of
+-- live tasks.
 abbrev pub Leaves : ℕ → ℕ → Type 0
 Leaves taken added = (taken ≤ added) × (added ≤ taken + most_tasks)
 
--- the same for each count
+-- `Leaves` holds for each of the four counts.
 pub record LeavesFew (taken added : Counts) : Type 0 where
   pub io : Leaves taken.io added.io
   pub stalled : Leaves taken.stalled added.stalled
   pub running : Leaves taken.running added.running
   pub stalled_running : Leaves taken.stalled_running added.stalled_running
 
--- After each number of changes the counts of each slot are from 0 to 65,536.
+-- After each prefix of the changes, each count of each slot is from 0 to 65,536.
 abbrev pub FitsPlan : PlanView → Type 0
 FitsPlan plan = (slot k : ℕ) → k ≤ length plan.changes → LeavesFew (taken_after plan slot k) (added_after plan slot k)
 
--- the processor's running task after k changes, as in the k-th; `None` for k = 0
+-- the processor's running task after the first k changes, as change k says: its slot, and whether
+-- it is in a memory stall; `None` if no task runs, or if k = 0
 abbrev pub current_after : PlanView → ℕ → Option (Slot × Bool)
 current_after plan k = slice_index_or (None ∷ map (λ (change : Change). change.current) plan.changes) k None
 
--- whether a slot's accounting is on after changes; `on` is whether it was on before them
+-- whether the accounting of the group in `slot` is on after `changes`; `on` is whether it was on
+-- before them
 abbrev pub on_from : ℕ → Bool → List Change → Bool
 on_from slot on [] = on
 on_from slot on (change ∷ changes) = on_from slot (on_with slot on change.account) changes
 
--- A slot's accounting is on after the first k changes: the last of them that switches it turns it
--- on, or none switches it.
+-- Whether the accounting of the group in `slot` is on after the first k changes. It is on at first,
+-- and the last change that switches it decides.
 abbrev pub on_after : PlanView → ℕ → ℕ → Bool
 on_after plan slot k = on_from slot true (take k plan.changes)
 
--- a group is in a state after k changes: its accounting is on, and the state follows from the
--- counts and the running task after them
+-- whether the group in `slot` is in `state` after the first k changes: its accounting is on, and
+-- the state follows from the counts and the running task after these changes
 unfoldable pub holds_after : State → PlanView → ℕ → ℕ → Bool
 holds_after state plan slot k =
     on_after plan slot k && shows state (counts_after plan slot k) (is_current_in plan.parents slot (current_after plan k))
@@ -107,11 +115,11 @@ holds_after state plan slot k =
 
 -- ---- planned time
 
--- the time (ns) of the k-th change, and 0 for k = 0
+-- the time (ns) of change k (numbered from 1), or 0 for k = 0
 abbrev pub last_change : PlanView → ℕ → ℕ
 last_change plan k = slice_index_or (0 ∷ map (λ (change : Change). change.at) plan.changes) k 0
 
--- the number of changes of a plan up to a time (ns)
+-- the number of changes of a plan at or before `at` (ns)
 abbrev pub changes_up_to : PlanView → ℕ → ℕ
 changes_up_to plan at = length (filter (λ (change : Change). nat_le change.at at) plan.changes)
 
@@ -119,20 +127,21 @@ changes_up_to plan at = length (filter (λ (change : Change). nat_le change.at a
 abbrev pub AreInOrder : PlanView → Type 0
 AreInOrder plan = (k : ℕ) → k < length plan.changes → last_change plan k ≤ last_change plan (k + 1)
 
--- the interrupt time (ns) on the processor by the first k changes, whichever task ran
+-- the interrupt time (ns) on the processor in the first k changes, whichever task ran
 abbrev pub irq_after : PlanView → ℕ → ℕ
 irq_after plan k = sum (map (λ (change : Change). change.irq) (take k plan.changes))
 
--- Interrupts of a processor took no more time than passed, since a change has the interrupt time
--- since the previous change that has any. So their sum is at most the time of the last change, and
--- fits 64 bits.
+-- Interrupts of a processor took no more time than passed: the interrupt time in the first k
+-- changes is at most the time of change k, so it fits in 64 bits. The reason is that a change's
+-- interrupts come after the previous change that has interrupt time.
 abbrev pub IrqsFit : PlanView → Type 0
 IrqsFit plan = (k : ℕ) → k ≤ length plan.changes → irq_after plan k ≤ last_change plan k
 
 -- The invariant of plans. A plan has at most 4,000,000 changes, the limit of a trace's events.
--- Their times never decrease, and are at most 60,000,000 s, the longest trace. The counts fit, and
--- so does the interrupt time. Each change subtracts and adds the counts of at most one task, and
--- names existing slots. Each slot except the first has a parent, which is older.
+-- Their times never decrease, and are at most 60,000,000 s, the longest trace. The counts and the
+-- interrupt time are within their limits. Each change subtracts the counts of at most one task,
+-- adds the counts of at most one task, and names existing slots. Each slot except the first has a
+-- parent, which is an older slot.
 pub record IsPlan (plan : PlanView) : Type 0 where
   pub few : length plan.changes ≤ most_events
   pub order : AreInOrder plan
@@ -144,38 +153,41 @@ pub record IsPlan (plan : PlanView) : Type 0 where
   pub older : AreOlder plan.parents
   pub parented : HaveParents plan.parents
 
--- the time (ns) of change `j`, numbered from 1, among the first k, and `at` if `j` is above k
+-- the time (ns) of change `j` (numbered from 1) if `j` is at most k, otherwise `at`
 abbrev pub change_moment : PlanView → ℕ → ℕ → ℕ → ℕ
 change_moment plan k at j = slice_index_or (map (λ (change : Change). change.at) (take k plan.changes)) (j - 1) at
 
--- the time (ns) from a change to the next of the first k, if the group is in the state after it
+-- the time (ns) from change `j` to the next of the first k changes, or to `at` after the last of
+-- them, if the group in `slot` is in `state` after change `j`; otherwise 0
 abbrev pub planned_after : State → PlanView → ℕ → ℕ → ℕ → ℕ → ℕ
 planned_after state plan slot k at j =
     if holds_after state plan slot j then change_moment plan k at (j + 1) - change_moment plan k at j else 0
 
--- the time (ns) that a group was in a state by the first k changes, up to `at`: the sum over them
+-- the time (ns) up to `at` that the group in `slot` was in `state`, by the first k changes: the sum
+-- of `planned_after` over them
 unfoldable pub planned_time : State → PlanView → ℕ → ℕ → ℕ → ℕ
 planned_time state plan slot k at = sum (map (planned_after state plan slot k at) (range_with_len 1 k))
 
 -- ---- planned interrupt time
 
--- The interrupt time (ns) of a group by changes; `on` is whether its accounting is on before the
--- first. It is the sum over the changes before which its accounting is on, and whose running task
--- is in the group or below it.
+-- The interrupt time (ns) of the group in `slot` in `changes`; `on` is whether the group's
+-- accounting is on before them. It is the sum of the interrupt times of the changes before which
+-- the accounting is on, and whose running task is in the group or below it.
 abbrev pub irq_over : List (Option ℕ) → ℕ → Bool → List Change → ℕ
 irq_over parents slot on [] = 0
 irq_over parents slot on (change ∷ changes) =
     (if on then irq_in parents slot change else 0) + irq_over parents slot (on_with slot on change.account) changes
 
--- the interrupt time (ns) of a group by the first k changes
+-- the interrupt time (ns) of the group in `slot` in the first k changes
 unfoldable pub planned_irq : PlanView → ℕ → ℕ → ℕ
 planned_irq plan slot k = irq_over plan.parents slot true (take k plan.changes)
 
--- ---- clocks that represent a slot
+-- ---- clocks of a slot
 
--- A clock represents a slot after the first k changes of a plan. It may have started earlier, if
--- the changes since then left the slot's states as they were; so several clocks can represent the
--- same slot after the same changes. It is well-formed: nine words.
+-- `clock` is a clock of the group in `slot` after the first k changes of a plan: it is well-formed
+-- (nine words), has the group's states, and gives the planned times. If changes since its start
+-- left the states unchanged, the clock may have started before change k. So a slot can have several
+-- clocks after the same changes.
 pub record IsClock (clock : ClockView) (plan : PlanView) (slot k : ℕ) : Type 0 where
   pub within : k ≤ length plan.changes
   pub whole : IsWholeClock clock
@@ -183,21 +195,22 @@ pub record IsClock (clock : ClockView) (plan : PlanView) (slot k : ℕ) : Type 0
   pub mask : (state : State) → mask_holds clock.mask state ≡ holds_after state plan slot k
   pub times : (state : State) (at : ℕ) → last_change plan k ≤ at → opened_time clock at state ≡ planned_time state plan slot k at
 
--- ---- what a change leaves alone
+-- ---- slots that a change doesn't affect
 
--- counts that a change subtracts or adds, if any, apply to a slot
+-- whether the counts that a change subtracts or adds are of a task in the group in `slot` or below
+-- it; false if there are none
 abbrev pub is_part_in : List (Option ℕ) → ℕ → Option (Slot × Counts) → Bool
 is_part_in parents slot None = false
 is_part_in parents slot (Some part) = is_under parents part.0.0 slot
 
--- a switch of accounting, if any, is a slot's own
+-- whether a switch of accounting is that of the group in `slot`; false if there is none
 abbrev pub is_account_of : ℕ → Option (Slot × Bool) → Bool
 is_account_of slot None = false
 is_account_of slot (Some account) = account.0.0 == slot
 
--- The change after the first k doesn't affect a slot: the slot is neither on the chains of what the
--- change subtracts and adds, nor on those of the tasks that run before and after it, and its
--- accounting isn't switched.
+-- Change k + 1 doesn't affect the group in `slot`: neither the task whose counts it changes nor the
+-- tasks that run before and after it are in the group or below it, and the group's accounting isn't
+-- switched.
 pub record IsAside (plan : PlanView) (slot k : ℕ) (change : Change) : Type 0 where
   pub minus : is_part_in plan.parents slot change.minus ≡ false
   pub plus : is_part_in plan.parents slot change.plus ≡ false
@@ -207,36 +220,38 @@ pub record IsAside (plan : PlanView) (slot k : ℕ) (change : Change) : Type 0 w
 
 -- ---- laws
 
--- A processor's changes are those of the events that touch it, in order, each at its event's time.
+-- The changes of a processor come from the events that touch the processor, in order, each at the
+-- time of its event.
 abbrev pub ChangesAreNumbered : Type 0
 ChangesAreNumbered = (cpu : ℕ) (events : List Event) →
     (map (λ change. Some change) (changes_from cpu first_world events) ≡ map (change_at cpu events) (changes_of cpu events))
     × (map (λ (change : Change). change.at) (changes_from cpu first_world events) ≡ map (moment_of events 0) (changes_of cpu events))
     × (length (changes_from cpu first_world events) ≡ length (changes_of cpu events))
 
--- The events up to the k-th change have the first k changes, and the k-th is their last.
+-- The events up to the k-th change make exactly the first k changes, and end at the time of the
+-- k-th change.
 abbrev pub ChangesUntil : Type 0
 ChangesUntil = (cpu : ℕ) (events : List Event) (k : ℕ) → k ≤ length (changes_of cpu events) →
     (changes_from cpu first_world (until_change cpu events k) ≡ take k (changes_from cpu first_world events))
     × ((after (until_change cpu events k)).last ≡ last_change (plan_of cpu events) k)
 
--- After k changes a plan gives the states after the events up to the k-th, although its parents are
--- those after all events.
+-- The states that a plan gives after k changes are the states after the events up to the k-th
+-- change, although the plan has the parents after all events.
 abbrev pub PlanShowsStates : Type 0
 PlanShowsStates =
     (limits : Limits) (events : List Event) → AreLegal limits first_world events → (state : State) (cpu slot k : ℕ)
     → k ≤ length (changes_of cpu events) →
     holds_after state (plan_of cpu events) slot k ≡ holds state cpu slot (after (until_change cpu events k))
 
--- Planned time is the stall time of the events up to the k-th change.
+-- The planned time after k changes is the stall time of the events up to the k-th change.
 abbrev pub PlannedIsStall : Type 0
 PlannedIsStall =
     (limits : Limits) (events : List Event) → AreLegal limits first_world events → (state : State) (cpu slot k at : ℕ)
     → k ≤ length (changes_of cpu events) → last_change (plan_of cpu events) k ≤ at →
     planned_time state (plan_of cpu events) slot k at ≡ stall state cpu slot (until_change cpu events k) at
 
--- A group's stall time on a processor is that of the events up to the processor's last change:
--- later events that touch only other processors change nothing.
+-- A group's stall time on a processor is the stall time of the events up to the processor's last
+-- change, because the later events touch only other processors.
 abbrev pub StallByOwnChanges : Type 0
 StallByOwnChanges =
     (limits : Limits) (events : List Event) → AreLegal limits first_world events → (state : State) (cpu slot at : ℕ)
@@ -250,95 +265,102 @@ StatesStay =
     → (state : State) (cpu slot : ℕ) → touches (after events) (Some event) cpu ≡ false →
     holds state cpu slot (after (events ++ event ∷ [])) ≡ holds state cpu slot (after events)
 
--- So the stall time up to a time is that of the events up to the last change by then.
+-- The stall time up to a time (ns) is the stall time of the events up to the processor's last
+-- change at or before that time.
 abbrev pub StallUpTo : Type 0
 StallUpTo = (limits : Limits) (events : List Event) → AreLegal limits first_world events → (state : State) (cpu slot at : ℕ) →
     stall state cpu slot (up_to events at) at ≡ stall state cpu slot (until_change cpu events (count_at cpu events at)) at
 
--- The number of changes up to a time follows from the times of a plan's changes. It is at most the
--- number of all changes, and the last change counted isn't later.
+-- The number of a processor's changes up to a time (ns) follows from the times in its plan. The
+-- number is at most the number of all changes, and the last change counted is at or before that
+-- time.
 abbrev pub CountsByPlan : Type 0
 CountsByPlan = (limits : Limits) (events : List Event) → AreLegal limits first_world events → (cpu at : ℕ) →
     (count_at cpu events at ≡ changes_up_to (plan_of cpu events) at) × (count_at cpu events at ≤ length (changes_of cpu events))
     × (last_change (plan_of cpu events) (count_at cpu events at) ≤ at)
 
--- The plan of legal events satisfies the invariant, if the limit of times is at most 60,000,000 s
--- and there are at most 64 processors, the number for which the world has the time of the last
--- interrupts.
+-- The plan of legal events satisfies the invariant `IsPlan`, if the limit of times is at most
+-- 60,000,000 s and there are at most 64 processors, the number for which the world has the time of
+-- the last interrupts.
 abbrev pub PlanIsWhole : Type 0
 PlanIsWhole =
     (limits : Limits) (events : List Event) → AreLegal limits first_world events → limits.latest ≤ last_moment
     → limits.cpus ≤ most_cpus → (cpu : ℕ) → IsPlan (plan_of cpu events)
 
--- Planned time grows by a change as a clock does: up to the change by the earlier changes, and
--- after it if the state applies then.
+-- Change k + 1 extends planned time as it does a clock: by the time since the change, if the group
+-- is in the state after the change.
 abbrev pub PlannedByChange : Type 0
 PlannedByChange = (state : State) (plan : PlanView) (slot k at : ℕ) → k < length plan.changes →
     planned_time state plan slot (k + 1) at ≡ planned_time state plan slot k (last_change plan (k + 1))
     + (if holds_after state plan slot (k + 1) then at - last_change plan (k + 1) else 0)
 
--- The zero clock represents each slot before the first change.
+-- The zero clock is a clock of each slot before the first change.
 abbrev pub ZeroIsClock : Type 0
 ZeroIsClock = (plan : PlanView) (slot : ℕ) → IsClock zero_clock plan slot 0
 
--- A well-formed clock represents a slot after one more change, if it follows a clock that
--- represents the slot before that change, and has the states after it.
+-- The clock `next` is a clock of a slot after k + 1 changes if it is well-formed, follows a clock
+-- `one` of the slot after k changes, and has the slot's states after change k + 1.
 abbrev pub FollowedIsClock : Type 0
 FollowedIsClock =
     (one next : ClockView) (plan : PlanView) (slot k : ℕ) → IsClock one plan slot k → k < length plan.changes
     → last_change plan k ≤ last_change plan (k + 1) → IsWholeClock next → ClockFollows one (last_change plan (k + 1)) next
     → ((state : State) → mask_holds next.mask state ≡ holds_after state plan slot (k + 1)) → IsClock next plan slot (k + 1)
 
--- A clock that represents a slot of a plan can be advanced to any time from the last change on.
+-- A clock of a slot of a plan can be advanced to any time (ns) from the last change on, up to the
+-- longest trace.
 abbrev pub ClockIsInTime : Type 0
 ClockIsInTime =
     (clock : ClockView) (plan : PlanView) (slot k at : ℕ) → IsPlan plan → IsClock clock plan slot k → last_change plan k ≤ at
     → at ≤ last_moment → IsInTime clock at
 
--- The plan without changes and slots satisfies the invariant.
+-- The empty plan satisfies the invariant `IsPlan`.
 abbrev pub EmptyIsPlan : Type 0
 EmptyIsPlan = IsPlan no_plan
 
--- A change that leaves a slot's states as they were doesn't need to change its clock.
+-- If a change leaves a slot's states unchanged, each clock of the slot before the change is also a
+-- clock of the slot after the change.
 abbrev pub KeptIsClock : Type 0
 KeptIsClock =
     (clock : ClockView) (plan : PlanView) (slot k : ℕ) → IsClock clock plan slot k → k < length plan.changes
     → last_change plan k ≤ last_change plan (k + 1) →
     ((state : State) → holds_after state plan slot (k + 1) ≡ holds_after state plan slot k) → IsClock clock plan slot (k + 1)
 
--- The counts after a change follow those before it by what it subtracts and adds, if they fit.
+-- If the plan's counts fit, the counts after a change are the counts before it, minus the counts
+-- that the change subtracts, plus the counts that it adds.
 abbrev pub CountsByChange : Type 0
 CountsByChange = (plan : PlanView) → FitsPlan plan → (slot k : ℕ) (change : Change) → slice_get plan.changes k ≡ Some change →
     Follows (counts_after plan slot k) (on_chain plan.parents slot change.minus) (on_chain plan.parents slot change.plus)
     (counts_after plan slot (k + 1))
 
--- They are at most 65,536 then.
+-- If the plan's counts fit, the counts after each prefix of the changes are at most 65,536.
 abbrev pub PlanCountsAreFew : Type 0
 PlanCountsAreFew =
     (plan : PlanView) → FitsPlan plan → (slot k : ℕ) → k ≤ length plan.changes → AreAtMost most_tasks (counts_after plan slot k)
 
--- The accounting that is on after a change follows from the change's switch of accounting.
+-- Whether a group's accounting is on after a change follows from whether it was on before, and from
+-- the change's switch of accounting.
 abbrev pub OnByChange : Type 0
 OnByChange = (plan : PlanView) (slot k : ℕ) (change : Change) → slice_get plan.changes k ≡ Some change →
     on_after plan slot (k + 1) ≡ on_with slot (on_after plan slot k) change.account
 
--- All accounting is on before the first change.
+-- The accounting of each slot is on before the first change.
 abbrev pub OnAtFirst : Type 0
 OnAtFirst = (plan : PlanView) (slot : ℕ) → on_after plan slot 0 ≡ true
 
--- A change has the running task after it.
+-- After a change, the plan has the change's running task and the change's time.
 abbrev pub CurrentByChange : Type 0
 CurrentByChange =
     (plan : PlanView) (k : ℕ) (change : Change) → slice_get plan.changes k ≡ Some change
     → (current_after plan (k + 1) ≡ change.current) × (last_change plan (k + 1) ≡ change.at)
 
--- A change that doesn't affect a slot leaves its states as they were.
+-- A change that doesn't affect a slot leaves the slot's states unchanged.
 abbrev pub AsideStays : Type 0
 AsideStays =
     (state : State) (plan : PlanView) (slot k : ℕ) (change : Change) → slice_get plan.changes k ≡ Some change → IsAside plan slot k change →
     holds_after state plan slot (k + 1) ≡ holds_after state plan slot k
 
--- The times of the two changes around a time give the number of changes up to it.
+-- The number of changes up to `at` (ns) is k if change k is at or before `at` and change k + 1, if
+-- it exists, is later.
 abbrev pub PlaceOfMoment : Type 0
 PlaceOfMoment =
     (plan : PlanView) → AreInOrder plan → (k at : ℕ) → k ≤ length plan.changes → last_change plan k ≤ at
@@ -346,24 +368,26 @@ PlaceOfMoment =
 
 -- ---- planned times
 
--- the time (ns) that a group was in each state by the first k changes, up to `at`: seven times
--- ordered by state
+-- the times (ns) up to `at` that the group in `slot` was in each of the seven states, by the first
+-- k changes, ordered by state
 abbrev pub planned : PlanView → ℕ → ℕ → ℕ → List ℕ
 planned plan slot k at = map (λ state. planned_time state plan slot k at) states
 
--- A clock that represents a slot after some changes opens to the planned times.
+-- The times that a clock of a slot after k changes shows at `at` (ns) are the planned times.
 abbrev pub ClockShowsPlanned : Type 0
 ClockShowsPlanned =
     (clock : ClockView) (plan : PlanView) (slot k at : ℕ) → IsClock clock plan slot k → last_change plan k ≤ at
     → opened clock at ≡ planned plan slot k at
 
--- The planned times by the changes up to a time are the stall times of the events up to it.
+-- The planned times by the changes up to a time (ns) are the stall times of the events up to that
+-- time.
 abbrev pub PlannedUntil : Type 0
 PlannedUntil = (limits : Limits) (events : List Event) → AreLegal limits first_world events → (cpu slot at : ℕ) →
     planned (plan_of cpu events) slot (changes_up_to (plan_of cpu events) at) at
     ≡ map (λ state. stall state cpu slot (up_to events at) at) states
 
--- The planned times after some changes are those of the processor after them.
+-- The planned times after k changes are the stall times that psi_spec's `times_after` defines for
+-- the processor after k changes.
 abbrev pub PlannedAfter : Type 0
 PlannedAfter = (limits : Limits) (events : List Event) → AreLegal limits first_world events → (cpu slot k at : ℕ) →
     k ≤ length (changes_of cpu events) → last_change (plan_of cpu events) k ≤ at →
@@ -371,28 +395,30 @@ PlannedAfter = (limits : Limits) (events : List Event) → AreLegal limits first
 
 -- ---- planned interrupt times
 
--- Before the first change the interrupt time is 0.
+-- The planned interrupt time before the first change is 0.
 abbrev pub NoPlannedIrq : Type 0
 NoPlannedIrq = (plan : PlanView) (slot : ℕ) → planned_irq plan slot 0 ≡ 0
 
 -- Each change adds its interrupt time for the group to the planned interrupt time, if the group's
--- accounting is on before it.
+-- accounting is on before the change.
 abbrev pub PlannedIrqByChange : Type 0
 PlannedIrqByChange = (plan : PlanView) (slot k : ℕ) (change : Change) → slice_get plan.changes k ≡ Some change →
     planned_irq plan slot (k + 1) ≡ planned_irq plan slot k + (if on_after plan slot k then irq_in plan.parents slot change else 0)
 
--- Planned interrupt time is at most the time of the last change, since interrupts of one processor
--- don't overlap.
+-- Planned interrupt time is at most the time of the last change, because the interrupts of one
+-- processor don't overlap.
 abbrev pub PlannedIrqFits : Type 0
 PlannedIrqFits = (plan : PlanView) → IrqsFit plan → (slot k : ℕ) → k ≤ length plan.changes → planned_irq plan slot k ≤ last_change plan k
 
--- Planned interrupt time is the interrupt time of the events up to the k-th change.
+-- The planned interrupt time after k changes is the interrupt time of the events up to the k-th
+-- change.
 abbrev pub PlannedIrqIsIrq : Type 0
 PlannedIrqIsIrq =
     (limits : Limits) (events : List Event) → AreLegal limits first_world events → (cpu slot k : ℕ) → k ≤ length (changes_of cpu events) →
     planned_irq (plan_of cpu events) slot k ≡ irq_time cpu slot (until_change cpu events k)
 
--- The planned interrupt time by the changes up to a time is that of the events up to it.
+-- The planned interrupt time by the changes up to a time (ns) is the interrupt time of the events
+-- up to that time.
 abbrev pub PlannedIrqUntil : Type 0
 PlannedIrqUntil = (limits : Limits) (events : List Event) → AreLegal limits first_world events → (cpu slot at : ℕ) →
     planned_irq (plan_of cpu events) slot (changes_up_to (plan_of cpu events) at) ≡ irq_time cpu slot (up_to events at)

@@ -1,8 +1,8 @@
-//! One processor's changes instead of the whole trace: stall time and interrupt time, which
-//! psi_spec defines over the tasks of a world, follow from the changes of one processor.
+//! Laws of plans: a processor's stall time and interrupt time, which psi_spec defines over all
+//! tasks of a trace, follow from the changes of that processor alone.
 //!
-//! In `specs/`: `Plan` (the changes of one processor, and clocks that follow them), `Moments`
-//! (properties of a trace at a time).
+//! In `specs/`: `Plan` (the plan of a processor, that is its changes, and the clocks that follow
+//! from them), `Moments` (properties of a trace at a given time).
 //!
 //! These are definitions and laws, without code that runs: proc_plan derives plans from a trace,
 //! and clock_row and slot_clocks advance clocks by them.

@@ -1,42 +1,44 @@
-//! Laws of a trace at a time. Each function has an empty body: its contract is the law.
+//! Laws of a trace at a given time: stall time, interrupt time, live groups and triggers. Each
+//! function has an empty body: its contract is the law.
 ghost use Rattle.plan_laws.specs.Moments.{GroupsKeepSlots, IrqGrows, IrqIsWithin, LivesAreInOrder, LivesShowLive, NoIrqAtFirst, NoStallAtFirst, OrderShowsLive, OrderShowsSlots, StallGrows, StallIsWithin, TriggersAreInOrder, TriggersAreOnGroups, TriggersAreWithin, TriggersUpTo};
 
-/// From one time to a later one, stall time never decreases, and grows by at most the difference.
-/// At time 0 it is 0.
+/// Between two times, stall time never decreases, and grows by at most the elapsed time. The stall
+/// time up to a time is at most that time, and is 0 at time 0.
 pub fn law_growth()
     ensures grows { StallGrows }
     ensures within { StallIsWithin }
     ensures none { NoStallAtFirst }
 {}
 
-/// From one time to a later one, interrupt time never decreases, and grows by at most the
-/// difference plus a second. It is at most the time from 0, so at time 0 it is 0. The world has the
-/// time of the last interrupts for each of 64 processors.
+/// Between two times, interrupt time never decreases, and grows by at most the elapsed time plus
+/// one second. The interrupt time up to a time is at most that time, and is 0 at time 0. Requires
+/// at most 64 processors, the number for which the world has the time of the last interrupts.
 pub fn law_irq_growth()
     ensures grows { IrqGrows }
     ensures within { IrqIsWithin }
     ensures none { NoIrqAtFirst }
 {}
 
-/// The groups after all events show what they were at any time: which were live, and that the
-/// groups created up to then have the same slots, paths and parents. A group lives from its
-/// creation to its removal, which isn't later than the last event.
+/// The groups after all events show the groups at any time: which groups were live, and that the
+/// groups created up to the time have the same slots, paths and parents. A group lives from its
+/// creation to its removal, and neither is later than the last event.
 pub fn law_lives()
     ensures live { LivesShowLive }
     ensures lives { LivesAreInOrder }
     ensures slots { GroupsKeepSlots }
 {}
 
-/// One order of all slots by path gives the live groups sorted by path at every time: those in it
-/// that are live then. At most one live group has a given path, so the order of slots with the same
-/// path doesn't matter.
+/// An order of all slots by path gives the live groups in path order at every time: the slots in it
+/// whose groups are live at that time. At most one live group has a given path, so the order of
+/// slots with the same path doesn't matter.
 pub fn law_path_order()
     ensures live { OrderShowsLive }
     ensures slots { OrderShowsSlots }
 {}
 
 /// The triggers of a trace are within the limits, their times never decrease, and each was set on a
-/// group that existed.
+/// group that existed. The triggers of the events up to a time are the triggers set up to that
+/// time.
 pub fn law_triggers()
     ensures within { TriggersAreWithin }
     ensures order { TriggersAreInOrder }

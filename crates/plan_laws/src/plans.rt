@@ -1,33 +1,36 @@
-//! Laws of plans: the changes of one processor, and the clocks that follow them alone. Each
-//! function has an empty body: its contract is the law.
+//! Laws of plans (the changes of one processor) and of the clocks that follow them. Each function
+//! has an empty body: its contract is the law.
 ghost use Rattle.plan_laws.specs.Plan.{AsideStays, ChangesAreNumbered, ChangesUntil, ClockIsInTime, ClockShowsPlanned, CountsByChange, CountsByPlan, CurrentByChange, EmptyIsPlan, FollowedIsClock, KeptIsClock, NoPlannedIrq, OnAtFirst, OnByChange, PlaceOfMoment, PlanCountsAreFew, PlanIsWhole, PlanShowsStates, PlannedAfter, PlannedByChange, PlannedIrqByChange, PlannedIrqFits, PlannedIrqIsIrq, PlannedIrqUntil, PlannedIsStall, PlannedUntil, StallByOwnChanges, StallUpTo, StatesStay, ZeroIsClock};
 
-/// A processor's changes are those of the events that touch it, in order and at their times. The
-/// events up to the k-th change have the first k changes, and end with the k-th.
+/// The changes of a processor come from the events that touch the processor, in order, each at the
+/// time of its event. The events up to the k-th change make exactly the first k changes, and end at
+/// the time of the k-th change.
 pub fn law_numbered_changes()
     ensures numbered { ChangesAreNumbered }
     ensures until { ChangesUntil }
 {}
 
-/// A plan gives the states of each group after each of its changes, and an event that doesn't touch
-/// the processor leaves them unchanged.
+/// A plan gives the states of each group after each of its changes. An event that doesn't touch the
+/// processor leaves the states there unchanged.
 pub fn law_plan_states()
     ensures states { PlanShowsStates }
     ensures stay { StatesStay }
 {}
 
-/// The plan of legal events satisfies the invariant: the number of its changes is within the limit;
-/// their times never decrease and aren't too late; its counts and interrupt time fit; each change
-/// is of one task and names existing slots; and parents are older. The empty plan satisfies it too.
+/// The plan of legal events satisfies the invariant `IsPlan`: the number of changes is limited;
+/// their times never decrease and are limited; counts and interrupt time fit; each change is of one
+/// task and names existing slots; and each parent is an older slot. The empty plan satisfies the
+/// invariant too.
 pub fn law_whole_plans()
     ensures whole { PlanIsWhole }
     ensures empty { EmptyIsPlan }
 {}
 
-/// One change of any plan. The counts after it follow those before it, and stay within the limit.
-/// It has the running task after it. All accounting is on before the first change, and later as the
-/// change's switch says. A slot on none of its chains keeps its states. The two changes around a
-/// time give the number of changes up to it.
+/// The effect of one change of any plan. The counts after the change follow from the counts before
+/// it, and stay within the limit. The running task after it is the change's. Accounting is on
+/// before the first change, and a change's switch turns it on or off. A slot that the change
+/// doesn't affect keeps its states. The times of two successive changes give the number of changes
+/// up to a time between them.
 pub fn law_plan_steps()
     ensures counts { CountsByChange }
     ensures few { PlanCountsAreFew }
@@ -38,24 +41,25 @@ pub fn law_plan_steps()
     ensures place { PlaceOfMoment }
 {}
 
-/// Planned time grows change by change, and is the stall time of the events up to the change.
+/// Planned time grows change by change, and is the stall time of the events up to the last change
+/// counted.
 pub fn law_planned_times()
     ensures by_change { PlannedByChange }
     ensures stall { PlannedIsStall }
 {}
 
-/// A processor's stall times depend on its own changes alone: events that don't touch it don't
-/// affect them, and the times of its changes give the number of changes up to a time.
+/// A processor's stall times depend on its own changes alone: events that don't touch the processor
+/// don't affect them. The times of its changes give the number of changes up to a time.
 pub fn law_own_changes()
     ensures stall { StallByOwnChanges }
     ensures up_to { StallUpTo }
     ensures count { CountsByPlan }
 {}
 
-/// The zero clock represents each slot before the first change. After one more change, a clock that
-/// follows one for the earlier changes and has the new states represents the slot, and so does the
-/// earlier clock itself if the states don't change. It can be advanced to any time from the last
-/// change on, and opens to the planned times.
+/// The zero clock is a clock of each slot before the first change. After one more change, a clock
+/// that follows the slot's earlier clock and has the new states is a clock of the slot, and so is
+/// the earlier clock if the states don't change. A slot's clock can be advanced to any time from
+/// the last change on, and shows the planned times.
 pub fn law_plan_clocks()
     ensures zero { ZeroIsClock }
     ensures followed { FollowedIsClock }
@@ -64,12 +68,12 @@ pub fn law_plan_clocks()
     ensures shows { ClockShowsPlanned }
 {}
 
-/// The planned times by the changes up to a time are the stall times of the events up to it.
+/// The planned times by the changes up to a time are the stall times of the events up to that time.
 pub fn law_planned_until()
     ensures { PlannedUntil }
 {}
 
-/// The planned times after some changes are those of the events up to the last of them.
+/// The planned times after k changes are the stall times of the events up to the k-th change.
 pub fn law_planned_after()
     ensures { PlannedAfter }
 {}
@@ -82,8 +86,8 @@ pub fn law_planned_irq()
     ensures fits { PlannedIrqFits }
 {}
 
-/// Planned interrupt time is the interrupt time of the events up to the change; by the changes up
-/// to a time, it is that of the events up to this time.
+/// The planned interrupt time after k changes is the interrupt time of the events up to the k-th
+/// change. By the changes up to a time, it is the interrupt time of the events up to that time.
 pub fn law_irq_times()
     ensures irq { PlannedIrqIsIrq }
     ensures until { PlannedIrqUntil }
