@@ -1,59 +1,60 @@
--- The clock of a group on a processor: the time that it was in each state.
+-- The clock of a group on a processor: how long the group was in each state, and its current
+-- states.
 use Rattle.std.specs.Prelude.{◌≡◌, ℕ, ◌+◌, ◌-◌, ◌≤◌, List, [], ◌∷◌, ◌++◌, length, map, slice_index, if◌then◌else◌}
 use Rattle.psi_base.specs.declared.event.State.{State}
 use Rattle.psi_spec.specs.Within.{last_moment}
 use Rattle.psi_spec.specs.Stall.{state_number, states}
 use Rattle.psi_counts.specs.Counts.{mask_holds, IsMask}
 
--- A clock: the times (ns) in each state up to its start, ordered by state, and the mask of the
--- states since its start.
+-- A clock: the time (ns) spent in each state up to the start, ordered by state; the mask of the
+-- states since the start; and the start (ns).
 pub record ClockView : Type 0 where
   pub times : List ℕ
   pub mask : ℕ
   pub start : ℕ
 
--- no time passed, and the mask has no state
+-- the clock at time 0: no time has passed, and the mask has no state
 abbrev pub zero_clock : ClockView
 zero_clock = record { times = map (λ _. 0) states; mask = 0; start = 0 }
 
--- the time (ns) in a state up to `at` (ns): the time up to the start, plus the time since then if
--- the mask has the state
+-- the time (ns) spent in `state` up to `at` (ns): the time up to the clock's start, plus the time
+-- since the start if the mask has the state
 abbrev pub opened_time : ClockView → ℕ → State → ℕ
 opened_time clock at state = slice_index clock.times (state_number state) + (if mask_holds clock.mask state then at - clock.start else 0)
 
--- the times (ns) up to `at`, ordered by state
+-- the times (ns) spent in each state up to `at` (ns), ordered by state
 abbrev pub opened : ClockView → ℕ → List ℕ
 opened clock at = map (opened_time clock at) states
 
--- the clock after a change at `at` (ns), since which the states of a mask apply
+-- the clock after a change at `at` (ns); `mask` has the states from `at` on
 abbrev pub advanced : ClockView → ℕ → ℕ → ClockView
 advanced clock at mask = record { times = opened clock at; mask = mask; start = at }
 
--- A clock can be advanced to `at` (ns): that is at or after its start, and neither it nor a time in
--- a state is above 60,000,000 s, the longest trace.
+-- The clock can be advanced to `at` (ns): `at` isn't before the clock's start, and neither `at` nor
+-- the time in any state exceeds 60,000,000 s, the longest trace.
 pub record IsInTime (clock : ClockView) (at : ℕ) : Type 0 where
   pub started : clock.start ≤ at
   pub moment : at ≤ last_moment
   pub times : (state : State) → slice_index clock.times (state_number state) ≤ last_moment
 
--- ---- words
+-- ---- clocks as words
 
--- a clock as words: the times ordered by state, the mask and the start
+-- the nine words of a clock: the times ordered by state, the mask and the start
 abbrev pub words_of : ClockView → List ℕ
 words_of clock = clock.times ++ clock.mask ∷ clock.start ∷ []
 
--- a clock is well-formed: it has a time for each state, and its mask has only bits of states
+-- A clock is well-formed: it has a time for each state, and its mask has only bits of states.
 pub record IsWholeClock (clock : ClockView) : Type 0 where
   pub times : length clock.times ≡ length states
   pub mask : IsMask clock.mask
 
--- the words are those of some clock
+-- The list `words` is the words of some well-formed clock.
 abbrev pub AreWordsOfClock : List ℕ → Type 0
 AreWordsOfClock words = (clock : ClockView) × (words ≡ words_of clock) × IsWholeClock clock
 
 -- ---- equal clocks
 
--- Clocks are equivalent: their masks are equal, and they open to the same times at every time from
+-- Two clocks are equivalent: their masks are equal, and they show the same times at every time from
 -- the later start on.
 pub record SameClock (one other : ClockView) : Type 0 where
   pub mask : one.mask ≡ other.mask
@@ -61,9 +62,10 @@ pub record SameClock (one other : ClockView) : Type 0 where
 
 -- ---- changes
 
--- A clock follows another over a change at `at` (ns): at each later time, its time in a state is
--- that of the other at the change, plus the time since then if its own mask has the state. It may
--- be the other clock advanced to the change, or the same clock if the mask is unchanged.
+-- The clock `new` follows the clock `old` over a change at `at` (ns): at each later time, the time
+-- in a state by `new` is the time by `old` at the change, plus the time since the change if the
+-- mask of `new` has the state. `new` may be `old` advanced to the change, or `old` itself if the
+-- mask is unchanged.
 pub record ClockFollows (old : ClockView) (at : ℕ) (new : ClockView) : Type 0 where
   pub start : new.start ≤ at
   pub times : (state : State) (later : ℕ) → at ≤ later
@@ -71,18 +73,18 @@ pub record ClockFollows (old : ClockView) (at : ℕ) (new : ClockView) : Type 0 
 
 -- ---- laws
 
--- If no time in a state exceeds a clock's start, none exceeds the time up to which the clock is
--- opened.
+-- If the time in a state up to a clock's start doesn't exceed the start, then the time in the state
+-- up to a later `at` doesn't exceed `at`.
 abbrev pub NoLongerThanClock : Type 0
 NoLongerThanClock =
     (clock : ClockView) (at : ℕ) (state : State) → clock.start ≤ at → slice_index clock.times (state_number state) ≤ clock.start
     → opened_time clock at state ≤ at
 
--- A clock advanced with its own mask is equivalent to the clock.
+-- A clock that is advanced with an unchanged mask is equivalent to the clock before.
 abbrev pub SameMaskIsNoChange : Type 0
 SameMaskIsNoChange = (clock : ClockView) (at : ℕ) → clock.start ≤ at → SameClock (advanced clock at clock.mask) clock
 
--- Equivalent clocks are equal after a change.
+-- Equivalent clocks are equal after they are advanced to the same time with the same mask.
 abbrev pub SameAfterChange : Type 0
 SameAfterChange =
     (one other : ClockView) (at mask : ℕ) → one.start ≤ at → other.start ≤ at → SameClock one other

@@ -1,4 +1,4 @@
--- The states that follow from counts of tasks, and masks of states.
+-- Counts of tasks, the states that follow from them, and masks of states.
 use Rattle.std.specs.Prelude.{◌≡◌, ℕ, ◌≤◌, ◌<◌, List, length, filter, nat_lt, ◌==◌, ◌&&◌, ◌||◌, not, Bool, if◌then◌else◌}
 use Rattle.std.specs.List.{list_any}
 use Rattle.std.specs.Int.{bit_at}
@@ -10,15 +10,15 @@ use Rattle.psi_spec.specs.Stall.{holds_of, waits, runs, is_up, stalls, state_num
 
 -- ---- counts
 
--- the number of tasks in a list that pass a test
+-- the number of tasks in a list for which `test` is true
 abbrev pub how_many : (Task → Bool) → List Task → ℕ
 how_many test tasks = length (filter test tasks)
 
--- the task is ready or runs, and is in a memory stall
+-- whether the task is ready or running, and in a memory stall
 abbrev pub is_up_stalled : Task → Bool
 is_up_stalled task = is_up task && stalls task
 
--- the task runs, and is in a memory stall
+-- whether the task is running, and in a memory stall
 abbrev pub runs_stalled : Task → Bool
 runs_stalled task = runs task && stalls task
 
@@ -34,9 +34,10 @@ counts_among tasks =
       stalled_running = how_many is_up_stalled tasks;
     }
 
--- The states that follow from counts, as in the kernel's test_states, and for a running task in a
--- stall as in its psi_group_change. `on_cpu` is whether the processor's running task is among the
--- counted ones (PSI_ONCPU), and `current_stalled` whether the running task is in a memory stall.
+-- Whether a group is in a state, by its counts, as in the kernel's test_states; for a running task
+-- in a memory stall, as in the kernel's psi_group_change. `on_cpu` is whether the processor's
+-- running task is among the counted tasks (PSI_ONCPU), and `current_stalled` whether the running
+-- task is in a memory stall.
 abbrev pub shows : State → Counts → Bool → Bool → Bool
 shows IoSome counts on_cpu current_stalled = nat_lt 0 counts.io
 shows IoFull counts on_cpu current_stalled = nat_lt 0 counts.io && counts.running == 0
@@ -47,29 +48,30 @@ shows CpuSome counts on_cpu current_stalled = if on_cpu then nat_lt 1 counts.run
 shows CpuFull counts on_cpu current_stalled = nat_lt 0 counts.running && not on_cpu
 shows Nonidle counts on_cpu current_stalled = nat_lt 0 counts.io || nat_lt 0 counts.stalled || nat_lt 0 counts.running
 
--- At most one of the tasks runs. `on_cpu` is whether one does; if so, `current_stalled` is whether
--- it is in a memory stall.
+-- At most one task of the list is running, and `on_cpu` is whether there is such a task. If there
+-- is, `current_stalled` is whether it is in a memory stall.
 pub record IsRunningKnown (tasks : List Task) (on_cpu current_stalled : Bool) : Type 0 where
   pub at_most_one : how_many runs tasks ≤ 1
   pub one_runs : on_cpu ≡ list_any runs tasks
   pub it_is_stalled : (on_cpu && current_stalled) ≡ list_any runs_stalled tasks
 
--- The states of a list of tasks follow from its counts and its running task.
+-- The states that are defined over a list of tasks follow from the list's counts and its running
+-- task.
 abbrev pub CountsShow : Type 0
 CountsShow = (tasks : List Task) (on_cpu current_stalled : Bool) → IsRunningKnown tasks on_cpu current_stalled → (state : State) →
     holds_of state tasks ≡ shows state (counts_among tasks) on_cpu current_stalled
 
 -- ---- masks
 
--- a number with only bits of states: there are seven
+-- A number is a mask: it has only the bits of the seven states.
 abbrev pub IsMask : ℕ → Type 0
 IsMask mask = mask < 128
 
--- a mask holds a state: it has the bit at the state's number
+-- whether a mask has a state: the bit with the state's number is set
 abbrev pub mask_holds : ℕ → State → Bool
 mask_holds mask state = bit_at mask (state_number state) == 1
 
--- Masks that hold the same states are equal.
+-- Masks with the same states are equal.
 abbrev pub MasksAreTheirStates : Type 0
 MasksAreTheirStates =
     (one other : ℕ) → IsMask one → IsMask other → ((state : State) → mask_holds one state ≡ mask_holds other state) → one ≡ other

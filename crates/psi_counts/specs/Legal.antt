@@ -1,4 +1,4 @@
--- Invariants of the world after legal events, and what follows for the states.
+-- The invariant of the world after legal events, and laws of the counts of tasks in such worlds.
 use Rattle.std.specs.Prelude.{◌≡◌, ℕ, ◌≤◌, List, ◌++◌, length, Option, None, ◌+◌, [], ◌∷◌, Some}
 use Rattle.std.specs.FinMap as tasks_by
 use Rattle.psi_base.specs.declared.event.Event.{Event}
@@ -11,9 +11,10 @@ use Rattle.psi_counts.specs.Touch.{AreAtMost, AreWithin, Follows, RunsOnce, chan
 use Rattle.psi_counts.specs.declared.changes.Change.{Change}
 use Rattle.psi_counts.specs.declared.changes.Counts.{Counts}
 
--- The invariant of legal worlds. The groups satisfy theirs. Each task is on an existing processor
--- and in an existing slot. At most one task runs on a processor. The numbers of tasks, triggers,
--- `pressure` lines and lines, and the last time, are within their limits.
+-- The invariant of legal worlds. The groups satisfy `AreGroups`. Each task is on an existing
+-- processor and in an existing slot. At most one task runs on a processor. The numbers of tasks,
+-- triggers, `pressure` lines and lines are within their limits, and so is the time of the last
+-- event.
 pub record IsLegalWorld (limits : Limits) (w : World) : Type 0 where
   pub groups : AreGroups w.groups
   pub within : AreWithin limits.cpus (length w.groups) w.tasks
@@ -26,12 +27,12 @@ pub record IsLegalWorld (limits : Limits) (w : World) : Type 0 where
 
 -- ---- counts over a trace
 
--- a change, if any, followed by others
+-- puts a change, if there is one, before a list of changes
 abbrev pub with_change : Option Change → List Change → List Change
 with_change None changes = changes
 with_change (Some change) changes = change ∷ changes
 
--- the changes of a processor by events, starting from a world, in order
+-- the changes that events make on processor `cpu`, in order, from the world `w` on
 abbrev pub changes_from : ℕ → World → List Event → List Change
 changes_from cpu w [] = []
 changes_from cpu w (event ∷ events) = with_change (change_of w event cpu) (changes_from cpu (after_event w event) events)
@@ -46,43 +47,43 @@ both_counts one other =
       stalled_running = one.stalled_running + other.stalled_running;
     }
 
--- all counts that changes add on the chain of a slot
+-- the sum of the counts that changes add to the group in `slot`, for tasks in the group or below it
 abbrev pub added : List (Option ℕ) → ℕ → List Change → Counts
 added parents slot [] = no_counts
 added parents slot (change ∷ changes) = both_counts (on_chain parents slot change.plus) (added parents slot changes)
 
--- all counts that changes subtract there
+-- the sum of the counts that changes subtract from the group in `slot`, for tasks in the group or
+-- below it
 abbrev pub taken : List (Option ℕ) → ℕ → List Change → Counts
 taken parents slot [] = no_counts
 taken parents slot (change ∷ changes) = both_counts (on_chain parents slot change.minus) (taken parents slot changes)
 
 -- ---- laws
 
--- The first world is legal.
+-- The first world, before any event, is legal.
 abbrev pub LegalFirst : Type 0
 LegalFirst = (limits : Limits) → IsLegalWorld limits first_world
 
--- A legal world is legal after a legal event.
+-- A legal event takes a legal world to a legal world.
 abbrev pub LegalKept : Type 0
 LegalKept =
     (limits : Limits) (w : World) (event : Event) → cause_of limits w event ≡ None → IsLegalWorld limits w
     → IsLegalWorld limits (after_event w event)
 
--- Groups created later don't change which tasks count for a group. So the parents at the end of a
--- trace can be used for the whole trace.
+-- Groups that are created later don't change which tasks count for a group, so the parents of all
+-- groups at the end of a trace can be used for the whole trace.
 abbrev pub SameTasksLater : Type 0
 SameTasksLater = (limits : Limits) (w : World) → IsLegalWorld limits w → (more : List (Option ℕ)) (cpu slot : ℕ) →
     tasks_in (parents_of w.groups ++ more) cpu slot w.tasks ≡ tasks_in (parents_of w.groups) cpu slot w.tasks
 
--- No group counts more tasks than the limit of live tasks.
+-- No count of a group exceeds the limit of live tasks.
 abbrev pub CountsAreFew : Type 0
 CountsAreFew =
     (limits : Limits) (w : World) → IsLegalWorld limits w → (parents : List (Option ℕ)) (cpu slot : ℕ)
     → AreAtMost most_tasks (counts_among (tasks_in parents cpu slot w.tasks))
 
--- After legal events, the counts that a processor's changes added on a group's chain, minus those
--- that they subtracted there, are the numbers of the tasks that count for the group on the
--- processor.
+-- After legal events, the counts of a group's tasks on a processor are the sum of the counts that
+-- the processor's changes added to the group, minus the sum of the counts that they subtracted.
 abbrev pub CountsAreSums : Type 0
 CountsAreSums = (limits : Limits) (events : List Event) → AreLegal limits first_world events → (parents : List (Option ℕ)) (cpu slot : ℕ) →
     Follows no_counts (taken parents slot (changes_from cpu first_world events))

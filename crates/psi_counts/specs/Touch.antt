@@ -1,5 +1,5 @@
--- The changes that an event makes on the processors that it touches, and how counts of tasks follow
--- such changes.
+-- Touches: the changes that an event makes on the processors that it touches. An *act* is what an
+-- event says, such as a switch or a fork. Also how counts of tasks follow such changes.
 use Rattle.std.specs.Prelude.{◌≡◌, ◌≢◌, ℕ, ◌+◌, ◌≤◌, ◌<◌, List, [], ◌∷◌, length, ◌==◌, Bool, true, false, if◌then◌else◌, unwrap_or, Option, None, Some, IfSome}
 use Rattle.std.specs.List.{list_any}
 use Rattle.std.specs.FinMap as tasks_by
@@ -26,17 +26,19 @@ use Rattle.psi_counts.specs.Counts.{how_many, counts_among, IsRunningKnown}
 
 -- ---- the task whose counts an act changes
 
--- a task after a change; `None` if there is no task
+-- the task after the update `f`; `None` if there is no task
 abbrev pub changed : (Task → Task) → Option Task → Option Task
 changed f None = None
 changed f (Some task) = Some (f task)
 
--- a running task after it left its processor; `None` if there is no task
+-- a running task after it left its processor in the way `how`; `None` if there is no task or if it
+-- exited
 abbrev pub left_if : How → Option Task → Option Task
 left_if how None = None
 left_if how (Some task) = left_by how task
 
--- the task whose counts an effect changes, after the effect
+-- the task whose counts an effect changes, after the effect; `None` if it changes no task or the
+-- task doesn't exist afterwards
 abbrev pub after_effect : List GroupLife → Tasks → Effect → Option Task
 after_effect groups tasks none = None
 after_effect groups tasks (forks pid path cpu) = Some (new_task groups path cpu.0)
@@ -48,44 +50,49 @@ after_effect groups tasks (switches cpu next how) = left_if how (task_part (runn
 after_effect groups tasks (interrupts cpu) = None
 after_effect groups tasks switches_account = None
 
--- the task whose counts an act changes, after the act
+-- the task whose counts `act` changes, after the act; `None` if it changes no task or the task
+-- doesn't exist afterwards
 abbrev pub task_after : List GroupLife → Tasks → Act → Option Task
 task_after groups tasks act = after_effect groups tasks (effect_of act)
 
 -- ---- accounting
 
--- The slot of a group whose accounting is switched, and whether it is on afterwards; `None` if no
--- path is given.
+-- The slot of the group with the path in `switched`, and whether its accounting is on afterwards;
+-- `None` if accounting isn't switched.
 abbrev pub account_named : List GroupLife → Option (List ℕ × Bool) → Option (Slot × Bool)
 account_named groups None = None
 account_named groups (Some switched) = Some (slot_named groups switched.0, switched.1)
 
--- the group whose accounting an act switches, if any
+-- the slot of the group whose accounting an act switches, and whether it is on afterwards; `None`
+-- if the act switches none
 abbrev pub account_of : List GroupLife → Act → Option (Slot × Bool)
 account_of groups what = account_named groups (names what).switched
 
--- whether a slot's accounting is on after a switch, if any; `on` is whether it was on before
+-- whether the accounting of the group in `slot` is on after a switch of accounting, if there is
+-- one; `on` is whether it was on before
 abbrev pub on_with : ℕ → Bool → Option (Slot × Bool) → Bool
 on_with slot on None = on
 on_with slot on (Some account) = if account.0.0 == slot then account.1 else on
 
 -- ---- changes
 
--- a task's slot, and the counts of this task alone, if it is on this processor
+-- the slot of a task, and the counts of this task alone, if the task is on processor `cpu`;
+-- otherwise `None`
 abbrev pub part : ℕ → Option Task → Option (Slot × Counts)
 part cpu None = None
 part cpu (Some task) = if is_at cpu task then Some (task.slot, counts_among (task ∷ [])) else None
 
--- a running task's slot, and whether it is in a memory stall
+-- the slot of a running task, and whether it is in a memory stall; `None` if no task is running
 abbrev pub shown : Option (ℕ × Task) → Option (Slot × Bool)
 shown None = None
 shown (Some running) = Some (running.1.slot, running.1.stalled)
 
--- The change of a processor by an event, at the event's time. It subtracts the task's counts before
--- the event from the chain of its slot, and adds those after the event to the chain of its slot. It
--- also has the processor's running task afterwards, the time (ns) that interrupts took there, and
--- the group whose accounting the event switches, if any: then the running task is the same as
--- before.
+-- The change that an event makes on processor `cpu`, at the event's time. `old` and `new` are the
+-- task whose counts the event changes, before and after the event: the change subtracts the counts
+-- of `old` from the chain of its slot, and adds the counts of `new` to the chain of its slot.
+-- `tasks` are the tasks after the event. The change has the processor's running task among them,
+-- the time (ns) that interrupts took on the processor, and the group whose accounting the event
+-- switches, if any; a switch of accounting doesn't change the running task.
 abbrev pub change_on : List GroupLife → Event → Option Task → Option Task → Tasks → ℕ → Change
 change_on groups event old new tasks cpu = record {
   at = event.at;
@@ -96,7 +103,8 @@ change_on groups event old new tasks cpu = record {
   account = account_of groups event.act;
 }
 
--- the change of a processor by an event, if the event touches it
+-- the change that an event makes on processor `cpu`; `None` if the event doesn't touch the
+-- processor
 unfoldable pub change_of : World → Event → ℕ → Option Change
 change_of w event cpu =
     if touched event.act (before w.tasks event.act) cpu
@@ -106,36 +114,38 @@ change_of w event cpu =
 
 -- ---- touches
 
--- the change if it is of this processor, otherwise another
+-- the change in `touched` if it is on processor `cpu`, otherwise `other`
 abbrev pub known_first : ℕ → Option (Cpu × Change) → Option Change → Option Change
 known_first cpu None other = other
 known_first cpu (Some touched) other = if touched.0.0 == cpu then Some touched.1 else other
 
--- the change of a processor in a touch
+-- the change that a touch has for processor `cpu`, if any
 abbrev pub change_by_cpu : Touch → ℕ → Option Change
 change_by_cpu touch cpu = known_first cpu touch.first (known_first cpu touch.second None)
 
--- the change of a processor at `at` (ns) that switches a group's accounting, while this task runs
+-- a processor's change at `at` (ns) that switches a group's accounting, while the task `current` is
+-- running
 abbrev pub account_change : ℕ → Option (Slot × Bool) → Slot × Bool → Change
 account_change at current account = record { at = at; minus = None; plus = None; current = current; irq = 0; account = Some account }
 
--- the change that switches a group's accounting, if any, otherwise another
+-- the change that switches a group's accounting, if there is a switch, otherwise `other`
 abbrev pub account_first : ℕ → Option (Slot × Bool) → Option (Slot × Bool) → Option Change → Option Change
 account_first at current None other = other
 account_first at current (Some account) other = Some (account_change at current account)
 
--- the change of a processor by a touch at `at` (ns), if this task runs there afterwards
+-- the change that a touch at `at` (ns) makes on processor `cpu`; `current` is the processor's
+-- running task afterwards
 abbrev pub change_known : ℕ → Option (Slot × Bool) → Touch → ℕ → Option Change
 change_known at current touch cpu = account_first at current touch.account (change_by_cpu touch cpu)
 
--- a second change exists only if there is a first, on another processor
+-- A second change exists only if there is a first change, on another processor.
 abbrev pub IsBeside : Option (Cpu × Change) → Option (Cpu × Change) → Type 0
 IsBeside first None = Unit {0}
 IsBeside None (Some second) = ⊥
 IsBeside (Some first) (Some second) = first.0 ≢ second.0
 
--- A touch has the event's change for each of `cpus` processors, at most one for each. Its switch of
--- accounting is the event's. If it has one, it has no other change.
+-- A touch has the event's change on each of the `cpus` processors that it touches, at most one
+-- change on each. Its switch of accounting is that of the event, and then it has no other change.
 pub record IsTouch (cpus : ℕ) (w : World) (event : Event) (touch : Touch) : Type 0 where
   pub known : (cpu : ℕ) → cpu < cpus → change_known event.at (shown (running_on (after_event w event).tasks cpu)) touch cpu
       ≡ change_of w event cpu
@@ -143,31 +153,31 @@ pub record IsTouch (cpus : ℕ) (w : World) (event : Event) (touch : Touch) : Ty
   pub on_with : touch.account ≡ account_of w.groups event.act
   pub alone : IfSome touch.account (λ account. (touch.first ≡ None) × (touch.second ≡ None))
 
--- each change in a touch satisfies `IsSo` with its processor
+-- `IsSo` holds for each change in a touch, with the number of its processor.
 abbrev pub AllTouched : (ℕ → Change → Type 0) → Touch → Type 0
 AllTouched IsSo touch = IfSome touch.first (λ first. IsSo first.0.0 first.1) × IfSome touch.second (λ second. IsSo second.0.0 second.1)
 
--- a change names only slots below a bound
+-- Each slot that a change names is less than `slots`.
 pub record HasSlotsBelow (slots : ℕ) (change : Change) : Type 0 where
   pub minus : IfSome change.minus (λ part. part.0.0 < slots)
   pub plus : IfSome change.plus (λ part. part.0.0 < slots)
   pub current : IfSome change.current (λ current. current.0.0 < slots)
   pub account : IfSome change.account (λ account. account.0.0 < slots)
 
--- each count is at most `most`
+-- Each of the four counts is at most `most`.
 pub record AreAtMost (most : ℕ) (counts : Counts) : Type 0 where
   pub io : counts.io ≤ most
   pub stalled : counts.stalled ≤ most
   pub running : counts.running ≤ most
   pub stalled_running : counts.stalled_running ≤ most
 
--- a change subtracts and adds no counts
+-- The change neither subtracts nor adds counts.
 abbrev pub HasNoCounts : Change → Type 0
 HasNoCounts change = (change.minus ≡ None) × (change.plus ≡ None)
 
--- A change subtracts and adds the counts of at most one task each. Its interrupt time is at most a
--- second. If it has interrupt time or switches a group's accounting, it subtracts and adds no
--- counts; it never has both.
+-- A change subtracts the counts of at most one task, and adds the counts of at most one task. Its
+-- interrupt time is at most one second. A change with interrupt time, or with a switch of
+-- accounting, has no counts, and no change has both.
 pub record IsOfOne (change : Change) : Type 0 where
   pub minus : IfSome change.minus (λ part. AreAtMost 1 part.1)
   pub plus : IfSome change.plus (λ part. AreAtMost 1 part.1)
@@ -175,77 +185,79 @@ pub record IsOfOne (change : Change) : Type 0 where
   pub alone : 0 < change.irq → HasNoCounts change
   pub account : IfSome change.account (λ account. HasNoCounts change × (change.irq ≡ 0))
 
--- ---- how counts follow
+-- ---- how counts follow changes
 
--- no task is counted
+-- the counts of no tasks: all are 0
 abbrev pub no_counts : Counts
 no_counts = record { io = 0; stalled = 0; running = 0; stalled_running = 0 }
 
--- the part of some counts that applies to a group: all of them if the group is their slot or above
--- it, otherwise none
+-- the counts in `part` that apply to the group in `slot`: all of them if their task is in the group
+-- or below it, otherwise none
 abbrev pub on_chain : List (Option ℕ) → ℕ → Option (Slot × Counts) → Counts
 on_chain parents slot None = no_counts
 on_chain parents slot (Some part) = if is_under parents part.0.0 slot then part.1 else no_counts
 
--- the new counts plus what was subtracted are the old counts plus what was added
+-- The new counts plus the subtracted counts are the old counts plus the added counts.
 pub record Follows (old minus plus new : Counts) : Type 0 where
   pub io : new.io + minus.io ≡ old.io + plus.io
   pub stalled : new.stalled + minus.stalled ≡ old.stalled + plus.stalled
   pub running : new.running + minus.running ≡ old.running + plus.running
   pub stalled_running : new.stalled_running + minus.stalled_running ≡ old.stalled_running + plus.stalled_running
 
--- at most one task runs on each processor
+-- At most one task runs on each processor.
 abbrev pub RunsOnce : Tasks → Type 0
 RunsOnce tasks = (cpu : ℕ) → how_many (is_running_on cpu) (tasks_by.values tasks) ≤ 1
 
--- a processor's running task is in a group or below it
+-- whether a processor's running task is in the group in `slot` or below it
 abbrev pub is_current_in : List (Option ℕ) → ℕ → Option (Slot × Bool) → Bool
 is_current_in parents slot None = false
 is_current_in parents slot (Some current) = is_under parents current.0.0 slot
 
--- a processor's running task is in a memory stall
+-- whether a processor's running task is in a memory stall; false if no task is running
 abbrev pub is_current_stalled : Option (Slot × Bool) → Bool
 is_current_stalled None = false
 is_current_stalled (Some current) = current.1
 
--- the interrupt time (ns) of a group by a change: the change's, if the running task is in the group
--- or below it
+-- the interrupt time (ns) that a change takes from the group in `slot`: the time in the change if
+-- the running task is in the group or below it, otherwise 0
 abbrev pub irq_in : List (Option ℕ) → ℕ → Change → ℕ
 irq_in parents slot change = if is_current_in parents slot change.current then change.irq else 0
 
--- the processor of each task is below `cpus`, and its slot below `slots`
+-- Each task's processor is less than `cpus`, and its slot is less than `slots`.
 abbrev pub AreWithin : ℕ → ℕ → Tasks → Type 0
 AreWithin cpus slots tasks = (pid : ℕ) → IfSome (task_of tasks pid) (λ task. (task.cpu.0 < cpus) × (task.slot.0 < slots))
 
 -- ---- laws
 
--- A legal event changes the counts of each group on each processor by what its change subtracts and
--- adds there.
+-- A legal event changes the counts of each group on each processor: the task's counts before the
+-- event are subtracted, and its counts after the event are added.
 abbrev pub CountsFollow : Type 0
 CountsFollow = (limits : Limits) (w : World) (event : Event) → cause_of limits w event ≡ None → (parents : List (Option ℕ)) (cpu slot : ℕ) →
     Follows (counts_among (tasks_in parents cpu slot w.tasks)) (on_chain parents slot (part cpu (before w.tasks event.act)))
     (on_chain parents slot (part cpu (task_after w.groups w.tasks event.act)))
     (counts_among (tasks_in parents cpu slot (after_event w event).tasks))
 
--- At the start at most one task runs on each processor.
+-- Before the first event, at most one task runs on each processor: there are no tasks.
 abbrev pub RunsOnceFirst : Type 0
 RunsOnceFirst = RunsOnce no_tasks
 
--- Legal events preserve this.
+-- Legal events preserve that at most one task runs on each processor.
 abbrev pub RunsOnceKept : Type 0
 RunsOnceKept =
     (limits : Limits) (w : World) (event : Event) → cause_of limits w event ≡ None → RunsOnce w.tasks → RunsOnce (after_event w event).tasks
 
--- The running task in a change determines which task runs among those of each group there.
+-- The running task in a change shows whether one of a group's tasks is running, and whether it is
+-- in a memory stall.
 abbrev pub CurrentShows : Type 0
 CurrentShows = (tasks : Tasks) → RunsOnce tasks → (parents : List (Option ℕ)) (cpu slot : ℕ) →
     IsRunningKnown (tasks_in parents cpu slot tasks) (is_current_in parents slot (shown (running_on tasks cpu)))
     (is_current_stalled (shown (running_on tasks cpu)))
 
--- A processor's change by a legal event determines everything that sums of times need there. The
--- counts of each group follow what it subtracts and adds on the chains. It has the task of each
--- group that runs afterwards. Its interrupt time applies to the groups that have a running task in
--- the world before the event. Its switch of accounting is the event's.
+-- A processor's change by a legal event has everything that the times of a group there depend on.
+-- The counts of the group follow what the change subtracts and adds. The change's running task
+-- shows whether one of the group's tasks runs after the event. The change's interrupt time applies
+-- to the group if one of the group's tasks runs before the event. The change's switch of accounting
+-- is that of the event.
 abbrev pub ChangeShows : Type 0
 ChangeShows =
     (limits : Limits) (w : World) (event : Event) → cause_of limits w event ≡ None → RunsOnce w.tasks → (cpu : ℕ) (change : Change)
@@ -257,7 +269,7 @@ ChangeShows =
     × (irq_in parents slot change ≡ (if list_any runs (tasks_in parents cpu slot w.tasks) then irq_time_by cpu event.act else 0))
     × (change.account ≡ account_of w.groups event.act)
 
--- An act touches the processor that it names, and the processor of the task that it changes, both
+-- An act touches the processor that it names, and the processors of the task that it changes, both
 -- before and after the act.
 abbrev pub TouchesItsOwn : Type 0
 TouchesItsOwn = (w : World) (event : Event) (cpu : ℕ) →
@@ -265,8 +277,9 @@ TouchesItsOwn = (w : World) (event : Event) (cpu : ℕ) →
     × (is_some_and (before w.tasks event.act) (is_at cpu) ≡ true → touched event.act (before w.tasks event.act) cpu ≡ true)
     × (is_some_and (task_after w.groups w.tasks event.act) (is_at cpu) ≡ true → touched event.act (before w.tasks event.act) cpu ≡ true)
 
--- On a processor that it doesn't touch, a legal event changes neither the counts of a group nor the
--- running task. It has no interrupt time there, and switches no group's accounting.
+-- A legal event that doesn't touch a processor changes neither the counts of a group nor the
+-- running task there. The event has no interrupt time on this processor, and switches no group's
+-- accounting.
 abbrev pub StaysUntouched : Type 0
 StaysUntouched =
     (limits : Limits) (w : World) (event : Event) → cause_of limits w event ≡ None → (cpu : ℕ) → change_of w event cpu ≡ None
@@ -277,25 +290,26 @@ StaysUntouched =
     × (irq_time_by cpu event.act ≡ 0)
     × (account_of w.groups event.act ≡ None)
 
--- The accounting that is on after a legal event follows from the event's switch of accounting.
+-- Whether a group's accounting is on after a legal event follows from whether it was on before and
+-- from the event's switch of accounting.
 abbrev pub OnByAccount : Type 0
 OnByAccount = (limits : Limits) (w : World) (event : Event) → cause_of limits w event ≡ None → AreGroups w.groups → (slot : ℕ) →
     is_on (after_event w event).groups slot ≡ on_with slot (is_on w.groups slot) (account_of w.groups event.act)
 
--- At the start there are no tasks.
+-- Before the first event, all tasks have existing processors and slots: there are no tasks.
 abbrev pub WithinFirst : Type 0
 WithinFirst = (cpus slots : ℕ) → AreWithin cpus slots no_tasks
 
--- Legal events preserve that the processors and slots of tasks are below the numbers of processors
--- and groups.
+-- Legal events preserve that each task's processor is less than the number of processors, and its
+-- slot less than the number of groups.
 abbrev pub WithinKept : Type 0
 WithinKept =
     (limits : Limits) (w : World) (event : Event) → cause_of limits w event ≡ None → AreWithin limits.cpus (length w.groups) w.tasks
     → AreWithin limits.cpus (length w.groups) (after_event w event).tasks
 
--- The processors and slots of changes are below these numbers too, except that accounting is
--- switched on every processor. A change subtracts and adds the counts of one task, or has interrupt
--- time, or switches accounting, at the event's time.
+-- The change of a legal event is at the event's time and names only slots of existing groups. Its
+-- processor exists, but a change that switches accounting is defined for every processor number. A
+-- change has the counts of one task, or interrupt time, or a switch of accounting.
 abbrev pub ChangesAreWithin : Type 0
 ChangesAreWithin =
     (limits : Limits) (w : World) (event : Event) → cause_of limits w event ≡ None → AreWithin limits.cpus (length w.groups) w.tasks

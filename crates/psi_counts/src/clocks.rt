@@ -1,27 +1,27 @@
-//! Laws of states from counts, of masks and of clocks. Each function has an empty body: its
-//! contract is the law.
+//! Laws of states that follow from counts, of masks and of clocks. Each function has an empty body:
+//! its contract is the law.
 
 ghost use Rattle.psi_counts.specs.Clock.{NoLongerThanClock, SameAfterChange, SameMaskIsNoChange, WordsShowClock};
 ghost use Rattle.psi_counts.specs.Counts.{CountsShow, MasksAreTheirStates};
 
-/// The kernel's rules over counts give the states that are defined over tasks, if at most one of
-/// these runs.
+/// If at most one task of a list is running, the kernel's rules over counts give the same states as
+/// the definition over tasks.
 pub fn law_states_by_counts()
     ensures { CountsShow }
 {}
 
-/// Masks that hold the same states are equal.
+/// Masks with the same states are equal.
 pub fn law_masks()
     ensures { MasksAreTheirStates }
 {}
 
-/// No time in a state is longer than the clock's own time.
+/// The time in a state by a clock never exceeds the time up to which it is read.
 pub fn law_clock_times()
     ensures { NoLongerThanClock }
 {}
 
-/// Equivalent clocks: a change that leaves the mask as it was gives an equivalent clock, and
-/// equivalent clocks are equal after a change.
+/// A change with an unchanged mask gives an equivalent clock, and equivalent clocks are equal after
+/// a change.
 pub fn law_same_clocks()
     ensures no_change { SameMaskIsNoChange }
     ensures same_after { SameAfterChange }

@@ -1,15 +1,16 @@
-//! Laws of legal worlds. Each function has an empty body: its contract is the law.
+//! Laws of legal worlds (worlds after legal events). Each function has an empty body: its contract
+//! is the law.
 ghost use Rattle.psi_counts.specs.Legal.{CountsAreFew, CountsAreSums, LegalFirst, LegalKept, SameTasksLater};
 
-/// The first world is legal, and so is each after a legal event.
+/// The first world is legal, and each legal event takes a legal world to a legal world.
 pub fn law_legal_worlds()
     ensures first { LegalFirst }
     ensures unchanged { LegalKept }
 {}
 
-/// In a legal world new groups don't change which tasks count for a group, and no group counts more
-/// tasks than the limit. These counts are the sums of what changes added and subtracted on chains
-/// since the first event.
+/// In a legal world, groups that are created later don't change which tasks count for a group, and
+/// no count of a group exceeds the limit of live tasks. The counts are the sums that the changes
+/// since the first event added, minus the sums that they subtracted.
 pub fn law_legal_counts()
     ensures later { SameTasksLater }
     ensures few { CountsAreFew }

@@ -1,11 +1,12 @@
-//! Counting instead of looking at all tasks, at one time: the states that psi_spec defines over the
-//! tasks of a world follow from counts of tasks, and a clock adds up the time in each state.
+//! Counts of tasks and clocks: the states that psi_spec defines over the tasks of a world follow
+//! from counts of tasks, and a clock adds up the time in each state. So a program needn't look at
+//! all tasks at every event.
 //!
-//! In `specs/`: `Counts` (states from counts of tasks, masks), `Clock`, `Touch` (the changes of an
-//! event on a processor), `Legal` (the invariant of legal worlds).
+//! In `specs/`: `Counts` (states from counts of tasks, masks), `Clock`, `Touch` (the changes that
+//! an event makes on processors), `Legal` (the invariant of legal worlds).
 //!
-//! These are types, definitions and laws, without code that runs; plan_laws has the laws over a
-//! whole trace, and cpu_clock and slot_clocks the code.
+//! These are types, definitions and laws, without code that runs. plan_laws has the laws over a
+//! whole trace; cpu_clock and slot_clocks have the code.
 #![tactic(auto)]
 
 mod changes;

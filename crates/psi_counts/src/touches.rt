@@ -1,55 +1,55 @@
-//! Laws of the changes of events on processors. Each function has an empty body: its contract is
-//! the law.
+//! Laws of the changes that events make on processors. Each function has an empty body: its
+//! contract is the law.
 ghost use Rattle.psi_counts.specs.Touch.{ChangeShows, ChangesAreWithin, CountsFollow, CurrentShows, OnByAccount, RunsOnceFirst, RunsOnceKept, StaysUntouched, TouchesItsOwn, WithinFirst, WithinKept};
 
-/// A legal event changes the counts of each group on each processor by what its change subtracts
-/// and adds on the chain of the task's slot, just as `psi_group_change` of the kernel's psi.c does
-/// for each group.
+/// A legal event changes the counts of each group on each processor by what the event's change
+/// subtracts and adds on the chain of the task's slot, as `psi_group_change` in the kernel's psi.c
+/// does for each group.
 pub fn law_counts_follow()
     ensures { CountsFollow }
 {}
 
-/// At most one task runs on each processor, at the start and after each legal event.
+/// At most one task runs on each processor, before the first event and after each legal event.
 pub fn law_runs_once()
     ensures first { RunsOnceFirst }
     ensures unchanged { RunsOnceKept }
 {}
 
-/// The running task of a processor determines which of the tasks that count for a group runs, so
-/// the states follow from counts.
+/// The running task of a processor shows whether one of a group's tasks is running there, so the
+/// group's states follow from its counts.
 pub fn law_current_shows()
     ensures { CurrentShows }
 {}
 
 /// The change of a processor has everything that the times of each group there depend on: how the
-/// counts follow, the running task, the interrupt time, and the group whose accounting was
-/// switched.
+/// counts change, the running task, the interrupt time, and the group whose accounting is switched.
 pub fn law_change_shows()
     ensures { ChangeShows }
 {}
 
-/// A legal event changes no counts and no running task on processors that it doesn't touch, and has
-/// no interrupt time there. It touches the processor that it names and those of the task that it
-/// changes.
+/// A legal event that doesn't touch a processor changes no counts and no running task there, and
+/// has no interrupt time there. An event touches the processor that it names, and the processors of
+/// the task that it changes, before and after the event.
 pub fn law_touched()
     ensures others { StaysUntouched }
     ensures own { TouchesItsOwn }
 {}
 
-/// The accounting that is on after a legal event follows from the event's switch of accounting.
+/// Whether a group's accounting is on after a legal event follows from whether it was on before and
+/// from the event's switch of accounting.
 pub fn law_accounts()
     ensures { OnByAccount }
 {}
 
-/// The processors and slots of tasks exist, at the start and after each legal event.
+/// Each task is on an existing processor and in an existing slot, before the first event and after
+/// each legal event.
 pub fn law_within()
     ensures first { WithinFirst }
     ensures unchanged { WithinKept }
 {}
 
-/// The processors and slots of changes exist too. A change subtracts and adds the counts of one
-/// task, or has only interrupt time, or only switches a group's accounting, which is a change of
-/// every processor.
+/// Changes name existing processors and slots. A change has the counts of one task, or only
+/// interrupt time, or only a switch of a group's accounting, which is a change of every processor.
 pub fn law_changes_are_within()
     ensures { ChangesAreWithin }
 {}
