@@ -1,5 +1,6 @@
--- The nine kinds of step on a row: how each changes its seat's view, what its result says, and that
--- it preserves the invariant.
+-- The nine kinds of step on a row: how each kind changes the view of its seat, what its result
+-- says, and that it preserves the invariant. A seat is the handle of the writer, a reader or a
+-- note; its view is what its owner knows of the row.
 use Rattle.std.specs.Prelude.{◌≡◌, ℕ, ◌+◌, ◌*◌, ◌-◌, ◌/◌, ◌%◌, ◌≤◌, max, Bool, true, false, ◌==◌, List, [], ◌∷◌, ◌++◌, slice_index, slice_set}
 use mathlib.Core.Option.{none}
 use Rattle.atomic_table.specs.Table.{Allows, Joins, Me, Splits, Step, opening, step}
@@ -14,50 +15,51 @@ use Rattle.clock_row.specs.declared.view.Attempt.TheVariants.{Closed, Open}
 use Rattle.clock_row.specs.declared.view.View.{View}
 use Rattle.clock_row.specs.declared.view.View.TheVariants.{Spent, Noted, Writer, Reader}
 
--- a seat's view, and what `atomic_table` calls its slots: a row has none
+-- a seat's view, paired with its slots of the table in the sense of `atomic_table`, of which a row
+-- has none
 abbrev pub Sitter : Type 0
 Sitter = Me (Unit {0}) View
 
--- one step on a row
+-- one step on a row, as `atomic_table` describes steps
 abbrev pub RowStep : Type 0
 RowStep = Step (Unit {0})
 
--- `change` is applied to the writer's view
+-- The step applies `change` to the writer's view.
 abbrev pub Writes : (WriterView → WriterView) → View → View → Type 0
 Writes change before after = (writer : WriterView) → before ≡ Writer writer → after ≡ Writer (change writer)
 
--- `change` is applied to a reader's view
+-- The step applies `change` to a reader's view.
 abbrev pub Reads : (ReaderView → ReaderView) → View → View → Type 0
 Reads change before after = (reader : ReaderView) → before ≡ Reader reader → after ≡ Reader (change reader)
 
 -- ---- 1 to 4: the writer
 
--- a change is open
+-- the writer's view after it opens a change
 abbrev pub change_opened : WriterView → WriterView
 change_opened writer = record writer { changing = true }
 
--- this word is at its place
+-- the writer's view after it stores `word` at index `place` after the sequence number
 abbrev pub put_at : ℕ → ℕ → WriterView → WriterView
 put_at place word writer = record writer { body = slice_set writer.body place word }
 
--- one more change is in the row, and none is open
+-- the writer's view after it closes a change: one more change is in the row, and none is open
 abbrev pub closed : WriterView → WriterView
 closed writer = record writer { count = writer.count + 1; changing = false }
 
--- 1: The store of the odd number opens a change.
+-- 1: Storing the odd number opens a change.
 abbrev pub Opens : RowStep → Sitter → ℕ → Sitter → Type 0
 Opens step before number after = Writes change_opened before.0 after.0
 
--- 2: The store of a word after the sequence number puts it there.
+-- 2: Storing a word after the sequence number replaces the word at its index.
 abbrev pub Puts : RowStep → Sitter → ℕ → Sitter → Type 0
 Puts step before word after = Writes (put_at (step.word - 1) step.first) before.0 after.0
 
--- 3: The store of the next even number closes the change.
+-- 3: Storing the next even number closes the change.
 abbrev pub Closes : RowStep → Sitter → ℕ → Sitter → Type 0
 Closes step before number after = Writes closed before.0 after.0
 
--- 4: A load by the writer finds the word that its view has, and shows that twice the count reported
--- to it is at most the sequence number.
+-- 4: A load by the writer returns the word that is in the writer's view, and shows that twice the
+-- number of changes reported to the writer is at most the sequence number.
 abbrev pub Owns : RowStep → Sitter → ℕ → Sitter → Type 0
 Owns step before word after =
     (after.0 ≡ before.0)
@@ -66,8 +68,8 @@ Owns step before word after =
 
 -- ---- 5 to 7: a reader
 
--- The sequence number was loaded for a try: the try is open if the number is even, and met a change
--- if it is odd.
+-- the reader's view after a try loaded the sequence number `number`; the flag is whether it is
+-- even: the try is open if it is, otherwise the try met a change
 abbrev pub begun_by : Bool → ℕ → ReaderView → ReaderView
 begun_by true number reader = record reader { loads = reader.loads + 1; first = reader.second; second = number; attempt = Open number [] }
 begun_by false number reader =
@@ -77,17 +79,18 @@ begun_by false number reader =
 abbrev pub try_begun : ℕ → ReaderView → ReaderView
 try_begun number reader = begun_by (number % 2 == 0) number reader
 
--- a try with one more value
+-- the try with one more value, at index `place`; no try if none is open
 abbrev pub loaded_too : ℕ → ℕ → Attempt → Attempt
 loaded_too place value Closed = Closed
 loaded_too place value (Open first loaded) = Open first ((place, value) ∷ loaded)
 
--- a value was loaded in a try
+-- the reader's view after a word was loaded in a try
 abbrev pub loaded_at : ℕ → ℕ → ReaderView → ReaderView
 loaded_at place value reader = record reader { attempt = loaded_too place value reader.attempt }
 
--- The sequence number was loaded again. If it is the first one of the try, the try gave a sample
--- after this number of changes, which are now seen; otherwise it met a change.
+-- the reader's view after a try that began with `first` loaded the sequence number again; the flag
+-- is whether it is unchanged: if it is, the try gave a sample after `first / 2` changes, which are
+-- now seen, otherwise the try met a change
 abbrev pub ended_by : Bool → ℕ → ℕ → ReaderView → ReaderView
 ended_by true first number reader =
     record reader {
@@ -101,12 +104,12 @@ ended_by true first number reader =
 ended_by false first number reader =
     record reader { loads = reader.loads + 1; met = reader.met + 1; first = reader.second; second = number; attempt = Closed }
 
--- the reader's view after the second load of a try that began with `first`
+-- the reader's view after a try that began with `first` loaded the sequence number again
 abbrev pub ended : ℕ → ℕ → ReaderView → ReaderView
 ended first number reader = ended_by (number == first) first number reader
 
--- 5: The first load of the sequence number begins a try. The row has at least the changes that the
--- reader has seen.
+-- 5: The first load of the sequence number begins a try. It returns at least twice the number of
+-- changes that the reader has seen.
 abbrev pub BeginsTry : RowStep → Sitter → ℕ → Sitter → Type 0
 BeginsTry step before number after =
     (reader : ReaderView) → before.0 ≡ Reader reader → (after.0 ≡ Reader (try_begun number reader)) × (2 * reader.seen ≤ number)
@@ -116,8 +119,8 @@ abbrev pub Loads : RowStep → Sitter → ℕ → Sitter → Type 0
 Loads step before value after = Reads (loaded_at (step.word - 1) value) before.0 after.0
 
 -- 7: The second load of the sequence number ends a try. It returns at least the first number. If it
--- returns the first number, the loaded values are words that were in the row together, after this
--- number of changes.
+-- returns the first number, the values that the try loaded were in the row at the same time, after
+-- that number of changes.
 abbrev pub EndsTry : RowStep → Sitter → ℕ → Sitter → Type 0
 EndsTry step before number after =
     (reader : ReaderView) (first : ℕ) (loaded : List (ℕ × ℕ)) → before.0 ≡ Reader reader → reader.attempt ≡ Open first loaded →
@@ -125,16 +128,17 @@ EndsTry step before number after =
 
 -- ---- 8: a seat is split
 
--- a reader that has seen this many changes, and has tried nothing yet
+-- the view of a new reader that has seen `count` changes and hasn't begun a try
 abbrev pub new_reader : PlanView → ℕ → ReaderView
 new_reader plan count = record { plan = plan; seen = count; loads = 0; met = 0; got = []; first = 0; second = 0; attempt = Closed }
 
--- the writer's seat creates a reader that has seen the writer's count
+-- the view of the reader that the writer's seat creates: it has seen the writer's number of changes
 abbrev pub reader_of : View → View
 reader_of (Writer writer) = Reader (new_reader writer.plan writer.count)
 reader_of view = Spent
 
--- the writer's seat creates a note of its count, a reader's seat one of what it has seen
+-- the view of the note that a seat creates: the writer's number of changes, or the number that a
+-- reader has seen
 abbrev pub note_of : View → View
 note_of (Writer writer) = Noted record { plan = writer.plan; number = writer.count }
 note_of (Reader reader) = Noted record { plan = reader.plan; number = reader.seen }
@@ -142,29 +146,30 @@ note_of view = Spent
 
 -- ---- 9: a note is taken
 
--- the count in a note
+-- the number of changes in a note
 abbrev pub number_noted : View → ℕ
 number_noted (Noted note) = note.number
 number_noted view = 0
 
--- a reader that has now seen at least this many changes
+-- the reader's view with at least `number` changes seen
 abbrev pub count_shown : ℕ → ReaderView → ReaderView
 count_shown number reader = record reader { seen = max reader.seen number }
 
--- a writer to whom at least this many changes were reported
+-- the writer's view with at least `number` changes reported to the writer
 abbrev pub count_known : ℕ → WriterView → WriterView
 count_known number writer = record writer { known = max writer.known number }
 
--- after it takes a note, a reader has seen the note's count, or the count was reported to the
--- writer
+-- the view of a seat after it took a note: a reader has seen the note's number of changes, or this
+-- number was reported to the writer
 abbrev pub with_note : View → View → View
 with_note (Writer writer) note = Writer (count_known (number_noted note) writer)
 with_note (Reader reader) note = Reader (count_shown (number_noted note) reader)
 with_note view note = view
 
--- ---- laws: each step keeps the rule, from whatever row that meets it
+-- ---- laws: each step preserves the invariant of every row that satisfies it
 
--- A row of zeros before the first change satisfies the invariant, if zeros are clocks then.
+-- Before the first change, a row of zeros satisfies the invariant, if zeros are the words of each
+-- slot's clock then.
 abbrev pub StartHolds : Type 0
 StartHolds =
     (plan : PlanView) (body : List ℕ) → AreClockWords plan 0 body → HoldsRule (opening (0 ∷ body) [] (Writer (writer_at_start plan body)))
@@ -176,13 +181,13 @@ OpenKeeps =
     → writer.changing ≡ false →
     Allows HoldsRule slots id me 0 (λ _. number) (λ _. Opens (step slots 0 number 0 none) me number)
 
--- 2: During a change the writer may store any word at any place after the sequence number.
+-- 2: While a change is open, the writer may store any word at any index after the sequence number.
 abbrev pub PutKeeps : Type 0
 PutKeeps = (slots id : ℕ) (me : Sitter) (writer : WriterView) (place word : ℕ) → me.0 ≡ Writer writer → writer.changing ≡ true →
     Allows HoldsRule slots id me (place + 1) (λ _. word) (λ _. Puts (step slots (place + 1) word 0 none) me word)
 
--- 3: Once the words of each slot are a clock after the change, the writer may store the next even
--- number.
+-- 3: If a change is open and the words of each slot are a clock after the change, the writer may
+-- store the next even number.
 abbrev pub CloseKeeps : Type 0
 CloseKeeps =
     (slots id : ℕ) (me : Sitter) (writer : WriterView) (number : ℕ) → me.0 ≡ Writer writer → number ≡ 2 * writer.count + 2
@@ -200,27 +205,27 @@ BeginKeeps =
     (slots id : ℕ) (me : Sitter) (reader : ReaderView) → me.0 ≡ Reader reader
     → Allows HoldsRule slots id me 0 (λ number. number) (BeginsTry (step slots 0 0 0 none) me)
 
--- 6: A reader may load any word after the sequence number.
+-- 6: A reader may load any word after the sequence number at any time.
 abbrev pub LoadKeeps : Type 0
 LoadKeeps = (slots id place : ℕ) (me : Sitter) (reader : ReaderView) → me.0 ≡ Reader reader →
     Allows HoldsRule slots id me (place + 1) (λ value. value) (Loads (step slots (place + 1) 0 0 none) me)
 
--- 7: A reader may end a try that is open.
+-- 7: A reader whose try is open may end it.
 abbrev pub EndKeeps : Type 0
 EndKeeps = (slots id first : ℕ) (me : Sitter) (reader : ReaderView) (loaded : List (ℕ × ℕ)) → me.0 ≡ Reader reader
     → reader.attempt ≡ Open first loaded →
     Allows HoldsRule slots id me 0 (λ number. number) (EndsTry (step slots 0 0 0 none) me)
 
--- 8: A seat may create a reader, and a note.
+-- 8: A seat may create a reader or a note.
 abbrev pub SplitKeeps : Type 0
 SplitKeeps = (id : ℕ) (view : View) → Splits HoldsRule id view view (reader_of view) × Splits HoldsRule id view view (note_of view)
 
--- 9: A reader may take a note, whose seat knows nothing afterwards.
+-- 9: A reader may take a note. The note's seat knows nothing afterwards.
 abbrev pub ReaderTakesNote : Type 0
 ReaderTakesNote = (id other : ℕ) (view spent : View) (reader : ReaderView) (note : Note) → view ≡ Reader reader → spent ≡ Noted note →
     Joins HoldsRule id view other spent (with_note view spent) Spent
 
--- 9: The writer may take a note too.
+-- 9: The writer may take a note. The note's seat knows nothing afterwards.
 abbrev pub WriterTakesNote : Type 0
 WriterTakesNote = (id other : ℕ) (view spent : View) (writer : WriterView) (note : Note) → view ≡ Writer writer → spent ≡ Noted note →
     Joins HoldsRule id view other spent (with_note view spent) Spent

@@ -1,5 +1,5 @@
--- The words of a row after its sequence number, nine for each slot, and what a reader loaded of
--- them.
+-- The words of a row after its sequence number, nine for each slot, and the words that a reader
+-- loaded.
 use Rattle.std.specs.Prelude.{◌≡◌, ◌⊎◌, ℕ, ◌+◌, ◌*◌, ◌<◌, ◌≤◌, List, [], ◌∷◌, length, take, drop, slice_index, slice_index_or}
 use Rattle.psi_counts.specs.Clock.{AreWordsOfClock, ClockView, words_of, zero_clock}
 use Rattle.plan_laws.specs.Plan.{IsClock, PlanView}
@@ -10,79 +10,82 @@ use Rattle.plan_laws.specs.Plan.{IsClock, PlanView}
 abbrev pub words_at : List ℕ → ℕ → List ℕ
 words_at body slot = take 9 (drop (9 * slot) body)
 
--- the mask among the words of a slot: it follows the seven times
+-- the mask among the nine words of a slot: it follows the seven times
 abbrev pub mask_at : List ℕ → ℕ → ℕ
 mask_at body slot = slice_index body (9 * slot + 7)
 
--- these words are a clock that represents a slot of a plan after its first k changes
+-- The words are those of a clock of the slot after the plan's first k changes.
 abbrev pub AreClock : PlanView → ℕ → ℕ → List ℕ → Type 0
 AreClock plan slot k words = (clock : ClockView) × (words ≡ words_of clock) × IsClock clock plan slot k
 
--- There are nine words for each slot of a plan, and those of each slot are a clock that represents
--- it after the first k changes.
+-- The row has nine words for each slot of the plan, and the words of each slot are a clock of the
+-- slot after the plan's first k changes.
 pub record AreClockWords (plan : PlanView) (k : ℕ) (body : List ℕ) : Type 0 where
   pub wide : length body ≡ 9 * length plan.parents
   pub each : (slot : ℕ) → slot < length plan.parents → AreClock plan slot k (words_at body slot)
 
--- ---- a change
+-- ---- the words during a change
 
--- each slot with the same mask before and after has the same nine words
+-- A slot whose mask is the same before and after has the same nine words.
 abbrev pub StayByMask : PlanView → List ℕ → List ℕ → Type 0
 StayByMask plan before after =
     (slot : ℕ) → slot < length plan.parents → mask_at after slot ≡ mask_at before slot → words_at after slot ≡ words_at before slot
 
--- the words of a slot are the same before and after, or they are a clock after k changes with
--- another mask
+-- The words of a slot are unchanged, or their mask has changed and they are a clock of the slot
+-- after k changes.
 abbrev pub StaysOrTurns : PlanView → ℕ → ℕ → List ℕ → List ℕ → Type 0
 StaysOrTurns plan k slot before after =
     (words_at after slot ≡ words_at before slot) ⊎ ((mask_at after slot ≡ mask_at before slot → ⊥)
     × AreClock plan slot k (words_at after slot))
 
--- During the change after the first k, the words of each slot are a clock before or after it.
+-- While change k + 1 is open, the words of each slot are a clock after k or after k + 1 changes.
 pub record AreOnTheWay (plan : PlanView) (k : ℕ) (body : List ℕ) : Type 0 where
   pub wide : length body ≡ 9 * length plan.parents
   pub each : (slot : ℕ) → slot < length plan.parents
       → AreClock plan slot k (words_at body slot) ⊎ AreClock plan slot (k + 1) (words_at body slot)
 
--- A step of a change: each slot keeps its words or gets a new clock, and slots that were done are
--- still done.
+-- Part of change k + 1 was made: each slot has its old words or a new clock, and each slot that had
+-- a clock after the change still has one.
 pub record GoesOn (plan : PlanView) (k : ℕ) (before after : List ℕ) : Type 0 where
   pub each : (slot : ℕ) → slot < length plan.parents → StaysOrTurns plan (k + 1) slot before after
   pub done : (slot : ℕ) → slot < length plan.parents → AreClock plan slot (k + 1) (words_at before slot)
       → AreClock plan slot (k + 1) (words_at after slot)
 
--- `count` words from a place are these now, and the others are unchanged
+-- The `count` words from index `from` are now the first of `words`, and the words outside are
+-- unchanged.
 pub record ArePut (from count : ℕ) (words before after : List ℕ) : Type 0 where
   pub wide : length after ≡ length before
   pub inside : (i : ℕ) → i < count → slice_index after (from + i) ≡ slice_index words i
   pub outside : (place : ℕ) → (place < from) ⊎ (from + count ≤ place) → slice_index after place ≡ slice_index before place
 
--- ---- what was loaded
+-- ---- the words that a reader loaded
 
--- each value that was loaded is the word at its place
+-- Each value that was loaded is the word at its index in `body`.
 abbrev pub Agrees : List ℕ → List (ℕ × ℕ) → Type 0
 Agrees body [] = Unit {0}
 Agrees body (loaded ∷ more) = (slice_index body loaded.0 ≡ loaded.1) × Agrees body more
 
--- Some words that were in the row together after k changes agree with all that was loaded.
+-- Some words that are clocks after k changes agree with everything that was loaded.
 abbrev pub StoodTogether : PlanView → ℕ → List (ℕ × ℕ) → Type 0
 StoodTogether plan k loaded = (body : List ℕ) × AreClockWords plan k body × Agrees body loaded
 
--- words that agree with all that is loaded now agree with what was loaded before
+-- Words that agree with all values loaded after agree with all values loaded before: no loaded
+-- value was lost.
 abbrev pub StaysLoaded : List (ℕ × ℕ) → List (ℕ × ℕ) → Type 0
 StaysLoaded before after = (body : List ℕ) → Agrees body after → Agrees body before
 
--- all words that agree with what was loaded have these `count` words from a place
+-- In all words that agree with the loaded values, the `count` words from index `from` are the first
+-- of `words`.
 abbrev pub WereLoaded : List (ℕ × ℕ) → ℕ → ℕ → List ℕ → Type 0
 WereLoaded loaded from count words =
     (body : List ℕ) → Agrees body loaded → (i : ℕ) → i < count → slice_index words i ≡ slice_index body (from + i)
 
--- in all words that agree with what was loaded, a slot has this clock's words, if they are words of
--- a clock at all
+-- In all words that agree with the loaded values, the words of the slot are those of `clock`, if
+-- they are the words of a clock at all.
 abbrev pub ClockWasLoaded : List (ℕ × ℕ) → ℕ → ClockView → Type 0
 ClockWasLoaded loaded slot clock =
     (body : List ℕ) → Agrees body loaded → AreWordsOfClock (words_at body slot) → words_of clock ≡ words_at body slot
 
--- the same for the first slots and the clocks of a list, in order
+-- `ClockWasLoaded` holds for each of the first `count` slots and its clock in the list.
 abbrev pub ClocksWereLoaded : List (ℕ × ℕ) → ℕ → List ClockView → Type 0
 ClocksWereLoaded loaded count clocks = (slot : ℕ) → slot < count → ClockWasLoaded loaded slot (slice_index_or clocks slot zero_clock)

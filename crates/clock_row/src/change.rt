@@ -1,4 +1,5 @@
-//! One change of a row.
+//! How the writer makes one change of a row: it opens the change, updates the clocks of the slots
+//! that the change affects, and closes the change.
 ghost use Rattle.std.specs.Prelude.{◌≡◌, ◌+◌, ◌<◌, length, IfSome};
 ghost use Rattle.plan_laws.specs.Plan.{IsClock};
 ghost use Rattle.clock_row.specs.declared.view.View.TheVariants.{Writer};
@@ -14,8 +15,8 @@ use cpu_clock::Clock;
 use proc_plan::{PlainClocks, Plan, ProcClocks};
 use psi_base::Slot;
 
-// Writes a slot's clock as it is after the open change. If the mask doesn't change nothing is
-// stored: the words are a clock after the change too.
+// Writes the clock of `slot` as it is after the open change. If the mask doesn't change, nothing is
+// stored, because the slot's words are a clock after the change too.
 fn turn_slot(board: &Board, seat: &mut RowSeat, slot: Slot, clock: &Clock)
     requires turning { IsTurning board.now.shared.table_id seat.old }
     requires slot { slot.0 < length (writer_on seat.old).plan.parents }
@@ -31,7 +32,7 @@ fn turn_slot(board: &Board, seat: &mut RowSeat, slot: Slot, clock: &Clock)
     }
 }
 
-// Writes the clocks of all slots on a chain, after the clocks have made the open change.
+// Writes the clocks of `start` and its ancestors. Requires that `clocks` have made the open change.
 fn turn_chain(
     board: &Board,
     seat: &mut RowSeat,
@@ -78,7 +79,7 @@ fn turn_chains(
     }
 }
 
-/// Makes the next change of the plan, in the clocks and in the row.
+/// Makes the next change of `plan`, in `clocks` and in the row.
 pub(crate) fn make_change(
     board: &Board,
     seat: &mut RowSeat,

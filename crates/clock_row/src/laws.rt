@@ -1,58 +1,61 @@
 //! Laws of the steps on a row. Each function has an empty body: its contract is the law.
 //!
-//! The invariant of a row holds between any two steps, whichever threads make them: it holds at the
-//! start, and each step preserves it on every row that satisfies it.
+//! The invariant of a row holds between any two steps, whichever threads make them: it holds before
+//! the first step, and each of the nine kinds of step (numbered in the crate's header) preserves it
+//! on every row that satisfies it.
 
 ghost use Rattle.clock_row.specs.Steps.{BeginKeeps, CloseKeeps, EndKeeps, LoadKeeps, OpenKeeps, OwnKeeps, PutKeeps, ReaderTakesNote, SplitKeeps, StartHolds, WriterTakesNote};
 
-/// A row of zeros satisfies the invariant before the first change.
+/// The invariant holds for a row of zeros, which is the row before the first change.
 pub fn law_start()
     ensures { StartHolds }
 {}
 
-/// Step 1 preserves the invariant: the writer stores an odd number, and a change is open.
+/// Step 1 preserves the invariant: the writer stores an odd sequence number, which opens a change.
 pub fn law_open()
     ensures { OpenKeeps }
 {}
 
-/// Step 2 preserves it: the writer stores a word after the sequence number while a change is open.
+/// Step 2 preserves the invariant: while a change is open, the writer stores a word after the
+/// sequence number.
 pub fn law_put()
     ensures { PutKeeps }
 {}
 
-/// Step 3 preserves it: the writer stores the next even number. Only this step requires that the
-/// words are clocks again.
+/// Step 3 preserves the invariant: the writer stores the next even sequence number, which closes
+/// the change. Only this step requires that the words of each slot are a clock again.
 pub fn law_close()
     ensures { CloseKeeps }
 {}
 
-/// Step 4 preserves it: the writer loads a word.
+/// Step 4 preserves the invariant: the writer loads a word.
 pub fn law_own()
     ensures { OwnKeeps }
 {}
 
-/// Step 5 preserves it: a reader loads the sequence number, and a try begins.
+/// Step 5 preserves the invariant: a reader loads the sequence number, which begins a try.
 pub fn law_begin()
     ensures { BeginKeeps }
 {}
 
-/// Step 6 preserves it: a reader loads a word in a try.
+/// Step 6 preserves the invariant: a reader loads a word in a try.
 pub fn law_load()
     ensures { LoadKeeps }
 {}
 
-/// Step 7 preserves it: a reader loads the sequence number again. If it is the first one, the words
-/// that the try loaded were in the row together.
+/// Step 7 preserves the invariant: a reader loads the sequence number again, which ends the try. If
+/// the number is unchanged, the words that the try loaded were in the row at the same time.
 pub fn law_end()
     ensures { EndKeeps }
 {}
 
-/// Step 8 preserves it: a seat creates a reader or a note.
+/// Step 8 preserves the invariant: the writer creates a reader, or the writer or a reader creates a
+/// note (a message with a number of changes).
 pub fn law_split()
     ensures { SplitKeeps }
 {}
 
-/// Step 9 preserves it: a reader or the writer takes a note.
+/// Step 9 preserves the invariant: a reader or the writer takes a note.
 pub fn law_take_note()
     ensures reader { ReaderTakesNote }
     ensures writer { WriterTakesNote }

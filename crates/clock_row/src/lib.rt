@@ -1,37 +1,74 @@
 //! A sequence lock (seqlock) over the clocks of one processor: one writer, any number of readers.
 //!
-//! With `--live`, and in psi_observe, the clocks of a processor are in a row of shared 64-bit
-//! words, so that other threads can sample them while the writer makes changes, without a lock and
-//! without waiting. Without readers, plain clocks are used instead (proc_plan), since a change in a
-//! row costs twice as much.
+//! With `--live`, and in psi_observe, other threads sample the clocks of a processor while the
+//! writer makes changes. The clocks are in a *row*, a table of shared 64-bit words. Nothing is
+//! locked, and no thread waits for another. Without readers, plain clocks are used instead
+//! (proc_plan), because a change in a row takes twice as long. The crate starts no threads, and
+//! doesn't decide when samples are taken.
 //!
 //!     word 0     the sequence number: 2k after k changes, 2k + 1 while the next one is written
-//!     word 1..   nine words for each group (slot): seven times (ns), the mask of states, the start
+//!     word 1..   nine words for each group (slot), which are its clock:
+//!                seven times (ns), the mask, the start (ns)
 //!
-//!     writer     1 store 2k + 1      2 store words     3 store 2k + 2      (4 load its own word)
+//! The seven times are how long the group was in each of its seven states up to the start. The mask
+//! has a bit for each state that the group has been in since the start. So the time in a state up to
+//! a later time follows from the nine words.
+//!
+//! To use a row, call `Row::make`, which returns its `ClockWriter`. `ClockWriter::reader` creates a
+//! `ClockReader`, which may be sent to another thread; any number of readers can be created. Both
+//! functions fail only if memory runs out.
+//!
+//! - The writer's `apply` makes the next change of the processor's plan. A plan has at most
+//!   4,000,000 changes, so the sequence number doesn't overflow.
+//! - A reader's `try_sample` (one group) and `try_sample_all` (all groups) try once. They return the
+//!   clock or clocks with the number of changes that these include, or `Busy` if a change was open
+//!   at the first load of the sequence number or began before the second.
+//! - A reader's `sample_or` tries up to eight times to sample one group. If each try met a change,
+//!   it returns the earlier sample that the caller passed.
+//! - The writer's `meet` gives a reader the number of changes made: all later samples of this reader
+//!   include at least that many.
+//! - The writer's `settle` gives the writer the number of changes that a reader has seen, which is
+//!   at most the number made.
+//!
+//! `meet` and `settle` synchronise a reader with the writer. Both borrow the writer and the reader
+//! exclusively, so the caller must have both during the call. Even without them, the number of
+//! changes in a reader's samples never decreases.
+//!
+//! As in any seqlock, a try fails if the sequence number is odd or has changed. A row differs from
+//! the kernel's `seqcount` in three ways: a reader gives up after a bounded number of tries, so it
+//! never blocks; every load and store is sequentially consistent, so no barriers are needed; and a
+//! sample comes with its number of changes.
+//!
+//! A change stores only words that differ, and only for groups whose mask it changes. The writer
+//! counts tasks and interrupt time in plain clocks of its own.
+//!
+//! The proof is over atomic steps: each step loads or stores one word, and the steps of all threads
+//! come in any order. There are nine kinds of step:
+//!
+//!     writer     1 store 2k + 1      2 store words     3 store 2k + 2      (4 load a word)
 //!     word 0   ----- 2k ------------------ 2k + 1 --------------- 2k + 2 -----
 //!     reader     5 load n     6 load nine words     7 load again: still n, and even? then a sample
 //!
-//!     8 a seat gets a new reader, or a note with a count     9 a reader or the writer takes a note
+//!     8 a reader or a note is created     9 a reader or the writer takes a note
 //!
-//! As in any seqlock, a reader retries if the sequence number changed or is odd. It differs from
-//! the kernel's `seqcount` in three ways. A reader gives up after eight tries and answers `Busy` or
-//! its last sample, so it never blocks. Every load and store is sequentially consistent, so no
-//! barriers are needed. And a sample comes with the number of changes that it includes, so that it
-//! is known to be no older than the reader's previous one (`meet` and `settle` pass such counts
-//! between threads).
+//! A *note* is a message with a number of changes, which `meet` and `settle` pass from one end of
+//! the row to the other. Steps 8 and 9 load word 0 and ignore its value. The writer, each reader and
+//! each note have a *seat*: a handle for making steps. A seat has a *view*: ghost state (it exists
+//! in contracts only) that says what the seat's owner knows of the row.
 //!
-//! The proof: a load or store of one word is one step, and the steps of all threads come in any
-//! order. Each thread has a *seat* with a *view* of what it knows, which exists in contracts only.
-//! `HoldsRule` (specs/Row) relates the words to all views: the sequence number is twice the
-//! writer's count, plus one during a change; between changes each slot's nine words are its clock
-//! after the writer's changes; no count in a view exceeds the writer's; and if the sequence number
-//! is still the even one with which a try began, everything that the try loaded is in the row. Each
-//! of the nine kinds of step preserves it (`law_open` to `law_take_note`). So two equal, even loads
-//! of the sequence number make the words between them a clock after a prefix of the changes.
+//! The invariant is `HoldsRule` (specs/Row); the type `RowRule` attaches it to the table. It says:
 //!
-//! A change stores only words that differ, of slots on the chains of its tasks. The writer counts
-//! tasks and interrupt time in plain clocks of its own.
+//! - The sequence number is twice the writer's number of changes, plus one while a change is open.
+//! - If no change is open, each group's nine words are its clock after the writer's changes.
+//! - No number of changes in a view exceeds the writer's.
+//! - If the sequence number is still the even number with which a try began, each word that the try
+//!   loaded is still in the row.
+//!
+//! There are ten laws. `law_start` says that the invariant holds before the first change. The nine
+//! others say that the steps 1 to 9 preserve it, in this order: `law_open`, `law_put`, `law_close`,
+//! `law_own`, `law_begin`, `law_load`, `law_end`, `law_split`, `law_take_note`. It follows that the
+//! words loaded between two equal, even loads of the sequence number are clocks after a prefix of
+//! the changes.
 #![tactic(auto)]
 
 mod change;

@@ -1,60 +1,61 @@
-//! How each kind of step on a row changes a view, and what its result says.
+//! A type for each kind of step on a row, which tells the table how the step changes a view and
+//! what its result says. The types have no values at run time; `steps` has the functions.
 ghost use Rattle.clock_row.specs.Steps.{BeginsTry, Closes, EndsTry, Loads, Opens, Owns, Puts, note_of, reader_of, with_note};
 ghost use Rattle.clock_row.specs.declared.view.View.TheVariants.{Spent};
 
 use crate::view::View;
 use atomic_table::{Join, Play, Split};
 
-/// The writer opens a change.
+/// The writer opens a change (step 1).
 pub(crate) struct Opening;
 
 impl Play<(), View> for Opening {
     ghost then = { Opens };
 }
 
-/// The writer stores a word after the sequence number.
+/// The writer stores a word after the sequence number (step 2).
 pub(crate) struct Putting;
 
 impl Play<(), View> for Putting {
     ghost then = { Puts };
 }
 
-/// The writer closes a change.
+/// The writer closes a change (step 3).
 pub(crate) struct Closing;
 
 impl Play<(), View> for Closing {
     ghost then = { Closes };
 }
 
-/// The writer loads a word.
+/// The writer loads a word (step 4).
 pub(crate) struct Owning;
 
 impl Play<(), View> for Owning {
     ghost then = { Owns };
 }
 
-/// A reader begins a try.
+/// A reader begins a try: it loads the sequence number (step 5).
 pub(crate) struct Beginning;
 
 impl Play<(), View> for Beginning {
     ghost then = { BeginsTry };
 }
 
-/// A reader loads a word after the sequence number.
+/// A reader loads a word after the sequence number (step 6).
 pub(crate) struct Loading;
 
 impl Play<(), View> for Loading {
     ghost then = { Loads };
 }
 
-/// A reader ends a try.
+/// A reader ends a try: it loads the sequence number again (step 7).
 pub(crate) struct Ending;
 
 impl Play<(), View> for Ending {
     ghost then = { EndsTry };
 }
 
-/// The writer's seat creates a reader.
+/// The writer's seat creates the seat of a reader (step 8).
 pub(crate) struct NewReader;
 
 impl Split<View> for NewReader {
@@ -63,7 +64,7 @@ impl Split<View> for NewReader {
     ghost right = { reader_of };
 }
 
-/// A seat creates a note.
+/// The writer's or a reader's seat creates a note (step 8).
 pub(crate) struct NewNote;
 
 impl Split<View> for NewNote {
@@ -72,7 +73,7 @@ impl Split<View> for NewNote {
     ghost right = { note_of };
 }
 
-/// A seat takes a note.
+/// A reader's or the writer's seat takes a note (step 9).
 pub(crate) struct TakenNote;
 
 impl Join<View> for TakenNote {

@@ -1,4 +1,5 @@
-//! A reader of a row.
+//! A reader of a row: it samples clocks while the writer may be making changes. It never changes
+//! the row's words.
 ghost use Rattle.std.specs.Prelude.{◌≡◌, ◌+◌, ◌<◌, ◌≤◌, ◌∷◌, [], length, IfErr, IfOk};
 ghost use Rattle.std.specs.Arc.{arc_value};
 ghost use Rattle.plan_laws.specs.Plan.{IsClock};
@@ -14,9 +15,9 @@ use std::alloc::Global;
 use std::marker::Model;
 use std::sync::Arc;
 
-/// Samples the clocks of a row while its writer may be making changes, without a lock and without
-/// waiting. It may be sent to another thread. Contracts see its row, and what the reader knows of
-/// that row.
+/// A reader of a row. It samples the clocks while the row's writer may be making changes, without a
+/// lock and without waiting. A reader may be sent to another thread. Contracts see the reader's
+/// row, and what the reader knows of the row.
 #[derive(Drop)]
 pub struct ClockReader {
     pub(crate) board: Arc<Board, Global>,
@@ -46,15 +47,15 @@ pub struct Sample {
     pub clock: Clock,
 }
 
-/// A try met a change: the sequence numbers that it loaded. If only one was loaded, both fields
-/// have it.
+/// The result of a try that met a change: the two sequence numbers that the try loaded. If the
+/// first is odd, the second wasn't loaded, and both fields have the first.
 #[derive(Clone, Copy, Debug, PartialEq, Eq)]
 pub struct Busy {
     pub first: u64,
     pub second: u64,
 }
 
-/// The number of tries after which the last sample is repeated.
+/// The number of tries after which `sample_or` returns the earlier sample.
 const TRIES: u64 = 8;
 
 impl ClockReader {
@@ -65,9 +66,9 @@ impl ClockReader {
         self.seen
     }
 
-    /// Tries once to sample the clock of a slot. The sample's count is at least the number of
-    /// changes that the reader has seen. Returns `Busy` if a change was open or came in between.
-    /// Does not allocate.
+    /// Tries once to sample the clock of `slot`. The sample includes at least the changes that the
+    /// reader has seen. Returns `Busy` if a change was open when the try began, or was made during
+    /// the try. Does not allocate.
     pub fn try_sample(&mut self, slot: Slot) -> Result<Sample, Busy>
         requires { slot.0 < length self.old.knows.plan.parents }
         ensures row { self.new.row ≡ self.old.row }
@@ -99,9 +100,10 @@ impl ClockReader {
         })
     }
 
-    /// Samples the clock of a slot, after at least as many changes as `last`, an earlier sample of
-    /// it. Returns the first sample that a try gives, or `last` if eight tries met a change. Does
-    /// not allocate.
+    /// Samples the clock of `slot` with up to eight tries, and returns the first sample that a try
+    /// gives, or `last` if all tries met a change. Precondition: `last` is a sample of the slot,
+    /// and includes exactly the changes that the reader has seen. So the result includes at least
+    /// as many changes as `last`. Does not allocate.
     pub fn sample_or(&mut self, slot: Slot, last: &Sample) -> Sample
         requires slot { slot.0 < length self.old.knows.plan.parents }
         requires last { IsClock last.now.clock self.old.knows.plan slot.0 last.now.count }
@@ -123,9 +125,9 @@ impl ClockReader {
         *last
     }
 
-    /// Tries once to sample the clocks of all slots after one number of changes, which it returns.
-    /// `into` needs an entry for each slot; after `Busy` it contains arbitrary clocks. Does not
-    /// allocate. The programs of this repository don't call it.
+    /// Tries once to sample the clocks of all slots, all after the same number of changes, and
+    /// returns this number. `into` must have an entry for each slot; after `Busy` its contents are
+    /// unspecified. Does not allocate. The programs of this repository don't call it.
     pub fn try_sample_all(&mut self, into: &mut [Clock]) -> Result<u64, Busy>
         requires { length into.old ≡ length self.old.knows.plan.parents }
         ensures row { self.new.row ≡ self.old.row }

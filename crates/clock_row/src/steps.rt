@@ -1,4 +1,5 @@
-//! The steps on a row, one function for each.
+//! The steps on a row, one function for each. The writer, a reader or a note makes a step through
+//! its seat. The steps don't check in which order they are made: the contracts do.
 ghost use Rattle.std.specs.Prelude.{◌≡◌, ◌+◌, ◌*◌, ◌/◌, ◌^◌, ◌<◌, ◌≤◌, true, false, [], slice_index};
 ghost use Rattle.clock_row.specs.declared.view.View.TheVariants.{Reader, Writer};
 ghost use Rattle.clock_row.specs.Words.{AreClockWords, StoodTogether};
@@ -11,7 +12,7 @@ use crate::plays::{
 };
 use crate::view::{Board, RowSeat};
 
-/// The writer opens the next change after the first `count`.
+/// Opens the writer's next change, after the first `count` changes.
 pub(crate) fn open_change(board: &Board, seat: &mut RowSeat, count: u64)
     requires board { seat.old.table_id ≡ board.now.shared.table_id }
     requires words { 0 < board.now.shared.table_id.words }
@@ -25,7 +26,7 @@ pub(crate) fn open_change(board: &Board, seat: &mut RowSeat, count: u64)
     board.shared.store::<Opening>(seat, 0, 2 * count + 1);
 }
 
-/// The writer stores a word.
+/// Stores a word of the writer's open change at index `place` after the sequence number.
 pub(crate) fn put_word(board: &Board, seat: &mut RowSeat, place: usize, word: u64)
     requires board { seat.old.table_id ≡ board.now.shared.table_id }
     requires words { place + 1 < board.now.shared.table_id.words }
@@ -38,7 +39,8 @@ pub(crate) fn put_word(board: &Board, seat: &mut RowSeat, place: usize, word: u6
     board.shared.store::<Putting>(seat, place + 1, word);
 }
 
-/// The writer closes the next change after the first `count`.
+/// Closes the writer's open change, which comes after the first `count` changes. Precondition: the
+/// words of each slot are a clock after this change.
 pub(crate) fn close_change(board: &Board, seat: &mut RowSeat, count: u64)
     requires board { seat.old.table_id ≡ board.now.shared.table_id }
     requires words { 0 < board.now.shared.table_id.words }
@@ -54,7 +56,7 @@ pub(crate) fn close_change(board: &Board, seat: &mut RowSeat, count: u64)
     board.shared.store::<Closing>(seat, 0, 2 * count + 2);
 }
 
-/// The writer loads a word.
+/// Returns the word at index `place` after the sequence number, as the writer loads it.
 pub(crate) fn own_word(board: &Board, seat: &mut RowSeat, place: usize) -> u64
     requires board { seat.old.table_id ≡ board.now.shared.table_id }
     requires words { place + 1 < board.now.shared.table_id.words }
@@ -67,7 +69,8 @@ pub(crate) fn own_word(board: &Board, seat: &mut RowSeat, place: usize) -> u64
     board.shared.load::<Owning>(seat, place + 1)
 }
 
-/// The writer loads the sequence number, which is at least twice the count reported to it.
+/// Loads the sequence number for the writer. It is at least twice the number of changes that
+/// readers have reported, so the writer learns that this number is at most its own.
 pub(crate) fn own_number(board: &Board, seat: &mut RowSeat)
     requires board { seat.old.table_id ≡ board.now.shared.table_id }
     requires words { 0 < board.now.shared.table_id.words }
@@ -79,7 +82,7 @@ pub(crate) fn own_number(board: &Board, seat: &mut RowSeat)
     board.shared.load::<Owning>(seat, 0);
 }
 
-/// A reader begins a try.
+/// Begins a reader's try, and returns the sequence number.
 pub(crate) fn begin_try(board: &Board, seat: &mut RowSeat) -> u64
     requires board { seat.old.table_id ≡ board.now.shared.table_id }
     requires words { 0 < board.now.shared.table_id.words }
@@ -91,7 +94,7 @@ pub(crate) fn begin_try(board: &Board, seat: &mut RowSeat) -> u64
     board.shared.load::<Beginning>(seat, 0)
 }
 
-/// A reader loads a word in a try.
+/// Returns the word at index `place` after the sequence number, loaded in a reader's try.
 pub(crate) fn load_word(board: &Board, seat: &mut RowSeat, place: usize) -> u64
     requires board { seat.old.table_id ≡ board.now.shared.table_id }
     requires words { place + 1 < board.now.shared.table_id.words }
@@ -103,7 +106,8 @@ pub(crate) fn load_word(board: &Board, seat: &mut RowSeat, place: usize) -> u64
     board.shared.load::<Loading>(seat, place + 1)
 }
 
-/// A reader ends a try that began with this number.
+/// Ends a reader's try that began with the sequence number `first`, and returns the sequence
+/// number. If it is still `first`, the words that the try loaded were in the row at the same time.
 pub(crate) fn end_try(board: &Board, seat: &mut RowSeat, first: u64) -> u64
     requires board { seat.old.table_id ≡ board.now.shared.table_id }
     requires words { 0 < board.now.shared.table_id.words }
@@ -119,7 +123,7 @@ pub(crate) fn end_try(board: &Board, seat: &mut RowSeat, first: u64) -> u64
     board.shared.load::<Ending>(seat, 0)
 }
 
-/// The seat of a new reader, which has seen the writer's count.
+/// Returns the seat of a new reader, which has seen the writer's number of changes.
 pub(crate) fn split_reader(board: &Board, seat: &mut RowSeat) -> RowSeat
     requires board { seat.old.table_id ≡ board.now.shared.table_id }
     requires words { 0 < board.now.shared.table_id.words }
@@ -133,7 +137,7 @@ pub(crate) fn split_reader(board: &Board, seat: &mut RowSeat) -> RowSeat
     board.shared.split_seat::<NewReader>(seat)
 }
 
-/// A note of the writer's count.
+/// Returns a note with the writer's number of changes.
 pub(crate) fn note_count(board: &Board, seat: &mut RowSeat) -> RowSeat
     requires board { seat.old.table_id ≡ board.now.shared.table_id }
     requires words { 0 < board.now.shared.table_id.words }
@@ -148,7 +152,7 @@ pub(crate) fn note_count(board: &Board, seat: &mut RowSeat) -> RowSeat
     board.shared.split_seat::<NewNote>(seat)
 }
 
-/// A note of what a reader has seen.
+/// Returns a note with the number of changes that a reader has seen.
 pub(crate) fn note_seen(board: &Board, seat: &mut RowSeat) -> RowSeat
     requires board { seat.old.table_id ≡ board.now.shared.table_id }
     requires words { 0 < board.now.shared.table_id.words }
@@ -163,7 +167,7 @@ pub(crate) fn note_seen(board: &Board, seat: &mut RowSeat) -> RowSeat
     board.shared.split_seat::<NewNote>(seat)
 }
 
-/// A reader takes a note.
+/// Hands a note to a reader: afterwards the reader has seen at least the note's number of changes.
 pub(crate) fn show_note(board: &Board, seat: &mut RowSeat, note: RowSeat)
     requires board { seat.old.table_id ≡ board.now.shared.table_id }
     requires words { 0 < board.now.shared.table_id.words }
@@ -178,7 +182,8 @@ pub(crate) fn show_note(board: &Board, seat: &mut RowSeat, note: RowSeat)
     board.shared.join_seat::<TakenNote>(seat, note);
 }
 
-/// The writer takes a note.
+/// Hands a note to the writer: afterwards at least the note's number of changes was reported to the
+/// writer.
 pub(crate) fn publish_note(board: &Board, seat: &mut RowSeat, note: RowSeat)
     requires board { seat.old.table_id ≡ board.now.shared.table_id }
     requires words { 0 < board.now.shared.table_id.words }

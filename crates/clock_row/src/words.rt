@@ -1,4 +1,4 @@
-//! The nine words of a slot, and those of all slots.
+//! The nine words of a slot: how the writer loads and stores them, and how a reader loads them.
 ghost use Rattle.std.specs.Prelude.{◌≡◌, ◌+◌, ◌*◌, ◌^◌, ◌<◌, ◌≤◌, true, length, take, drop};
 ghost use Rattle.psi_counts.specs.Clock.{AreWordsOfClock, words_of};
 ghost use Rattle.clock_row.specs.Words.{ArePut, ClocksWereLoaded, StaysLoaded, WereLoaded};
@@ -8,16 +8,16 @@ use crate::steps::{load_word, own_word, put_word};
 use crate::view::{Board, RowSeat};
 use cpu_clock::Clock;
 
-/// The number of words of a slot: seven times, a mask and a start.
+/// The number of words of a slot: seven times, the mask and the start.
 pub(crate) const WORDS: usize = 9;
 
-/// The index of the mask among them.
+/// The index of the mask among the nine words of a slot.
 pub(crate) const MASK_WORD: usize = 7;
 
-/// The bits that a mask may have.
+/// The bits that a mask may have, one for each of the seven states.
 const MASK_BITS: u64 = 0b111_1111;
 
-/// The nine words from a place, as the writer loads them.
+/// Returns the nine words from index `from`, as the writer loads them.
 pub(crate) fn own_words(board: &Board, seat: &mut RowSeat, from: usize) -> [u64; 9]
     requires board { seat.old.table_id ≡ board.now.shared.table_id }
     requires words { from + 9 < board.now.shared.table_id.words }
@@ -35,8 +35,8 @@ pub(crate) fn own_words(board: &Board, seat: &mut RowSeat, from: usize) -> [u64;
     words
 }
 
-/// Puts these words from a place. A word that is already there isn't stored: a store costs more
-/// than a load.
+/// Stores the nine words `words` from index `from`. A word that is already in the row isn't stored,
+/// because a store costs more than a load.
 pub(crate) fn put_words(board: &Board, seat: &mut RowSeat, from: usize, words: &[u64; 9])
     requires board { seat.old.table_id ≡ board.now.shared.table_id }
     requires words { from + 9 < board.now.shared.table_id.words }
@@ -55,7 +55,8 @@ pub(crate) fn put_words(board: &Board, seat: &mut RowSeat, from: usize, words: &
     }
 }
 
-/// The nine words from a place, loaded in a try.
+/// Returns the nine words from index `from`, loaded in a reader's try that began with the sequence
+/// number `first`.
 pub(crate) fn load_words(board: &Board, seat: &mut RowSeat, from: usize, first: u64) -> [u64; 9]
     requires board { seat.old.table_id ≡ board.now.shared.table_id }
     requires words { from + 9 < board.now.shared.table_id.words }
@@ -76,7 +77,8 @@ pub(crate) fn load_words(board: &Board, seat: &mut RowSeat, from: usize, first: 
     words
 }
 
-/// The clock with these words, if they are a clock's, and otherwise some clock.
+/// Returns the clock with these words, if they are the words of a clock, and otherwise an arbitrary
+/// clock.
 fn clock_like(mut words: [u64; 9]) -> Clock
     ensures { AreWordsOfClock words → words_of result ≡ words }
 {
@@ -84,7 +86,8 @@ fn clock_like(mut words: [u64; 9]) -> Clock
     Clock::from_words(words)
 }
 
-/// The clocks of all slots, in order, loaded in a try.
+/// Loads the clocks of all slots into `into`, in order of slots, in a reader's try that began with
+/// the sequence number `first`. They are the clocks in the row if the try succeeds.
 pub(crate) fn load_clocks(board: &Board, seat: &mut RowSeat, into: &mut [Clock], first: u64)
     requires board { seat.old.table_id ≡ board.now.shared.table_id }
     requires words { 9 * length into.old + 1 ≡ board.now.shared.table_id.words }

@@ -1,4 +1,4 @@
-//! The writer of a row.
+//! The writer of a row, and the creation of rows and readers. The change itself is in `change`.
 ghost use Rattle.std.specs.Prelude.{◌≡◌, ◌+◌, ◌*◌, ◌<◌, ◌≤◌, length, replicate, IfOk, Ok};
 ghost use Rattle.atomic_table.specs.Seated.{TableId};
 ghost use Rattle.psi_counts.specs.Clock.{words_of};
@@ -20,16 +20,16 @@ use std::alloc::Global;
 use std::marker::Model;
 use std::sync::Arc;
 
-/// The clocks of a processor in a row of shared words (a seqlock): one writer, and any number of
-/// readers that never write.
+/// A seqlock with the clocks of one processor in shared words: one writer, and any number of
+/// readers that don't change the words. This type only names the constructor.
 pub struct Row;
 
-/// Makes the changes of a plan in a row, while readers sample its clocks. Contracts see its row,
-/// and what the writer knows of that row.
+/// The writer of a row: it makes the changes of a plan while readers sample the clocks. Contracts
+/// see the writer's row, and what the writer knows of the row.
 ///
-/// It counts tasks, advances clocks and sums interrupt time in its own [`PlainClocks`], and copies
-/// the clocks that a change advanced to the row. Interrupt time isn't in the row, so no reader sees
-/// it.
+/// The writer counts tasks, advances clocks and sums interrupt time in its own [`PlainClocks`], and
+/// copies the clocks that a change advanced to the row. Interrupt time isn't in the row, so no
+/// reader sees it.
 #[derive(Drop)]
 pub struct ClockWriter<'a> {
     plan: &'a Plan,
@@ -51,7 +51,7 @@ impl<'a> Model for ClockWriter<'a> {
         IsWriterEnd (arc_value w.board).shared.table_id w.seat w.plan.now w.clocks };
 }
 
-// A plan is well-formed, as its length shows.
+// Shows that a plan is well-formed, which the contract of `Plan::len` says.
 fn see_whole(plan: &Plan)
     ensures { IsPlan plan.now }
 {
@@ -59,8 +59,9 @@ fn see_whole(plan: &Plan)
 }
 
 impl Row {
-    /// The row of a plan with `slots` slots, before the first change. Allocates everything that the
-    /// writer needs; each reader allocates its own part.
+    /// Creates a row for `plan`, before the first change, and returns its writer. Precondition: the
+    /// plan has `slots` slots. Allocates everything that the writer needs. `NoMemory` if memory
+    /// runs out.
     pub fn make(alloc: Global, plan: &Plan, slots: u32) -> Result<ClockWriter<'_>, NoMemory>
         requires { slots ≡ length plan.now.parents }
         ensures { IfOk result (λ writer.
@@ -93,9 +94,9 @@ impl<'a> ProcClocks for ClockWriter<'a> {
         self.clocks.count()
     }
 
-    /// Makes the next change of the plan: afterwards the words of each slot are a clock after it. A
-    /// slot whose mask doesn't change keeps its nine words. Does not allocate, and waits for no
-    /// reader.
+    /// Makes the next change of the plan: afterwards the nine words of each slot are a clock after
+    /// the change. If the change leaves a slot's mask as it is, the slot's words stay too. Does not
+    /// allocate, and waits for no reader.
     fn apply(&mut self)
         requires { self.old.knows.count < length self.old.knows.plan.changes }
         ensures plan { self.new.knows.plan ≡ self.old.knows.plan }
@@ -108,7 +109,7 @@ impl<'a> ProcClocks for ClockWriter<'a> {
         make_change(&self.board, &mut self.seat, self.plan, &mut self.clocks);
     }
 
-    /// The clock of a slot, from its words in the row. Does not allocate.
+    /// Returns the clock of `slot`, loaded from its words in the row. Does not allocate.
     fn own(&mut self, slot: Slot) -> Clock
         requires { slot.0 < length self.old.knows.plan.parents }
         ensures same { self.new ≡ self.old }
@@ -120,8 +121,8 @@ impl<'a> ProcClocks for ClockWriter<'a> {
 }
 
 impl<'a> IrqClocks for ClockWriter<'a> {
-    /// The interrupt time (ns) of a slot, from the writer's own clocks: the row doesn't have it.
-    /// Does not allocate.
+    /// Returns the interrupt time (ns) of `slot`, from the writer's own clocks, because the row
+    /// doesn't have it. Does not allocate.
     fn own_irq(&mut self, slot: Slot) -> u64
         requires { slot.0 < length self.old.knows.plan.parents }
         ensures same { self.new ≡ self.old }
@@ -133,7 +134,8 @@ impl<'a> IrqClocks for ClockWriter<'a> {
 }
 
 impl<'a> ClockWriter<'a> {
-    /// A new reader of the row, which has seen the changes made so far.
+    /// Creates a reader of the row, which has seen all changes made up to now. `NoMemory` if memory
+    /// runs out.
     pub fn reader(&mut self) -> Result<ClockReader, NoMemory>
         ensures same { self.new ≡ self.old }
         ensures row { IfOk result (λ reader. reader.row ≡ self.old.row) }
@@ -149,8 +151,8 @@ impl<'a> ClockWriter<'a> {
         })
     }
 
-    /// Notifies a reader of the row of the number of changes made, so that it has seen at least
-    /// that many. Does not allocate, and always returns Ok.
+    /// Gives a reader of the row the number of changes made, so that all its later samples include
+    /// at least that many. Does not allocate, and always returns `Ok`.
     pub fn meet(&mut self, reader: &mut ClockReader) -> Result<(), NoMemory>
         requires { reader.old.row ≡ self.old.row }
         ensures ok { result ≡ Ok tt }
@@ -164,8 +166,8 @@ impl<'a> ClockWriter<'a> {
         Ok(())
     }
 
-    /// Learns how many changes a reader of the row has seen, which is at most the number made. Does
-    /// not allocate, and always returns Ok.
+    /// Gives the writer the number of changes that a reader of the row has seen, which is at most
+    /// the number made. Does not allocate, and always returns `Ok`.
     pub fn settle(&mut self, reader: &mut ClockReader) -> Result<(), NoMemory>
         requires { reader.old.row ≡ self.old.row }
         ensures ok { result ≡ Ok tt }
