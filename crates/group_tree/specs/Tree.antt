@@ -13,56 +13,56 @@ use Rattle.psi_spec.specs.Stall.{parents_of, is_under}
 use Rattle.psi_spec.specs.Groups.{live_groups}
 use Rattle.psi_spec.specs.LegalGroups.{AreGroups}
 
--- ---- refusals
+-- ---- causes
 
--- the first cause against a new group: 1,024 were created, one with this path is live, or no live
--- group has the parent path
+-- the first cause against a new group with this path: 1,024 groups were created, a live group has
+-- the path, or no live group has the parent path; `None` if the group can be created
 abbrev pub add_cause : List GroupLife → List ℕ → Option Cause
 add_cause groups path =
     if nat_le most_groups (length groups) then Some cause.TooManyGroups else
     if has_group groups (Some path) then Some cause.GroupExists else
     if lacks_parent groups (Some path) then Some cause.NoParent else None
 
--- the first cause against removing a group: no live group has this path, or it is the root or has a
--- live child
+-- the first cause against removing the group with this path: no live group has the path, or it is
+-- the root or has a live child; `None` if neither applies
 abbrev pub remove_cause : List GroupLife → List ℕ → Option Cause
 remove_cause groups path =
     if lacks_group groups (Some path) then Some cause.UnknownGroup else
     if is_root path || has_child groups (slot_of groups path) then Some cause.GroupBusy else None
 
--- the first cause against switching a group's accounting: no live group has this path, or it is the
--- root
+-- the first cause against switching the accounting of the group with this path: no live group has
+-- the path, or it is the root; `None` if neither applies
 abbrev pub pressure_cause : List GroupLife → List ℕ → Option Cause
 pressure_cause groups path =
     if lacks_group groups (Some path) then Some cause.UnknownGroup else
     if is_root path then Some cause.RootPressure else None
 
--- the fault is the first cause; it is out of memory only if there is no cause
+-- The fault is the first cause `why`. Running out of memory is possible only if there is no cause.
 abbrev pub IsGroupFault : Option Cause → Fault Cause → Type 0
 IsGroupFault why (fault.Refused cause) = why ≡ Some cause
 IsGroupFault why (fault.NoMemory _) = why ≡ None
 
--- ---- the groups above a group
+-- ---- the chain of a group
 
--- a number as a slot
+-- the slot with the number `n`
 abbrev pub slot_at : ℕ → Slot
 slot_at n = record { 0 = n }
 
--- the numbers of slots
+-- the numbers of slots, in order
 abbrev pub numbers_of : List Slot → List ℕ
 numbers_of slots = map (λ (slot : Slot). slot.0) slots
 
--- the numbers below a bound that pass a test, in descending order
+-- the numbers below `n` that pass the test, in descending order
 abbrev pub down_from : ℕ → (ℕ → Bool) → List ℕ
 down_from zero test = []
 down_from (suc n) test = if test n then n ∷ down_from n test else down_from n test
 
--- The chain of a group: its slot and those of all its ancestors, the newest first. So the root is
--- the last.
+-- The chain of a group: the slots of the group and all its ancestors. A parent has a smaller slot
+-- than its child, so the slots are in descending order, and the root's is the last.
 abbrev pub chain_of : List GroupLife → ℕ → List Slot
 chain_of groups slot = map slot_at (down_from (suc slot) (is_under (parents_of groups) slot))
 
--- the chain from a slot, empty without one
+-- the chain of the group in a slot; empty for `None`
 abbrev pub chain_from : List GroupLife → Option Slot → List Slot
 chain_from groups None = []
 chain_from groups (Some slot) = chain_of groups slot.0
@@ -73,19 +73,19 @@ chain_from groups (Some slot) = chain_of groups slot.0
 abbrev pub live_slots : List GroupLife → List Slot
 live_slots groups = map (λ (pair : List ℕ × ℕ). slot_at pair.1) (live_groups groups)
 
--- pairs of a path and a slot, by the path's bytes and the slot's number
+-- the list of pairs with each path as its bytes and each slot as its number
 abbrev pub paths_and_slots : List (Bor (List ℕ) × Slot) → List (List ℕ × ℕ)
 paths_and_slots groups = map (λ (pair : Bor (List ℕ) × Slot). (pair.0.now, pair.1.0)) groups
 
--- ---- what a tree keeps
+-- ---- the invariant of a tree
 
--- the number of live groups whose parent is this one
+-- the number of live groups whose parent is the group in `slot`
 abbrev pub count_children : List GroupLife → ℕ → ℕ
 count_children [] slot = 0
 count_children (group ∷ groups) slot = count_children groups slot + (if is_live group && is_slot (Some slot) group.parent then 1 else 0)
 
--- The invariant of each tree: its groups are those of a legal world, a look-up by path finds the
--- live ones, and `children` has the number of live children of each group.
+-- The invariant of a tree: its groups are those of a legal world, a lookup by path finds exactly
+-- the live groups, and `children` has the number of live children of each group.
 pub record IsTree (groups : List GroupLife) (find : List ℕ → Option Slot) (children : List ℕ) : Type 0 where
   pub legal : AreGroups groups
   pub found : (path : List ℕ) → find path ≡ as_slot (slot_of groups path)

@@ -1,10 +1,10 @@
-//! The parent of a path.
+//! The path of a group's parent, from the path of the group alone. Groups aren't looked up here.
 ghost use Rattle.std.specs.Prelude.{◌≡◌};
 ghost use Rattle.psi_spec.specs.World.{or_root, parent_path};
 
 use psi_base::Path;
 
-// The bytes, or the root's path if they are empty.
+// Returns `bytes`, or the root's path if `bytes` is empty.
 fn or_root(bytes: &[u8]) -> &[u8]
     ensures { result.now ≡ or_root bytes.now }
 {
@@ -15,7 +15,7 @@ fn or_root(bytes: &[u8]) -> &[u8]
     }
 }
 
-// The bytes before the last slash, or the root's path if these are empty.
+// Returns the bytes of `path` before its last slash, or the root's path if there are none.
 #[tactic(auto, using(crate::proofs::Slashes::slashes))]
 fn parent_bytes(path: &[u8]) -> &[u8]
     ensures { result.now ≡ parent_path path.now }
@@ -30,7 +30,8 @@ fn parent_bytes(path: &[u8]) -> &[u8]
     b"/".as_slice()
 }
 
-/// The path of the parent of the group with this path. The root's parent path is its own.
+/// Returns the path of the parent of the group with this path. For the root's path, that is the
+/// root's path itself.
 #[tactic(auto, using(crate::proofs::Slashes::texts))]
 pub(crate) fn path_above(path: &Path) -> &str
     ensures { result.now ≡ parent_path path.now }

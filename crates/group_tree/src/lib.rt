@@ -1,7 +1,7 @@
 //! The tree of control groups: which groups were created, which are live, and the parent of each.
 //!
-//! It rejects illegal changes with their cause, but doesn't look at tasks: whether a group still
-//! has members is checked by task_table.
+//! The tree rejects illegal changes with their cause. It doesn't know tasks: task_table checks
+//! whether a group still has members.
 #![tactic(auto)]
 
 mod above;

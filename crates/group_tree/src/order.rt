@@ -1,4 +1,4 @@
-//! The live groups, and all groups, in the byte order of their paths.
+//! The slots of the live groups, and of all groups, in the byte order of their paths.
 ghost use Rattle.std.specs.Prelude.{◌≡◌, ◌≤◌, length, map, IfOk, IsPermutation, IsSortedByKey};
 ghost use Rattle.std.specs.List.{range_with_len};
 ghost use Rattle.std.specs.Ordering.{nat_cmp};
@@ -13,7 +13,7 @@ use psi_spec::GroupLife;
 use std::alloc::Global;
 use std::collections::BTreeMap;
 
-/// A map from the paths of the live groups to their slots.
+/// Returns a map from the paths of the live groups to their slots.
 fn live_by_path(alloc: Global, lives: &[GroupLife]) -> Result<BTreeMap<&Path, Slot>, NoMemory>
     requires few { length lives.now ≤ most_groups }
     ensures { IfOk result (λ groups. paths_and_slots groups.entries ≡ live_groups lives.now) }
@@ -31,7 +31,7 @@ fn live_by_path(alloc: Global, lives: &[GroupLife]) -> Result<BTreeMap<&Path, Sl
     Ok(groups)
 }
 
-/// The slots of the live groups in the byte order of their paths.
+/// Returns the slots of the live groups in the byte order of their paths.
 pub(crate) fn live_order(alloc: Global, lives: &[GroupLife]) -> Result<Vec<Slot>, NoMemory>
     requires few { length lives.now ≤ most_groups }
     ensures { IfOk result (λ slots. slots.items ≡ live_slots lives.now) }
@@ -40,7 +40,7 @@ pub(crate) fn live_order(alloc: Global, lives: &[GroupLife]) -> Result<Vec<Slot>
     Ok(groups.into_values().collect(alloc)?)
 }
 
-/// The path of the group in a slot, empty for a slot without a group.
+/// Returns the path of the group in `slot`, empty for a slot without a group.
 fn path_of(lives: &[GroupLife], slot: Slot) -> &[u8]
     ensures { result.now ≡ path_at lives.now slot.0 }
 {
@@ -50,14 +50,14 @@ fn path_of(lives: &[GroupLife], slot: Slot) -> &[u8]
     }
 }
 
-/// The first `count` slots.
+/// Returns the slots with the numbers from 0 to `count` - 1.
 fn first_slots(alloc: Global, count: u32) -> Result<Vec<Slot>, NoMemory>
     ensures { IfOk result (λ slots. slots.items ≡ map slot_at (range_with_len 0 count)) }
 {
     Ok((0..count).map(Slot).collect(alloc)?)
 }
 
-/// Sorts slots by the bytes of their paths.
+/// Returns the slots sorted by the bytes of their paths.
 fn sorted_by_path(mut slots: Vec<Slot>, lives: &[GroupLife]) -> Vec<Slot>
     ensures same { IsPermutation slots.items result.items }
     ensures sorted { IsSortedByKey (λ slot. path_at lives.now slot.0)
@@ -67,7 +67,7 @@ fn sorted_by_path(mut slots: Vec<Slot>, lives: &[GroupLife]) -> Vec<Slot>
     slots
 }
 
-/// All slots in the byte order of their paths. Slots with equal paths are in any order.
+/// Returns all slots in the byte order of their paths. Slots with equal paths are in any order.
 pub(crate) fn path_order(alloc: Global, lives: &[GroupLife]) -> Result<Vec<Slot>, NoMemory>
     requires few { length lives.now ≤ most_groups }
     ensures { IfOk result (λ slots. IsPathOrder lives.now (numbers_of slots.items)) }

@@ -1,4 +1,4 @@
-//! The tree of groups.
+//! The tree of groups, with the checks of each change.
 ghost use Rattle.std.specs.Prelude.{◌≡◌, ◌<◌, ◌≤◌, ◌++◌, [], ◌∷◌, length, map, slice_index_or, None, Some, IfOk, IfErr, IfSome, OnOk, OnErr, MatchResult, ◌↔◌};
 ghost use Rattle.psi_spec.specs.World.{root, slot_of, as_slot, parent_path, new_group, marked_removed, marked_switched, most_groups};
 ghost use Rattle.psi_spec.specs.Stall.{number_of_slot, parents_of, is_under};
@@ -16,12 +16,12 @@ use std::alloc::Global;
 use std::collections::HashMap;
 use std::marker::Model;
 
-/// The maximal number of groups ever created, including the root.
+/// The maximum number of groups ever created, including the root.
 const MOST_GROUPS: usize = 1024;
 
-/// All groups ever created, by slot; its model is the list of them. A map finds a live group by its
-/// path, and the live children of each group are counted, so only [`Tree::live_order`] and
-/// [`Tree::path_order`] visit all groups.
+/// All groups ever created, by slot. Contracts see the list of them. A map finds a live group by
+/// its path, and the number of live children of each group is stored, so only [`Tree::live_order`]
+/// and [`Tree::path_order`] visit all groups.
 #[derive(Drop)]
 pub struct Tree {
     alloc: Global,
@@ -48,7 +48,7 @@ impl Model for Tree {
 }
 
 impl Tree {
-    /// A tree with the root alone, created at 0.
+    /// Returns a tree that has only the root, created at 0.
     pub fn new(alloc: Global) -> Result<Tree, NoMemory>
         ensures { IfOk result (λ tree. tree ≡ root ∷ []) }
     {
@@ -70,7 +70,8 @@ impl Tree {
         })
     }
 
-    /// All groups ever created, by slot. `gone` is the time (ns) at which a group was removed.
+    /// Returns all groups ever created, by slot. The field `gone` is the time (ns) at which a group
+    /// was removed.
     pub fn lives(&self) -> &[GroupLife]
         ensures lives { result.now ≡ self.now }
         ensures groups { AreGroups result.now }
@@ -78,7 +79,7 @@ impl Tree {
         &self.lives
     }
 
-    /// The number of groups ever created, at most 1,024.
+    /// Returns the number of groups ever created, at most 1,024.
     pub fn len(&self) -> usize
         ensures len { result ≡ length self.now }
         ensures few { result ≤ most_groups }
@@ -86,30 +87,31 @@ impl Tree {
         self.lives.len()
     }
 
-    /// The slot of the live group with this path. `None` exactly if no live group has it.
+    /// Returns the slot of the live group with this path, or `None` if no live group has it.
     pub fn find(&self, path: &Path) -> Option<Slot>
         ensures { result ≡ as_slot (slot_of self.now path.now) }
     {
         self.slots.get(path.text()).copied()
     }
 
-    /// The slot of the live group with the parent path of this one.
+    /// Returns the slot of the live group with the parent path of `path`, or `None` if no live
+    /// group has it.
     fn find_above(&self, path: &Path) -> Option<Slot>
         ensures { result ≡ as_slot (slot_of self.now (parent_path path.now)) }
     {
         self.slots.get(path_above(path)).copied()
     }
 
-    /// Whether the group in a slot has a live child.
+    /// Whether the group in `slot` has a live child.
     fn has_child(&self, slot: Slot) -> bool
         ensures { result ≡ has_child self.now (Some slot.0) }
     {
         self.children.get(slot.0 as usize).copied().unwrap_or(0) > 0
     }
 
-    /// Why a group with this path can't be created. The causes in order of their checks:
-    /// TooManyGroups, if 1,024 were created; GroupExists, if a live group has the path; NoParent,
-    /// if no live group has the parent path. `None` exactly if it can be created.
+    /// Returns the first cause why a group with this path can't be created: TooManyGroups if 1,024
+    /// groups were created; GroupExists if a live group has the path; NoParent if no live group has
+    /// the parent path. `None` exactly if the group can be created.
     pub fn add_cause(&self, path: &Path) -> Option<Cause>
         ensures { result ≡ add_cause self.now path.now }
     {
@@ -124,9 +126,9 @@ impl Tree {
         }
     }
 
-    /// Why the group with this path can't be removed, apart from tasks in it: UnknownGroup, if no
-    /// live group has the path; GroupBusy, if it is the root or has a live child. `None` exactly if
-    /// neither holds.
+    /// Returns the first cause why the group with this path can't be removed: UnknownGroup if no
+    /// live group has the path; GroupBusy if it is the root or has a live child. `None` exactly if
+    /// neither applies. Tasks in the group aren't checked.
     pub fn remove_cause(&self, path: &Path) -> Option<Cause>
         ensures { result ≡ remove_cause self.now path.now }
     {
@@ -140,9 +142,9 @@ impl Tree {
         }
     }
 
-    /// Why the pressure accounting of the group with this path can't be switched: UnknownGroup, if
-    /// no live group has the path; RootPressure, if it is the root. `None` exactly if it can be
-    /// switched.
+    /// Returns the first cause why the pressure accounting of the group with this path can't be
+    /// switched: UnknownGroup if no live group has the path; RootPressure if it is the root. `None`
+    /// exactly if the accounting can be switched.
     pub fn pressure_cause(&self, path: &Path) -> Option<Cause>
         ensures { result ≡ pressure_cause self.now path.now }
     {
@@ -155,7 +157,7 @@ impl Tree {
         }
     }
 
-    /// The slot of the parent. `None` only for the root.
+    /// Returns the slot of the group's parent, or `None` for the root.
     pub fn parent(&self, slot: Slot) -> Option<Slot>
         requires made { slot.0 < length self.now }
         ensures parent { number_of_slot result ≡
@@ -166,8 +168,8 @@ impl Tree {
         parent_of(&self.lives, slot)
     }
 
-    /// The slots from a group to the root, each followed by its parent. The programs of this
-    /// repository don't call it.
+    /// Returns the chain of a group: its slot and the slots of its ancestors, up to the root. The
+    /// programs of this repository don't call it.
     pub fn chain(&self, slot: Slot) -> Chain<'_>
         requires made { slot.0 < length self.now }
         ensures { result ≡ chain_of self.now slot.0 }
@@ -175,7 +177,8 @@ impl Tree {
         Chain::new(&self.lives, Some(slot))
     }
 
-    /// Whether `low` is `high` or a descendant of it. A slot without a group is only under itself.
+    /// Whether the group `low` is the group `high` or a descendant of it. A slot without a group is
+    /// only under itself.
     pub fn is_under(&self, low: Slot, high: Slot) -> bool
         ensures { result ≡ is_under (parents_of self.now) low.0 high.0 }
     {
@@ -189,7 +192,8 @@ impl Tree {
         at.0 == high.0
     }
 
-    /// A new group with this path, as a child of the live group with the parent path.
+    /// Returns a new group with this path, created at `at` (ns) as a child of the live group with
+    /// the parent path.
     fn new_life(&self, path: &Path, at: Ns) -> Result<GroupLife, NoMemory>
         ensures { IfOk result (λ life. life ≡ new_group self.now path.now at) }
     {
@@ -202,9 +206,9 @@ impl Tree {
         })
     }
 
-    /// Creates a group at a time (ns) in the next slot, and returns the slot. Rejected exactly with
-    /// the cause of [`Tree::add_cause`]. After an error, out of memory included, nothing has
-    /// changed.
+    /// Creates a group at `at` (ns) in the next slot, and returns the slot. Fails with `Refused`
+    /// and the cause of [`Tree::add_cause`] if there is one, otherwise only with `NoMemory`.
+    /// Nothing changes if it fails.
     pub fn add(&mut self, path: &Path, at: Ns) -> Result<Slot, Fault<Cause>>
         ensures legal { OnOk result (add_cause self.old path.now ≡ None) }
         ensures groups { OnOk result
@@ -229,8 +233,8 @@ impl Tree {
         Ok(slot)
     }
 
-    /// Removes the live group with this path at a time (ns), and returns its slot. Rejected exactly
-    /// with the cause of [`Tree::remove_cause`]; then nothing changes. Does not allocate.
+    /// Removes the live group with this path at `at` (ns), and returns its slot. Fails with the
+    /// cause of [`Tree::remove_cause`] if there is one; then nothing changes. Does not allocate.
     pub fn remove(&mut self, path: &Path, at: Ns) -> Result<Slot, Cause>
         ensures legal { OnOk result (remove_cause self.old path.now ≡ None) }
         ensures groups { OnOk result (self.new ≡ map (marked_removed path.now at) self.old) }
@@ -255,9 +259,9 @@ impl Tree {
         Ok(slot)
     }
 
-    /// Switches the pressure accounting of the live group with this path on or off, and returns its
-    /// slot. Rejected exactly with the cause of [`Tree::pressure_cause`]; then nothing changes.
-    /// Does not allocate.
+    /// Switches the pressure accounting of the live group with this path on or off, and returns the
+    /// group's slot. Fails with the cause of [`Tree::pressure_cause`] if there is one; then nothing
+    /// changes. Does not allocate.
     pub fn switch(&mut self, path: &Path, on: bool) -> Result<Slot, Cause>
         ensures legal { OnOk result (pressure_cause self.old path.now ≡ None) }
         ensures groups { OnOk result (self.new ≡ map (marked_switched path.now on) self.old) }
@@ -276,15 +280,15 @@ impl Tree {
         Ok(slot)
     }
 
-    /// The slots of the live groups in the byte order of their paths.
+    /// Returns the slots of the live groups in the byte order of their paths.
     pub fn live_order(&self, alloc: Global) -> Result<Vec<Slot>, NoMemory>
         ensures { IfOk result (λ slots. slots.items ≡ live_slots self.now) }
     {
         live_order(alloc, &self.lives)
     }
 
-    /// All slots in the byte order of their paths, including those of removed groups. Slots with
-    /// equal paths are in any order.
+    /// Returns all slots in the byte order of their paths, including the slots of removed groups.
+    /// Slots with equal paths are in any order.
     pub fn path_order(&self, alloc: Global) -> Result<Vec<Slot>, NoMemory>
         ensures { IfOk result (λ order. IsPathOrder self.now (numbers_of order.items)) }
     {
