@@ -9,22 +9,23 @@ use Rattle.psi_counts.specs.declared.changes.Counts.{Counts}
 abbrev pub bit_of : Bool → ℕ
 bit_of so = if so then 1 else 0
 
--- The index of seven conditions, the first one in the lowest bit: some task waits for IO; some is
--- in a memory stall; some is ready or running; all of these are in a stall; the running task is one
--- of them; it is in a stall; and another one is ready.
+-- The index of seven conditions on the tasks of a group, the first condition in the lowest bit:
+-- some task waits for IO; some task is in a memory stall; some task is ready or running; all ready
+-- or running tasks are in a memory stall; the processor's running task is in the group; the running
+-- task is in a memory stall; and some task is ready (besides the running task).
 abbrev pub place_of : (waits stalls ready all_stalled on_cpu current_stalled beside : Bool) → ℕ
 place_of waits stalls ready all_stalled on_cpu current_stalled beside =
     bit_of waits + 2 * bit_of stalls + 4 * bit_of ready + 8 * bit_of all_stalled + 16 * bit_of on_cpu + 32 * bit_of current_stalled
     + 64 * bit_of beside
 
--- the index of the conditions in counts
+-- the index of the conditions that counts and the running task give
 abbrev pub place_by : Counts → Bool → Bool → ℕ
 place_by counts on_cpu current_stalled =
     place_of (nat_lt 0 counts.io) (nat_lt 0 counts.stalled) (nat_lt 0 counts.running)
     (counts.running == counts.stalled_running) on_cpu current_stalled
     (if on_cpu then nat_lt 1 counts.running else nat_lt 0 counts.running)
 
--- the states, from the conditions
+-- whether a group is in a state, from the seven conditions
 abbrev pub shows_by : State → (waits stalls ready all_stalled on_cpu current_stalled beside : Bool) → Bool
 shows_by IoSome waits stalls ready all_stalled on_cpu current_stalled beside = waits
 shows_by IoFull waits stalls ready all_stalled on_cpu current_stalled beside = waits && not ready

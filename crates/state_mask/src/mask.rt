@@ -1,4 +1,4 @@
-//! A set of states as a byte.
+//! A set of states as a byte. Which states a group is in is computed in `states`.
 
 ghost use Rattle.std.specs.Prelude.{◌≡◌, ◌^◌};
 ghost use Rattle.psi_base.specs.declared.event.State.{State};
@@ -8,8 +8,8 @@ ghost use Rattle.psi_spec.specs.Stall.{state_number};
 use psi_base::State;
 use std::marker::Model;
 
-/// A set of states, one bit each: the kernel's `state_mask`. A contract sees a mask as the number
-/// of its bits, so two masks with the same states are equal.
+/// A set of states, one bit for each: the kernel's `state_mask`. A contract sees a mask as the
+/// number with these bits, so two masks with the same states are equal.
 #[derive(Clone, Copy, Debug, PartialEq, Eq)]
 pub struct Mask(u8);
 
@@ -26,7 +26,7 @@ impl Model for Mask {
     ghost inverse = { λ bits. record { 0 = bits } };
 }
 
-/// The bit of a state.
+/// Returns the bit of a state.
 fn bit(state: State) -> u8
     ensures { result ≡ 2 ^ state_number state }
 {
@@ -34,14 +34,15 @@ fn bit(state: State) -> u8
 }
 
 impl Mask {
-    /// The empty set of states.
+    /// Returns the empty set of states.
     pub fn empty() -> Mask
         ensures { result ≡ 0 }
     {
         Mask(0)
     }
 
-    /// The mask with these bits. Only the lower seven may be set, one for each state.
+    /// Returns the mask with these bits. Precondition: only the lower seven bits may be set, one
+    /// for each state.
     pub fn from_bits(bits: u8) -> Mask
         requires { IsMask bits }
         ensures { result ≡ bits }
@@ -49,7 +50,7 @@ impl Mask {
         Mask(bits)
     }
 
-    /// The bits, each at the number of its state.
+    /// Returns the bits of the mask; bit `n` belongs to the state with number `n`.
     pub fn bits(self) -> u8
         ensures value { result ≡ self }
         ensures few { IsMask result }
@@ -57,7 +58,7 @@ impl Mask {
         self.0
     }
 
-    /// Whether the state is in the set.
+    /// Whether the mask has `state`.
     pub fn holds(self, state: State) -> bool
         ensures { result ≡ mask_holds self state }
     {

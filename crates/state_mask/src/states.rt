@@ -1,4 +1,4 @@
-//! The states, and the table of their masks.
+//! The list of states, and a table from conditions on counts of tasks to masks of states.
 
 ghost use Rattle.std.specs.Prelude.{◌≡◌, ◌<◌};
 ghost use Rattle.psi_base.specs.declared.event.State.{State};
@@ -20,8 +20,8 @@ pub const STATES: [State; 7] = [
     State::Nonidle,
 ];
 
-// The masks by the index of the conditions in counts. They are bytes, because a table of masks, or
-// of another struct, is built anew at each use.
+// The masks of states by the index that `place` returns. They are bytes, because a table of
+// structs, such as `Mask`, would be built anew at each use.
 const MASKS: [u8; 128] = [
     0, 67, 68, 71, 96, 97, 100, 101, 0, 67, 76, 79, 96, 97, 108, 109, 0, 67, 68, 71, 64, 65, 68,
     69, 0, 67, 76, 79, 64, 65, 76, 77, 0, 67, 68, 71, 96, 97, 100, 101, 0, 67, 76, 79, 96, 97, 108,
@@ -31,8 +31,8 @@ const MASKS: [u8; 128] = [
     92, 95, 88, 89, 92, 93, 24, 91, 92, 95, 88, 89, 92, 93,
 ];
 
-// The index of the mask in the table. There is no branch on the conditions, since they are hard to
-// predict.
+// Returns the index of the mask in `MASKS`. The function has no branch on the conditions, because
+// they are hard for a processor to predict.
 fn place(counts: &Counts, on_cpu: bool, current_stalled: bool) -> usize
     ensures place { result ≡ place_by counts.now on_cpu current_stalled }
     ensures within { result < 128 }
@@ -51,9 +51,10 @@ fn place(counts: &Counts, on_cpu: bool, current_stalled: bool) -> usize
         + 64 * usize::from(beside)
 }
 
-/// The states of a group on a processor, from the counts of its tasks there. `on_cpu` says whether
-/// the processor's running task is one of them, and `current_stalled` whether the running task is
-/// in a memory stall: the group is then in memory full, even if the counts alone say otherwise.
+/// Returns the states of a group on a processor, from the counts of the group's tasks there.
+/// `on_cpu` is whether the processor's running task is among the counted tasks, and
+/// `current_stalled` whether the running task is in a memory stall. If both are true, the group is
+/// in memory full, even if the counts alone say otherwise.
 pub fn mask_of(counts: &Counts, on_cpu: bool, current_stalled: bool) -> Mask
     ensures few { IsMask result }
     ensures states { (state : State) →
