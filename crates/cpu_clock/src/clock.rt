@@ -1,4 +1,5 @@
-//! One clock, and its words.
+//! The clock of one group on one processor: how it is read and advanced, and its form as nine
+//! words.
 
 ghost use Rattle.std.specs.Prelude.{◌≡◌, if◌then◌else◌};
 ghost use Rattle.psi_counts.specs.Clock.{AreWordsOfClock, ClockFollows, IsInTime, IsWholeClock, advanced, opened, opened_time, words_of, zero_clock};
@@ -8,15 +9,15 @@ use state_mask::{Mask, STATES};
 use std::marker::Model;
 
 /// How long a group was in each state on a processor: the `times`, `state_mask` and `state_start`
-/// of the kernel's `psi_group_cpu`. Clocks with different numbers may mean the same, if one of them
-/// skipped a change that left the states as they were; so clocks have no `==`.
+/// of the kernel's `psi_group_cpu`. Two clocks with different fields can be equivalent, if one of
+/// them skipped a change that left the states unchanged; so clocks have no `==`.
 #[derive(Clone, Copy, Debug)]
 pub struct Clock {
-    /// The time in each state up to the start, in ns, ordered by state.
+    /// The time (ns) in each state up to the start, ordered by state.
     pub times: [u64; 7],
     /// The states since the start.
     pub mask: Mask,
-    /// The time since which the mask applies, in ns. Later changes left the mask as it was.
+    /// The time (ns) since which the mask applies. Later changes left the mask unchanged.
     pub start: Ns,
 }
 
@@ -35,14 +36,15 @@ impl Model for Clock {
         record { times = clock.times; mask = clock.mask; start = clock.start } };
 }
 
-/// The index of the mask among a clock's words, after the times.
+/// The index of the mask among a clock's nine words, after the seven times.
 const MASK_WORD: usize = 7;
 
-/// The index of the start among a clock's words.
+/// The index of the start among a clock's nine words.
 const START_WORD: usize = 8;
 
-/// The time since a clock's start, in ns, if a state is in its mask, or 0. There is no branch on
-/// that, since it is hard to predict.
+/// Returns `time` (ns), the time since a clock's start, if the state is in the clock's mask
+/// (`held`), otherwise 0. The function has no branch, because the condition is hard for a processor
+/// to predict.
 fn open_time(held: bool, time: u64) -> u64
     ensures { result ≡ (if held then time else 0) }
 {
@@ -50,7 +52,7 @@ fn open_time(held: bool, time: u64) -> u64
 }
 
 impl Clock {
-    /// A clock at time 0, in no state.
+    /// Returns the clock at time 0, with no state in its mask.
     pub fn zero() -> Clock
         ensures { result ≡ zero_clock }
     {
@@ -61,7 +63,8 @@ impl Clock {
         }
     }
 
-    /// The time in one state up to a time, in ns.
+    /// Returns the time (ns) in `state` up to `at`. Precondition: the clock can be advanced to
+    /// `at`.
     fn opened_time(&self, at: Ns, state: State) -> u64
         requires { IsInTime self.now at }
         ensures { result ≡ opened_time self.now at state }
@@ -70,9 +73,10 @@ impl Clock {
         self.times[state as usize] + open
     }
 
-    /// The times up to a time, in ns, ordered by state: for the states in the mask, the time since
-    /// the start is added. The kernel's `get_recent_times` does the same, and then subtracts the
-    /// times of its last call.
+    /// Returns the times (ns) in each state up to `at`, ordered by state: for the states in the
+    /// mask, the time since the start is added. Precondition: the clock can be advanced to `at`.
+    /// The kernel's `get_recent_times` does the same, and then subtracts the times of its last
+    /// call.
     pub fn opened(&self, at: Ns) -> [u64; 7]
         requires { IsInTime self.now at }
         ensures { result ≡ opened self.now at }
@@ -84,8 +88,8 @@ impl Clock {
         STATES.map(|state| self.opened_time(at, state))
     }
 
-    /// Advances the clock to a time (ns), since which the states of the mask apply: the kernel's
-    /// `record_times`, and then the new mask.
+    /// Advances the clock to `at` (ns); the states of `mask` apply from then on. The kernel calls
+    /// `record_times`, and then sets the new mask.
     pub fn advance(&mut self, at: Ns, mask: Mask)
         requires { IsInTime self.old at }
         ensures { self.new ≡ advanced self.old at mask }
@@ -95,11 +99,12 @@ impl Clock {
         self.start = at;
     }
 
-    /// Applies a change of its processor at a time (ns), since which the states of the mask apply.
-    /// If the mask doesn't change, neither does the clock.
+    /// Applies a change of the clock's processor at `at` (ns); the states of `mask` apply from then
+    /// on. If the mask doesn't change, neither does the clock.
     ///
-    /// So a clock that represents a slot after some changes of a plan represents it after one more,
-    /// if the mask is that of the states after it: the law of [`plan_laws::law_plan_clocks`].
+    /// So if the clock is right for a slot after some changes of a plan, and `mask` has the slot's
+    /// states after one more change, the new clock is right after this change: see
+    /// [`plan_laws::law_plan_clocks`].
     pub fn turn(&mut self, at: Ns, mask: Mask)
         requires { IsInTime self.old at }
         ensures mask { self.new.mask ≡ mask }
@@ -112,7 +117,7 @@ impl Clock {
         }
     }
 
-    /// The clock as nine words: the times ordered by state, the mask and the start.
+    /// Returns the clock as nine words: the times ordered by state, the mask and the start.
     pub fn to_words(&self) -> [u64; 9]
         ensures words { result ≡ words_of self.now }
         ensures of_clock { AreWordsOfClock result }
@@ -124,8 +129,8 @@ impl Clock {
         words
     }
 
-    /// The clock with these words. It requires words of a clock and doesn't check them: the caller
-    /// knows that they came from [`Clock::to_words`], and could do nothing if they hadn't.
+    /// Returns the clock with these nine words. Precondition: they are the words of a clock, such
+    /// as [`Clock::to_words`] returns. The function doesn't check it.
     pub fn from_words(words: [u64; 9]) -> Clock
         requires { AreWordsOfClock words }
         ensures { words_of result ≡ words }

@@ -1,7 +1,7 @@
 //! The clock of a group on a processor: how long the group was in each state there.
 //!
-//! One clock only: slot_clocks has those of all groups of a processor, and decides when they
-//! change.
+//! The crate has one clock only. slot_clocks has the clocks of all groups of a processor, and
+//! decides when they change.
 #![tactic(auto)]
 
 mod clock;
