@@ -1,4 +1,4 @@
--- The clocks of all groups on one processor, and how they follow its changes.
+-- The clocks of all groups on one processor, and how they follow the changes of the processor.
 use Rattle.std.specs.Prelude.{◌≡◌, ℕ, ◌+◌, ◌≤◌, ◌<◌, ◌^◌, List, map, replicate, slice_index_or, ◌&&◌, Bool, true, Option, None}
 use Rattle.psi_base.specs.declared.event.Slot.{Slot}
 use Rattle.psi_base.specs.declared.event.State.{State}
@@ -13,20 +13,21 @@ use Rattle.slot_clocks.specs.declared.cell.Cell.{Cell}
 
 -- ---- parents
 
--- the parents of all slots, by their numbers
+-- the parent of each slot, as numbers instead of slots
 abbrev pub parent_numbers : List (Option Slot) → List (Option ℕ)
 parent_numbers parents = map number_of_slot parents
 
 -- ---- clocks
 
--- a group before its first change: no task is counted, its accounting is on, and it was in no state
--- for any time
+-- the cell of a group before the first change: no task is counted, the accounting is on, and the
+-- group has been in no state
 abbrev pub zero_cell : Cell
 zero_cell = record { counts = no_counts; on = true; clock = zero_clock }
 
--- The clocks of a processor: for each group, by slot, its counts, its clock and whether its
--- accounting is on; the slot of the running task and whether it is in a memory stall; and the time
--- (ns) of the last change. No change has reached a group beyond the list.
+-- The clocks of a processor: the cell of each slot (the group's counts, its clock, and whether its
+-- accounting is on); the slot of the running task and whether the task is in a memory stall; and
+-- the time (ns) of the last change. A slot after the end of the list has the cell of a group before
+-- its first change.
 pub record ClocksView : Type 0 where
   pub cells : List Cell
   pub current : Option (Slot × Bool)
@@ -36,29 +37,29 @@ pub record ClocksView : Type 0 where
 abbrev pub first_clocks : ℕ → ClocksView
 first_clocks slots = record { cells = replicate slots zero_cell; current = None; last = 0 }
 
--- the cell of a slot, in a list
+-- the cell of a slot in a list; the zero cell after the list's end
 abbrev pub cell_in : List Cell → ℕ → Cell
 cell_in cells slot = slice_index_or cells slot zero_cell
 
--- the counts and the clock of the group in a slot
+-- the cell of a slot: its counts, its clock, and whether its accounting is on
 abbrev pub cell_at : ClocksView → ℕ → Cell
 cell_at clocks slot = cell_in clocks.cells slot
 
--- a cell's mask has the states that follow from its counts and the running task, and none if its
--- accounting is off
+-- The mask of a cell has exactly the states that follow from the cell's counts and the running
+-- task, or none if the accounting is off.
 abbrev pub MaskShows : List (Option ℕ) → Option (Slot × Bool) → ℕ → Cell → Type 0
 MaskShows parents current slot cell =
     (state : State) → mask_holds cell.clock.mask state ≡
     (cell.on && shows state cell.counts (is_current_in parents slot current) (is_current_stalled current))
 
--- each group's mask has these states
+-- The mask of each slot's cell is right.
 abbrev pub AreReported : List (Option ℕ) → ClocksView → Type 0
 AreReported parents clocks = (slot : ℕ) → MaskShows parents clocks.current slot (cell_at clocks slot)
 
 -- ---- changes
 
--- counts can follow a change: what is subtracted is at most the count plus what is added, which
--- fits in 32 bits
+-- Counts can follow a change, for each count: the part to subtract is at most the count plus the
+-- part to add, and that sum fits in 32 bits.
 pub record CanFollow (counts minus plus : Counts) : Type 0 where
   pub io : (minus.io ≤ counts.io + plus.io) × (counts.io + plus.io < 2 ^ 32)
   pub stalled : (minus.stalled ≤ counts.stalled + plus.stalled) × (counts.stalled + plus.stalled < 2 ^ 32)
@@ -66,53 +67,55 @@ pub record CanFollow (counts minus plus : Counts) : Type 0 where
   pub stalled_running : (minus.stalled_running ≤ counts.stalled_running + plus.stalled_running)
       × (counts.stalled_running + plus.stalled_running < 2 ^ 32)
 
--- the counts of each group can follow what a change subtracts and adds on its chains
+-- The counts of each group can follow the counts that a change subtracts and adds on its chains.
 abbrev pub AllCanFollow : List (Option ℕ) → Change → ClocksView → Type 0
 AllCanFollow parents change clocks =
     (slot : ℕ) → CanFollow (cell_at clocks slot).counts (on_chain parents slot change.minus) (on_chain parents slot change.plus)
 
--- the counts of each group followed what a change subtracts and adds on its chains
+-- The counts of each group have followed the counts that a change subtracts and adds on its chains.
 abbrev pub AllFollow : List (Option ℕ) → Change → ClocksView → ClocksView → Type 0
 AllFollow parents change old new =
     (slot : ℕ) → Follows (cell_at old slot).counts (on_chain parents slot change.minus) (on_chain parents slot change.plus)
     (cell_at new slot).counts
 
--- each group's accounting is on or off as before, except in the group that a change switches
+-- The accounting of each group is as before, except for the group whose accounting the change
+-- switches.
 abbrev pub AllOnWith : Change → ClocksView → ClocksView → Type 0
 AllOnWith change old new = (slot : ℕ) → (cell_at new slot).on ≡ on_with slot (cell_at old slot).on change.account
 
--- the clock of each group followed a change at a time (ns)
+-- The clock of each group has followed a change at `at` (ns).
 abbrev pub AllClocksFollow : ℕ → ClocksView → ClocksView → Type 0
 AllClocksFollow at old new = (slot : ℕ) → ClockFollows (cell_at old slot).clock at (cell_at new slot).clock
 
--- a clock with an unchanged mask is unchanged
+-- A clock whose mask is unchanged is unchanged.
 abbrev pub StaysByMask : ClockView → ClockView → Type 0
 StaysByMask old new = new.mask ≡ old.mask → new ≡ old
 
--- the clock of each group with an unchanged mask is unchanged
+-- The clock of each group whose mask is unchanged is unchanged.
 abbrev pub AllStayByMask : ClocksView → ClocksView → Type 0
 AllStayByMask old new = (slot : ℕ) → StaysByMask (cell_at old slot).clock (cell_at new slot).clock
 
--- the clock of each group is well-formed
+-- The clock of each group is well-formed.
 abbrev pub AreWhole : ClocksView → Type 0
 AreWhole clocks = (slot : ℕ) → IsWholeClock (cell_at clocks slot).clock
 
--- ---- what is kept of each clock
+-- ---- the invariant of each clock
 
--- a well-formed clock started at or before a time (ns), and no state lasted for longer than that
--- time
+-- The clock is well-formed, it started at or before `at` (ns), and its time in each state up to
+-- `at` is at most `at`.
 pub record IsUpTo (at : ℕ) (clock : ClockView) : Type 0 where
   pub whole : IsWholeClock clock
   pub start : clock.start ≤ at
   pub times : (state : State) → opened_time clock at state ≤ at
 
--- the clocks of a processor are up to its last change, which is within a trace's limit
+-- The clocks of a processor satisfy `IsUpTo` at the time `last` (ns) of the last change, which is
+-- at most the longest trace.
 pub record AreUpTo (cells : List Cell) (last : ℕ) : Type 0 where
   pub each : (slot : ℕ) → IsUpTo last (cell_in cells slot).clock
   pub early : last ≤ last_moment
 
 -- ---- laws
 
--- Before the first change each mask has no state, whatever the groups are.
+-- Before the first change, the empty mask of each group is right, whatever the parents are.
 abbrev pub FirstAreKnown : Type 0
 FirstAreKnown = (parents : List (Option ℕ)) (slots : ℕ) → AreReported parents (first_clocks slots)

@@ -1,4 +1,4 @@
--- The walk up the chains of slots that a change affects.
+-- The walk up the chains of slots that a change affects. A chain is a slot and its ancestors.
 use Rattle.std.specs.Prelude.{◌≡◌, ◌≢◌, ◌⊎◌, ◌≤◌, ℕ, zero, suc, List, length, max, Bool, true, false, ◌==◌, if◌then◌else◌, Option, None, Some}
 use Rattle.std.specs.Option.{option_or}
 use Rattle.psi_base.specs.declared.event.Slot.{Slot}
@@ -19,25 +19,26 @@ abbrev pub slot_in : {A : Type 0} → Option (Slot × A) → Option Slot
 slot_in None = None
 slot_in (Some pair) = Some pair.0
 
--- the counts of one part of a change
+-- the counts that a change subtracts or adds; zeros for `None`
 abbrev pub counts_in : Option (Slot × Counts) → Counts
 counts_in None = no_counts
 counts_in (Some part) = part.1
 
--- The height of a walk up the chain of a slot: the current slot plus one, or 0 after the root and
--- if there is no slot.
+-- The height of a walk that is at a slot: the slot's number plus one. It is 0 if there is no slot,
+-- and after the root.
 abbrev pub height : Option Slot → ℕ
 height None = 0
 height (Some slot) = suc slot.0
 
--- a slot is on the rest of a chain, from a height upwards
+-- whether the slot is on the rest of a chain, from a height upwards
 abbrev pub reaches : List (Option ℕ) → ℕ → ℕ → Bool
 reaches parents zero slot = false
 reaches parents (suc place) slot = is_under parents place slot
 
--- The initial heights of a change's four walks: up the chains of the counts that it subtracts and
--- adds, of the task that ran before and of the task that runs after. A change that switches
--- accounting subtracts no counts, and the first walk begins at its slot.
+-- The initial heights of the four walks of a change: up the chains of the counts that it subtracts,
+-- of the counts that it adds, of the task that ran before, and of the task that runs after. A
+-- change that switches accounting subtracts no counts, and its first walk begins at the switched
+-- slot.
 abbrev pub chains_of : Option (Slot × Bool) → Change → Chains
 chains_of current change =
     record {
@@ -47,15 +48,15 @@ chains_of current change =
       after = height (slot_in change.current);
     }
 
--- a chain may start at a height: at the height of the change's slot, or at any height if the change
--- has none
+-- A chain may start at height `place`: this is the height of the slot that the change names, or the
+-- change names no slot there.
 abbrev pub MayStartAt : {A : Type 0} → Option (Slot × A) → ℕ → Type 0
 MayStartAt None place = Unit {0}
 MayStartAt (Some pair) place = place ≡ suc pair.0.0
 
--- The four chains of a change may start at these heights. The chain of the task that ran may start
--- anywhere if the running task and its stall don't change. The first chain starts at the slot whose
--- accounting is switched, just as at a slot whose counts are subtracted.
+-- The four chains of a change may start at the heights `starts`. The chain of the task that ran may
+-- start anywhere if the running task and its stall don't change. The first chain starts at the slot
+-- whose counts are subtracted or whose accounting is switched.
 pub record MayStart (current : Option (Slot × Bool)) (change : Change) (starts : Chains) : Type 0 where
   pub account : MayStartAt change.account starts.minus
   pub minus : MayStartAt change.minus starts.minus
@@ -63,7 +64,7 @@ pub record MayStart (current : Option (Slot × Bool)) (change : Change) (starts 
   pub before : MayStartAt current starts.before ⊎ (current ≡ change.current)
   pub after : starts.after ≡ height (slot_in change.current)
 
--- the effect of a change on groups, if `current` ran up to it
+-- `parts` is the effect of a change on groups; `current` is the task that ran up to the change.
 pub record AreParts (current : Option (Slot × Bool)) (change : Change) (parts : Parts) : Type 0 where
   pub at : parts.at ≡ change.at
   pub minus : parts.minus ≡ counts_in change.minus
@@ -71,16 +72,17 @@ pub record AreParts (current : Option (Slot × Bool)) (change : Change) (parts :
   pub stalled : parts.stalled ≡ is_current_stalled change.current
   pub stays : parts.stays ≡ true → current ≡ change.current
 
--- the chains of the counts and of the task that ran are at one height
+-- The chains of the counts and of the task that ran are at the same height.
 pub record AreTogether (chains : Chains) : Type 0 where
   pub plus : chains.plus ≡ chains.minus
   pub before : chains.before ≡ chains.minus
 
--- the height on a chain after the walk passed `here`: the parent's, if the chain was there
+-- the height of a chain at height `place` after the walk passed `here`: the parent's if the chain
+-- was at `here`, otherwise `place`
 abbrev pub passed : ℕ → ℕ → ℕ → ℕ
 passed here parent place = if place == here then parent else place
 
--- chains after the walk passed a height
+-- the four chains after the walk passed the height `here`
 abbrev pub all_passed : ℕ → ℕ → Chains → Chains
 all_passed here parent chains =
     record {
@@ -94,8 +96,8 @@ all_passed here parent chains =
 abbrev pub top : Chains → ℕ
 top chains = max (max chains.minus chains.plus) (max chains.before chains.after)
 
--- a group after a change, whose switch of accounting, if any, was applied before: its counts, clock
--- and states
+-- How a group's cell changes when a change is applied, after the change's switch of accounting: the
+-- counts follow, the clock follows, and the states are updated.
 pub record IsTurned (parents : List (Option ℕ)) (change : Change) (slot : ℕ) (old new : Cell) : Type 0 where
   pub counts : Follows old.counts (on_chain parents slot change.minus) (on_chain parents slot change.plus) new.counts
   pub on : new.on ≡ old.on
@@ -104,28 +106,28 @@ pub record IsTurned (parents : List (Option ℕ)) (change : Change) (slot : ℕ)
   pub up_to : IsUpTo change.at new.clock
   pub known : MaskShows parents change.current slot new
 
--- all groups after a change
+-- Each group's cell has changed as `IsTurned` says.
 abbrev pub AreTurned : List (Option ℕ) → Change → List Cell → List Cell → Type 0
 AreTurned parents change olds news = (slot : ℕ) → IsTurned parents change slot (cell_in olds slot) (cell_in news slot)
 
--- the switch of accounting, if any, is of another slot
+-- The switch of accounting, if there is one, is of another slot.
 abbrev pub IsApart : Option (Slot × Bool) → ℕ → Type 0
 IsApart None slot = Unit {0}
 IsApart (Some account) slot = slot ≢ account.0.0
 
--- a group after the switch of accounting, if any, was applied: only whether its accounting is on
--- may change
+-- A group's cell after the switch of accounting, if there is one, was applied: nothing but the flag
+-- `on` may differ.
 pub record IsOnWith (account : Option (Slot × Bool)) (slot : ℕ) (old new : Cell) : Type 0 where
   pub counts : new.counts ≡ old.counts
   pub on : new.on ≡ on_with slot old.on account
   pub clock : new.clock ≡ old.clock
 
--- all groups after the switch
+-- Each group's cell after the switch of accounting was applied.
 abbrev pub AreOnWith : Option (Slot × Bool) → List Cell → List Cell → Type 0
 AreOnWith account olds news = (slot : ℕ) → IsOnWith account slot (cell_in olds slot) (cell_in news slot)
 
--- A change can be applied to groups, after its switch of accounting was, if `current` ran up to it
--- and the chains start here.
+-- A change can be applied to the groups from the heights `starts` on, after its switch of
+-- accounting was applied; `current` is the task that ran up to the change.
 pub record CanClimb (parents : List (Option Slot)) (current : Option (Slot × Bool)) (change : Change) (starts : Chains)
     (cells : List Cell) : Type 0 where
   pub older : AreOlder (parent_numbers parents)

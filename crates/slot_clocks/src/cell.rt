@@ -1,4 +1,4 @@
-//! The state of one group on a processor.
+//! The counts, accounting and clock of one group on a processor.
 
 ghost use Rattle.std.specs.Prelude.{◌≡◌, ◌&&◌, ◌+◌, ◌<◌, ◌≤◌, ◌^◌};
 ghost use Rattle.psi_base.specs.declared.event.State.{State};
@@ -12,7 +12,7 @@ use cpu_clock::Clock;
 use psi_base::Ns;
 use state_mask::{Counts, Mask, mask_of};
 
-/// Counts of no task.
+/// The counts of no tasks.
 pub(crate) const NO_COUNTS: Counts = Counts {
     io: 0,
     stalled: 0,
@@ -20,12 +20,12 @@ pub(crate) const NO_COUNTS: Counts = Counts {
     stalled_running: 0,
 };
 
-/// The counts and the clock of a group on a processor. They are updated while its accounting is off
-/// too, but then it is in no state.
+/// The counts and the clock of a group on a processor. Both are also updated while the group's
+/// accounting is off, but then the group is in no state.
 #[derive(Clone, Copy, Debug)]
 pub(crate) struct Cell {
     pub(crate) counts: Counts,
-    /// Its accounting is on.
+    /// Whether the group's accounting is on.
     pub(crate) on: bool,
     pub(crate) clock: Clock,
 }
@@ -38,7 +38,7 @@ fn moved(count: u32, minus: u32, plus: u32) -> u32
     count + plus - minus
 }
 
-/// The counts after a change that adds some and subtracts others.
+/// Returns the counts after a change that subtracts `minus` and adds `plus`.
 fn follow(counts: &Counts, minus: &Counts, plus: &Counts) -> Counts
     requires { CanFollow counts.now minus.now plus.now }
     ensures { Follows counts.now minus.now plus.now result }
@@ -56,7 +56,7 @@ fn follow(counts: &Counts, minus: &Counts, plus: &Counts) -> Counts
 }
 
 impl Cell {
-    /// A group before its first change.
+    /// Returns the cell of a group before the first change.
     pub(crate) fn zero() -> Cell
         ensures { result ≡ zero_cell }
     {
@@ -67,7 +67,7 @@ impl Cell {
         }
     }
 
-    // The states of the group: none if its accounting is off.
+    // Returns the states of the group: none if its accounting is off.
     #[inline(always)]
     fn mask(&self, on_cpu: bool, current_stalled: bool) -> Mask
         ensures few { IsMask result }
@@ -82,8 +82,8 @@ impl Cell {
         }
     }
 
-    /// Applies a change at a time (ns), which subtracts and adds these counts for this group. The
-    /// clock is unchanged if no state changes.
+    /// Applies a change at `at` (ns), which subtracts `minus` from the group's counts and adds
+    /// `plus`. The clock doesn't change if the states don't.
     #[inline(always)]
     pub(crate) fn turn(
         &mut self,

@@ -1,4 +1,4 @@
-//! The walk up the chains of groups that a change affects.
+//! The walk up the chains of groups that a change affects. A chain is a slot and its ancestors.
 
 ghost use Rattle.std.specs.Prelude.{◌≡◌, ◌&&◌, ◌⊎◌, ◌+◌, ◌==◌, ◌<◌, ◌≤◌, length, true, false, if◌then◌else◌, None, IfSome};
 ghost use Rattle.psi_base.specs.declared.event.State.{State};
@@ -15,8 +15,8 @@ use crate::part::Part;
 use crate::running::Running;
 use psi_base::{Ns, Slot};
 
-/// The current heights on the four chains of a change. A height is one more than the slot, and 0
-/// after the root, so that one comparison shows both whether a chain goes on and at which slot.
+/// The current heights on the four chains of a change. A height is the slot's number plus one, and
+/// 0 after the root, so that one comparison shows both whether a chain continues and at which slot.
 #[derive(Clone, Copy)]
 pub(crate) struct Chains {
     /// The chain of the counts that are subtracted.
@@ -29,18 +29,19 @@ pub(crate) struct Chains {
     after: u64,
 }
 
-/// The effect of a change on each group on its chains.
+/// The effect of a change on a group, by which of the four chains the group is on.
 #[derive(Drop)]
 pub(crate) struct Parts {
-    /// Its time (ns).
+    /// The time (ns) of the change.
     at: Ns,
     /// The counts that are subtracted.
     minus: Part,
     /// The counts that are added.
     plus: Part,
-    /// The task that runs after the change is in a memory stall.
+    /// Whether the task that runs after the change is in a memory stall.
     stalled: bool,
-    /// The running task's group and stall don't change, or no task runs before and after.
+    /// If true, the running task's slot and stall are the same before and after the change, or no
+    /// task runs before and after it.
     stays: bool,
 }
 
@@ -53,15 +54,16 @@ fn height(slot: Option<Slot>) -> u64
     }
 }
 
-// The next height on a chain: the parent's if the chain is at the height that the walk passes.
+// Returns the next height of a chain at height `place`, if the walk passes the height `here`: the
+// parent's if the chain is at that height, otherwise `place`.
 fn pass(place: u64, here: u64, parent: u64) -> u64
     ensures { result ≡ passed here parent place }
 {
     if place == here { parent } else { place }
 }
 
-// Whether a chain at height `place` can be merged with one at height `other`: both are at the same
-// height, or `place` is no slot.
+// Whether a chain at height `place` can be merged with a chain at height `other`: both heights are
+// equal, or the first chain has no slot.
 fn fits(place: u64, other: u64) -> bool
     ensures { result ≡ true → (place ≡ 0) ⊎ (place ≡ other) }
 {
@@ -69,9 +71,9 @@ fn fits(place: u64, other: u64) -> bool
 }
 
 impl Chains {
-    /// The chains of a change, at their slots, if `current` ran up to it. A change that switches
-    /// accounting subtracts no counts, so the chain `minus` begins at the switched slot, which the
-    /// walk has to visit.
+    /// Returns the chains of a change at their first slots; `current` is the task that ran up to
+    /// the change. A change that switches accounting subtracts no counts, so its chain `minus`
+    /// begins at the switched slot, which the walk has to visit.
     fn of(current: &Running, change: &PackedChange) -> Chains
         ensures { result ≡ chains_of current.now change.now }
     {
@@ -84,7 +86,7 @@ impl Chains {
         }
     }
 
-    /// The greatest height of the four chains.
+    /// Returns the greatest height of the four chains.
     pub(crate) fn top(&self) -> u64
         ensures { result ≡ top self.now }
     {
@@ -93,8 +95,9 @@ impl Chains {
         counted.max(running)
     }
 
-    // Moves the chains at height `here` up to that of the parent. If the chains of the counts and
-    // of the task that ran are together, they are handled as one.
+    // Moves each chain that is at height `here` to `parent`, the height of the parent. If
+    // `together` is true, the chains of the counts and of the task that ran are at one height and
+    // are handled as one.
     fn pass(&mut self, here: u64, parent: u64, together: bool)
         requires together { together ≡ true → AreTogether self.old }
         ensures { self.new ≡ all_passed here parent self.old }
@@ -110,9 +113,10 @@ impl Chains {
         }
     }
 
-    // The chains of a change of a task, if those of the counts and of the task that ran can start
-    // together, at one slot. A chain without a slot can join the others. So can the chain of the
-    // task that ran if the running task and its stall don't change: nothing changes on it then.
+    // Returns the chains of a change of a task if the chains of the counts and of the task that ran
+    // can all start at one slot, otherwise `None`. A chain without a slot can join the rest. So can
+    // the chain of the task that ran if the running task and its stall don't change, because
+    // nothing changes on that chain.
     #[tactic(auto, using(crate::proofs::StartLaws::start_together))]
     #[inline(always)]
     fn together(current: &Running, change: &PackedChange, stays: bool) -> Option<Chains>
@@ -153,8 +157,8 @@ impl Parts {
     }
 }
 
-// Applies a change to the group at a height. If no counts change there and the running task and its
-// stall don't change, there is nothing to do: the group is only on that task's chain.
+// Applies a change to the group at height `here`. If no counts change at the group and the running
+// task and its stall don't change, there is nothing to do.
 #[inline(always)]
 fn turn_at(cell: &mut Cell, parts: &Parts, chains: &Chains, here: u64)
     requires fits { CanFollow cell.old.counts
@@ -193,10 +197,10 @@ fn turn_at(cell: &mut Cell, parts: &Parts, chains: &Chains, here: u64)
     );
 }
 
-// Applies a change to the groups on its chains, from where the chains start. A parent has a smaller
-// number than its child, so the chains are climbed side by side, always from the greatest slot, and
-// each group is visited once. If `together` is known at compile time, the compiler merges three of
-// the four chains into one.
+// Applies a change to the groups on its chains, which start at the heights in `chains`. A parent
+// has a smaller slot than its child, so the chains are climbed side by side, always from the
+// greatest slot, and each group is visited once. If `together` is known at compile time, the
+// compiler merges three of the four chains into one.
 #[inline(always)]
 fn climb(
     cells: &mut [Cell],
@@ -225,7 +229,8 @@ fn climb(
     }
 }
 
-// Climbs each of the four chains by itself. This is rare, so it isn't inlined.
+// Applies a change by climbing each of the four chains separately. This is rare, so the function
+// isn't inlined.
 #[inline(never)]
 fn climb_each(
     cells: &mut [Cell],
@@ -243,8 +248,8 @@ fn climb_each(
     climb(cells, parents, current, change, &parts, starts, false);
 }
 
-/// Applies a switch of accounting, if any. Counts and clocks don't change until the walk visits the
-/// group.
+/// Applies a switch of accounting, if there is one. The counts and the clock of the group don't
+/// change until the walk visits it.
 pub(crate) fn switch(cells: &mut [Cell], account: Option<(Slot, bool)>)
     requires made { IfSome account (λ g. g.0.0 < length cells.old) }
     ensures on_with { AreOnWith account cells.old cells.new }
@@ -255,8 +260,9 @@ pub(crate) fn switch(cells: &mut [Cell], account: Option<(Slot, bool)>)
     }
 }
 
-/// Applies a change to the groups on its chains. For most changes two chains are enough instead of
-/// four: one for the task that runs afterwards, and one for the counts and the task that ran.
+/// Applies a change to the groups on its chains. For most changes two chains suffice instead of
+/// four: the chain of the task that runs afterwards, and one chain for the counts and the task that
+/// ran.
 #[inline(always)]
 pub(crate) fn walk(
     cells: &mut [Cell],

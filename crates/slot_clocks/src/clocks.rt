@@ -1,4 +1,4 @@
-//! The clocks of all groups on one processor.
+//! The clocks of all groups on one processor, and how a change is applied to them.
 
 ghost use Rattle.std.specs.Prelude.{◌≡◌, ℕ, ◌<◌, ◌≤◌, length, None, IfOk, IfSome};
 ghost use Rattle.psi_counts.specs.Clock.{IsInTime};
@@ -16,14 +16,14 @@ use psi_base::{NoMemory, Ns, Slot};
 use std::alloc::Global;
 use std::marker::Model;
 
-/// The clocks of all groups on one processor, after the changes made so far. A contract sees the
-/// counts and the clock of each slot, the processor's running task, and the time of the last
+/// The clocks of all groups on one processor, after the changes applied up to now. A contract sees
+/// the counts and the clock of each slot, the processor's running task, and the time of the last
 /// change.
 #[derive(Drop)]
 pub struct SlotClocks {
-    /// One cell for each slot.
+    /// The cell of each slot.
     cells: Vec<Cell>,
-    /// The running task.
+    /// The processor's running task after the last change.
     current: Running,
     /// The time (ns) of the last change, 0 before the first.
     last: Ns,
@@ -41,7 +41,7 @@ impl Model for SlotClocks {
 }
 
 impl SlotClocks {
-    /// The clocks of `slots` slots, before the first change. Allocates all that it needs.
+    /// Creates the clocks of `slots` slots, before the first change. Allocates everything up front.
     pub fn make(alloc: Global, slots: u32) -> Result<SlotClocks, NoMemory>
         ensures { IfOk result (λ clocks. clocks ≡ first_clocks slots) }
     {
@@ -52,13 +52,14 @@ impl SlotClocks {
         })
     }
 
-    /// Applies a change of the processor to the counts and clocks of the groups on its chains. A
-    /// change that switches a group's accounting must subtract no counts. `parents` has the parent
-    /// of each slot, `None` for the root; there must be a clock for each of them. Does not
-    /// allocate.
+    /// Applies a change of the processor to the counts and clocks of the groups on the change's
+    /// chains. `parents` has the parent of each slot, `None` for the root. Preconditions: there is
+    /// a clock for each slot in `parents`, and a change that switches a group's accounting
+    /// subtracts no counts. Does not allocate.
     ///
-    /// The time is proportional to the number of groups on the chains of four slots: of the counts
-    /// that are subtracted and added, and of the tasks that run before and after.
+    /// The running time is proportional to the number of groups on the chains of four slots: the
+    /// slots of the counts that are subtracted and added, and of the tasks that run before and
+    /// after.
     #[tactic(auto, using(crate::proofs::AccountLaws::turned_since))]
     pub fn apply(&mut self, parents: &[Option<Slot>], change: &PackedChange)
         requires older { AreOlder (parent_numbers parents.now) }
@@ -71,7 +72,8 @@ impl SlotClocks {
         requires later { self.old.last ≤ change.now.at }
         requires early { change.now.at ≤ last_moment }
 
-        // Each group's counts follow the change, whether it is on a chain of it or not.
+        // Each group's counts follow the change, whether or not the group is on one of the change's
+        // chains.
         ensures counts { AllFollow (parent_numbers parents.now) change.now self.old self.new }
         ensures accounts { AllOnWith change.now self.old self.new }
         ensures clocks { AllClocksFollow change.now.at self.old self.new }
@@ -89,8 +91,7 @@ impl SlotClocks {
         self.last = change.at();
     }
 
-    /// Whether a group's accounting is on after the changes made so far; true for a slot beyond the
-    /// last.
+    /// Whether a group's accounting is on after the last change; true for a slot that has no clock.
     pub fn is_on(&self, slot: Slot) -> bool
         ensures { result ≡ (cell_at self.now slot.0).on }
     {
@@ -100,8 +101,8 @@ impl SlotClocks {
         }
     }
 
-    /// The clock of a group, and the zero clock for a slot beyond the last. It may be opened at any
-    /// time from the last change on.
+    /// Returns the clock of a group, or the zero clock for a slot that has no clock. The clock may
+    /// be read at any time from the last change on.
     pub fn clock(&self, slot: Slot) -> Clock
         ensures value { result ≡ (cell_at self.now slot.0).clock }
         ensures in_time { (at : ℕ) → self.now.last ≤ at → at ≤ last_moment →

@@ -1,10 +1,10 @@
 //! The clocks of all groups on one processor, which follow the changes of that processor.
 //!
-//! [`SlotClocks`] corresponds to the kernel's `psi_group_cpu` of each group on a processor: a
-//! change walks up the chains of the groups that it affects, as the kernel calls `psi_group_change`
-//! for each group above a task.
+//! [`SlotClocks`] corresponds to the kernel's `psi_group_cpu` of each group on a processor. A
+//! change is applied to the groups on its chains (a slot and its ancestors), as the kernel calls
+//! `psi_group_change` for a task's group and each ancestor.
 //!
-//! It doesn't know how a trace becomes changes: proc_plan derives them.
+//! The crate doesn't derive changes from a trace: proc_plan does.
 #![tactic(auto)]
 
 mod cell;

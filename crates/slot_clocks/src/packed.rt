@@ -1,4 +1,4 @@
-//! A change in 16 bytes.
+//! A change of a processor, packed into 16 bytes.
 
 ghost use Rattle.std.specs.Prelude.{◌≡◌, ◌<◌, ◌≤◌, None, Some, IfSome};
 ghost use Rattle.psi_counts.specs.Touch.{AreAtMost, HasSlotsBelow, IsOfOne};
@@ -13,12 +13,12 @@ use psi_base::{Ns, Slot};
 use psi_counts::{Change, Counts};
 use std::marker::Model;
 
-/// What a change contains besides its time and the running task.
+/// The kind of a change, by what it contains besides its time and the running task.
 #[derive(Clone, Copy)]
 enum Kind {
-    /// The counts that one task subtracts and adds.
+    /// The counts of one task are subtracted and added.
     Task,
-    /// The time that interrupts took.
+    /// Interrupts took time.
     Irq,
     /// The accounting of a group is switched on.
     SwitchedOn,
@@ -27,22 +27,24 @@ enum Kind {
 }
 
 /// A change in 16 bytes: of a single task, of interrupt time alone, or of a switch of accounting
-/// alone. Contracts see the change.
+/// alone. Contracts see the unpacked change.
 ///
 /// In a plan of 4,000,000 changes each byte counts: touching a page of memory for the first time
-/// costs more than writing to it. So a slot is stored as its height and a task's counts as four
-/// bits, and interrupt time and switches use the fields of a task's slots.
+/// costs more than writing to it. So a slot is stored as its height (the slot's number plus one, 0
+/// for no slot) and a task's counts as four bits, and interrupt time and switches use the fields of
+/// a task's slots.
 #[derive(Drop)]
 pub struct PackedChange {
     at: Ns,
-    /// The height of the slot whose counts are subtracted; or the slot whose accounting is
-    /// switched, or the lower half of the interrupt time.
+    /// By kind: the height of the slot whose counts are subtracted; the number of the slot whose
+    /// accounting is switched; or the lower half of the interrupt time.
     first: u16,
-    /// The height of the slot whose counts are added; or the upper half of the interrupt time.
+    /// By kind: the height of the slot whose counts are added, or the upper half of the interrupt
+    /// time.
     second: u16,
     current: Running,
-    /// Sixteen times the bits of the counts that are subtracted, plus those of the counts that are
-    /// added.
+    /// Sixteen times the bits of the counts that are subtracted, plus the bits of the counts that
+    /// are added.
     bits: u8,
     kind: Kind,
 }
@@ -67,7 +69,8 @@ impl Model for PackedChange {
         IsPart p.kind p.first (p.bits / 16) × IsPart p.kind p.second (p.bits % 16) };
 }
 
-// The height and the bits of the counts that a change subtracts or adds. Its slot has to fit.
+// Returns the height and the bits of the counts that a change subtracts or adds. Preconditions: the
+// slot is less than 1,024, and each count is at most 1.
 #[inline(always)]
 fn pack_part(part: Option<(Slot, Counts)>) -> (u16, u8)
     requires low { IfSome part (λ part. part.0.0 < most_groups) }
@@ -93,8 +96,8 @@ fn unpack_part(height: u16, bits: u8) -> Option<(Slot, Counts)>
 }
 
 impl PackedChange {
-    /// Packs a change. It must be of one task, of interrupt time alone or of a switch of accounting
-    /// alone, and its slots have to fit.
+    /// Packs a change. Preconditions: the change is of one task, of interrupt time alone or of a
+    /// switch of accounting alone, and its slots are less than 1,024.
     #[inline(always)]
     pub fn new(change: Change) -> PackedChange
         requires one { IsOfOne change }
@@ -108,7 +111,7 @@ impl PackedChange {
         }
     }
 
-    // A change of a task alone.
+    // Packs a change of a task.
     #[inline(always)]
     fn of_task(
         at: Ns,
@@ -140,7 +143,7 @@ impl PackedChange {
         }
     }
 
-    // A change of interrupt time alone. This is rare, so it isn't inlined.
+    // Packs a change that has only interrupt time. This is rare, so the function isn't inlined.
     #[inline(never)]
     fn of_irq(at: Ns, current: Option<(Slot, bool)>, irq: u64) -> PackedChange
         requires running { IfSome current (λ current. current.0.0 < most_groups) }
@@ -164,7 +167,7 @@ impl PackedChange {
         }
     }
 
-    // A change that only switches accounting. It isn't inlined either.
+    // Packs a change that only switches accounting. This is rare, so the function isn't inlined.
     #[inline(never)]
     fn of_account(at: Ns, current: Option<(Slot, bool)>, account: (Slot, bool)) -> PackedChange
         requires running { IfSome current (λ current. current.0.0 < most_groups) }
@@ -193,7 +196,7 @@ impl PackedChange {
         }
     }
 
-    /// Its time, in ns.
+    /// Returns the time (ns) of the change.
     #[inline(always)]
     pub fn at(&self) -> Ns
         ensures { result ≡ self.now.at }
@@ -201,7 +204,7 @@ impl PackedChange {
         self.at
     }
 
-    /// The counts that it subtracts, and their slot.
+    /// Returns the counts that the change subtracts, with their slot; `None` if it subtracts none.
     pub fn minus(&self) -> Option<(Slot, Counts)>
         ensures { result ≡ self.now.minus }
     {
@@ -211,7 +214,7 @@ impl PackedChange {
         }
     }
 
-    /// The counts that it adds, and their slot.
+    /// Returns the counts that the change adds, with their slot; `None` if it adds none.
     pub fn plus(&self) -> Option<(Slot, Counts)>
         ensures { result ≡ self.now.plus }
     {
@@ -221,14 +224,15 @@ impl PackedChange {
         }
     }
 
-    /// The task that runs after it: its slot, and whether it is in a memory stall.
+    /// Returns the slot of the task that runs after the change, and whether the task is in a memory
+    /// stall; `None` if no task runs.
     pub fn current(&self) -> Option<(Slot, bool)>
         ensures { result ≡ self.now.current }
     {
         self.current.get()
     }
 
-    /// The time that interrupts took, in ns.
+    /// Returns the time (ns) that interrupts took, 0 if the change has none.
     #[inline(always)]
     pub fn irq(&self) -> u64
         ensures { result ≡ self.now.irq }
@@ -239,8 +243,8 @@ impl PackedChange {
         }
     }
 
-    /// The slot whose accounting it switches, and whether it is on afterwards. `None` if it
-    /// switches none.
+    /// Returns the slot whose accounting the change switches, and whether it is on afterwards.
+    /// `None` if the change switches none.
     #[inline(always)]
     pub fn account(&self) -> Option<(Slot, bool)>
         ensures { result ≡ self.now.account }
@@ -252,7 +256,7 @@ impl PackedChange {
         }
     }
 
-    /// The unpacked change.
+    /// Unpacks the change.
     pub fn change(&self) -> Change
         ensures { result ≡ self.now }
     {
@@ -266,8 +270,8 @@ impl PackedChange {
         }
     }
 
-    /// The heights of the slots whose counts a change of a task subtracts and adds. `None` for
-    /// other changes.
+    /// Returns the heights of the slots whose counts a change of a task subtracts and adds. `None`
+    /// for a change of another kind.
     #[inline(always)]
     pub(crate) fn heights(&self) -> Option<(u64, u64)>
         ensures task { IfSome result (λ _. self.now.account ≡ None) }
@@ -280,7 +284,7 @@ impl PackedChange {
         }
     }
 
-    /// The counts that it subtracts.
+    /// Returns the counts that the change subtracts.
     #[inline(always)]
     pub(crate) fn taken(&self) -> Part
         ensures { result ≡ counts_in self.now.minus }
@@ -288,7 +292,7 @@ impl PackedChange {
         Part::of(self.bits / 16)
     }
 
-    /// The counts that it adds.
+    /// Returns the counts that the change adds.
     #[inline(always)]
     pub(crate) fn added(&self) -> Part
         ensures { result ≡ counts_in self.now.plus }
@@ -296,7 +300,7 @@ impl PackedChange {
         Part::of(self.bits % 16)
     }
 
-    /// The running task in its packed form.
+    /// Returns the running task after the change, in its packed form.
     #[inline(always)]
     pub(crate) fn running(&self) -> &Running
         ensures { result.now ≡ self.now.current }

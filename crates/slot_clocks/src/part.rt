@@ -1,4 +1,5 @@
-//! The counts that a change subtracts or adds, for groups on its chain and for others.
+//! The counts that a change subtracts or adds: four bits, because a change of one task has counts
+//! of 0 or 1.
 
 ghost use Rattle.std.specs.Prelude.{◌≡◌, ◌<◌, if◌then◌else◌};
 ghost use Rattle.psi_counts.specs.Touch.{AreAtMost, no_counts};
@@ -7,14 +8,14 @@ ghost use Rattle.slot_clocks.specs.Bits.{counts_by};
 use psi_counts::Counts;
 use std::marker::Model;
 
-// The counts that four bits represent, in the order of their fields. A table of structs would be
-// built anew at each use, so these are plain numbers.
+// The four counts that each number of four bits represents, in the order of the fields of `Counts`.
+// The table has plain numbers, because a table of structs would be built anew at each use.
 const COUNTS: [u32; 64] = [
     0, 0, 0, 0, 1, 0, 0, 0, 0, 1, 0, 0, 1, 1, 0, 0, 0, 0, 1, 0, 1, 0, 1, 0, 0, 1, 1, 0, 1, 1, 1, 0,
     0, 0, 0, 1, 1, 0, 0, 1, 0, 1, 0, 1, 1, 1, 0, 1, 0, 0, 1, 1, 1, 0, 1, 1, 0, 1, 1, 1, 1, 1, 1, 1,
 ];
 
-/// The bits of counts that are at most 1 each.
+/// Returns the four bits of counts. Precondition: each count is at most 1.
 #[inline(always)]
 pub(crate) fn bits_of(counts: &Counts) -> u8
     requires { AreAtMost 1 counts.now }
@@ -24,7 +25,7 @@ pub(crate) fn bits_of(counts: &Counts) -> u8
     (counts.io + 2 * counts.stalled + 4 * counts.running + 8 * counts.stalled_running) as u8
 }
 
-/// The counts of four bits.
+/// Returns the counts that four bits represent.
 #[inline(always)]
 pub(crate) fn counts_at(bits: u8) -> Counts
     requires { bits < 16 }
@@ -39,10 +40,11 @@ pub(crate) fn counts_at(bits: u8) -> Counts
     }
 }
 
-/// The counts of one part of a change, subtracted or added. A contract sees these.
+/// The counts that a change subtracts, or those that it adds. A contract sees these counts.
 ///
-/// A group looks up its counts by whether the chain is at the group, and zeros otherwise at index
-/// 0. There is no branch, since the order of four chains is hard to predict.
+/// The counts of a group come from a table: those of the part if the part's chain is at the group,
+/// otherwise the zeros at index 0. There is no branch, because the order of the four chains is hard
+/// for a processor to predict.
 #[derive(Drop)]
 pub(crate) struct Part(u8);
 
@@ -59,7 +61,7 @@ impl Model for Part {
 }
 
 impl Part {
-    /// The part with these four bits.
+    /// Returns the part with these four bits.
     #[inline(always)]
     pub(crate) fn of(bits: u8) -> Part
         requires { bits < 16 }
@@ -68,7 +70,8 @@ impl Part {
         Part(bits)
     }
 
-    /// The counts for a group: those of the part if the chain is at its slot, and otherwise zeros.
+    /// Returns the counts for a group: the part's counts if `here` is true, that is if the part's
+    /// chain is at the group, and otherwise zeros.
     #[inline(always)]
     pub(crate) fn at(&self, here: bool) -> Counts
         ensures { result ≡ (if here then self.now else no_counts) }

@@ -1,4 +1,4 @@
-//! The running task of a processor, in two bytes.
+//! The running task of a processor, packed into two bytes.
 
 ghost use Rattle.std.specs.Prelude.{◌≡◌, ◌<◌, true, None, IfSome};
 ghost use Rattle.psi_counts.specs.Touch.{is_current_stalled};
@@ -8,10 +8,11 @@ ghost use Rattle.slot_clocks.specs.Walk.{height, slot_in};
 use psi_base::Slot;
 use std::marker::Model;
 
-/// The slot of the running task and whether it is in a memory stall, or that no task runs.
-/// Contracts see that.
+/// The running task of a processor: its slot, and whether it is in a memory stall; or no task.
+/// Contracts see this as an `Option`.
 ///
-/// The number is twice the height of the slot, plus one if the task is in a stall.
+/// The number is twice the height of the slot (its number plus one), plus one if the task is in a
+/// stall, and 0 for no task.
 #[derive(Drop)]
 pub(crate) struct Running(u16);
 
@@ -28,14 +29,14 @@ impl Model for Running {
 }
 
 impl Running {
-    /// No running task.
+    /// Returns the value for no running task.
     pub(crate) fn none() -> Running
         ensures { result ≡ None }
     {
         Running(0)
     }
 
-    /// The running task, if any. Its slot has to fit.
+    /// Packs the running task, if there is one. Precondition: its slot is less than 1,024.
     #[inline(always)]
     pub(crate) fn of(current: Option<(Slot, bool)>) -> Running
         requires { IfSome current (λ running. running.0.0 < most_groups) }
@@ -47,7 +48,7 @@ impl Running {
         }
     }
 
-    /// A copy.
+    /// Returns a copy.
     #[inline(always)]
     pub(crate) fn again(&self) -> Running
         ensures { result ≡ self.now }
@@ -55,7 +56,7 @@ impl Running {
         Running(self.0)
     }
 
-    /// The running task, if any.
+    /// Unpacks the running task; `None` if no task is running.
     pub(crate) fn get(&self) -> Option<(Slot, bool)>
         ensures { result ≡ self.now }
     {
@@ -66,7 +67,8 @@ impl Running {
         Some((Slot(u32::from(height) - 1), self.0 % 2 == 1))
     }
 
-    /// The height of its slot, at which a walk up begins.
+    /// Returns the height of the running task's slot, at which a walk up its chain begins; 0 if no
+    /// task is running.
     #[inline(always)]
     pub(crate) fn height(&self) -> u64
         ensures { result ≡ height (slot_in self.now) }
@@ -74,7 +76,7 @@ impl Running {
         u64::from(self.0 / 2)
     }
 
-    /// It is in a memory stall.
+    /// Whether a task is running and in a memory stall.
     #[inline(always)]
     pub(crate) fn is_stalled(&self) -> bool
         ensures { result ≡ is_current_stalled self.now }
@@ -82,7 +84,7 @@ impl Running {
         self.0 % 2 == 1
     }
 
-    /// Whether both have the same slot and stall.
+    /// Whether both have the same slot and stall, or no task.
     #[inline(always)]
     pub(crate) fn is_same(&self, other: &Running) -> bool
         ensures { result ≡ true → self.now ≡ other.now }
