@@ -1,4 +1,5 @@
--- The causes against each act, verb by verb, over the parts of the world that the verb reads.
+-- The causes against each act, verb by verb, as functions of the parts of the world that the verb
+-- reads.
 use Rattle.std.specs.Prelude.{◌≡◌, ℕ, List, nat_lt, nat_le, not, Bool, true, false, ◌&&◌, if◌then◌else◌, Option, None, Some, is_some}
 use Rattle.std.specs.FinMap as tasks_by
 use Rattle.psi_base.specs.declared.event.Cpu.{Cpu}
@@ -19,21 +20,22 @@ use Rattle.psi_spec.specs.Refusal.{has_member, irq_too_long, is_window, is_wrong
 use Rattle.group_tree.specs.Tree.{add_cause, pressure_cause, remove_cause}
 use Rattle.task_table.specs.Named.{next_task}
 
--- the first cause if there is one, or else the second
+-- the first cause if there is one, otherwise the second
 abbrev pub or_cause : Option Cause → Option Cause → Option Cause
 or_cause None other = other
 or_cause (Some why) other = Some why
 
--- a group can't be removed: because of the tree, or because a live task is in it
+-- the cause against removing a group: that of the tree, or that a live task is in the group
 abbrev pub empty_cause : List GroupLife → Tasks → List ℕ → Option Cause
 empty_cause groups tasks path =
     or_cause (remove_cause groups path) (if has_member tasks (slot_of groups path) then Some cause.GroupBusy else None)
 
--- an act names a group, but no live group has its path
+-- the cause against an act that names a group, if no live group has the path
 abbrev pub path_cause : Bool → Option Cause
 path_cause lacks_group = if lacks_group then Some cause.UnknownGroup else None
 
--- the cause against a fork: too many tasks, an unknown group, an existing task, a bad processor
+-- the first cause against a fork: too many tasks, an unknown group, an existing task, a bad
+-- processor
 abbrev pub fork_cause : ℕ → Bool → ℕ → Option Task → ℕ → Option Cause
 fork_cause cpus lacks_group live task cpu =
     if nat_le most_tasks live then Some cause.TooManyTasks else
@@ -41,21 +43,23 @@ fork_cause cpus lacks_group live task cpu =
     if is_some task then Some cause.TaskExists else
     if nat_le cpus cpu then Some cause.BadCpu else None
 
--- the cause against a wake: an unknown task, a bad processor, a task that isn't blocked
+-- the first cause against a wake: an unknown task, a bad processor, a task that isn't blocked
 abbrev pub wake_cause : ℕ → Option Task → ℕ → Option Cause
 wake_cause cpus task cpu =
     if not (is_some task) then Some cause.UnknownTask else
     if nat_le cpus cpu then Some cause.BadCpu else
     if is_some_and task (λ task. is_active task.mode) then Some cause.NotBlocked else None
 
--- the cause against how the running task leaves: `idle` requires that no task is running, any other
--- way requires one, and a task in a stall can't exit
+-- the first cause against the way `how` in which the running task leaves its processor: `idle`
+-- requires that no task is running, any other way requires a running task, and a task in a memory
+-- stall can't exit
 abbrev pub how_cause : How → Option (ℕ × Task) → Option Cause
 how_cause how running =
     if is_wrong how running then Some cause.WrongHow else
     if is_exit how && is_some_and (task_part running) (λ task. task.stalled) then Some cause.InStall else None
 
--- the cause against a next task: an unknown task, a bad processor, a task that isn't ready there
+-- the first cause against the next task: an unknown task, a bad processor, a task that isn't ready
+-- on the processor
 abbrev pub next_cause : ℕ → ℕ → Option Pid → Option Task → Option Cause
 next_cause cpus cpu None task = if nat_le cpus cpu then Some cause.BadCpu else None
 next_cause cpus cpu (Some pid) task =
@@ -63,54 +67,55 @@ next_cause cpus cpu (Some pid) task =
     if nat_le cpus cpu then Some cause.BadCpu else
     if not (is_some_and task (is_ready_on cpu)) then Some cause.NotReady else None
 
--- the cause against a switch: that against its next task, or that against how the running one
--- leaves
+-- the first cause against a switch: the cause against its next task, or the cause against the way
+-- in which the running task leaves
 abbrev pub switch_cause : ℕ → ℕ → Option Pid → Option Task → How → Option (ℕ × Task) → Option Cause
 switch_cause cpus cpu next task how running = or_cause (next_cause cpus cpu next task) (how_cause how running)
 
--- the cause against a stall: the task is unknown, isn't running, or is already in a stall
+-- the first cause against a stall: the task is unknown, isn't running, or is already in a stall
 abbrev pub stall_cause : Option Task → Option Cause
 stall_cause task =
     if not (is_some task) then Some cause.UnknownTask else
     if is_some_and task (λ task. not (is_running task.mode)) then Some cause.NotRunning else
     if is_some_and task (λ task. task.stalled) then Some cause.InStall else None
 
--- the cause against the end of a stall: the task is unknown, isn't running, or isn't in a stall
+-- the first cause against the end of a stall: the task is unknown, isn't running, or isn't in a
+-- stall
 abbrev pub unstall_cause : Option Task → Option Cause
 unstall_cause task =
     if not (is_some task) then Some cause.UnknownTask else
     if is_some_and task (λ task. not (is_running task.mode)) then Some cause.NotRunning else
     if is_some_and task (λ task. not task.stalled) then Some cause.NotInStall else None
 
--- the cause against a migration: an unknown task, a bad processor, a task that isn't ready
+-- the first cause against a migration: an unknown task, a bad processor, a task that isn't ready
 abbrev pub migrate_cause : ℕ → Option Task → ℕ → Option Cause
 migrate_cause cpus task cpu =
     if not (is_some task) then Some cause.UnknownTask else
     if nat_le cpus cpu then Some cause.BadCpu else
     if is_some_and task (λ task. not (is_ready task.mode)) then Some cause.NotReady else None
 
--- the cause against a move: an unknown group, an unknown task
+-- the first cause against a move: an unknown group, an unknown task
 abbrev pub move_cause : Bool → Option Task → Option Cause
 move_cause lacks_group task =
     if lacks_group then Some cause.UnknownGroup else
     if not (is_some task) then Some cause.UnknownTask else None
 
--- the cause against a trigger: too many triggers, an unknown group, a window or threshold out of
--- range
+-- the first cause against a trigger: too many triggers, an unknown group, a window or threshold out
+-- of range
 abbrev pub trigger_cause : Bool → ℕ → ℕ → ℕ → Option Cause
 trigger_cause lacks_group triggers threshold window =
     if nat_le 256 triggers then Some cause.TooManyTriggers else
     if lacks_group then Some cause.UnknownGroup else
     if not (is_window threshold window) then Some cause.BadWindow else None
 
--- the cause against an `irq` line: a bad processor, too much time
+-- the first cause against an `irq` line: a bad processor, too much time
 abbrev pub irq_cause : ℕ → List ℕ → ℕ → Cpu → ℕ → Option Cause
 irq_cause cpus irqs at cpu ns =
     if nat_le cpus cpu.0 then Some cause.BadCpu else
     if irq_too_long irqs at (act.Irq cpu ns) then Some cause.IrqTooLong else None
 
--- the cause against a switch of a group's accounting: too many `pressure` lines, or the tree's
--- cause
+-- the first cause against a switch of a group's accounting: too many `pressure` lines, or the cause
+-- of the tree
 abbrev pub account_cause : List GroupLife → ℕ → List ℕ → Option Cause
 account_cause groups pressures path = if nat_le most_pressures pressures then Some cause.TooManyPressures else pressure_cause groups path
 
@@ -137,14 +142,14 @@ act_cause cpus groups tasks irqs triggers pressures at (act.Irq cpu ns) = irq_ca
 act_cause cpus groups tasks irqs triggers pressures at (act.Pressure path on) = account_cause groups pressures path
 act_cause cpus groups tasks irqs triggers pressures at act.End = None
 
--- the part of an act's causes that depends on the tree of groups alone
+-- the first cause against an act that depends on the tree of groups alone
 abbrev pub groups_cause : List GroupLife → Act → Option Cause
 groups_cause groups (act.Group path) = add_cause groups path
 groups_cause groups (act.Remove path) = remove_cause groups path
 groups_cause groups (act.Pressure path on) = pressure_cause groups path
 groups_cause groups _ = None
 
--- the first cause that any line at a time (ns) can have
+-- the first cause against any line at a time (ns), whatever its act is
 abbrev pub line_cause : Limits → World → ℕ → Option Cause
 line_cause limits w at =
     if w.ended then Some cause.AfterEnd else
@@ -152,24 +157,25 @@ line_cause limits w at =
     if nat_lt limits.latest at then Some cause.TimeTooLate else
     if nat_le most_events w.lines then Some cause.TooManyEvents else None
 
--- the first cause against an event: first those that any line can have, and then those of its act
+-- the first cause against an event: a cause against any line at its time, otherwise the cause
+-- against its act
 abbrev pub event_cause : Limits → World → Event → Option Cause
 event_cause limits w event =
     or_cause (line_cause limits w event.at) (act_cause limits.cpus w.groups w.tasks w.irqs w.triggers w.pressures event.at event.act)
 
--- the act creates a group
+-- whether the act creates a group
 abbrev pub makes_group : Act → Bool
 makes_group (act.Group path) = true
 makes_group _ = false
 
--- the act allocates: it creates a task or a group
+-- whether the act allocates: it creates a task or a group
 abbrev pub takes_memory : Act → Bool
 takes_memory (act.Fork pid path cpu) = true
 takes_memory (act.Group path) = true
 takes_memory _ = false
 
--- The fault is the first cause. Out of memory is possible only if there is no cause, and for acts
--- that allocate.
+-- The fault is the first cause. Running out of memory is possible only if there is no cause, and
+-- only for acts that allocate.
 abbrev pub IsFault : Option Cause → Act → Fault Cause → Type 0
 IsFault why a (fault.Refused cause) = why ≡ Some cause
 IsFault why a (fault.NoMemory _) = (why ≡ None) × (takes_memory a ≡ true)

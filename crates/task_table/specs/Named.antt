@@ -1,4 +1,4 @@
--- The task whose number an act names, and the task that an act changes.
+-- The task and the group that an act names, and the task that an act changes.
 use Rattle.std.specs.Prelude.{◌≡◌, ℕ, ◌<◌, List, Option, None, Some, IfSome, slice_index_or, unwrap_or}
 use Rattle.psi_base.specs.declared.event.Cpu.{Cpu}
 use Rattle.psi_base.specs.declared.event.Pid.{Pid}
@@ -15,13 +15,13 @@ use Rattle.psi_counts.specs.Touch.{part, shown, task_after}
 use Rattle.psi_spec.specs.Changes.{before}
 use Rattle.task_table.specs.declared.task_update.TaskUpdate.{TaskUpdate}
 
--- the task that runs next, if one is named and live
+-- the next task to run; `None` if the switch names none, or if no live task has the pid
 abbrev pub next_task : Tasks → Option Pid → Option Task
 next_task tasks None = None
 next_task tasks (Some pid) = task_of tasks pid.0
 
--- the live task with the number that an act names, even if the number is meant for a new task or
--- the next to run
+-- the live task with the pid that `act` names, including when that pid is for the task being
+-- created or the next to run
 abbrev pub named_task : Tasks → Act → Option Task
 named_task tasks (act.Fork pid path cpu) = task_of tasks pid.0
 named_task tasks (act.Wake pid cpu) = task_of tasks pid.0
@@ -32,51 +32,53 @@ named_task tasks (act.Migrate pid cpu) = task_of tasks pid.0
 named_task tasks (act.Move pid path) = task_of tasks pid.0
 named_task tasks _ = None
 
--- the live group with a path, or None
+-- the slot of the live group with this path; `None` if there is no path or no such group
 abbrev pub group_with : List GroupLife → Option (List ℕ) → Option Slot
 group_with groups None = None
 group_with groups (Some path) = as_slot (slot_of groups path)
 
--- the slot of the live group with a path, or the root's if there is no path
+-- the slot of the live group with this path, or the root's slot if there is no path
 abbrev pub slot_with : List GroupLife → Option (List ℕ) → Slot
 slot_with groups None = record { 0 = 0 }
 slot_with groups (Some path) = slot_named groups path
 
--- the live group with the path that an act names; a new group's path isn't looked up
+-- the slot of the live group with the path that an act names; the path of a new group isn't looked
+-- up
 abbrev pub named_group : List GroupLife → Act → Option Slot
 named_group groups a = group_with groups (names a).live_path
 
--- the slot of a group, or the root's if there is none
+-- the slot itself, or the root's slot for `None`
 abbrev pub slot_or_root : Option Slot → Slot
 slot_or_root group = unwrap_or group (record { 0 = 0 })
 
--- the slot of the live group with the path that an act names, or the root's if it names none
+-- the slot of the live group with the path that an act names, or the root's slot if it names none
 abbrev pub named_slot : List GroupLife → Act → Slot
 named_slot groups a = slot_with groups (names a).live_path
 
--- the update of the task whose counts an act changes: the task before and after the act
+-- The update `changed` has the task whose counts an act changes, before and after the act.
 pub record IsChanged (groups : List GroupLife) (tasks : Tasks) (a : Act) (changed : TaskUpdate) : Type 0 where
   pub old : changed.old ≡ before tasks a
   pub new : changed.new ≡ task_after groups tasks a
 
--- A task may replace another: both are running on the same processor, or neither is running, and
--- its slot is below `slots`.
+-- The task `new` may replace the task `old`: both are running on the same processor, or neither is
+-- running; and the slot of `new` is less than `slots`.
 pub record MayReplace (slots : ℕ) (old new : Task) : Type 0 where
   pub runs : (cpu : ℕ) → is_running_on cpu new ≡ is_running_on cpu old
   pub room : new.slot.0 < slots
 
--- the same for tasks that may be missing
+-- If there are two tasks, the task `new` may replace the task `old`.
 abbrev pub MayReplaceIf : ℕ → Option Task → Option Task → Type 0
 MayReplaceIf slots old new = IfSome old (λ o. IfSome new (λ n. MayReplace slots o n))
 
--- The change of a processor at a time (ns) by an act that switches no accounting, given the task
--- that it changes, the task that is running there afterwards and the time (ns) that interrupts took
--- there.
+-- The change of processor `cpu` at a time (ns) by an act that doesn't switch accounting. `changed`
+-- is the task that the act changes, `running` the task that is running on the processor after the
+-- act, and `irq` the time (ns) that interrupts took there.
 abbrev pub change_for : ℕ → TaskUpdate → Option (ℕ × Task) → ℕ → ℕ → Change
 change_for at changed running irq cpu =
     record { at = at; minus = part cpu changed.old; plus = part cpu changed.new; current = shown running; irq = irq; account = None }
 
--- the change of a processor, if any, with its number, by an act without interrupt time
+-- the change of a processor by an act without interrupt time, together with the processor; `None`
+-- if there is no processor
 abbrev pub touched_change : ℕ → TaskUpdate → List (Option (ℕ × Task)) → Option Cpu → Option (Cpu × Change)
 touched_change at changed running None = None
 touched_change at changed running (Some cpu) = Some (cpu, change_for at changed (slice_index_or running cpu.0 None) 0 cpu.0)

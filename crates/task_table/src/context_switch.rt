@@ -1,5 +1,5 @@
-//! What a legal switch does to tasks: the running one leaves its processor, and the next starts
-//! there.
+//! What a legal context switch does to tasks: the running task leaves its processor, and the next
+//! task starts there.
 ghost use Rattle.std.specs.Prelude.{◌≡◌, ◌≢◌, ℕ, ◌<◌, List, None, IfSome, true, false, length, slice_index_or};
 ghost use Rattle.psi_spec.specs.World.{is_ready, is_running, leave, left_by, running_on, start, task_part};
 ghost use Rattle.psi_counts.specs.Touch.{left_if};
@@ -16,7 +16,7 @@ use crate::task_update::TaskUpdate;
 use psi_base::{How, Pid};
 use psi_spec::{Mode, Task};
 
-/// The task after it left its processor, or `None` if it exited.
+/// Returns the task after it left its processor in the way `how`, or `None` if it exited.
 #[inline(always)]
 fn left(how: How, task: Task) -> Option<Task>
     ensures task { result ≡ left_by how task }
@@ -41,7 +41,7 @@ fn left(how: How, task: Task) -> Option<Task>
     }
 }
 
-/// The running task of a processor leaves it.
+/// Takes the running task off its processor.
 #[inline(always)]
 fn switch_out(
     tasks: &mut TaskMap,
@@ -118,7 +118,7 @@ fn switch_in(
     running[cpu as usize] = Some((pid.0, after));
 }
 
-/// Performs a legal switch. `task` is the next task.
+/// Performs a legal switch. `task` is the next task, if there is one.
 #[inline(always)]
 pub(crate) fn switch(
     tasks: &mut TaskMap,

@@ -1,4 +1,5 @@
-//! What a legal act does to tasks and groups.
+//! What a legal act does to tasks, groups and the counters of a trace. Whether an act is legal is
+//! checked in `causes`.
 ghost use Rattle.std.specs.Prelude.{◌≡◌, ℕ, ◌+◌, ◌<◌, ◌≤◌, ◌++◌, ◌||◌, if◌then◌else◌, List, [], ◌∷◌, Option, None, Some, IfOk, OnOk, OnErr, true, false, length, slice_index_or, slice_set, unwrap_or};
 ghost use Rattle.std.specs.FinMap as tasks_by;
 ghost use Rattle.psi_spec.specs.World.{change, ends, groups_after, irqs_after, is_pressure, is_running, is_trigger, most_tasks, new_group, new_task, put, prepared_changes, slot_of, task_of, tasks_after};
@@ -28,7 +29,7 @@ fn is_end(act: &Act) -> bool
     matches!(act, Act::End)
 }
 
-/// Whether the trace has ended after this act.
+/// Whether the trace has ended after `act`; `before` is whether it had ended before.
 #[inline(always)]
 pub(crate) fn has_ended(before: bool, act: &Act) -> bool
     ensures { result ≡ (before || ends act.now) }
@@ -36,7 +37,7 @@ pub(crate) fn has_ended(before: bool, act: &Act) -> bool
     before || is_end(act)
 }
 
-/// The number of triggers after this act.
+/// Returns the number of triggers after `act`; `before` is the number before it.
 #[inline(always)]
 pub(crate) fn triggers_with(before: u32, act: &Act) -> u32
     requires { before ≤ 256 }
@@ -48,7 +49,7 @@ pub(crate) fn triggers_with(before: u32, act: &Act) -> u32
     }
 }
 
-/// The number of `pressure` lines after this act.
+/// Returns the number of `pressure` lines after `act`; `before` is the number before it.
 #[inline(always)]
 pub(crate) fn pressures_with(before: u32, act: &Act) -> u32
     requires { before ≤ 65536 }
@@ -60,7 +61,7 @@ pub(crate) fn pressures_with(before: u32, act: &Act) -> u32
     }
 }
 
-/// Stores the time (ns) of an `irq` act for its processor; other acts change nothing.
+/// Stores the time `at` (ns) for the processor of an `irq` act. Other acts change nothing.
 #[inline(always)]
 pub(crate) fn note_irq(irqs: &mut [Ns; MOST_CPUS], at: Ns, act: &Act)
     ensures { irqs.new ≡ irqs_after at irqs.old act.now }
@@ -79,7 +80,7 @@ fn set_irq(irqs: &mut [Ns], cpu: Cpu, at: Ns)
     }
 }
 
-/// A new task: ready, and not in a memory stall.
+/// Returns a new task: ready, and not in a memory stall.
 fn forked(slot: Slot, cpu: Cpu) -> Task
     ensures { (groups : List GroupLife) (path : List ℕ) → slot ≡ slot_named groups path →
         result ≡ new_task groups path cpu.0 }
@@ -92,7 +93,8 @@ fn forked(slot: Slot, cpu: Cpu) -> Task
     }
 }
 
-/// The task, if any, on the run queue of a processor. Its memory stall continues.
+/// Returns the task after it is put on the run queue of processor `cpu`, or `None` without a task.
+/// A memory stall of the task continues.
 pub(crate) fn prepared_changes(task: Option<Task>, cpu: Cpu) -> Option<Task>
     ensures { result ≡ changed (prepared_changes cpu.0) task }
 {
@@ -124,7 +126,8 @@ fn moved(task: Option<Task>, slot: Slot) -> Option<Task>
     }
 }
 
-/// The task with the number that an act names, if the act isn't a task act.
+/// Returns the task with the pid that an act names, or `None`. Precondition: the act isn't a task
+/// act.
 #[inline(always)]
 pub(crate) fn named_task(tasks: &TaskMap, act: &Act) -> Option<Task>
     requires { is_task_act act.now ≡ false }
@@ -136,7 +139,7 @@ pub(crate) fn named_task(tasks: &TaskMap, act: &Act) -> Option<Task>
     }
 }
 
-/// Replaces a task with another that has the same number, if there are both.
+/// Replaces the task `old` with the task `new`, which has the same pid, if there are both.
 // Inlined, so that the two tasks aren't passed through memory.
 #[inline(always)]
 pub(crate) fn replace(
@@ -175,7 +178,7 @@ pub(crate) fn replace(
     changed
 }
 
-/// Adds a task. If it is out of memory, nothing changes.
+/// Adds a task. If memory runs out, nothing changes.
 fn add_task(
     tasks: &mut TaskMap,
     members: &mut Members,
@@ -207,7 +210,7 @@ fn add_task(
     }
 }
 
-/// Adds a group. If it is out of memory, no group changes.
+/// Adds a group. If memory runs out, no group changes.
 fn add_group(tree: &mut Tree, members: &mut Members, path: &Path, at: Ns) -> Result<(), NoMemory>
     requires legal { add_cause tree.old path.now ≡ None }
     requires cover { length tree.old ≤ length members.old }
@@ -225,9 +228,9 @@ fn add_group(tree: &mut Tree, members: &mut Members, path: &Path, at: Ns) -> Res
     }
 }
 
-/// Performs the effect on tasks of a legal act that isn't a task act. `named` is the task with the
-/// number that the act names, and `slot` the slot of the group that it names. Only a fork
-/// allocates; if it is out of memory, nothing changes.
+/// Performs the effect of a legal act on tasks. Precondition: the act isn't a task act. `named` is
+/// the task with the pid that the act names, and `slot` is the slot of the group that it names.
+/// Only a fork allocates; if memory runs out, nothing changes.
 #[inline(always)]
 pub(crate) fn change_tasks(
     tasks: &mut TaskMap,
@@ -269,8 +272,8 @@ pub(crate) fn change_tasks(
     }
 }
 
-/// Performs the effect on groups of a legal act at a time (ns). Only a new group allocates; if it
-/// is out of memory, nothing changes.
+/// Performs the effect of a legal act at a time (ns) on groups. Only a new group allocates; if
+/// memory runs out, nothing changes.
 #[inline(always)]
 pub(crate) fn change_groups(
     tree: &mut Tree,

@@ -1,23 +1,24 @@
-//! The result of the look-ups for a legal event.
+//! The result of the lookups for a legal event, so that performing the event needn't look up
+//! anything again.
 ghost use Rattle.std.specs.Prelude.{◌≡◌};
 ghost use Rattle.task_table.specs.Named.{slot_or_root};
 
 use psi_base::Slot;
 use psi_spec::Task;
 
-/// The tasks and the group of a legal event, before the event, so that each is looked up once.
+/// The tasks and the group that a legal event concerns, as they are before the event.
 #[derive(Clone, Copy)]
 pub struct Finding {
-    /// The task with the number that the act names, even if that is the next task to run.
+    /// The task with the pid that the act names, also if it is the next task to run.
     pub named: Option<Task>,
-    /// The task whose counts the act changes.
+    /// The task whose counts the act changes, before the act.
     pub before: Option<Task>,
-    /// The live group with the path that the act names.
+    /// The slot of the live group with the path that the act names.
     pub group: Option<Slot>,
 }
 
 impl Finding {
-    /// The slot of the group that the act names, or the root's if it names none.
+    /// Returns the slot of the group that the act names, or the root's slot if it names none.
     pub fn slot(&self) -> Slot
         ensures { result ≡ slot_or_root self.now.group }
     {

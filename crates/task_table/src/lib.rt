@@ -1,17 +1,18 @@
-//! The table of tasks: which events are legal, what they do, and what they change on each
-//! processor.
+//! The table of tasks: which events are legal, what a legal event does to tasks and groups, and
+//! what it changes on each processor.
 //!
 //! It is the executable form of the world in psi_spec: live tasks with their group, processor, mode
-//! and memory stall, and the tree of groups (group_tree). An event is handled in two calls, so that
-//! running out of memory never hides the cause against an event:
+//! and memory stall, and the tree of groups (group_tree). An *act* is what an event says besides
+//! its time. An event is handled in two calls, so that running out of memory never hides the cause
+//! against an event:
 //!
-//!     judge      the first cause against the event, or a `Finding`: what it names
-//!     perform    the effect of a legal event, and its `Touch`: what changes on which processor
+//!     judge      the first cause against the event, or a `Finding`: the tasks and group it concerns
+//!     perform    the effect of a legal event, and its `Touch`: its change on each processor
 //!
-//! Between the two calls the caller reserves memory for what the event adds. An event looks up
-//! tasks by number and groups by path, and walks no list. Events of tasks alone (`switch`, `wake`,
-//! `stall` ..) are nine tenths of a trace; they are values without memory of their own, `TaskAct`,
-//! and take a path of their own that contracts show to be the same.
+//! Between the two calls the caller reserves memory for the result of the event. An event looks up
+//! tasks by pid and groups by path, and iterates over no list. Events of tasks alone (`switch`,
+//! `wake`, `stall` ..) are nine tenths of a trace; their acts are values without memory of their
+//! own, *task acts* (`TaskAct`), and take a fast path, which contracts show to be equivalent.
 //!
 //! The table doesn't compute times: proc_plan and slot_clocks turn touches into clocks.
 #![tactic(auto)]

@@ -1,12 +1,13 @@
-//! The number of live tasks in each group.
+//! The number of live tasks in each group, which decides whether a group is empty and can be
+//! removed.
 ghost use Rattle.std.specs.Prelude.{◌≡◌, ℕ, ◌+◌, ◌-◌, ◌<◌, ◌≤◌, ◌^◌, List, [], ◌∷◌, length, slice_index_or, slice_set, nat_lt, IfOk, OnOk};
 
 use psi_base::{NoMemory, Slot};
 use std::alloc::Global;
 use std::marker::Model;
 
-/// The numbers of live tasks by the slots of their groups. Contracts see them as a list; slots
-/// after its end have no task.
+/// The number of live tasks in each group, by slot. Contracts see a list of numbers; a slot after
+/// its end has no task.
 #[derive(Drop)]
 pub(crate) struct Members {
     counts: Vec<u32>,
@@ -24,7 +25,7 @@ impl Model for Members {
 }
 
 impl Members {
-    /// One group without a task.
+    /// Returns the numbers for one group without a task.
     pub(crate) fn new(alloc: Global) -> Result<Members, NoMemory>
         ensures { IfOk result (λ members. members ≡ 0 ∷ []) }
     {
@@ -32,7 +33,7 @@ impl Members {
         Ok(Members { counts })
     }
 
-    /// Makes room for `groups` groups. New groups have no task.
+    /// Makes room for `groups` groups. New groups have no task. `NoMemory` if memory runs out.
     pub(crate) fn cover(&mut self, groups: usize) -> Result<(), NoMemory>
         requires { groups ≤ length self.old + 1 }
         ensures same { (slot : ℕ) →
@@ -46,14 +47,14 @@ impl Members {
         Ok(())
     }
 
-    /// Whether a live task is in the group.
+    /// Whether a live task is in the group itself.
     pub(crate) fn has(&self, slot: Slot) -> bool
         ensures { result ≡ nat_lt 0 (slice_index_or self.now slot.0 0) }
     {
         self.counts.get(slot.0 as usize).copied().unwrap_or(0) > 0
     }
 
-    /// Adds a task to the group.
+    /// Counts one more task in the group.
     pub(crate) fn join(&mut self, slot: Slot)
         requires room { slot.0 < length self.old }
         requires fits { slice_index_or self.old slot.0 0 + 1 < 2 ^ 32 }
@@ -62,7 +63,7 @@ impl Members {
         self.counts[slot.0 as usize] += 1;
     }
 
-    /// Removes a task from the group.
+    /// Counts one task fewer in the group.
     pub(crate) fn leave(&mut self, slot: Slot)
         requires room { slot.0 < length self.old }
         requires some { 0 < slice_index_or self.old slot.0 0 }

@@ -1,4 +1,5 @@
-//! A table as a player of traces, which is enough to check a trace.
+//! A table as a player of traces: it plays events in order, which is enough to check a trace. No
+//! plans are made.
 
 use crate::table::Table;
 use psi_base::{Cause, Event, Fault, NoMemory, Ns};

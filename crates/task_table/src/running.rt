@@ -1,20 +1,20 @@
-//! The running task of each processor.
+//! The running task of each processor, stored so that it needn't be searched for.
 ghost use Rattle.std.specs.Prelude.{◌≡◌, None, Some, if◌then◌else◌, slice_index_or, slice_set, length, ◌<◌, true};
 ghost use Rattle.psi_spec.specs.World.{is_running};
 
 use psi_spec::{Mode, Task};
 
-/// The running task of a processor with its number, or `None` if the processor idles.
+/// The running task of a processor with its pid, or `None` if the processor idles.
 pub(crate) type Running = Option<(u32, Task)>;
 
-/// The running task of a processor.
+/// Returns the running task of processor `cpu`, or `None` if it idles or doesn't exist.
 pub(crate) fn running_at(running: &[Running], cpu: u32) -> Running
     ensures { result ≡ slice_index_or running.now cpu None }
 {
     running.get(cpu as usize).copied().unwrap_or(None)
 }
 
-/// Stores the task as the running one of its processor, if it is running.
+/// Stores `task` as the running task of its processor, if the task is running.
 pub(crate) fn set_running(running: &mut [Running], pid: u32, task: Task)
     requires { is_running task.mode ≡ true → task.cpu.0 < length running.old }
     ensures { running.new

@@ -1,4 +1,4 @@
-//! The table of tasks.
+//! The table of tasks: the world after the events played, and how it judges and performs events.
 ghost use Rattle.std.specs.Prelude.{◌≡◌, ◌<◌, ◌≤◌, IfNone, IfOk, None, false, length, nat_le};
 ghost use Rattle.std.specs.FinMap as tasks_by;
 ghost use Rattle.psi_spec.specs.World.{first_world, most_events, most_tasks, running_on, task_of, task_part};
@@ -31,10 +31,10 @@ use std::alloc::Global;
 use std::marker::Model;
 use trace_player::TaskAct;
 
-/// The world so far, and the limits of its trace.
+/// The world after the events played, and the limits of the trace.
 #[derive(Drop)]
 pub struct Table {
-    /// The latest time of an event (ns).
+    /// The latest time (ns) that an event may have.
     latest: Ns,
     tasks: TaskMap,
     /// The running task of each processor.
@@ -45,13 +45,13 @@ pub struct Table {
     tree: Tree,
     /// The time (ns) of each processor's last `irq` line, or 0.
     irqs: [Ns; MOST_CPUS],
-    /// The number of triggers so far.
+    /// The number of triggers set.
     triggers: u32,
-    /// The number of `pressure` lines so far.
+    /// The number of `pressure` lines played.
     pressures: u32,
-    /// The number of events so far.
+    /// The number of events played.
     lines: u32,
-    /// The time of the last event (ns).
+    /// The time (ns) of the last event.
     last: Ns,
     ended: bool,
 }
@@ -72,8 +72,8 @@ impl Model for Table {
 }
 
 impl Table {
-    /// The world before the first event, with 1 to 64 processors. No event may be later than
-    /// `latest` (ns).
+    /// Creates the world before the first event, with `cpus` processors (1 to 64). `latest` is the
+    /// latest time (ns) that an event may have.
     pub fn new(alloc: Global, cpus: u32, latest: Ns) -> Result<Table, NoMemory>
         requires some { 1 ≤ cpus }
         requires few { cpus ≤ 64 }
@@ -99,7 +99,7 @@ impl Table {
         })
     }
 
-    /// The number of processors, at most 64.
+    /// Returns the number of processors, at most 64.
     pub fn cpus(&self) -> u32
         ensures cpus { result ≡ self.now.limits.cpus }
         ensures few { result ≤ 64 }
@@ -107,7 +107,7 @@ impl Table {
         self.running.len() as u32
     }
 
-    /// The number of events so far, at most 4,000,000.
+    /// Returns the number of events played, at most 4,000,000.
     pub fn lines(&self) -> u32
         ensures lines { result ≡ self.now.world.lines }
         ensures few { result ≤ most_events }
@@ -115,7 +115,7 @@ impl Table {
         self.lines
     }
 
-    /// The time of the last event (ns), 0 before the first.
+    /// Returns the time (ns) of the last event, 0 before the first.
     pub fn last(&self) -> Ns
         ensures { result ≡ self.now.world.last }
     {
@@ -136,28 +136,28 @@ impl Table {
         is_full(self.tasks.len())
     }
 
-    /// All groups ever created.
+    /// Returns all groups ever created.
     pub fn groups(&self) -> &Tree
         ensures { result.now ≡ self.now.world.groups }
     {
         &self.tree
     }
 
-    /// All groups ever created; drops the rest of the table.
+    /// Returns all groups ever created, and drops the rest of the table.
     pub fn into_groups(self) -> Tree
         ensures { result ≡ self.world.groups }
     {
         self.tree
     }
 
-    /// The live task with a number, or `None`.
+    /// Returns the live task with this pid, or `None`.
     pub fn task(&self, pid: Pid) -> Option<Task>
         ensures { result ≡ task_of self.now.world.tasks pid.0 }
     {
         self.tasks.get(pid.0)
     }
 
-    /// The running task of a processor, or `None` if the processor idles.
+    /// Returns the running task of a processor, or `None` if the processor idles.
     #[tactic(auto, using(crate::proofs::Index::running_known))]
     pub fn running(&self, cpu: Cpu) -> Option<Task>
         ensures { result ≡ task_part (running_on self.now.world.tasks cpu.0) }
@@ -168,8 +168,8 @@ impl Table {
         }
     }
 
-    /// The running task as a change of its processor contains it: its group, and whether it is in a
-    /// memory stall.
+    /// Returns the running task in the form that a change of its processor has it: the slot of its
+    /// group, and whether it is in a memory stall. `None` if the processor idles.
     #[tactic(auto, using(crate::proofs::Index::running_known))]
     pub fn current(&self, cpu: Cpu) -> Option<(Slot, bool)>
         ensures { result ≡ shown (running_on self.now.world.tasks cpu.0) }
@@ -177,7 +177,7 @@ impl Table {
         current_on(&self.running, cpu)
     }
 
-    /// The first cause that any line can have at this time (ns).
+    /// Returns the first cause at the time `at` (ns) that doesn't depend on the act, or `None`.
     #[tactic(auto, using(std::proofs::lemmas::Bool::Decides::nat_tests))]
     #[inline(always)]
     fn line_refused(&self, at: Ns) -> Option<Cause>
@@ -201,8 +201,9 @@ impl Table {
         None
     }
 
-    /// The first cause against an event whose act names this task and this group. The act isn't a
-    /// task act.
+    /// Returns the first cause against an event, or `None` if it is legal. Precondition: the act
+    /// isn't a task act. `named` is the task with the pid that the act names, and `group` the live
+    /// group with the path that it names.
     #[inline(always)]
     fn refused(&self, event: &Event, named: Option<Task>, group: Option<Slot>) -> Option<Cause>
         requires other { is_task_act event.now.act ≡ false }
@@ -230,8 +231,8 @@ impl Table {
         )
     }
 
-    /// The task whose counts an act changes, before the act, which isn't a task act. `named` is the
-    /// task with the number that the act names.
+    /// Returns the task whose counts `act` changes, in its state before `act`, or `None`.
+    /// Precondition: `act` isn't a task act. `named` is the task with the pid that `act` names.
     #[inline(always)]
     fn before(&self, act: &Act, named: Option<Task>) -> Option<Task>
         requires other { is_task_act act.now ≡ false }
@@ -244,8 +245,8 @@ impl Table {
         }
     }
 
-    /// Judges an event: returns its tasks and its group if it is legal, and otherwise the first
-    /// cause against it.
+    /// Judges an event: returns the tasks and the group that it concerns if it is legal, otherwise
+    /// the first cause against it.
     #[inline(always)]
     pub fn judge(&self, event: &Event) -> Result<Finding, Cause>
         ensures { Judges self.now event.now result }
@@ -265,8 +266,8 @@ impl Table {
         })
     }
 
-    /// The first cause against the event, or `None` if it is legal. The programs of this repository
-    /// don't call it.
+    /// Returns the first cause against the event, or `None` if it is legal. The programs of this
+    /// repository don't call it.
     pub fn check(&self, event: &Event) -> Option<Cause>
         ensures cause { result ≡ cause_of self.now.limits self.now.world event.now }
         ensures room { IfNone result (self.now.world.lines < most_events) }
@@ -276,8 +277,9 @@ impl Table {
         self.judge(event).err()
     }
 
-    /// Advances the world by the event. Fails with `Refused` and the first cause, or with
-    /// `NoMemory` for a legal fork or a legal new group; nothing changes then.
+    /// Advances the world by the event. Fails with `Refused` and the first cause if the event isn't
+    /// legal, or with `NoMemory` for a legal fork or a legal new group. Nothing changes if it
+    /// fails.
     #[inline(always)]
     pub fn play(&mut self, event: &Event) -> Result<(), Fault<Cause>>
         ensures { PlaysEvent self.old event.now self.new result }
@@ -288,8 +290,8 @@ impl Table {
         }
     }
 
-    /// The rest of [`Table::play`], for an act that isn't a task act. It isn't inlined, so that the
-    /// fast path is small enough to be inlined.
+    /// The slow path of [`Table::play`]. Precondition: the act isn't a task act. The function isn't
+    /// inlined, so that the fast path is small enough to be inlined.
     #[inline(never)]
     fn play_other(&mut self, event: &Event) -> Result<(), Fault<Cause>>
         requires { is_task_act event.now.act ≡ false }
@@ -300,8 +302,8 @@ impl Table {
         Ok(())
     }
 
-    /// Advances the world like [`Table::play`], and returns the event's changes of the processors
-    /// that it touches. The programs of this repository don't call it.
+    /// Advances the world like [`Table::play`], and returns the changes that the event makes on
+    /// processors. The programs of this repository don't call it.
     pub fn step(&mut self, event: &Event) -> Result<Touch, Fault<Cause>>
         ensures plays { PlaysEvent self.old event.now self.new result }
         ensures touch { IfOk result (λ touch.
@@ -318,8 +320,9 @@ impl Table {
         Ok(self.perform(event, finding)?)
     }
 
-    /// Performs a legal event with this finding, and returns its changes of the processors that it
-    /// touches. Only a fork and a new group allocate; if it is out of memory, nothing changes.
+    /// Performs a legal event, and returns the changes that it makes on processors. `finding` is
+    /// what [`Table::judge`] returns for the event. Only a fork and a new group allocate; if memory
+    /// runs out, nothing changes.
     #[inline(always)]
     pub fn perform(&mut self, event: &Event, finding: Finding) -> Result<Touch, NoMemory>
         requires { IsFinding self.old event.now finding }
@@ -345,8 +348,8 @@ impl Table {
         Ok(touch_of(event.at, &event.act, changed, &self.running))
     }
 
-    /// Advances the world by a legal event whose act isn't a task act, and returns the task that it
-    /// changes. If it is out of memory, nothing changes.
+    /// Advances the world by a legal event, and returns the task that it changes. Precondition: the
+    /// act isn't a task act. If memory runs out, nothing changes.
     #[inline(always)]
     fn advance(&mut self, event: &Event, finding: Finding) -> Result<TaskUpdate, NoMemory>
         requires other { is_task_act event.now.act ≡ false }

@@ -1,4 +1,4 @@
-//! A map from numbers to tasks.
+//! A map from pids to tasks, which is fast for small pids.
 ghost use Rattle.std.specs.Prelude.{◌≡◌, ◌≤◌, IfOk, OnOk, OnErr, IsSome, None, length, replicate};
 ghost use Rattle.psi_spec.specs.World.{no_tasks, task_of, put, remove, most_tasks};
 ghost use Rattle.std.specs.FinMap as tasks_by;
@@ -10,18 +10,18 @@ use std::alloc::Global;
 use std::collections::HashMap;
 use std::marker::Model;
 
-/// The number of places in the list of tasks: the maximum number of live tasks.
+/// The length of the list of tasks with small pids: the maximum number of live tasks.
 const PLACES: usize = 65_536;
 
-/// The live tasks by number. A list finds tasks with small numbers with one load, while a map needs
-/// three or four.
+/// The live tasks by pid. A list finds a task with a small pid with one load, while a hash map
+/// needs three or four.
 #[derive(Drop)]
 pub(crate) struct TaskMap {
-    /// The tasks with numbers below `PLACES`, by number.
+    /// The tasks with pids below `PLACES`, indexed by pid.
     listed: Vec<Option<Task>>,
-    /// The tasks with the other numbers.
+    /// The tasks with greater pids.
     others: HashMap<u32, Task>,
-    /// The number of tasks in both.
+    /// The number of tasks in `listed` and `others` together.
     count: usize,
 }
 
@@ -44,7 +44,7 @@ impl Model for TaskMap {
 }
 
 impl TaskMap {
-    /// No task.
+    /// Returns a map without tasks.
     pub(crate) fn new(alloc: Global) -> Result<TaskMap, NoMemory>
         ensures { IfOk result (λ tasks. tasks ≡ no_tasks) }
     {
@@ -55,14 +55,14 @@ impl TaskMap {
         })
     }
 
-    /// The number of tasks.
+    /// Returns the number of tasks.
     pub(crate) fn len(&self) -> usize
         ensures { result ≡ tasks_by.len self.now }
     {
         self.count
     }
 
-    /// The task with this number, or `None`.
+    /// Returns the task with this pid, or `None`.
     #[inline(always)]
     pub(crate) fn get(&self, pid: u32) -> Option<Task>
         ensures { result ≡ task_of self.now pid }
@@ -73,7 +73,7 @@ impl TaskMap {
         }
     }
 
-    /// Adds a task under a number. If it is out of memory, nothing changes.
+    /// Adds a task under a pid. If memory runs out, nothing changes.
     pub(crate) fn add(&mut self, pid: u32, task: Task) -> Result<(), NoMemory>
         requires few { tasks_by.len self.old ≤ most_tasks }
         ensures ok { OnOk result (self.new ≡ put self.old pid task) }
@@ -86,7 +86,7 @@ impl TaskMap {
         Ok(())
     }
 
-    /// Replaces the task with this number. Does not allocate.
+    /// Replaces the task with this pid. Precondition: there is one. Does not allocate.
     #[inline(always)]
     pub(crate) fn set(&mut self, pid: u32, task: Task)
         requires { IsSome (task_of self.old pid) }
@@ -103,7 +103,7 @@ impl TaskMap {
         *other = task;
     }
 
-    /// Removes the task with this number, if any.
+    /// Removes the task with this pid, if there is one.
     pub(crate) fn remove(&mut self, pid: u32)
         ensures { self.new ≡ remove self.old pid }
     {
@@ -114,15 +114,15 @@ impl TaskMap {
     }
 }
 
-/// `count` places without a task.
+/// Returns a list of `count` entries without a task.
 fn empty_places(alloc: Global, count: usize) -> Result<Vec<Option<Task>>, NoMemory>
     ensures { IfOk result (λ places. places.items ≡ replicate count None) }
 {
     Ok(vec![in alloc; None; count]?)
 }
 
-/// Puts a task under a number, and returns the previous one. If it is out of memory, nothing
-/// changes.
+/// Stores a task under a pid, and returns the previous task with this pid. If memory runs out,
+/// nothing changes.
 fn put(
     listed: &mut [Option<Task>],
     others: &mut HashMap<u32, Task>,
@@ -147,7 +147,7 @@ fn put(
     Ok(others.insert(pid, task)?)
 }
 
-/// Removes and returns the task with this number, if any.
+/// Removes and returns the task with this pid; `None` if there is none.
 fn take(listed: &mut [Option<Task>], others: &mut HashMap<u32, Task>, pid: u32) -> Option<Task>
     ensures old { result ≡ task_of (listed_tasks listed.old others.old.entries) pid }
     ensures tasks { listed_tasks listed.new others.new.entries

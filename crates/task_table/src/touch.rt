@@ -1,5 +1,5 @@
-//! The changes of the processors that an act touches, derived from the task that it changes and the
-//! running tasks, without a walk over all tasks.
+//! The changes that an act makes on the processors that it touches, computed from the task that the
+//! act changes and the running tasks, without iterating over all tasks.
 ghost use Rattle.std.specs.Prelude.{◌≡◌, ℕ, if◌then◌else◌, Some, None, List, [], ◌∷◌, false, slice_index_or};
 ghost use Rattle.psi_counts.specs.Counts.{counts_among};
 ghost use Rattle.psi_counts.specs.Touch.{account_of, part, shown, change_by_cpu, IsBeside};
@@ -17,18 +17,18 @@ use psi_base::{Act, Cpu, Ns, Slot};
 use psi_counts::{Change, Counts, Touch};
 use psi_spec::{Mode, Task};
 
-/// No processor is touched.
+/// The touch of an act that changes nothing on any processor.
 const NOWHERE: Touch = Touch {
     first: None,
     second: None,
     account: None,
 };
 
-/// The counts of a single task.
+/// Returns the counts of a single task.
 fn counts_of(task: Task) -> Counts
     ensures { result ≡ counts_among (task ∷ []) }
 {
-    // Without branches: the order of modes is hard for a processor to predict.
+    // There are no branches, because the order of modes is hard for a processor to predict.
     let active = (task.mode == Mode::Ready) | (task.mode == Mode::Running);
     Counts {
         io: u32::from(task.mode == Mode::Waiting),
@@ -38,7 +38,7 @@ fn counts_of(task: Task) -> Counts
     }
 }
 
-/// A task's slot and counts, if it is on this processor.
+/// Returns a task's slot and counts if the task is on processor `cpu`, otherwise `None`.
 fn part_on(cpu: Cpu, task: Option<Task>) -> Option<(Slot, Counts)>
     ensures { result ≡ part cpu.0 task }
 {
@@ -48,7 +48,8 @@ fn part_on(cpu: Cpu, task: Option<Task>) -> Option<(Slot, Counts)>
     }
 }
 
-/// The slot of a processor's running task, and whether it is in a memory stall.
+/// Returns the slot of a processor's running task, and whether the task is in a memory stall;
+/// `None` if the processor idles.
 pub(crate) fn current_on(running: &[Running], cpu: Cpu) -> Option<(Slot, bool)>
     ensures { result ≡ shown (slice_index_or running.now cpu.0 None) }
 {
@@ -58,8 +59,8 @@ pub(crate) fn current_on(running: &[Running], cpu: Cpu) -> Option<(Slot, bool)>
     }
 }
 
-/// The change of a processor at a time (ns), given the task that an act changes and the tasks that
-/// are running after it. No interrupts took time.
+/// Returns the change of processor `cpu` at a time (ns), without interrupt time. `changed` is the
+/// task that an act changes, and `running` has the running tasks after the act.
 #[inline(always)]
 fn change_of(at: Ns, changed: TaskUpdate, running: &[Running], cpu: Cpu) -> Change
     ensures { result ≡ change_for at changed (slice_index_or running.now cpu.0 None) 0 cpu.0 }
@@ -74,8 +75,8 @@ fn change_of(at: Ns, changed: TaskUpdate, running: &[Running], cpu: Cpu) -> Chan
     }
 }
 
-/// The group whose accounting an act switches, and whether it is on afterwards. `slot` is the slot
-/// of the group that the act names.
+/// Returns the slot of the group whose accounting an act switches, and whether it is on afterwards;
+/// `None` if the act switches none. `slot` is the slot of the group that the act names.
 #[inline(always)]
 pub(crate) fn account_of(act: &Act, slot: Slot) -> Option<(Slot, bool)>
     ensures { (groups : List GroupLife) → slot ≡ slot_or_root (named_group groups act.now) →
@@ -87,7 +88,7 @@ pub(crate) fn account_of(act: &Act, slot: Slot) -> Option<(Slot, bool)>
     }
 }
 
-/// The touch of an act that switches accounting, which affects every processor.
+/// Returns the touch of an act that switches accounting, which affects every processor.
 pub(crate) fn account_touch(account: (Slot, bool)) -> Touch
     ensures first { result.first ≡ None }
     ensures second { result.second ≡ None }
@@ -99,8 +100,9 @@ pub(crate) fn account_touch(account: (Slot, bool)) -> Touch
     }
 }
 
-/// The changes at a time (ns) of the processors that an act touches, given the task that it changes
-/// and the tasks that are running after it. The act switches no accounting, and isn't a task act.
+/// Returns the changes that an act at a time (ns) makes on processors. Precondition: the act
+/// neither switches accounting nor is a task act. `changed` is the task that the act changes, and
+/// `running` has the running tasks after the act.
 #[inline(always)]
 pub(crate) fn touch_of(at: Ns, act: &Act, changed: TaskUpdate, running: &[Running]) -> Touch
     requires other { is_task_act act.now ≡ false }
@@ -139,7 +141,7 @@ pub(crate) fn touch_of(at: Ns, act: &Act, changed: TaskUpdate, running: &[Runnin
     }
 }
 
-/// The processor of a task, if any, unless it is `other`.
+/// Returns the processor of a task, or `None` if there is no task or its processor is `other`.
 #[inline(always)]
 pub(crate) fn cpu_unless(other: Cpu, task: Option<Task>) -> Option<Cpu>
     ensures { result ≡ unless_on other task }
@@ -151,7 +153,7 @@ pub(crate) fn cpu_unless(other: Cpu, task: Option<Task>) -> Option<Cpu>
     }
 }
 
-/// The processor of a task, if any.
+/// Returns the processor of a task, or `None` if there is no task.
 #[inline(always)]
 pub(crate) fn cpu_of(task: Option<Task>) -> Option<Cpu>
     ensures { result ≡ cpu_in task }
@@ -162,7 +164,8 @@ pub(crate) fn cpu_of(task: Option<Task>) -> Option<Cpu>
     }
 }
 
-/// The change of a processor, if any, with its number.
+/// Returns the change of a processor together with the processor, or `None` if there is no
+/// processor.
 #[inline(always)]
 pub(crate) fn touched_change(
     at: Ns,

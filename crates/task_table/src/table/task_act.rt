@@ -1,8 +1,8 @@
 //! The fast path of a table: task acts, passed by value.
 //!
-//! Each function is the twin of the function for events with the same name without `_task`. Its act
-//! is in registers, and it neither allocates nor changes groups; that saves a third of a line's
-//! time. The functions for events delegate task acts to these.
+//! Each function corresponds to the function for events with the same name without `_task`. Its act
+//! is passed in registers, and it neither allocates nor changes groups; that saves a third of a
+//! line's time. The functions for events call these functions for task acts.
 ghost use Rattle.std.specs.Prelude.{◌≡◌, ℕ, ◌<◌, ◌≤◌, if◌then◌else◌, IfNone, List, None, Some, length, slice_index_or};
 ghost use Rattle.std.specs.FinMap as tasks_by;
 ghost use Rattle.psi_counts.specs.Touch.{AllTouched, HasSlotsBelow, IsBeside, IsOfOne, IsTouch, change_by_cpu};
@@ -34,7 +34,7 @@ use psi_counts::Touch;
 use psi_spec::Task;
 use trace_player::TaskAct;
 
-/// The task with the number that an act names.
+/// Returns the task with the pid that a task act names, or `None`.
 #[tactic(auto, using(crate::proofs::TaskActLaws::named_by_pid))]
 #[inline(always)]
 fn named_task(tasks: &TaskMap, act: TaskAct) -> Option<Task>
@@ -46,7 +46,8 @@ fn named_task(tasks: &TaskMap, act: TaskAct) -> Option<Task>
     }
 }
 
-/// Why an act isn't legal. `named` is the task with the number that it names.
+/// Returns the cause why a task act isn't legal, or `None` if it is. `named` is the task with the
+/// pid that the act names.
 #[inline(always)]
 fn act_refused(running: &[Running], act: TaskAct, named: Option<Task>) -> Option<Cause>
     ensures { (groups : List GroupLife) (tasks : Tasks) (irqs : List ℕ)
@@ -66,7 +67,8 @@ fn act_refused(running: &[Running], act: TaskAct, named: Option<Task>) -> Option
     }
 }
 
-/// Performs the effect of a legal act on tasks. `named` is the task with the number that it names.
+/// Performs the effect of a legal task act on tasks. `named` is the task with the pid that the act
+/// names.
 #[inline(always)]
 fn change_tasks(
     tasks: &mut TaskMap,
@@ -92,7 +94,7 @@ fn change_tasks(
     ensures cover { length members.new ≡ length members.old }
     ensures length { length running.new ≡ length running.old }
 {
-    // All acts that keep their task share one replacement, so that its code is inlined once.
+    // All acts but a switch share one replacement of their task, so that its code is inlined once.
     let (pid, new) = match act {
         TaskAct::Switch { cpu, next, how } => {
             return switch(tasks, running, members, cpu.0, next, named, how);
@@ -107,7 +109,8 @@ fn change_tasks(
     replace(tasks, running, members, pid.0, named, new)
 }
 
-/// The processors that an act touches, given the task that it changes, before the act.
+/// Returns the processors that a task act touches. `old` is the task that the act changes, before
+/// the act.
 #[inline(always)]
 fn cpus_touched(act: TaskAct, old: Option<Task>) -> (Option<Cpu>, Option<Cpu>)
     ensures { result ≡ cpus_touched act old }
@@ -121,8 +124,8 @@ fn cpus_touched(act: TaskAct, old: Option<Task>) -> (Option<Cpu>, Option<Cpu>)
     }
 }
 
-/// The changes at a time (ns) of the processors that an act touches, given the task that it changes
-/// and the tasks that are running after it.
+/// Returns the changes that a task act at a time (ns) makes on processors. `changed` is the task
+/// that the act changes, and `running` has the running tasks after the act.
 #[inline(always)]
 fn touch_of(at: Ns, act: TaskAct, changed: TaskUpdate, running: &[Running]) -> Touch
     ensures known { (cpu : ℕ) →
@@ -142,7 +145,8 @@ fn touch_of(at: Ns, act: TaskAct, changed: TaskUpdate, running: &[Running]) -> T
 }
 
 impl Table {
-    /// The first cause against an act that names this task, at a time (ns).
+    /// Returns the first cause against a task act at a time (ns), or `None` if it is legal. `named`
+    /// is the task with the pid that the act names.
     #[inline(always)]
     fn refused_task(&self, at: Ns, act: TaskAct, named: Option<Task>) -> Option<Cause>
         requires { named ≡ named_task self.now.world.tasks (as_act act) }
@@ -157,8 +161,8 @@ impl Table {
         act_refused(&self.running, act, named)
     }
 
-    /// The task whose counts an act changes, before the act. `named` is the task with the number
-    /// that the act names.
+    /// Returns the task whose counts a task act changes, in its state before the act, or `None`.
+    /// `named` is the task with the pid that the act names.
     #[inline(always)]
     fn before_task(&self, act: TaskAct, named: Option<Task>) -> Option<Task>
         requires { named ≡ named_task self.now.world.tasks (as_act act) }
@@ -170,7 +174,7 @@ impl Table {
         }
     }
 
-    /// Judges a task act at a time (ns), like [`Table::judge`] its event.
+    /// Judges a task act at a time (ns), as [`Table::judge`] judges an event with this act.
     #[inline(always)]
     pub fn judge_task(&self, at: Ns, act: TaskAct) -> Result<Finding, Cause>
         ensures { Judges self.now (as_event at act) result }
@@ -186,7 +190,8 @@ impl Table {
         })
     }
 
-    /// Advances the world by a task act at a time (ns), like [`Table::play`] by its event.
+    /// Advances the world by a task act at a time (ns), as [`Table::play`] does by an event with
+    /// this act.
     #[inline(always)]
     pub fn play_task(&mut self, at: Ns, act: TaskAct) -> Result<(), Fault<Cause>>
         ensures { PlaysEvent self.old (as_event at act) self.new result }
@@ -196,8 +201,8 @@ impl Table {
         Ok(())
     }
 
-    /// Performs a legal task act at a time (ns), like [`Table::perform`] its event. Does not
-    /// allocate.
+    /// Performs a legal task act at a time (ns), as [`Table::perform`] performs an event with this
+    /// act. Does not allocate.
     #[inline(always)]
     pub fn perform_task(&mut self, at: Ns, act: TaskAct, finding: Finding) -> Touch
         requires { IsFinding self.old (as_event at act) finding }
@@ -214,7 +219,8 @@ impl Table {
         touch_of(at, act, changed, &self.running)
     }
 
-    /// Advances the world by a legal task act at a time (ns), and returns the task that it changes.
+    /// Advances the world by a legal task act at a time (ns), and returns the task that the act
+    /// changes.
     #[inline(always)]
     pub(super) fn advance_task(&mut self, at: Ns, act: TaskAct, finding: Finding) -> TaskUpdate
         requires { IsFinding self.old (as_event at act) finding }
