@@ -1,18 +1,17 @@
--- Clocks that advance by a plan.
+-- Clocks of one processor that advance by its plan, and the interrupt time of its groups.
 use Rattle.std.specs.Prelude.{◌≡◌, ℕ, ◌+◌, ◌≤◌, ◌<◌, List, length, slice_index_or, ◌&&◌, Bool, if◌then◌else◌, Option}
 use Rattle.psi_base.specs.declared.event.Slot.{Slot}
 use Rattle.psi_counts.specs.Touch.{is_current_in}
 use Rattle.plan_laws.specs.Plan.{IsClock, IsPlan, PlanView, counts_after, current_after, last_change, on_after, planned_irq}
 use Rattle.slot_clocks.specs.Clocks.{ClocksView, cell_at}
 
--- clocks on a plan: the plan, and the number of its changes that were made
+-- clocks on a plan: the plan, and the number of its changes that the clocks have made
 pub record OnPlan : Type 0 where
   pub plan : PlanView
   pub made : ℕ
 
--- The clocks of a processor are those of its plan after the first k changes. They have the running
--- task and the time of the k-th change, and each slot's counts, clock and accounting after k
--- changes.
+-- `clocks` is right after the first k changes of a plan: it has the running task and the time of
+-- the k-th change, and the counts, clock and accounting of each slot after k changes.
 pub record AreClocks (plan : PlanView) (clocks : ClocksView) (k : ℕ) : Type 0 where
   pub whole : IsPlan plan
   pub within : k ≤ length plan.changes
@@ -23,22 +22,22 @@ pub record AreClocks (plan : PlanView) (clocks : ClocksView) (k : ℕ) : Type 0 
   pub ons : (slot : ℕ) → (cell_at clocks slot).on ≡ on_after plan slot k
   pub each : (slot : ℕ) → IsClock (cell_at clocks slot).clock plan slot k
 
--- the time (ns) that interrupts took from the group in a slot
+-- the time (ns) that interrupts took from the group in `slot`
 abbrev pub irq_at : List ℕ → ℕ → ℕ
 irq_at times slot = slice_index_or times slot 0
 
--- The times that interrupts took from the groups of a processor are those of its plan after the
--- first k changes: one for each slot of the plan.
+-- `times` has, for each slot of a plan, the time (ns) that interrupts took from the slot's group in
+-- the first k changes.
 pub record AreIrqs (plan : PlanView) (times : List ℕ) (k : ℕ) : Type 0 where
   pub room : length times ≡ length plan.parents
   pub each : (slot : ℕ) → slot < length plan.parents → irq_at times slot ≡ planned_irq plan slot k
 
--- the time that interrupts take from the group in a slot: `irq` (ns) if its accounting is on and
--- the running task is in the group or below it, and otherwise 0
+-- the time (ns) that interrupts take from the group in `slot`: `irq` if the group's accounting is
+-- on and the running task is in the group or below it, otherwise 0
 abbrev pub irq_taken : List (Option ℕ) → ClocksView → Option (Slot × Bool) → ℕ → ℕ → ℕ
 irq_taken parents clocks current irq slot = if (cell_at clocks slot).on && is_current_in parents slot current then irq else 0
 
--- the times of all groups grow by the time that interrupts took from them
+-- The time of each group grows by the time that interrupts took from the group.
 abbrev pub AllGrow : List (Option ℕ) → ClocksView → Option (Slot × Bool) → ℕ → List ℕ → List ℕ → Type 0
 AllGrow parents clocks current irq old new = (slot : ℕ) → slot < length old →
     irq_at new slot ≡ irq_at old slot + irq_taken parents clocks current irq slot

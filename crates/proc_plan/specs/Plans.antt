@@ -1,4 +1,4 @@
--- The plans of all processors, and the events that they represent.
+-- The plans of all processors, and how they represent the events of a trace.
 use Rattle.std.specs.Prelude.{◌≡◌, ◌≢◌, ◌⊎◌, ℕ, ◌+◌, ◌<◌, ◌≤◌, List, [], ◌∷◌, ◌++◌, length, map, slice_get, slice_index_or, Option, None, Some, Result, Ok, Err, ⊤, true, false, refl}
 use Rattle.std.specs.Option.{option_or}
 use Rattle.std.specs.List.{All}
@@ -36,41 +36,41 @@ use Rattle.proc_plan.specs.Sides.{IsSmall, sides_of}
 
 -- ---- plans
 
--- a plan with changes and parents
+-- the plan with these changes and parents
 abbrev pub plan_view : List Change → List (Option Slot) → PlanView
 plan_view changes parents = record { changes = changes; parents = parent_numbers parents }
 
--- the plan with these changes and the parents of groups
+-- the plan with these changes and the parents of `groups`
 abbrev pub plan_over : List GroupLife → List Change → PlanView
 plan_over groups changes = record { changes = changes; parents = parents_of groups }
 
--- the plan of each processor, with its listed changes and the parents of groups
+-- the plan of each processor, with the processor's changes and the parents of `groups`
 abbrev pub plans_over : List GroupLife → List ChangesView → List PlanView
 plans_over groups changes = map (λ (changes : ChangesView). plan_over groups changes.list) changes
 
 -- ---- slots that a change doesn't affect
 
--- These are the slots whose chains the change after the first k affects: the slot of the counts
--- that it subtracts, or the slot whose accounting it switches; the slot of the counts that it adds;
--- and the slots of the tasks that are running before and after it.
+-- The slots `starts` are those whose chains change k + 1 affects: the slot of the counts that it
+-- subtracts, or the slot whose accounting it switches; the slot of the counts that it adds; and the
+-- slots of the tasks that run before and after it.
 abbrev pub AreConcerned : PlanView → ℕ → List (Option Slot) → Type 0
 AreConcerned plan k starts = (change : Change) → slice_get plan.changes k ≡ Some change →
     starts ≡ option_or (slot_in change.account) (slot_in change.minus) ∷ slot_in change.plus ∷ slot_in (current_after plan k)
     ∷ slot_in change.current ∷ []
 
--- a slot is on no chain of the list
+-- No chain of the slots in the list contains `slot`.
 abbrev pub IsOnNone : List (Option ℕ) → List (Option Slot) → ℕ → Type 0
 IsOnNone parents starts slot = All (λ start. leads_to parents (number_of_slot start) slot ≡ false) starts
 
--- the change after the first k affects only slots on chains of the list
+-- Change k + 1 affects only slots on the chains of the slots in the list.
 abbrev pub OthersAreAside : PlanView → ℕ → List (Option Slot) → Type 0
 OthersAreAside plan k starts = (slot : ℕ) (change : Change) → slice_get plan.changes k ≡ Some change →
     IsOnNone plan.parents starts slot → IsAside plan slot k change
 
 -- ---- all plans
 
--- The plans of a trace: one for each processor, all groups ever created, the triggers, the sides,
--- and the time of the end (ns).
+-- The plans of a trace: the plan of each processor, all groups ever created, the triggers, the
+-- sides, and the time (ns) of the end.
 pub record PlansView : Type 0 where
   pub plans : List PlanView
   pub lives : List GroupLife
@@ -86,13 +86,12 @@ plans_view plans lives triggers sides finish = record { plans = plans; lives = l
 abbrev pub plan_at : PlansView → ℕ → PlanView
 plan_at plans cpu = slice_index_or plans.plans cpu no_plan
 
--- bytes and counts of all sides are at most 2^60
+-- Bytes and counts in all sides are at most 2^60.
 abbrev pub AreSmall : List Side → Type 0
 AreSmall sides = All (λ (side : Side). IsSmall side.what) sides
 
--- The invariant of plans: there are 1 to 64 processors with one plan each, which is well-formed and
--- has the parents of the groups that were created, these are groups of a legal world, and the sides
--- are small.
+-- The invariant of plans: there are 1 to 64 processors; each has a well-formed plan with the
+-- parents of all groups; the groups are those of a legal world; and the sides are small.
 pub record ArePlans (plans : PlansView) : Type 0 where
   pub counted : IsCpuCount (length plans.plans)
   pub whole : (cpu : ℕ) → cpu < length plans.plans → IsPlan (plan_at plans cpu)
@@ -100,9 +99,9 @@ pub record ArePlans (plans : PlansView) : Type 0 where
   pub groups : AreGroups plans.lives
   pub small : AreSmall plans.sides
 
--- Plans represent events. Each processor's plan has the changes that its events make, each with its
--- time, and the parents of all groups. The plans have the groups, the triggers and the sides of the
--- events, in order, and the time of the end.
+-- Plans represent the events of a trace: each processor's plan has the changes that the events make
+-- on it, in order and at the times of the events, and the parents of all groups. The plans have the
+-- groups, the triggers and the sides of the events, in order, and the time of the end.
 pub record Represent (plans : PlansView) (cpus : ℕ) (events : List Event) : Type 0 where
   pub each : length plans.plans ≡ cpus
   pub changes : (cpu : ℕ) → cpu < cpus → map (λ change. Some change) (plan_at plans cpu).changes
@@ -119,14 +118,14 @@ PlansAreOfEvents =
     (plans : PlansView) (cpus : ℕ) (events : List Event) → Represent plans cpus events → (cpu : ℕ) → cpu < cpus
     → plan_at plans cpu ≡ plan_of cpu events
 
--- ---- refusals
+-- ---- rejected events
 
--- the limits of a trace with n processors in which no event is later than this time (ns)
+-- the limits of a trace with `cpus` processors, in which no event is later than `latest` (ns)
 abbrev pub limits_by : ℕ → ℕ → Limits
 limits_by cpus latest = record { cpus = cpus; latest = latest }
 
--- Events are rejected at one of them with its first cause, and those before it are legal. Its line
--- number is the number of events before it plus two.
+-- The events are rejected at one of them with its first cause: the events before it are legal. Its
+-- line number is the number of events before it plus two.
 pub record IsRefusedAt (limits : Limits) (events : List Event) (line : ℕ) (why : Cause) : Type 0 where
   pub prefix : List Event
   pub event : Event
@@ -136,23 +135,23 @@ pub record IsRefusedAt (limits : Limits) (events : List Event) (line : ℕ) (why
   pub cause : cause_of limits (after prefix) event ≡ Some why
   pub line_is : line ≡ length prefix + 2
 
--- events are rejected after the last one, if all are legal and the last isn't the end
+-- The events are rejected after the last one: all are legal, but the last one isn't the end.
 pub record LacksEnd (limits : Limits) (events : List Event) (line : ℕ) (why : Cause) : Type 0 where
   pub legal : AreLegal limits first_world events
   pub open_ : (after events).ended ≢ true
   pub cause : why ≡ cause.NoEnd
   pub line_is : line ≡ length events + 2
 
--- events are rejected at a line with a cause; out of memory is always possible
+-- The events are rejected at a line with a cause, or memory ran out, which is always possible.
 abbrev pub IsRefusal : Limits → List Event → Fault Refusal → Type 0
 IsRefusal limits events (fault.Refused refusal) =
     IsRefusedAt limits events refusal.line refusal.cause ⊎ LacksEnd limits events refusal.line refusal.cause
 IsRefusal limits events (fault.NoMemory _) = ⊤
 
--- ---- a trace that is taken apart
+-- ---- a planner
 
--- A planner: the limits and the world of its table, the changes of each processor so far, the
--- triggers and the sides.
+-- A planner: the limits and the world of its table, and the changes of each processor, the triggers
+-- and the sides of the events taken.
 pub record PlannerView : Type 0 where
   pub table : TableView
   pub changes : List (List Change)
@@ -163,7 +162,7 @@ pub record PlannerView : Type 0 where
 abbrev pub planner_view : TableView → List (List Change) → List TriggerSpec → List Side → PlannerView
 planner_view table changes triggers sides = record { table = table; changes = changes; triggers = triggers; sides = sides }
 
--- a planner's value as nested pairs, with which proofs compare values
+-- a planner's value as nested pairs, by which proofs compare values
 abbrev pub planner_code : Coded PlannerView
 planner_code =
     code_by (TableView × (List (List Change) × (List TriggerSpec × List Side)))
@@ -180,8 +179,8 @@ pub record IsPlanner (planner : PlannerView) : Type 0 where
   pub each : length planner.changes ≡ planner.table.limits.cpus
   pub small : AreSmall planner.sides
 
--- A planner has taken these events of a trace with these limits. Each can be spelled, and all are
--- legal.
+-- A planner has taken exactly these events of a trace with these limits. The values of each event
+-- are in range, and all events are legal.
 pub record HasTaken (planner : PlannerView) (limits : Limits) (events : List Event) : Type 0 where
   pub limits_are : planner.table.limits ≡ limits
   pub counted : IsCpuCount limits.cpus
@@ -193,37 +192,38 @@ pub record HasTaken (planner : PlannerView) (limits : Limits) (events : List Eve
   pub triggers : planner.triggers ≡ triggers_of events
   pub sides : planner.sides ≡ sides_of events
 
--- A new planner has taken all these events, which make up a trace.
+-- If the planner was new, it has taken all these events, which are a complete trace.
 abbrev pub HasTakenAll : PlannerView → PlannerView → List Event → Type 0
 HasTakenAll old new events = (limits : Limits) → HasTaken old limits [] → HasTaken new limits events × IsAccepted limits events
 
--- a new planner rejects these events
+-- If the planner is new, it rejects these events.
 abbrev pub IsRefusedAll : PlannerView → List Event → Fault Refusal → Type 0
 IsRefusedAll old events fault = (limits : Limits) → HasTaken old limits [] → IsRefusal limits events fault
 
--- the fault of an event, at its line
+-- The second fault is the first with a line number: a cause is reported at `line`.
 abbrev pub IsFaultAt : ℕ → Fault Cause → Fault Refusal → Type 0
 IsFaultAt line (fault.Refused why) at = at ≡ fault.Refused (record { line = line; cause = why })
 IsFaultAt line (fault.NoMemory none) at = at ≡ fault.NoMemory none
 
--- plans represent the events that a planner has taken
+-- The plans represent the events that a planner has taken.
 abbrev pub RepresentTaken : PlannerView → PlansView → Type 0
 RepresentTaken planner plans = (limits : Limits) (events : List Event) → HasTaken planner limits events →
     Represent plans limits.cpus events
 
--- a planner has taken some trace
+-- A planner has taken the events of some trace.
 abbrev pub HasTrace : PlannerView → Type 0
 HasTrace planner = (limits : Limits) × (events : List Event) × HasTaken planner limits events
 
--- A planner takes an event: it is legal after the events so far and becomes one of them, or the
--- fault is the first cause against it. Out of memory is possible only if there is no cause.
+-- A planner takes an event: if it succeeds, the event is legal after the events taken, and is now
+-- one of them; otherwise the fault is the first cause against it. Running out of memory is possible
+-- only if there is no cause.
 abbrev pub PlannerTakes : PlannerView → PlannerView → Event → Result (Unit {0}) (Fault Cause) → Type 0
 PlannerTakes old new event (Ok x) = (limits : Limits) (events : List Event) → HasTaken old limits events →
     (cause_of limits (after events) event ≡ None) × HasTaken new limits (events ++ event ∷ []) × (length events < most_events)
 PlannerTakes old new event (Err fault) = (limits : Limits) (events : List Event) → HasTaken old limits events →
     IsGroupFault (cause_of limits (after events) event) fault
 
--- The events that a planner has taken make up a trace if they ended it.
+-- The events that a planner has taken are a complete trace if the last of them ended it.
 abbrev pub EndedIsAccepted : Type 0
 EndedIsAccepted = (planner : PlannerView) (limits : Limits) (events : List Event) → HasTaken planner limits events →
     planner.table.world.ended ≡ true → IsAccepted limits events

@@ -16,34 +16,34 @@ use Rattle.proc_plan.specs.Sides.{sides_of}
 
 -- ---- times
 
--- The sides of the events up to a time are the sides with a time up to it.
+-- The sides of the events up to a time (ns) are the trace's sides at or before that time.
 abbrev pub SidesUpTo : Type 0
 SidesUpTo = (limits : Limits) (events : List Event) → AreLegal limits first_world events → (at : ℕ) →
     sides_of (up_to events at) ≡ filter (λ (side : Side). nat_le side.at at) (sides_of events)
 
--- The times of sides never fall.
+-- The times of sides never decrease.
 abbrev pub SidesAreInOrder : Type 0
 SidesAreInOrder = (limits : Limits) (events : List Event) → AreLegal limits first_world events →
     IsNonDecreasingBy (λ (side : Side). side.at) (sides_of events)
 
 -- ---- tasks in a group
 
--- a task joins the group in a slot itself
+-- whether a task joins the group in `slot` itself
 abbrev pub comes : ℕ → SideAct → Bool
 comes slot (side.Tasks into (pos n)) = into.0 == slot
 comes slot _ = false
 
--- a task leaves the group in a slot itself
+-- whether a task leaves the group in `slot` itself
 abbrev pub goes : ℕ → SideAct → Bool
 goes slot (side.Tasks out (negsuc n)) = out.0 == slot
 goes slot _ = false
 
--- the number of live tasks in the group in a slot itself
+-- the number of live tasks in the group in `slot` itself
 abbrev pub members : ℕ → Tasks → ℕ
 members slot tasks = how_many (is_of slot) (tasks_by.values tasks)
 
--- The number of tasks that joined a group is the number that left it plus the number in it. At most
--- 65,536 tasks are in it, the limit of live tasks.
+-- The number of tasks that joined a group is the number of tasks that left it plus the number of
+-- tasks in it. The number of tasks in it is at most 65,536, the limit of live tasks.
 abbrev pub MembersAreKnown : Type 0
 MembersAreKnown = (limits : Limits) (events : List Event) → AreLegal limits first_world events → (slot : ℕ) →
     (count_by (λ (side : Side). comes slot side.what) (sides_of events)
@@ -52,7 +52,7 @@ MembersAreKnown = (limits : Limits) (events : List Event) → AreLegal limits fi
 
 -- ---- slots
 
--- the slot that a side names, or None
+-- the slot that a side names; `None` if it is of the host
 abbrev pub slot_of_side : SideAct → Option Slot
 slot_of_side (side.Mem slot current swap scan) = Some slot
 slot_of_side (side.Prefer slot preference) = Some slot

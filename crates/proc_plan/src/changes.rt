@@ -1,4 +1,5 @@
-//! A list of changes of 16 bytes each.
+//! The changes of one processor: a list that grows while a trace is planned, with 16 bytes for each
+//! change.
 
 ghost use Rattle.std.specs.Prelude.{◌≡◌, ◌++◌, ◌<◌, ◌≤◌, [], ◌∷◌, OnOk};
 ghost use Rattle.psi_counts.specs.Touch.{HasSlotsBelow, IsOfOne};
@@ -10,8 +11,8 @@ use slot_clocks::PackedChange;
 use std::alloc::Global;
 use std::marker::Model;
 
-/// The changes of a processor, in order. Contracts see them as a list, and the number of further
-/// changes that there is room for.
+/// The changes of a processor, in order. Contracts see them as a list, together with the number of
+/// changes that can be appended without allocating.
 #[derive(Drop)]
 pub(crate) struct Changes {
     list: Vec<PackedChange>,
@@ -28,7 +29,7 @@ impl Model for Changes {
 }
 
 impl Changes {
-    /// No change.
+    /// Returns an empty list.
     pub(crate) fn new(alloc: Global) -> Changes
         ensures { result.list ≡ [] }
     {
@@ -37,7 +38,7 @@ impl Changes {
         }
     }
 
-    /// Makes room for one more change.
+    /// Makes room for one more change. `NoMemory` if memory runs out.
     #[inline(always)]
     pub(crate) fn reserve(&mut self) -> Result<(), NoMemory>
         ensures same { self.new.list ≡ self.old.list }
@@ -48,8 +49,8 @@ impl Changes {
         Ok(())
     }
 
-    /// Appends a change. There must be room for it, its slots must be below the limit, and it must
-    /// be of one task, of interrupt time alone or of a switch of accounting alone.
+    /// Appends a change. Preconditions: there is room for it, its slots are less than 1,024, and it
+    /// is of one task, of interrupt time alone or of a switch of accounting alone.
     #[inline(always)]
     pub(crate) fn push(&mut self, change: Change)
         requires room { 0 < self.old.room }
@@ -60,7 +61,7 @@ impl Changes {
         self.list.push_reserved(PackedChange::new(change));
     }
 
-    /// All changes, in order.
+    /// Returns all changes, in order.
     pub(crate) fn all(&self) -> &[PackedChange]
         ensures { result.now ≡ self.now.list }
     {

@@ -1,4 +1,5 @@
-//! Clocks that advance by a plan.
+//! Clocks of one processor that advance by its plan: the traits, and the plain clocks for one
+//! thread. clock_row has clocks that other threads can read.
 
 ghost use Rattle.std.specs.Prelude.{◌≡◌, ◌+◌, ◌<◌, ℕ, length, IfOk};
 ghost use Rattle.plan_laws.specs.Plan.{IsClock, PlanView, planned_irq};
@@ -11,21 +12,22 @@ use slot_clocks::SlotClocks;
 use std::alloc::Global;
 use std::marker::Model;
 
-/// The clocks of all groups on one processor, which make the changes of its plan in order.
+/// The clocks of all groups on one processor, which make the changes of the processor's plan in
+/// order.
 pub trait ProcClocks {
     /// The plan of the processor.
     ghost plan: { Self → PlanView };
 
-    /// The number of changes that were made.
+    /// The number of the plan's changes that the clocks have made.
     ghost made: { Self → ℕ };
 
-    /// Identifies these clocks, so that what is shared with them can be recognized: no call changes
-    /// it.
+    /// The identity of these clocks, by which contracts recognize readers that share them. No call
+    /// changes it.
     ghost Home: { Type 0 };
 
     ghost home: { Self → Home };
 
-    /// The number of changes that were made.
+    /// Returns the number of the plan's changes that the clocks have made.
     fn count(&self) -> u64
         ensures { result ≡ made self.now };
 
@@ -36,8 +38,8 @@ pub trait ProcClocks {
         ensures made { made self.new ≡ made self.old + 1 }
         ensures home { home self.new ≡ home self.old };
 
-    /// The clock of a slot of the plan, after the changes that were made. It may have started
-    /// before the last change, if later changes didn't change the slot's states.
+    /// Returns the clock of `slot` after the changes made. The clock may have started before the
+    /// last change, if the changes since its start left the slot's states unchanged.
     fn own(&mut self, slot: Slot) -> Clock
         requires made { slot.0 < length (plan self.old).parents }
         ensures plan { plan self.new ≡ plan self.old }
@@ -46,11 +48,9 @@ pub trait ProcClocks {
         ensures clock { IsClock result (plan self.old) slot.0 (made self.old) };
 }
 
-/// Clocks that also count the time that interrupts took from each group while its accounting was
-/// on.
+/// Clocks that also sum the time that interrupts took from each group while its accounting was on.
 pub trait IrqClocks: ProcClocks {
-    /// The time (ns) that interrupts took from the group in a slot of the plan, by the changes that
-    /// were made.
+    /// Returns the time (ns) that interrupts took from the group in `slot`, by the changes made.
     fn own_irq(&mut self, slot: Slot) -> u64
         requires made { slot.0 < length (Self.plan self.old).parents }
         ensures plan { Self.plan self.new ≡ Self.plan self.old }
@@ -67,7 +67,7 @@ pub struct PlainClocks<'a> {
     parents: &'a [Option<Slot>],
     clocks: SlotClocks,
     /// The time (ns) that interrupts took from each group, by slot. Changes without interrupt time
-    /// don't touch it.
+    /// don't touch this list.
     irqs: Vec<u64>,
     count: u64,
 }
@@ -88,8 +88,8 @@ impl<'a> Model for PlainClocks<'a> {
 }
 
 impl<'a> PlainClocks<'a> {
-    /// The clocks of a plan with `slots` slots, before its first change. Allocates everything at
-    /// the start.
+    /// Creates the clocks of a plan, before its first change. Precondition: the plan has `slots`
+    /// slots. Allocates everything up front.
     pub fn make(alloc: Global, plan: &'a Plan, slots: u32) -> Result<PlainClocks<'a>, NoMemory>
         requires { slots ≡ length plan.now.parents }
         ensures { IfOk result (λ clocks. clocks ≡ record { plan = plan.now; made = 0 }) }
@@ -109,7 +109,7 @@ impl<'a> ProcClocks for PlainClocks<'a> {
 
     ghost made = { λ clocks. clocks.made };
 
-    // These clocks share nothing.
+    // Plain clocks share nothing, so they need no identity.
     ghost Home = { Unit {0} };
 
     ghost home = { λ _. tt };

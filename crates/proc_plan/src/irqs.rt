@@ -1,4 +1,4 @@
-//! The time that interrupts took from the groups on one processor.
+//! The time that interrupts took from each group on one processor.
 
 ghost use Rattle.std.specs.Prelude.{◌≡◌, ◌+◌, ◌<◌, ◌^◌, ℕ, length, if◌then◌else◌, IfSome};
 ghost use Rattle.psi_spec.specs.LegalGroups.{AreOlder};
@@ -15,8 +15,8 @@ fn time_if(on: bool, irq: u64) -> u64
     if on { irq } else { 0 }
 }
 
-// Adds a time (ns) to the running task's group and its ancestors if their accounting is on by these
-// clocks. Changes with interrupt time are rare, so this isn't inlined.
+// Adds a time (ns) to the running task's group and its ancestors, if their accounting is on in
+// `clocks`. Changes with interrupt time are rare, so this function isn't inlined.
 #[inline(never)]
 fn climb(
     times: &mut [u64],
@@ -43,8 +43,8 @@ fn climb(
     }
 }
 
-/// Adds the interrupt time of a change, if any, to the running task's group and its ancestors if
-/// their accounting is on by these clocks.
+/// Adds the interrupt time of a change, if it has any, to the running task's group and its
+/// ancestors, if their accounting is on in `clocks`.
 #[inline(always)]
 pub(crate) fn add_irq(
     times: &mut [u64],

@@ -1,19 +1,18 @@
-//! A trace taken apart by processor, and the plain clocks that run on its parts.
+//! Splits a trace into one plan for each processor, and advances plain clocks by such a plan.
 //!
-//! The `Planner` takes each event of a trace, and appends what it changes to the list of that
-//! processor, its *plan*: 16 bytes a change, with the task that runs afterwards. Switching a
-//! group's accounting is appended to every plan. Samples of memory, preferences, and tasks that
-//! come and go are *sides*, kept in one list for rules. At the end of the trace the lists are
-//! `Plans`.
+//! The `Planner` takes the events of a trace one by one. It appends each change that an event makes
+//! on a processor to the list of that processor, its *plan*: 16 bytes a change, with the task that
+//! runs afterwards. A switch of a group's accounting is appended to every plan. Memory samples,
+//! preferences, and tasks that join or leave groups are *sides*, which the planner collects in one
+//! list for the rules. At the end of the trace the lists become `Plans`.
 //!
-//! Plans are what makes a replay parallel: stall time on a processor depends on that processor's
-//! changes alone, so each worker can advance the clocks of its processors without looking at the
-//! others, and a replay prints the same for any number of workers. `PlainClocks` advances the
-//! clocks of one processor by its plan; clock_row does the same in words that other threads can
-//! read.
+//! Plans make a replay parallel: stall time on a processor depends on that processor's changes
+//! alone, so each worker can advance the clocks of its processors independently, and a replay
+//! prints the same for any number of workers. `PlainClocks` advances the clocks of one processor by
+//! its plan; clock_row does this in words that other threads can read.
 //!
-//! A trace is rejected while it is planned, so a rejected trace prints nothing. Nothing here knows
-//! of ticks or pressure: those are replay_workers and tick_engine.
+//! A trace is rejected while it is planned, so nothing is printed for a rejected trace. The crate
+//! knows nothing of ticks or pressure: see replay_workers and tick_engine.
 #![tactic(auto)]
 
 mod changes;

@@ -1,4 +1,4 @@
-//! The changes of one processor.
+//! The plan of one processor: its changes in a trace, with lookups by number and by time.
 
 ghost use Rattle.std.specs.Prelude.{◌≡◌, ◌+◌, ◌-◌, ◌<◌, ◌≤◌, ◌↔◌, length, nat_le, slice_get, slice_index_or, None, Some};
 ghost use Rattle.psi_counts.specs.Touch.{IsOfOne};
@@ -14,17 +14,18 @@ use psi_counts::{Change, Counts};
 use slot_clocks::PackedChange;
 use std::marker::Model;
 
-/// The changes of one processor in a trace, and the parents of all slots, by which a change reaches
-/// the ancestors of the slots that it names. Contracts see both as lists.
+/// The changes of one processor in a trace, and the parents of all slots. A change reaches the
+/// ancestors of the slots that it names through the parents. Contracts see both as lists.
 ///
-/// There are at most 4,000,000 changes. Their times never fall and are at most 60,000,000 s. Each
-/// change subtracts and adds the counts of at most one task, and names existing slots. A parent has
-/// a smaller slot. After any number of changes each count of each slot is from 0 to 65,536, and the
-/// total interrupt time is at most the time of the last change.
+/// There are at most 4,000,000 changes. Their times never decrease and are at most 60,000,000 s.
+/// Each change subtracts the counts of at most one task, adds the counts of at most one task, and
+/// names existing slots. A parent has a smaller slot than its child. After each prefix of the
+/// changes, each count of each slot is from 0 to 65,536, and the total interrupt time is at most
+/// the time of the last change.
 #[derive(Drop)]
 pub struct Plan {
     changes: Changes,
-    /// By slot; `None` for the root.
+    /// The parent of each slot; `None` for the root.
     parents: Vec<Option<Slot>>,
 }
 
@@ -45,7 +46,8 @@ fn part_slot(part: Option<(Slot, Counts)>) -> Option<Slot>
     part.map(|(slot, _)| slot)
 }
 
-/// The slot of the running task, or the slot whose accounting is switched.
+/// Returns the slot of a pair: the running task's slot, or the slot whose accounting is switched.
+/// `None` if there is no pair.
 pub(crate) fn current_slot(current: Option<(Slot, bool)>) -> Option<Slot>
     ensures { result ≡ slot_in current }
 {
@@ -53,7 +55,8 @@ pub(crate) fn current_slot(current: Option<(Slot, bool)>) -> Option<Slot>
 }
 
 impl Plan {
-    /// The plan with these changes and parents.
+    /// Returns the plan with these changes and parents. Precondition: they satisfy the invariant of
+    /// plans.
     pub(crate) fn new(changes: Changes, parents: Vec<Option<Slot>>) -> Plan
         requires { IsPlan (plan_view changes.list parents.items) }
         ensures { result ≡ plan_view changes.list parents.items }
@@ -61,7 +64,7 @@ impl Plan {
         Plan { changes, parents }
     }
 
-    /// The number of changes.
+    /// Returns the number of changes.
     pub fn len(&self) -> u64
         ensures len { result ≡ length self.now.changes }
         ensures whole { IsPlan self.now }
@@ -69,8 +72,8 @@ impl Plan {
         self.changes.all().len() as u64
     }
 
-    /// The change with a number from 1. It subtracts and adds the counts of at most one task, and
-    /// of none if it switches accounting.
+    /// Returns change `k`, numbered from 1. It subtracts the counts of at most one task and adds
+    /// the counts of at most one task; it has no counts if it switches accounting.
     pub fn change(&self, k: u64) -> Change
         requires from { 1 ≤ k }
         requires to { k ≤ length self.now.changes }
@@ -80,7 +83,7 @@ impl Plan {
         self.packed(k).change()
     }
 
-    /// The packed form of the change with a number from 1.
+    /// Returns change `k`, numbered from 1, in its packed form.
     #[inline(always)]
     pub(crate) fn packed(&self, k: u64) -> &PackedChange
         requires from { 1 ≤ k }
@@ -91,7 +94,7 @@ impl Plan {
         &self.changes.all()[k as usize - 1]
     }
 
-    /// The time (ns) of the change with a number from 1.
+    /// Returns the time (ns) of change `k`, numbered from 1.
     pub fn moment(&self, k: u64) -> Ns
         requires from { 1 ≤ k }
         requires to { k ≤ length self.now.changes }
@@ -100,10 +103,10 @@ impl Plan {
         self.packed(k).at()
     }
 
-    /// The slots whose chains the change with a number from 1 affects: the slot of the counts that
-    /// it subtracts, or the slot whose accounting it switches; the slot of the counts that it adds;
-    /// and the slots of the tasks that are running before and after it. It affects no slot outside
-    /// these chains.
+    /// Returns the slots whose chains change `k` (numbered from 1) affects: the slot of the counts
+    /// that it subtracts, or the slot whose accounting it switches; the slot of the counts that it
+    /// adds; and the slots of the tasks that run before and after it. Slots outside these chains
+    /// aren't affected.
     pub fn concerned(&self, k: u64) -> [Option<Slot>; 4]
         requires from { 1 ≤ k }
         requires to { k ≤ length self.now.changes }
@@ -119,8 +122,8 @@ impl Plan {
         ]
     }
 
-    // The running task before the change with a number from 1: its slot, and whether it is in a
-    // memory stall.
+    // Returns the task that runs before change `k` (numbered from 1): its slot, and whether it is
+    // in a memory stall. `None` if no task runs.
     fn current_before(&self, k: u64) -> Option<(Slot, bool)>
         requires from { 1 ≤ k }
         requires to { k ≤ length self.now.changes }
@@ -132,7 +135,7 @@ impl Plan {
         self.packed(k - 1).current()
     }
 
-    /// The number of changes up to and including a time (ns), by binary search.
+    /// Returns the number of changes at or before `at` (ns), by binary search.
     pub fn until(&self, at: Ns) -> u64
         ensures until { result ≡ changes_up_to self.now at }
         ensures within { result ≤ length self.now.changes }
@@ -146,7 +149,7 @@ impl Plan {
         ) as u64
     }
 
-    /// The parent of a slot of the plan. `None` for the root alone.
+    /// Returns the parent of a slot, or `None` for the root.
     pub fn parent(&self, slot: Slot) -> Option<Slot>
         requires made { slot.0 < length self.now.parents }
         ensures parent { number_of_slot result ≡ slice_index_or self.now.parents slot.0 None }
@@ -155,7 +158,7 @@ impl Plan {
         self.parents[slot.0 as usize]
     }
 
-    /// The parents of all slots, by slot.
+    /// Returns the parent of each slot.
     pub(crate) fn parents(&self) -> &[Option<Slot>]
         ensures parents { parent_numbers result.now ≡ self.now.parents }
         ensures whole { IsPlan self.now }

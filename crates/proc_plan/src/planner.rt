@@ -1,4 +1,5 @@
-//! The planner, which splits a trace by processor, event by event.
+//! The planner, which splits a trace by processor, event by event. It checks each event, and
+//! rejects a trace at the first event that isn't legal.
 
 ghost use Rattle.std.specs.Prelude.{◌≡◌, ◌≤◌, ℕ, [], false, length, IfOk, OnErr};
 ghost use Rattle.std.specs.List.{All};
@@ -26,12 +27,12 @@ use std::marker::Model;
 use task_table::Table;
 use trace_player::TaskAct;
 
-/// Splits a trace by processor: the world so far, and the contents of the plans. Contracts see
-/// both.
+/// Splits a trace by processor: the world after the events taken, and the contents of the plans.
+/// Contracts see both.
 #[derive(Drop)]
 pub struct Planner {
     table: Table,
-    /// By processor.
+    /// The changes of each processor.
     changes: Vec<Changes>,
     triggers: Vec<TriggerSpec>,
     sides: Vec<Side>,
@@ -73,7 +74,7 @@ fn parents_of(alloc: Global, groups: &Tree) -> Result<Vec<Option<Slot>>, NoMemor
     Ok(parents)
 }
 
-// The plans with these changes, each with the parents of all groups.
+// Returns a plan for each list of changes, each with the parents of all groups.
 fn make_plans(alloc: Global, changes: Vec<Changes>, groups: &Tree) -> Result<Vec<Plan>, NoMemory>
     requires { All (λ changes. IsPlan (plan_over groups.now changes.list)) changes.items }
     ensures { IfOk result (λ plans. plans.items ≡ plans_over groups.now changes.items) }
@@ -87,8 +88,8 @@ fn make_plans(alloc: Global, changes: Vec<Changes>, groups: &Tree) -> Result<Vec
 }
 
 impl Planner {
-    /// The planner of a trace with 1 to 64 processors, before its first event. No event may be
-    /// later than `latest` (ns).
+    /// Creates the planner of a trace with `cpus` processors (1 to 64), before its first event.
+    /// `latest` is the latest time (ns) that an event may have.
     pub fn new(alloc: Global, cpus: u32, latest: Ns) -> Result<Planner, NoMemory>
         requires counted { IsCpuCount cpus }
         requires short { latest ≤ last_moment }
@@ -102,7 +103,7 @@ impl Planner {
         })
     }
 
-    /// The number of events taken, at most 4,000,000.
+    /// Returns the number of events taken, at most 4,000,000.
     pub fn lines(&self) -> u32
         ensures lines { result ≡ self.now.table.world.lines }
         ensures few { result ≤ most_events }
@@ -117,8 +118,9 @@ impl Planner {
         self.table.is_ended()
     }
 
-    /// The fast path of [`Planner::take`]: its twin for a task act at a time (ns) by which no task
-    /// exits. Such an act adds only changes, no triggers or sides.
+    /// The fast path of [`Planner::take`], for a task act (an event's act that concerns tasks
+    /// alone) at a time (ns). Precondition: the act lets no task exit. Such an act adds only
+    /// changes, and neither triggers nor sides.
     #[inline(always)]
     pub fn take_task(&mut self, at: Ns, act: TaskAct) -> Result<(), Fault<Cause>>
         requires fits { Fits (as_event at act) }
@@ -133,9 +135,9 @@ impl Planner {
         Ok(())
     }
 
-    /// Takes the next event: judges it, makes room for what it adds, and then adds that. Fails with
-    /// `Refused` and the first cause if the event isn't legal, and with `NoMemory` only if it is.
-    /// Nothing changes if it fails.
+    /// Takes the next event: checks it, makes room for everything that it adds, and then adds it.
+    /// Fails with `Refused` and the first cause if the event isn't legal, and with `NoMemory` only
+    /// if it is. Nothing changes if it fails.
     #[inline(always)]
     pub fn take(&mut self, event: &Event) -> Result<(), Fault<Cause>>
         requires { Fits event.now }
@@ -148,8 +150,8 @@ impl Planner {
         }
     }
 
-    /// The rest of [`Planner::take`], for any other event. It isn't inlined, so that the fast path
-    /// is small enough to be inlined.
+    /// The slow path of [`Planner::take`], for all other events. The function isn't inlined, so
+    /// that the fast path is small enough to be inlined.
     #[inline(never)]
     pub(crate) fn take_other(&mut self, event: &Event) -> Result<(), Fault<Cause>>
         requires { Fits event.now }
@@ -174,7 +176,7 @@ impl Planner {
         Ok(())
     }
 
-    /// The plans of the events taken.
+    /// Returns the plans of the events taken.
     pub fn finish(self, alloc: Global) -> Result<Plans, NoMemory>
         requires { HasTrace self }
         ensures { IfOk result (RepresentTaken self) }

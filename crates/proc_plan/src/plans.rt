@@ -1,4 +1,4 @@
-//! The plans of all processors.
+//! The plans of all processors of a trace, with the groups, triggers and sides of the trace.
 
 ghost use Rattle.std.specs.Prelude.{◌≡◌, ◌<◌, ◌≤◌, length, IfErr, IfOk, OnOk};
 ghost use Rattle.plan_laws.specs.Plan.{IsPlan};
@@ -17,16 +17,16 @@ use psi_spec::GroupLife;
 use std::alloc::Global;
 use std::marker::Model;
 
-/// A trace split by processor: the plan of each processor, and the trace's contents besides their
-/// changes. Contracts see all of it.
+/// A trace split by processor: the plan of each processor, all groups, the triggers, the sides, and
+/// the time of the end. Contracts see all of it.
 #[derive(Drop)]
 pub struct Plans {
-    /// By processor.
+    /// The plan of each processor.
     plans: Vec<Plan>,
     groups: Tree,
     triggers: Vec<TriggerSpec>,
     sides: Vec<Side>,
-    /// The time of the end (ns).
+    /// The time (ns) of the trace's end.
     finish: Ns,
 }
 
@@ -50,7 +50,7 @@ fn at_line(line: u32, fault: Fault<Cause>) -> Fault<Refusal>
     }
 }
 
-// Takes all events of a trace. The last one must be the end.
+// Takes all events of a trace. Fails if the last event isn't the end.
 fn take_all(planner: &mut Planner, events: &[Event]) -> Result<(), Fault<Refusal>>
     requires fit { AllFit events.now }
     ensures taken { OnOk result (HasTakenAll planner.old planner.new events.now) }
@@ -68,7 +68,7 @@ fn take_all(planner: &mut Planner, events: &[Event]) -> Result<(), Fault<Refusal
 }
 
 impl Plans {
-    /// The plans with these parts.
+    /// Returns the plans with these parts.
     pub(crate) fn new(
         plans: Vec<Plan>,
         groups: Tree,
@@ -88,11 +88,12 @@ impl Plans {
         }
     }
 
-    /// Splits a trace with 1 to 64 processors, in which no event is later than `latest` (ns).
+    /// Splits a trace with `cpus` processors (1 to 64). `latest` is the latest time (ns) that an
+    /// event may have.
     ///
     /// Fails with `Refused` at the first event that isn't legal, with its first cause; the event
-    /// with index `i` from 0 is at line `i + 2`. If all are legal and the last isn't the end, the
-    /// cause is `NoEnd` at the line after them.
+    /// with index `i` (from 0) is at line `i + 2`. If all events are legal and the last one isn't
+    /// the end, the cause is `NoEnd`, at the line after the last event.
     pub fn build(
         alloc: Global,
         cpus: u32,
@@ -113,7 +114,7 @@ impl Plans {
         }
     }
 
-    /// The number of processors, 1 to 64.
+    /// Returns the number of processors, 1 to 64.
     pub fn cpus(&self) -> u32
         ensures cpus { result ≡ length self.now.plans }
         ensures counted { IsCpuCount result }
@@ -121,14 +122,14 @@ impl Plans {
         self.plans.len() as u32
     }
 
-    /// The time of the end (ns).
+    /// Returns the time (ns) of the trace's end.
     pub fn finish(&self) -> Ns
         ensures { result ≡ self.now.finish }
     {
         self.finish
     }
 
-    /// The plan of a processor.
+    /// Returns the plan of a processor.
     pub fn plan(&self, cpu: Cpu) -> &Plan
         requires { cpu.0 < length self.now.plans }
         ensures plan { result.now ≡ plan_at self.now cpu.0 }
@@ -138,7 +139,7 @@ impl Plans {
         &self.plans[cpu.0 as usize]
     }
 
-    /// All groups ever created.
+    /// Returns all groups ever created, as a tree.
     pub fn groups(&self) -> &Tree
         ensures lives { result.now ≡ self.now.lives }
         ensures groups { AreGroups result.now }
@@ -146,7 +147,7 @@ impl Plans {
         &self.groups
     }
 
-    /// All groups ever created, by slot.
+    /// Returns all groups ever created, by slot.
     pub fn lives(&self) -> &[GroupLife]
         ensures lives { result.now ≡ self.now.lives }
         ensures groups { AreGroups result.now }
@@ -154,14 +155,14 @@ impl Plans {
         self.groups.lives()
     }
 
-    /// The triggers, in the order of the trace.
+    /// Returns the triggers, in the order of the trace.
     pub fn triggers(&self) -> &[TriggerSpec]
         ensures { result.now ≡ self.now.triggers }
     {
         &self.triggers
     }
 
-    /// The sides, in the order of the trace. Bytes and counts are at most 2^60.
+    /// Returns the sides, in the order of the trace. Bytes and counts in them are at most 2^60.
     pub fn sides(&self) -> &[Side]
         ensures sides { result.now ≡ self.now.sides }
         ensures small { AreSmall result.now }

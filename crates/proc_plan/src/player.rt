@@ -1,4 +1,5 @@
-//! A planner as a player of traces: to sum stalls and to replay, a trace is split by processor.
+//! A planner as a player of traces, for commands that replay a trace: playing an event adds it to
+//! the plans.
 
 use crate::planner::Planner;
 use psi_base::{Cause, Event, Fault, NoMemory, Ns};

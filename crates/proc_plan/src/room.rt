@@ -1,4 +1,5 @@
-//! The additions of an event to a planner: room for them first, and then the additions.
+//! How the contents of an event are added to a planner: first room is made for all of them, so that
+//! adding them can't fail.
 
 ghost use Rattle.std.specs.Prelude.{◌≡◌, ◌++◌, ◌+◌, ◌<◌, ◌≤◌, ℕ, [], ◌∷◌, length, IfSome, IsSome, None, OnOk, vec_capacity, vec_len};
 ghost use Rattle.psi_counts.specs.Legal.{with_change};
@@ -20,7 +21,7 @@ use psi_spec::Task;
 use task_table::Table;
 use trace_player::TaskAct;
 
-// The number of the processor that an act names, or `None`.
+// Returns the number of the processor that an act names, or `None`.
 #[inline(always)]
 fn named_cpu(act: &Act) -> Option<u32>
     ensures { result ≡ (names act.now).cpu }
@@ -34,7 +35,7 @@ fn named_cpu(act: &Act) -> Option<u32>
     }
 }
 
-// Makes room for a change of the processor at a place.
+// Makes room for a change of the processor with the index `place`.
 #[inline(always)]
 fn reserve_place(changes: &mut [Changes], place: usize) -> Result<(), NoMemory>
     requires { place < length changes.old }
@@ -46,8 +47,8 @@ fn reserve_place(changes: &mut [Changes], place: usize) -> Result<(), NoMemory>
     changes[place].reserve()
 }
 
-// Makes room for a change of the processor with a number, if there is a number and that processor
-// exists.
+// Makes room for a change of processor `cpu`, if there is a number and a processor with this
+// number.
 #[inline(always)]
 fn reserve_at(changes: &mut [Changes], cpu: Option<u32>) -> Result<(), NoMemory>
     ensures same { lists_of changes.new ≡ lists_of changes.old }
@@ -93,8 +94,8 @@ fn task_cpu(task: Option<Task>) -> Option<u32>
     }
 }
 
-// Makes room for a change of the processor that an act names, and of the processor of the task that
-// it changes.
+// Makes room for a change of the processor `named`, which an act names, and of the processor of
+// `task`, which the act changes.
 #[inline(always)]
 fn reserve_two(
     changes: &mut [Changes],
@@ -110,7 +111,7 @@ fn reserve_two(
     reserve_at(changes, task_cpu(task))
 }
 
-/// Makes room for the changes of a task act that changes this task.
+/// Makes room for the changes of a task act. `task` is the task that it changes.
 #[inline(always)]
 pub(crate) fn reserve_task(
     changes: &mut [Changes],
@@ -124,8 +125,8 @@ pub(crate) fn reserve_task(
     reserve_two(changes, act.cpu(), task)
 }
 
-// Makes room for the changes of an act on each processor that it affects: the processor that it
-// names and its task's, or all processors if it switches a group's accounting.
+// Makes room for a change on each processor that an act affects: the processor that it names and
+// the processor of `task`, or all processors if it switches a group's accounting.
 #[inline(always)]
 fn reserve_changes(changes: &mut [Changes], act: &Act, task: Option<Task>) -> Result<(), NoMemory>
     ensures same { lists_of changes.new ≡ lists_of changes.old }
@@ -138,8 +139,8 @@ fn reserve_changes(changes: &mut [Changes], act: &Act, task: Option<Task>) -> Re
     reserve_two(changes, named_cpu(act), task)
 }
 
-/// Makes room for all additions of an event: the changes of its act, which changes this task, and
-/// its other contents.
+/// Makes room for everything that an event adds: the changes of its act, and its trigger and sides.
+/// `task` is the task that the act changes.
 #[inline(always)]
 pub(crate) fn make_room(
     changes: &mut [Changes],
@@ -166,7 +167,8 @@ pub(crate) fn make_room(
     Ok(())
 }
 
-// The change of a processor with this running task at a time (ns) when accounting is switched.
+// Returns the change at a time (ns) of a processor with the running task `current`, if accounting
+// is switched.
 fn account_change(at: Ns, current: Option<(Slot, bool)>, account: (Slot, bool)) -> Change
     ensures change { result ≡ account_change at current account }
     ensures one { IsOfOne result }
@@ -181,8 +183,8 @@ fn account_change(at: Ns, current: Option<(Slot, bool)>, account: (Slot, bool)) 
     }
 }
 
-// Appends a switch of accounting at a time (ns) to every processor's changes. The running tasks
-// don't change.
+// Appends a switch of accounting at a time (ns) to the changes of every processor. The running
+// tasks don't change.
 fn add_account(changes: &mut [Changes], at: Ns, account: (Slot, bool), table: &Table)
     requires each { length changes.old ≡ table.now.limits.cpus }
     requires room { (cpu : ℕ) → HasRoomWithin changes.old cpu }
@@ -200,7 +202,7 @@ fn add_account(changes: &mut [Changes], at: Ns, account: (Slot, bool), table: &T
     }
 }
 
-// Appends the change of an event on a processor, if any.
+// Appends the change of an event on a processor, if there is one.
 #[inline(always)]
 fn add_change(changes: &mut [Changes], touched: Option<(Cpu, Change)>)
     requires room { IfSome touched (λ touched. HasRoom changes.old touched.0.0) }
@@ -218,8 +220,8 @@ fn add_change(changes: &mut [Changes], touched: Option<(Cpu, Change)>)
     changes[cpu.0 as usize].push(change);
 }
 
-/// Appends the changes of an event on the processors that it names. There must be room for them,
-/// and each change must be of one task.
+/// Appends the changes of an event that switches no accounting. Preconditions: there is room for
+/// them, and each change is of one task or of interrupt time alone.
 #[inline(always)]
 pub(crate) fn add_touched(changes: &mut [Changes], touch: &Touch)
     requires room { (cpu : ℕ) → IsSome (change_by_cpu touch.now cpu) → HasRoom changes.old cpu }
@@ -233,8 +235,8 @@ pub(crate) fn add_touched(changes: &mut [Changes], touch: &Touch)
     add_change(changes, touch.second);
 }
 
-/// Appends the changes of an event at a time (ns) on the processors that it touches. There must be
-/// room for them, and each change must be of one task. The table is that after the event.
+/// Appends the changes of an event at a time (ns). Preconditions: there is room for them, each
+/// change is of one task or of interrupt time alone, and `table` is the table after the event.
 #[inline(always)]
 pub(crate) fn add_changes(changes: &mut [Changes], at: Ns, touch: &Touch, table: &Table)
     requires each { length changes.old ≡ table.now.limits.cpus }
@@ -258,7 +260,7 @@ pub(crate) fn add_changes(changes: &mut [Changes], at: Ns, touch: &Touch, table:
     }
 }
 
-/// Appends a trigger, if any. There must be room for it.
+/// Appends a trigger, if there is one. Precondition: there is room for it.
 #[inline(always)]
 pub(crate) fn add_trigger(triggers: &mut Vec<TriggerSpec>, trigger: Option<TriggerSpec>)
     requires { vec_len triggers.old + length (listed trigger) ≤ vec_capacity triggers.old }
@@ -269,7 +271,7 @@ pub(crate) fn add_trigger(triggers: &mut Vec<TriggerSpec>, trigger: Option<Trigg
     }
 }
 
-/// Appends a side, if any. There must be room for it.
+/// Appends a side, if there is one. Precondition: there is room for it.
 #[inline(always)]
 pub(crate) fn add_side(sides: &mut Vec<Side>, side: Option<Side>)
     requires room { vec_len sides.old + length (listed side) ≤ vec_capacity sides.old }

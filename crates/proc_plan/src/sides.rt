@@ -17,14 +17,15 @@ use psi_spec::Task;
 /// The contents of an event besides its changes.
 #[derive(Clone, Copy)]
 pub(crate) struct SideValues {
-    /// The trigger that it sets.
+    /// The trigger that the event sets.
     pub(crate) trigger: Option<TriggerSpec>,
-    /// Its sides, in order.
+    /// The first of the event's sides. The second is in `second`.
     pub(crate) first: Option<Side>,
     pub(crate) second: Option<Side>,
 }
 
-// The trigger that an act at a time (ns) sets. `slot` is the slot of the group that the act names.
+// Returns the trigger that an act at a time (ns) sets, or `None`. `slot` is the slot of the group
+// that the act names.
 #[inline(always)]
 fn trigger_by(at: Ns, act: &Act, slot: Slot) -> Option<TriggerSpec>
     ensures { (groups : List GroupLife) → slot ≡ named_slot groups act.now →
@@ -49,8 +50,8 @@ fn trigger_by(at: Ns, act: &Act, slot: Slot) -> Option<TriggerSpec>
     }
 }
 
-// The memory sample of a group or the host, or the preference, that an act reports. `slot` is the
-// slot of the group that the act names.
+// Returns the memory sample of a group or of the host, or the preference, that an act at a time
+// (ns) reports, or `None`. `slot` is the slot of the group that the act names.
 #[inline(always)]
 fn sample_by(at: Ns, act: &Act, slot: Slot) -> Option<Side>
     requires { ActFits act.now }
@@ -94,8 +95,8 @@ fn group_of(task: Option<Task>) -> Option<Slot>
     task.map(|task| task.slot)
 }
 
-// The sides of a task that is in group `old` and then in group `new`: it leaves the one and joins
-// the other, unless they are the same.
+// Returns the sides of a task that is in group `old` and then in group `new`: it leaves `old` and
+// joins `new`, unless they are the same group.
 fn passage(at: Ns, old: Option<Slot>, new: Option<Slot>) -> (Option<Side>, Option<Side>)
     ensures sides { listed result.0 ++ listed result.1 ≡ passage at old new }
     ensures first { IfSome result.0 (λ side. IsSmall side.what) }
@@ -114,8 +115,8 @@ fn passage(at: Ns, old: Option<Slot>, new: Option<Slot>) -> (Option<Side>, Optio
     }
 }
 
-// The sides of an event in order, at most two. `task` is the task of its act, before the act, and
-// `slot` is the slot of the group that the act names.
+// Returns the sides of an event in order, at most two. `task` is the task that its act changes,
+// before the act, and `slot` is the slot of the group that the act names.
 #[inline(always)]
 fn sides_by(event: &Event, task: Option<Task>, slot: Slot) -> (Option<Side>, Option<Side>)
     requires { ActFits event.now.act }
@@ -133,13 +134,13 @@ fn sides_by(event: &Event, task: Option<Task>, slot: Slot) -> (Option<Side>, Opt
             Some(old) => passage(event.at, Some(old), Some(slot)),
             None => (None, None),
         },
-        // With other acts a task stays in its group.
+        // All other acts leave each task in its group.
         act => (sample_by(event.at, act, slot), None),
     }
 }
 
-/// The trigger and the sides of an event. `task` is the task of its act, before the act, and `slot`
-/// is the slot of the group that the act names.
+/// Returns the trigger and the sides of an event. `task` is the task that its act changes, before
+/// the act, and `slot` is the slot of the group that the act names.
 #[inline(always)]
 pub(crate) fn known_by(event: &Event, task: Option<Task>, slot: Slot) -> SideValues
     requires { ActFits event.now.act }
