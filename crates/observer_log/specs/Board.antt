@@ -1,4 +1,4 @@
--- The tick board: what its passes know, and the invariant between any two steps.
+-- The tick board: what the holders of passes know of it, and the invariant between any two steps.
 use Rattle.std.specs.Prelude.{◌≡◌, ℕ, ◌+◌, ◌-◌, ◌<◌, ◌≤◌, max, List, [], ◌∷◌, ◌++◌, length, slice_get, Option, Some}
 use mathlib.Core.Option.{some}
 use lib.ListN.{get_elem?}
@@ -12,9 +12,9 @@ use Rattle.observer_log.specs.declared.board.Watching.{Watching}
 use Rattle.observer_log.specs.declared.board.View.{View}
 use Rattle.observer_log.specs.declared.board.View.TheVariants.{Spent, Shown, Seen, Driver, Observer}
 
--- ---- states
+-- ---- states on the board
 
--- the three words of a state
+-- a state as three words
 abbrev pub words_of : BoardState → List ℕ
 words_of state = state.tick ∷ state.events ∷ state.kills ∷ []
 
@@ -22,62 +22,63 @@ words_of state = state.tick ∷ state.events ∷ state.kills ∷ []
 abbrev pub first_state : BoardState
 first_state = record { tick = 0; events = 0; kills = 0 }
 
--- a state is the published state of its tick
+-- The state is the published state of its tick.
 abbrev pub IsPublished : List BoardState → BoardState → Type 0
 IsPublished states state = slice_get states state.tick ≡ Some state
 
--- all states in a list are published ones
+-- Each state in the list is a published one.
 abbrev pub ArePublished : List BoardState → List BoardState → Type 0
 ArePublished states [] = Unit {0}
 ArePublished states (state ∷ more) = IsPublished states state × ArePublished states more
 
--- a state is the last published one
+-- The state is the last published one.
 abbrev pub IsLast : List BoardState → BoardState → Type 0
 IsLast states state = slice_get states (length states - 1) ≡ Some state
 
--- a list has another as a prefix
+-- `prefix` is a prefix of `states`.
 abbrev pub Begins : List BoardState → List BoardState → Type 0
 Begins states prefix = (rest : List BoardState) × (states ≡ prefix ++ rest)
 
--- ---- what a pass knows
+-- ---- what the holder of a pass knows
 
--- an observer that was notified of these states, and has read nothing
+-- the knowledge of a new observer, who was notified of `states` and has read nothing
 abbrev pub newcomer : List BoardState → Watching
 newcomer states = record { least = length states - 1; read = [] }
 
--- an observer after it read a state
+-- the observer's knowledge after it read `state`
 abbrev pub after_read : BoardState → Watching → Watching
 after_read state watching = record { least = state.tick; read = state ∷ watching.read }
 
--- an observer after it was notified of these states
+-- the observer's knowledge after it was notified of `states`
 abbrev pub after_known : List BoardState → Watching → Watching
 after_known states watching = record { least = max watching.least (length states - 1); read = watching.read }
 
--- the driver's view of a new board
+-- the driver's view of a new board: the first state is published
 abbrev pub first_view : View
 first_view = Driver (record { states = first_state ∷ []; heard = [] })
 
--- the view of a new observer, from the driver's
+-- the view of a new observer that the driver with this view admits
 abbrev pub admitted : View → View
 admitted (Driver driver) = Observer (newcomer driver.states)
 admitted view = Spent
 
--- the note of a view
+-- the note that a pass with this view creates: the driver's has the published states, an observer's
+-- the states that it read
 abbrev pub note_of : View → View
 note_of (Driver driver) = Shown driver.states
 note_of (Observer watching) = Seen watching.read
 note_of view = Spent
 
--- a view that takes a note
+-- the view of a pass after it took a note
 abbrev pub with_note : View → View → View
 with_note (Driver driver) (Seen read) = Driver (record { states = driver.states; heard = read })
 with_note (Observer watching) (Shown states) = Observer (after_known states watching)
 with_note view note = view
 
--- ---- the rule
+-- ---- the invariant
 
--- What a pass knows of the board, if the driver's pass has number `seat` and published these
--- states.
+-- What the view of the pass `other` says of a board whose driver's pass has the number `seat` and
+-- has published `states`.
 abbrev pub Knows : ℕ → List BoardState → ℕ → View → Type 0
 Knows seat states other Spent = Unit {0}
 Knows seat states other (Shown shown) = Begins states shown
@@ -85,56 +86,57 @@ Knows seat states other (Seen read) = ArePublished states read
 Knows seat states other (Driver driver) = (other ≡ seat) × (driver.states ≡ states) × ArePublished states driver.heard
 Knows seat states other (Observer watching) = (watching.least < length states) × ArePublished states watching.read
 
--- A board with this driver: the driver's view is at its number, the board shows the last published
--- state, under its tick, and each pass knows of the board what its view says.
+-- A board whose driver's pass has the number `seat`: the driver's view is at this number, the board
+-- shows the last published state, the tick of this state is its index among the published states,
+-- and the view of each pass is right.
 pub record IsBoard (seat : ℕ) (driver : Publishing) (value : BoardState) (views : List View) : Type 0 where
   pub here : get_elem? views seat ≡ some (Driver driver)
   pub last : length driver.states ≡ value.tick + 1
   pub shown : IsPublished driver.states value
   pub each : (other : ℕ) (view : View) → get_elem? views other ≡ some view → Knows seat driver.states other view
 
--- The invariant: it is a board with some driver.
+-- The invariant: the board has a driver, at some number.
 abbrev pub HoldsBoard : BoardState → List View → Type 0
 HoldsBoard value views = (seat : ℕ) × (driver : Publishing) × IsBoard seat driver value views
 
 -- ---- the steps
 
--- the driver published one more state
+-- The driver published one more state.
 abbrev pub HasPublished : View → BoardState → BoardState → View → Type 0
 HasPublished before old new after =
     (driver : Publishing) → before ≡ Driver driver → after ≡ Driver (record { states = driver.states ++ new ∷ []; heard = driver.heard })
 
--- an observer read a state, whose tick is at least the observer's `least`
+-- An observer read a state, whose tick is at least the observer's `least`.
 abbrev pub HasRead : View → BoardState → BoardState → View → Type 0
 HasRead before old new after =
     (watching : Watching) → before ≡ Observer watching → (after ≡ Observer (after_read new watching)) × (watching.least ≤ new.tick)
 
--- the states that observers reported to the driver are published ones
+-- The states that an observer reported to the driver are published ones.
 abbrev pub HasCompared : View → BoardState → BoardState → View → Type 0
 HasCompared before old new after =
     (driver : Publishing) → before ≡ Driver driver → (after ≡ before) × ArePublished driver.states driver.heard
 
--- ---- the ends
+-- ---- the passes as callers see them
 
 abbrev pub BoardSeat : Type 0
 BoardSeat = Seat BoardState (Doing BoardState View)
 
--- a driver's pass: its board, and the states published there
+-- The driver's pass: its board, and the states published on it.
 pub record DriverEnd : Type 0 where
   pub board : TableId
   pub states : List BoardState
 
--- an observer's pass: its board, and what the observer knows
+-- An observer's pass: its board, and what the observer knows.
 pub record BoardEnd : Type 0 where
   pub board : TableId
   pub knows : Watching
 
--- a view as the driver's; any other view gives a driver that published nothing
+-- the view as the driver's; for any other kind of view, a driver that has published nothing
 abbrev pub as_driver : View → Publishing
 as_driver (Driver driver) = driver
 as_driver view = record { states = []; heard = [] }
 
--- a view as an observer's; any other view gives an observer that knows nothing
+-- the view as an observer's; for any other kind of view, an observer that knows nothing
 abbrev pub as_observer : View → Watching
 as_observer (Observer watching) = watching
 as_observer view = newcomer []
@@ -153,8 +155,8 @@ IsObserver seat = cell_view seat ≡ Observer (as_observer (cell_view seat))
 
 -- ---- a law
 
--- An observer that was notified of all published states, then read a state, and whose reads are all
--- published ones, has read the last state.
+-- An observer that was notified of all published states, and then read a state, has read the last
+-- published state, if each state that it has read is a published one.
 abbrev pub LastReadIsLast : Type 0
 LastReadIsLast = (states : List BoardState) (state : BoardState) (before : Watching) → (after_known states before).least ≤ state.tick →
     ArePublished states (after_read state (after_known states before)).read → IsLast states state

@@ -1,5 +1,5 @@
--- Entries, and the lists in which observers keep their own. By its type an entry is a correct
--- sample of its plan.
+-- Entries, and the observers' own lists of entries. By its type an entry is a correct sample of the
+-- plan that it names.
 use Rattle.std.specs.Prelude.{◌≡◌, ℕ, Bool, ◌&&◌, nat_eq, List, [], ◌∷◌, map, filter, slice_index_or}
 use Rattle.observer_log.specs.declared.entry.Entry.{Entry}
 
@@ -16,33 +16,33 @@ abbrev pub entry_content : Entry → EntryContent
 entry_content entry =
     record { observer = entry.observer; cpu = entry.cpu.0; slot = entry.slot.0; count = entry.count; at = entry.at; seven = entry.seven }
 
--- the entry is an observer's
+-- whether the entry is of this observer
 abbrev pub is_by : ℕ → Entry → Bool
 is_by observer entry = nat_eq entry.observer observer
 
--- the entry is an observer's, for a processor
+-- whether the entry is of this observer and this processor
 abbrev pub is_of : ℕ → ℕ → Entry → Bool
 is_of observer cpu entry = nat_eq entry.observer observer && nat_eq entry.cpu.0 cpu
 
--- an observer's entries
+-- the entries of this observer, in order
 abbrev pub by : ℕ → List Entry → List Entry
 by observer entries = filter (is_by observer) entries
 
--- the counts of an observer's entries for a processor
+-- the numbers of changes in the entries of this observer and this processor, in order
 abbrev pub counts_of : ℕ → ℕ → List Entry → List ℕ
 counts_of observer cpu entries = map (λ (entry : Entry). entry.count) (filter (is_of observer cpu) entries)
 
--- ---- lists of their own
+-- ---- the observers' own lists
 
--- the list of an observer, by its number; an observer without a list has no entry
+-- the list of an observer; empty if the observer has no list
 abbrev pub list_of : List (List Entry) → ℕ → List Entry
 list_of lists observer = slice_index_or lists observer []
 
--- all entries are an observer's
+-- All entries are of this observer.
 abbrev pub AreBy : ℕ → List Entry → Type 0
 AreBy observer [] = Unit {0}
 AreBy observer (entry ∷ entries) = (entry.observer ≡ observer) × AreBy observer entries
 
--- each list has only entries of its own observer
+-- Each list has only entries of the observer whose number is its index.
 abbrev pub AreOwn : List (List Entry) → Type 0
 AreOwn lists = (observer : ℕ) → AreBy observer (list_of lists observer)

@@ -1,61 +1,63 @@
--- The journal of all observers: its invariant, what may be added, and when it agrees with the
--- observers' own lists.
+-- The journal of all observers: its invariant, when an entry may be added, and when the journal
+-- agrees with the observers' own lists.
 use Rattle.std.specs.Prelude.{◌≡◌, ℕ, ◌<◌, ◌≤◌, List, [], ◌∷◌, ◌++◌, length, map, take, slice_index, Option, None, Some}
 use Rattle.observer_log.specs.declared.entry.Entry.{Entry}
 use Rattle.observer_log.specs.Entries.{by, counts_of, list_of, entry_content}
 
--- numbers that never decrease, all at least `low`
+-- The numbers never decrease, and all are at least `low`.
 abbrev pub RiseFrom : ℕ → List ℕ → Type 0
 RiseFrom low [] = Unit {0}
 RiseFrom low (number ∷ numbers) = (low ≤ number) × RiseFrom number numbers
 
--- The counts never decrease, for each observer and processor. That each entry has its plan's times
--- follows from its type.
+-- The invariant of a journal: for each observer and processor, the numbers of changes never
+-- decrease. By its type each entry has the times of its plan.
 abbrev pub IsGood : List Entry → Type 0
 IsGood entries = (observer cpu : ℕ) → RiseFrom 0 (counts_of observer cpu entries)
 
--- ---- what may be added
+-- ---- when an entry may be added
 
--- the last of some numbers
+-- the last number of a list; `None` if the list is empty
 abbrev pub last_of : List ℕ → Option ℕ
 last_of [] = None
 last_of (number ∷ []) = Some number
 last_of (number ∷ next ∷ numbers) = last_of (next ∷ numbers)
 
--- the last entry of an entry's observer and processor has the count `last`, which is greater than
--- the entry's
+-- The last entry of the same observer and processor as `entry` has `last` changes, which is more
+-- than `entry` has.
 abbrev pub IsBefore : List Entry → Entry → ℕ → Type 0
 IsBefore entries entry last = (last_of (counts_of entry.observer entry.cpu.0 entries) ≡ Some last) × (entry.count < last)
 
--- no such last entry has a greater count
+-- No last entry of the same observer and processor as `entry` has more changes than `entry`.
 abbrev pub IsNotBefore : List Entry → Entry → Type 0
 IsNotBefore entries entry = (last : ℕ) → last_of (counts_of entry.observer entry.cpu.0 entries) ≡ Some last → last ≤ entry.count
 
 -- ---- the order of the journal
 
--- A journal agrees with lists, one for each observer: its entries of each observer are that
--- observer's list, apart from the plan. So it has no entry of an observer without a list.
+-- A journal agrees with the observers' own lists: for each observer, the entries in the journal are
+-- those of the observer's list, apart from the plan. An observer without a list has no entries in
+-- the journal.
 abbrev pub Agrees : List Entry → List (List Entry) → Type 0
 Agrees entries lists = (observer : ℕ) → map entry_content (by observer entries) ≡ map entry_content (list_of lists observer)
 
--- list after list
+-- the entries of all lists, one list after another
 abbrev pub joined : List (List Entry) → List Entry
 joined [] = []
 joined (list ∷ lists) = list ++ joined lists
 
--- The entries of the lists in the order of a journal that agrees with them: each is the journal's
--- entry at its index, apart from the plan, and those of each observer are that observer's list.
+-- `entries` are the entries of the lists in the order of a journal that agrees with them: each
+-- entry equals the journal's entry at its index, apart from the plan, and the entries of each
+-- observer are the observer's list.
 pub record AreInOrder (journal : List Entry) (lists : List (List Entry)) (entries : List Entry) : Type 0 where
   pub agrees : Agrees journal lists
   pub places : map entry_content entries ≡ map entry_content journal
   pub own : (observer : ℕ) → by observer entries ≡ list_of lists observer
 
--- the number of entries read from an observer's list
+-- the number of entries taken from an observer's list
 abbrev pub place_of : List ℕ → ℕ → ℕ
 place_of places observer = slice_index places observer
 
--- So far entries of the lists were taken in the journal's order: from each list a prefix of the
--- length in `places`.
+-- The entries `taken` come from the lists, in the order of the journal's entries up to this point:
+-- from each list a prefix with the length in `places`.
 pub record IsTaken (journal : List Entry) (lists : List (List Entry)) (places : List ℕ) (taken : List Entry) : Type 0 where
   pub all : length places ≡ length lists
   pub same : map entry_content taken ≡ map entry_content journal

@@ -1,4 +1,4 @@
--- Watchers: the readers with which they take samples, and the entries that they keep.
+-- Watchers: the readers with which they take samples, and the entries that they store.
 use Rattle.std.specs.Prelude.{◌≡◌, ℕ, ◌+◌, ◌<◌, ◌≤◌, List, [], ◌∷◌, ◌++◌, length, slice_index_or, slice_set}
 use Rattle.plan_laws.specs.Plan.{PlanView, no_plan}
 use Rattle.proc_plan.specs.Plans.{PlansView, plan_at}
@@ -9,43 +9,43 @@ use Rattle.observer_log.specs.declared.entry.Entry.{Entry}
 
 -- ---- readers
 
--- no reader
+-- a value for a reader that doesn't exist
 abbrev pub no_reader : ReaderEnd
 no_reader = record {
   row = record { words = 0; slots = 0; views_name = 0; atom = 0; block = 0; offset = 0; slot_names = [] };
   knows = new_reader no_plan 0;
 }
 
--- the reader of a processor
+-- the reader of processor `cpu`
 abbrev pub reader_at : List ReaderEnd → ℕ → ReaderEnd
 reader_at readers cpu = slice_index_or readers cpu no_reader
 
--- the plan that the reader of a processor names
+-- the plan of the reader of processor `cpu`
 abbrev pub named_by : List ReaderEnd → ℕ → PlanView
 named_by readers cpu = (reader_at readers cpu).knows.plan
 
--- there is one reader for each processor, which names its plan
+-- There is one reader for each processor, which reads the clocks of the processor's plan.
 pub record AreReaders (plans : PlansView) (readers : List ReaderEnd) : Type 0 where
   pub many : length readers ≡ length plans.plans
   pub name : (cpu : ℕ) → cpu < length plans.plans → named_by readers cpu ≡ plan_at plans cpu
 
 -- ---- watchers
 
--- A watcher: the number of its observer, the plans of all processors, a reader of each, and its own
--- entries.
+-- A watcher: the number of its observer, the plans of all processors, the reader of each processor,
+-- and the observer's own entries.
 pub record WatcherView : Type 0 where
   pub observer : ℕ
   pub plans : PlansView
   pub readers : List ReaderEnd
   pub own : List Entry
 
--- A new watcher has no entry.
+-- a new watcher, which has no entries
 abbrev pub new_watcher : ℕ → PlansView → List ReaderEnd → WatcherView
 new_watcher observer plans readers = record { observer = observer; plans = plans; readers = readers; own = [] }
 
--- ---- looks
+-- ---- taking a sample
 
--- An observer took an entry of a slot on a processor, after at least `least` changes.
+-- An observer took the entry of `slot` on processor `cpu`, after at least `least` changes.
 pub record IsTakenBy (observer : ℕ) (plans : PlansView) (cpu slot least : ℕ) (entry : Entry) : Type 0 where
   pub observer_is : entry.observer ≡ observer
   pub plan_is : entry.plan.now ≡ plan_at plans cpu
@@ -53,8 +53,8 @@ pub record IsTakenBy (observer : ℕ) (plans : PlansView) (cpu slot least : ℕ)
   pub slot_is : entry.slot.0 ≡ slot
   pub later : least ≤ entry.count
 
--- The reader of a processor took a sample with a count, after the last one, with its own tries, at
--- most eight. The other readers did nothing.
+-- The reader of processor `cpu` took a sample after `count` changes, following a sample after
+-- `last` changes, with at most eight tries. The other readers are unchanged.
 pub record HasSampled (cpu last count : ℕ) (old new : List ReaderEnd) : Type 0 where
   pub reader : ReaderEnd
   pub are : new ≡ slice_set old cpu reader
@@ -64,8 +64,8 @@ pub record HasSampled (cpu last count : ℕ) (old new : List ReaderEnd) : Type 0
   pub tried : IsTried (count ∷ []) last (reader_at old cpu).knows reader.knows
   pub few : tries_of reader.knows ≤ tries_of (reader_at old cpu).knows + 8
 
--- A watcher looked at a slot on a processor: the processor's reader took a sample after the last
--- one, and its entry was appended to the list.
+-- A watcher took a sample of `slot` on processor `cpu` with the processor's reader, following a
+-- sample after `last` changes, and appended its entry to the list.
 pub record HasLooked (cpu slot last : ℕ) (old new : WatcherView) : Type 0 where
   pub observer_is : new.observer ≡ old.observer
   pub plans_are : new.plans ≡ old.plans

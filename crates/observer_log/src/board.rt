@@ -1,4 +1,5 @@
-//! The tick board: one driver publishes, and observers read without a lock.
+//! The tick board: the driver of a replay publishes its state at each tick, and observers read the
+//! latest state without a lock.
 ghost use Rattle.std.specs.Prelude.{◌≡◌, ◌≤◌, [], ◌∷◌, ◌++◌, length, IfOk, IsOk, Ok};
 ghost use Rattle.observer_log.specs.Board.{ArePublished, after_read, after_known, first_state, newcomer};
 
@@ -10,14 +11,14 @@ use std::alloc::Global;
 use std::marker::Model;
 use std::sync::Wait;
 
-/// The driver's state at a tick.
+/// The state of the replay at a tick.
 #[derive(Clone, Copy, Debug, PartialEq, Eq)]
 pub struct BoardState {
     /// The number of the tick, from 1; 0 before the first.
     pub tick: u64,
-    /// The number of events up to it.
+    /// The number of events up to the tick.
     pub events: u64,
-    /// The number of kills up to it.
+    /// The number of kills up to the tick.
     pub kills: u64,
 }
 
@@ -39,37 +40,40 @@ impl Words<3> for BoardState {
     }
 }
 
-/// What the driver knows. A contract reads the arrays as lists of any length.
+/// What the driver knows. Contracts read an array of length 0 as a list of any length.
 pub struct Publishing {
-    /// All published states, ordered by tick, including the first.
+    /// All published states, ordered by tick, including the state before the first tick.
     pub states: [BoardState; 0],
-    /// The states that an observer reported last.
+    /// The states that the observer whom the driver notified last has read.
     pub heard: [BoardState; 0],
 }
 
-/// What an observer knows. A contract reads the array as a list of any length.
+/// What an observer knows. Contracts read an array of length 0 as a list of any length.
 pub struct Watching {
-    /// The greatest tick that it saw or was notified of.
+    /// The tick that the observer's next read reaches at least: the latest that it read or was
+    /// notified of.
     pub least: u64,
-    /// The states that it read, the last first.
+    /// The states that the observer has read, the last first.
     pub read: [BoardState; 0],
 }
 
-/// What a pass of the board knows.
+/// What the holder of a pass knows of the board. A *note* is a message that one pass creates and
+/// another takes.
 pub enum View {
-    /// Nothing: its note was taken.
+    /// Nothing: the pass was a note that was taken.
     Spent,
-    /// A note of the driver's: the states published so far.
+    /// A note of the driver: the states published before the note was created.
     Shown([BoardState; 0]),
-    /// A note of an observer's: the states that it read.
+    /// A note of an observer: the states that it has read.
     Seen([BoardState; 0]),
-    /// The driver's view.
+    /// The driver's knowledge.
     Driver(Publishing),
-    /// An observer's view.
+    /// An observer's knowledge.
     Observer(Watching),
 }
 
-/// The invariant of the board.
+/// The invariant of the board: how the state on it and the views of all passes are related between
+/// any two steps.
 pub struct BoardRule;
 
 impl Protocol<BoardState, View> for BoardRule {
@@ -80,7 +84,7 @@ impl Protocol<BoardState, View> for BoardRule {
     ghost first = { first_view };
 }
 
-// 1, a swap: the driver puts a state on the board.
+// Step 1, a swap: the driver puts a new state on the board.
 struct Publishes;
 
 impl Outcome<BoardState, View> for Publishes {
@@ -89,7 +93,7 @@ impl Outcome<BoardState, View> for Publishes {
     ghost then = { HasPublished };
 }
 
-// 2, a load: an observer reads.
+// Step 2, a load: an observer reads the board.
 struct Reads;
 
 impl Outcome<BoardState, View> for Reads {
@@ -98,7 +102,8 @@ impl Outcome<BoardState, View> for Reads {
     ghost then = { HasRead };
 }
 
-// 2, a load: the driver compares what observers reported with what it published.
+// Step 2, a load: the driver compares the states that an observer reported with the published
+// states.
 struct Compares;
 
 impl Outcome<BoardState, View> for Compares {
@@ -107,7 +112,7 @@ impl Outcome<BoardState, View> for Compares {
     ghost then = { HasCompared };
 }
 
-// 3, a split: the driver creates a new observer's pass.
+// Step 3, a split: the driver creates the pass of a new observer.
 struct Admits;
 
 impl Split<View> for Admits {
@@ -118,7 +123,8 @@ impl Split<View> for Admits {
     ghost right = { admitted };
 }
 
-// 3 and 4, a split and a join: one pass creates a note of what it knows, and the other takes it.
+// Steps 3 and 4, a split and a join: a pass creates a note of what it knows, and another pass takes
+// the note.
 struct Shows;
 
 impl Split<View> for Shows {
@@ -142,7 +148,7 @@ type Cell = RuledSeqCell<BoardState, View, BoardRule, 3>;
 
 type Seat = Pass<BoardState, View>;
 
-/// The board. Contracts see its identity.
+/// The tick board, which threads share. Contracts see its identity.
 #[derive(Drop)]
 pub struct Board {
     cell: Cell,
@@ -156,7 +162,8 @@ impl Model for Board {
     ghost view = { λ board. board.cell.table.shared.table_id };
 }
 
-/// The driver's pass of a board. Contracts see its board, and the states that were published on it.
+/// The driver's pass: the right to publish on a board. Contracts see the board, and the states
+/// published on it.
 #[derive(Drop)]
 pub struct DriverPass {
     seat: Seat,
@@ -172,8 +179,8 @@ impl Model for DriverPass {
     ghost invariant = { λ pass. IsDriver pass.seat };
 }
 
-/// An observer's pass of a board. It may be sent to another thread. Contracts see its board, and
-/// what the observer knows.
+/// An observer's pass: the right to read a board. It may be sent to another thread. Contracts see
+/// the board, and what the observer knows.
 #[derive(Drop)]
 pub struct BoardPass {
     seat: Seat,
@@ -190,7 +197,7 @@ impl Model for BoardPass {
 }
 
 impl Board {
-    /// A new board at tick 0, and its driver's pass.
+    /// Creates a board at tick 0, and the driver's pass. `NoMemory` if memory runs out.
     pub fn make(alloc: Global) -> Result<(Board, DriverPass), NoMemory>
         ensures board { IfOk result (λ made. made.1.board ≡ made.0) }
         ensures first { IfOk result (λ made. made.1.states ≡ first_state ∷ []) }
@@ -204,7 +211,7 @@ impl Board {
         Ok((Board { cell }, DriverPass { seat }))
     }
 
-    /// Publishes the state of the next tick.
+    /// Publishes the state of the next tick, so that observers read it from now on.
     pub fn publish<R: Wait>(&self, rt: &R, pass: &mut DriverPass, state: BoardState)
         requires board { pass.old.board ≡ self.now }
         requires next { state.tick ≡ length pass.old.states }
@@ -214,8 +221,8 @@ impl Board {
         self.cell.swap_as::<Publishes, R>(rt, &mut pass.seat, state);
     }
 
-    /// A pass for a new observer, who has been notified of what was published so far, and has read
-    /// nothing.
+    /// Creates a pass for a new observer, who has read nothing, and whose first read returns at
+    /// least the latest tick published.
     pub fn pass<R: Wait>(&self, _rt: &R, driver: &mut DriverPass) -> Result<BoardPass, NoMemory>
         requires board { driver.old.board ≡ self.now }
         ensures ok { IsOk result }
@@ -228,8 +235,8 @@ impl Board {
         })
     }
 
-    /// Reads the state on the board: its tick is at least every tick that the pass saw or was
-    /// notified of.
+    /// Reads the state on the board. Its tick is at least the latest tick that the observer read or
+    /// was notified of.
     pub fn read<R: Wait>(&self, rt: &R, pass: &mut BoardPass) -> BoardState
         requires board { pass.old.board ≡ self.now }
         ensures board { pass.new.board ≡ pass.old.board }
@@ -239,8 +246,9 @@ impl Board {
         self.cell.load_as::<Reads, R>(rt, &mut pass.seat)
     }
 
-    /// Notifies a pass of all published states, and checks what it has read: each such state is the
-    /// published state of its tick. Always returns Ok.
+    /// Notifies an observer of all published states, so that its later reads return at least the
+    /// latest tick. Each state that the observer has read is the published state of its tick.
+    /// Always returns `Ok`.
     pub fn notify<R: Wait>(
         &self,
         rt: &R,

@@ -1,4 +1,4 @@
-//! An entry of the journal: a sample of a slot on a processor, with its times.
+//! An entry of the journal: one sample that an observer took of a group on a processor.
 ghost use Rattle.std.specs.Prelude.{◌≡◌, ◌≤◌, length};
 ghost use Rattle.plan_laws.specs.Plan.{IsClock, last_change, planned};
 
@@ -6,20 +6,20 @@ use clock_row::Sample;
 use proc_plan::Plan;
 use psi_base::{Cpu, Ns, Slot};
 
-/// A sample that an observer took: the times of a slot on a processor after `count` changes of its
-/// plan, at the time of the last of them. The type ensures this: an entry with other numbers can't
-/// be created.
+/// A sample that an observer took: the times of the group in `slot` on a processor after `count`
+/// changes of its plan, at the time of the last of these changes. The type ensures this: an entry
+/// with other numbers can't be created.
 #[derive(Clone, Copy)]
 pub struct Entry<'a> {
     /// The number of the observer, from 0.
     pub observer: u32,
-    /// The changes of the processor.
+    /// The plan of the processor.
     pub plan: &'a Plan,
     pub cpu: Cpu,
     pub slot: Slot,
-    /// The number of changes included: at most those of the plan.
+    /// The number of changes that the sample includes: at most all changes of the plan.
     pub count: u64,
-    /// The time (ns) of the last of these changes, and 0 if there is none.
+    /// The time (ns) of the last of these changes, or 0 if there is none.
     pub at: Ns,
     /// The time (ns) that the group was in each state, ordered by state.
     pub seven: [u64; 7],
@@ -28,7 +28,7 @@ pub struct Entry<'a> {
     pub ghost times: { seven ≡ planned plan.now slot.0 count at },
 }
 
-// The time (ns) of change `count`, numbered from 1, and 0 for 0.
+// Returns the time (ns) of change `count`, numbered from 1, or 0 for 0.
 fn moment_of(plan: &Plan, count: u64) -> Ns
     requires { count ≤ length plan.now.changes }
     ensures { result ≡ last_change plan.now count }
@@ -40,7 +40,8 @@ fn moment_of(plan: &Plan, count: u64) -> Ns
 }
 
 impl<'a> Entry<'a> {
-    /// The entry of a sample, which must be the slot's clock after that many changes of the plan.
+    /// Returns the entry of a sample. Precondition: `sample` is the clock of `slot` after the
+    /// sample's number of changes of the plan.
     pub fn take(observer: u32, plan: &'a Plan, cpu: Cpu, slot: Slot, sample: &Sample) -> Entry<'a>
         requires { IsClock sample.now.clock plan.now slot.0 sample.now.count }
         ensures observer { result.observer ≡ observer }
@@ -49,7 +50,7 @@ impl<'a> Entry<'a> {
         ensures slot { result.slot ≡ slot }
         ensures count { result.count ≡ sample.now.count }
     {
-        // The contract of `len` says that the plan is well-formed.
+        // The contract of `len` says that the plan is well-formed, which the reads below require.
         plan.len();
         let at = moment_of(plan, sample.count);
         Entry {

@@ -1,4 +1,4 @@
-//! The journal of all observers. A lock protects it.
+//! The journal: the entries of all observers. The caller protects it by a lock.
 ghost use Rattle.std.specs.Prelude.{◌≡◌, ◌↔◌, ◌+◌, ◌<◌, [], ◌∷◌, ◌++◌, ℕ, length, IfErr, IfOk, Err, Ok, None, Some};
 ghost use Rattle.observer_log.specs.Entries.{AreOwn, by, counts_of, list_of};
 ghost use Rattle.observer_log.specs.Journal.{Agrees, AreInOrder, IsBefore, IsGood, IsNotBefore, joined, last_of};
@@ -12,15 +12,16 @@ use std::alloc::Global;
 use std::marker::Model;
 use std::sync::ledger::{Book, Ledger, Share};
 
-/// An entry wasn't added to a journal: the last entry of its observer and processor has a greater
-/// count. The field is private, so only a journal that rejected an entry creates one.
+/// The reason why an entry wasn't added to a journal: the last entry of the same observer and
+/// processor has a greater number of changes. The field is private, so only a journal that rejected
+/// an entry creates this value.
 #[derive(Clone, Copy, Debug, PartialEq, Eq)]
 pub struct Fall {
     last: u64,
 }
 
 impl Fall {
-    /// The greater count.
+    /// Returns the greater number of changes, that of the last entry.
     pub fn last(self) -> u64
         ensures { result ≡ self.last }
     {
@@ -28,7 +29,7 @@ impl Fall {
     }
 }
 
-/// Why an entry wasn't added to the journal.
+/// The reason why an entry wasn't added to the journal.
 #[derive(Clone, Copy, Debug, PartialEq, Eq)]
 pub enum AddFault {
     Falls(Fall),
@@ -41,9 +42,9 @@ impl From<NoMemory> for AddFault {
     }
 }
 
-/// The entries of all observers, in the order in which they were added, with a ledger of their
-/// number. By its type each entry is correct, and for each observer and processor the counts never
-/// decrease. Contracts see the list.
+/// The entries of all observers, in the order in which they were added, with a ledger that counts
+/// them. By its type each entry is correct, and for each observer and processor the numbers of
+/// changes never decrease. Contracts see the list.
 #[derive(Drop)]
 pub struct Journal<'a, L: Ledger> {
     entries: Vec<Entry<'a>>,
@@ -63,7 +64,8 @@ impl<'a, L: Ledger> Model for Journal<'a, L> {
         × (vec_len journal.entries ≡ journal.book.total) };
 }
 
-// The count of the last entry of an observer and a processor.
+// Returns the number of changes in the last entry of an observer and a processor, or `None` if
+// there is no such entry.
 fn last_count(entries: &[Entry<'_>], observer: u32, cpu: Cpu) -> Option<u64>
     ensures { result ≡ last_of (counts_of observer cpu.0 entries.now) }
 {
@@ -78,8 +80,8 @@ fn last_count(entries: &[Entry<'_>], observer: u32, cpu: Cpu) -> Option<u64>
     None
 }
 
-// The count of the last entry of an entry's observer and processor, if it is greater than the
-// entry's.
+// Returns the number of changes in the last entry of the same observer and processor as `entry`, if
+// it is greater than the number in `entry`, otherwise `None`.
 fn greater_last(entries: &[Entry<'_>], entry: &Entry<'_>) -> Option<u64>
     ensures falls { (last : ℕ) →
         (result ≡ Some last) ↔ IsBefore entries.now entry.now last }
@@ -93,7 +95,7 @@ fn greater_last(entries: &[Entry<'_>], entry: &Entry<'_>) -> Option<u64>
 }
 
 impl<'a, L: Ledger> Journal<'a, L> {
-    /// An empty journal, whose entries the ledger counts. Does not allocate.
+    /// Creates an empty journal, whose entries the ledger `book` counts. Does not allocate.
     pub fn make(alloc: Global, book: Book<L>) -> Journal<'a, L>
         requires { book.total ≡ 0 }
         ensures { result ≡ [] }
@@ -104,9 +106,9 @@ impl<'a, L: Ledger> Journal<'a, L> {
         }
     }
 
-    /// Appends an entry, and adds one to the caller's share. Returns `Falls` if and only if the
-    /// last entry of its observer and processor has a greater count. After an error nothing has
-    /// changed.
+    /// Appends an entry, and adds one to the caller's share. Fails with `Falls` exactly if the last
+    /// entry of the same observer and processor has a greater number of changes. Nothing changes if
+    /// it fails.
     pub fn add(&mut self, entry: Entry<'a>, share: &mut Share<L>) -> Result<(), AddFault>
         requires { 0 < share.old.parts }
         ensures added { IfOk result (λ _. self.new ≡ self.old ++ entry.entry ∷ []) }
@@ -129,8 +131,8 @@ impl<'a, L: Ledger> Journal<'a, L> {
         }
     }
 
-    /// The entries, in the order in which they were added. For each observer and processor the
-    /// counts never decrease.
+    /// Returns the entries, in the order in which they were added. For each observer and processor
+    /// the numbers of changes never decrease.
     pub fn entries(&self) -> &[Entry<'a>]
         ensures entries { result.now ≡ self.now }
         ensures good { IsGood self.now }
@@ -138,8 +140,9 @@ impl<'a, L: Ledger> Journal<'a, L> {
         &self.entries
     }
 
-    /// The entries of the observers' own lists: in the journal's order if it agrees with them,
-    /// otherwise list after list. The list at index `i` is that of observer `i`.
+    /// Returns the entries of the observers' own lists: in the journal's order if the journal
+    /// agrees with the lists, otherwise one list after another. `own` has the list of observer `i`
+    /// at index `i`.
     pub fn order(&self, own: &[Own<'a>]) -> Result<Vec<Entry<'a>>, NoMemory>
         requires { AreOwn own.now }
         ensures agrees { Agrees self.now own.now →
@@ -156,8 +159,8 @@ impl<'a, L: Ledger> Journal<'a, L> {
         }
     }
 
-    /// Shows the holder of all shares, by contract, that the number of entries is the number added
-    /// with these shares.
+    /// Shows by contract that the number of entries is the number added with all shares of the
+    /// ledger. Precondition: `all` has all shares.
     pub fn audit(&mut self, all: &mut Share<L>)
         requires { all.old.parts ≡ L.parts }
         ensures same { self.new ≡ self.old }

@@ -1,12 +1,12 @@
-//! Observers of a replay: a journal under a lock to which they add what they saw, the watchers with
-//! which they sample, and a board of ticks that they read without a lock.
+//! Observers of a replay: watchers that take samples, a journal of what they saw (protected by a
+//! lock), and a board of ticks that they read without a lock.
 //!
-//! An observer takes samples with a [`Watcher`], which keeps an [`Entry`] of each in a list of its
-//! own ([`Own`]), and adds them to the [`Journal`]. Once all observers have ended,
-//! [`Journal::order`] puts the entries of their own lists into the journal's order. The driver of
-//! the replay publishes each tick on the [`Board`].
+//! An observer takes samples with a [`Watcher`], which stores an [`Entry`] of each in the
+//! observer's own list ([`Own`]), and adds the entries to the [`Journal`], which all observers
+//! share. When all observers have ended, [`Journal::order`] puts the entries of their own lists
+//! into the journal's order. The driver of the replay publishes each tick on the [`Board`].
 //!
-//! It starts no threads: observe_core does.
+//! The crate starts no threads: observe_core does.
 #![tactic(auto)]
 
 mod board;

@@ -1,4 +1,4 @@
-//! The entries of the observers' own lists, in the order of the journal if it agrees with them.
+//! Merges the entries of the observers' own lists into the order of the journal.
 ghost use Rattle.std.specs.Prelude.{◌≡◌, ◌↔◌, ℕ, true, IfOk, None, Ok, Some};
 ghost use Rattle.observer_log.specs.Entries.{AreOwn, by, list_of, entry_content};
 ghost use Rattle.observer_log.specs.Journal.{Agrees, AreInOrder, joined};
@@ -8,7 +8,7 @@ use crate::own::Own;
 use psi_base::NoMemory;
 use std::alloc::Global;
 
-// Whether two entries are the same, apart from the plan.
+// Whether two entries are equal, apart from the plan.
 fn say_same(one: &Entry<'_>, other: &Entry<'_>) -> bool
     ensures { (result ≡ true) ↔ (entry_content one.now ≡ entry_content other.now) }
 {
@@ -20,8 +20,8 @@ fn say_same(one: &Entry<'_>, other: &Entry<'_>) -> bool
         && one.seven == other.seven
 }
 
-/// The entries of the lists in the order of the journal, each in place of the journal's own. `None`
-/// if the two don't agree.
+/// Returns the entries of the lists in the order of the journal. The entries of the result come
+/// from the lists, not from the journal. `None` if the journal doesn't agree with the lists.
 pub(crate) fn in_order<'a>(
     alloc: Global,
     journal: &[Entry<'_>],
@@ -59,7 +59,7 @@ pub(crate) fn in_order<'a>(
     Ok(Some(taken))
 }
 
-/// The entries of the lists, list after list.
+/// Returns the entries of all lists, one list after another.
 pub(crate) fn joined<'a>(alloc: Global, own: &[Own<'a>]) -> Result<Vec<Entry<'a>>, NoMemory>
     requires { AreOwn own.now }
     ensures joined { IfOk result (λ entries. entries.items ≡ joined own.now) }

@@ -1,4 +1,4 @@
-//! The list in which an observer keeps its own entries.
+//! An observer's own list of entries, which it stores besides the shared journal.
 ghost use Rattle.std.specs.Prelude.{◌≡◌, []};
 
 use crate::entry::Entry;
@@ -21,7 +21,7 @@ impl<'a> Model for Own<'a> {
 }
 
 impl<'a> Own<'a> {
-    /// An empty list. Does not allocate.
+    /// Returns an empty list. Does not allocate.
     pub(crate) fn new(alloc: Global) -> Own<'a>
         ensures { result ≡ [] }
     {
@@ -30,7 +30,7 @@ impl<'a> Own<'a> {
         }
     }
 
-    /// The entries.
+    /// Returns the entries, in the order in which the observer took them.
     pub fn entries(&self) -> &[Entry<'a>]
         ensures { result.now ≡ self.now }
     {

@@ -1,4 +1,4 @@
-//! A watcher, which takes samples for one observer.
+//! A watcher: it takes samples for one observer and stores their entries.
 ghost use Rattle.std.specs.Prelude.{◌≡◌, ◌<◌, length, IfErr, IfOk};
 ghost use Rattle.std.specs.Borrow.{sem};
 ghost use Rattle.plan_laws.specs.Plan.{IsClock};
@@ -15,14 +15,14 @@ use psi_base::{Cpu, NoMemory, Slot};
 use std::alloc::Global;
 use std::marker::Model;
 
-/// Takes samples of all processors for one observer, with a reader for each, and keeps the entries.
-/// It may be sent to another thread. Contracts see the observer, the plans, what the readers know,
-/// and the entries.
+/// Takes samples on all processors for one observer, with a reader for each processor, and stores
+/// their entries. A watcher may be sent to another thread. Contracts see the observer, the plans,
+/// what the readers know, and the entries.
 #[derive(Drop)]
 pub struct Watcher<'a> {
     observer: u32,
     plans: &'a Plans,
-    /// By processor.
+    /// The reader of each processor.
     readers: Vec<ClockReader>,
     own: Own<'a>,
 }
@@ -43,7 +43,7 @@ impl<'a> Model for Watcher<'a> {
     ghost invariant = { λ w. length w.readers.items ≡ length w.plans.now.plans };
 }
 
-// Calls the gate and takes one sample, as an entry.
+// Calls the gate (a hook for tests), takes one sample, and returns it as an entry.
 fn take_one<'a, G: Gate>(
     observer: u32,
     plans: &'a Plans,
@@ -70,8 +70,8 @@ fn take_one<'a, G: Gate>(
 }
 
 impl<'a> Watcher<'a> {
-    /// A watcher with no entry. `readers` has one reader for each processor, in order. Does not
-    /// allocate.
+    /// Creates a watcher without entries. `readers` has one reader for each processor, in order.
+    /// Does not allocate.
     pub fn make(
         alloc: Global,
         observer: u32,
@@ -89,10 +89,10 @@ impl<'a> Watcher<'a> {
         }
     }
 
-    /// Takes one sample of a slot on a processor, after at least as many changes as `last`, the
-    /// previous one, and appends its entry to the list. Calls the gate before that, with the number
-    /// of the observer. If out of memory, it returns before it calls the gate, and nothing has
-    /// changed.
+    /// Takes one sample of `slot` on a processor, after at least as many changes as `last`, the
+    /// previous sample of the slot, and appends its entry to the list. Calls the gate (a hook for
+    /// tests) with the number of the observer before it takes the sample. If memory runs out, the
+    /// function fails before it calls the gate, and nothing has changed.
     pub fn look<G: Gate>(
         &mut self,
         cpu: Cpu,
@@ -126,8 +126,8 @@ impl<'a> Watcher<'a> {
         Ok(())
     }
 
-    /// The reader of a processor, which the writer of its row may meet and settle with. The list
-    /// doesn't change.
+    /// Lends the reader of a processor, with which the writer of its row may meet and settle. The
+    /// list of entries doesn't change.
     pub fn reader(&mut self, cpu: Cpu) -> &mut ClockReader
         requires { cpu.0 < length self.old.plans.plans }
         ensures* writes_back { sem 𝓛 (LendsReader self.entry cpu.0 result) }
@@ -136,14 +136,14 @@ impl<'a> Watcher<'a> {
         &mut self.readers[cpu.0 as usize]
     }
 
-    /// Its list.
+    /// Returns the watcher's list of entries.
     pub fn own(&self) -> &Own<'a>
         ensures { result.now ≡ self.now.own }
     {
         &self.own
     }
 
-    /// Returns the list, and ends the watcher.
+    /// Ends the watcher, and returns its list of entries.
     pub fn into_own(self) -> Own<'a>
         ensures { result ≡ self.entry.own }
     {
