@@ -1,4 +1,5 @@
--- Sides can be read instead of the events that they come from.
+-- Laws of sides: the sides of a trace give the same memory samples, preferences and counts of tasks
+-- as its events.
 use Rattle.std.specs.Prelude.{◌≡◌, ℕ, List, [], ◌∷◌, nat_lt, ◌==◌, if◌then◌else◌}
 use Rattle.std.specs.List.{flat_map}
 use Rattle.psi_base.specs.declared.event.Event.{Event}
@@ -15,43 +16,43 @@ use Rattle.proc_plan.specs.declared.side.SideAct.TheVariants as side
 use Rattle.proc_plan.specs.Sides.{sides_of}
 use Rattle.side_watch.specs.Watch.{tasks_under}
 
--- a side's sample of the memory of the group in a slot, if it is one
+-- the memory sample of the group in `slot` that a side reports; empty if it reports none
 abbrev pub memory_in : ℕ → SideAct → List MemorySample
 memory_in slot (side.Mem of current swap scan) =
     if of.0 == slot then record { current = current; swap = swap; scan = scan } ∷ [] else []
 memory_in slot _ = []
 
--- a side's preference of this group, if it is one
+-- the preference of the group in `slot` that a side sets; empty if it sets none
 abbrev pub preference_in : ℕ → SideAct → List Preference
 preference_in slot (side.Prefer of preference) = if of.0 == slot then preference ∷ [] else []
 preference_in slot _ = []
 
--- a side's sample of the host's memory, if it is one
+-- the sample of the host's memory that a side reports; empty if it reports none
 abbrev pub host_in : SideAct → List HostReading
 host_in (side.Host mem_total swap_total swap_free) =
     record { mem_total = mem_total; swap_total = swap_total; swap_free = swap_free } ∷ []
 host_in _ = []
 
--- the values of all sides, in order
+-- the values that `shows` gives for all sides, in order
 abbrev pub known_in : {A : Type 0} → (SideAct → List A) → List Side → List A
 known_in shows sides = flat_map (λ (side : Side). shows side.what) sides
 
--- The last memory sample of a group among the sides of events is its last among the events.
+-- The last memory sample of a group in the sides of a trace is the last in its events.
 abbrev pub MemoryIsLastSide : Type 0
 MemoryIsLastSide = (events : List Event) (slot : ℕ) →
     memory_of slot events ≡ last_or no_memory_sample (known_in (memory_in slot) (sides_of events))
 
--- The same for its last preference.
+-- The last preference of a group in the sides of a trace is the last in its events.
 abbrev pub PreferenceIsLastSide : Type 0
 PreferenceIsLastSide = (events : List Event) (slot : ℕ) →
     preference_of slot events ≡ last_or Plain (known_in (preference_in slot) (sides_of events))
 
--- The same for the last sample of the host.
+-- The last sample of the host's memory in the sides of a trace is the last in its events.
 abbrev pub HostIsLastSide : Type 0
 HostIsLastSide = (events : List Event) →
     host_of events ≡ last_or no_host (known_in host_in (sides_of events))
 
--- A group is populated if and only if the number of live tasks in it or below it is greater than 0.
+-- A group is populated exactly if the number of live tasks in it or below it isn't 0.
 abbrev pub PopulatedIsCounted : Type 0
 PopulatedIsCounted = (events : List Event) (slot : ℕ) →
     is_populated (after events) slot ≡ nat_lt 0 (tasks_under (after events) slot)

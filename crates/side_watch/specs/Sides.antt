@@ -1,4 +1,4 @@
--- The state of a group and of the host after each side, in order.
+-- The state of a group and of the host after each side of a trace, in order.
 use Rattle.std.specs.Prelude.{◌≡◌, ℕ, ◌+◌, ◌-◌, ◌^◌, ◌<◌, List, [], ◌∷◌, drop, length, min}
 use Rattle.std.specs.Prelude.{nat_le, slice_index_or, ◌==◌, Bool, true, false, if◌then◌else◌}
 use Rattle.std.specs.Prelude.{Option, Some, ℤ, pos, negsuc}
@@ -15,11 +15,12 @@ use Rattle.side_watch.specs.declared.cell.GroupMemory.{GroupMemory}
 
 -- ---- a group
 
--- a memory sample as a reading's record
+-- a group's memory as the record that kill_spec uses
 abbrev pub side_sample : GroupMemory → MemorySample
 side_sample memory = record { current = memory.current; swap = memory.swap; scan = memory.scan }
 
--- a group before its first side: no memory, neither preferred nor avoided, and no task in it
+-- the state of a group before its first side: no memory, neither preferred nor avoided, and no task
+-- in it
 abbrev pub zero_side_cell : SideCell
 zero_side_cell = record {
   memory = record { current = 0; swap = 0; scan = 0 };
@@ -27,38 +28,40 @@ zero_side_cell = record {
   tasks = 0;
 }
 
--- the state of the group in a slot; a slot beyond the last has the state before the first side
+-- the state of the group in `slot`; for a slot after the list's end, the state before the first
+-- side
 abbrev pub side_cell_in : List SideCell → ℕ → SideCell
 side_cell_in cells slot = slice_index_or cells slot zero_side_cell
 
--- whether a task came; otherwise it left
+-- whether the number of tasks in a side means that a task joined; otherwise a task left
 abbrev pub is_coming : ℤ → Bool
 is_coming (pos n) = true
 is_coming (negsuc n) = false
 
--- a number of tasks after one came or left, in 32 bits
+-- the number of tasks after a task joined (at most the largest 32-bit number) or left
 abbrev pub moved : Bool → ℕ → ℕ
 moved came tasks = if came then min (tasks + 1) (2 ^ 32 - 1) else tasks - 1
 
--- a group after a task came into it or below it, or left
+-- the state of a group after a task joined it or a group below it (if `came` is true), or left
 abbrev pub counted : Bool → SideCell → SideCell
 counted came cell = record cell { tasks = moved came cell.tasks }
 
--- the group in a slot after a task came or left, if the chain of the task's group reaches the slot
+-- the state of the group in `slot` after a task joined or left the group `start`: only `start` and
+-- its ancestors count the task
 abbrev pub cell_counted : List (Option ℕ) → Option ℕ → Bool → ℕ → SideCell → SideCell
 cell_counted parents start came slot cell =
     if leads_to parents start slot then counted came cell else cell
 
--- the group in `slot` after a memory sample of the group in `of`
+-- the state of the group in `slot` after a memory sample of the group `of`
 abbrev pub with_memory : ℕ → GroupMemory → ℕ → SideCell → SideCell
 with_memory of memory slot cell = if of == slot then record cell { memory = memory } else cell
 
--- the group in `slot` after the preference of the group in `of` was set
+-- the state of the group in `slot` after the preference of the group `of` was set
 abbrev pub with_preference : ℕ → Preference → ℕ → SideCell → SideCell
 with_preference of preference slot cell =
     if of == slot then record cell { preference = preference } else cell
 
--- the group in a slot after one more side
+-- the state of the group in `slot` after one more side
 abbrev pub cell_after : List (Option ℕ) → ℕ → SideCell → SideAct → SideCell
 cell_after parents slot cell (side.Mem of current swap scan) =
     with_memory of.0 (record { current = current; swap = swap; scan = scan }) slot cell
@@ -67,7 +70,7 @@ cell_after parents slot cell (side.Host mem_total swap_total swap_free) = cell
 cell_after parents slot cell (side.Tasks of added) =
     cell_counted parents (Some of.0) (is_coming added) slot cell
 
--- the group in a slot after more sides
+-- the state of the group in `slot` after more sides, in order
 abbrev pub cell_by : List (Option ℕ) → ℕ → SideCell → List Side → SideCell
 cell_by parents slot cell [] = cell
 cell_by parents slot cell (side ∷ sides) =
@@ -95,25 +98,26 @@ abbrev pub due_by : ℕ → List Side → List Side
 due_by at [] = []
 due_by at (side ∷ sides) = if nat_le side.at at then side ∷ due_by at sides else []
 
--- the sides after the first `taken` that are due at `at` (ns)
+-- the sides that are due at `at` (ns), without the first `taken` sides
 abbrev pub due_from : ℕ → ℕ → List Side → List Side
 due_from taken at sides = due_by at (drop taken sides)
 
 -- ---- all groups
 
--- each group's new state is `step` of its old one
+-- The new state of each group is `step` of its slot and its old state.
 abbrev pub EachIs : List SideCell → List SideCell → (ℕ → SideCell → SideCell) → Type 0
 EachIs old new step =
     (slot : ℕ) → slot < length old → side_cell_in new slot ≡ step slot (side_cell_in old slot)
 
--- the group in a slot and all groups above it count a task that came or left
+-- The group `of` and its ancestors count a task that joined or left `of`; all other groups are
+-- unchanged.
 abbrev pub EachCounts : List (Option ℕ) → ℕ → Bool → List SideCell → List SideCell → Type 0
 EachCounts parents of came old new = EachIs old new (cell_counted parents (Some of) came)
 
--- one side was applied to each group
+-- One side was applied to the state of each group.
 abbrev pub EachTook : List (Option ℕ) → SideAct → List SideCell → List SideCell → Type 0
 EachTook parents what old new = EachIs old new (λ slot cell. cell_after parents slot cell what)
 
--- these sides were applied to each group
+-- The sides were applied to the state of each group, in order.
 abbrev pub Took : List (Option ℕ) → List Side → List SideCell → List SideCell → Type 0
 Took parents sides old new = EachIs old new (λ slot cell. cell_by parents slot cell sides)

@@ -1,4 +1,4 @@
--- The content of a watch, and the events that it comes from.
+-- The content of a watch, its invariant, and the events whose sides it has taken.
 use Rattle.std.specs.Prelude.{◌≡◌, ℕ, ◌^◌, ◌<◌, ◌≤◌, List, [], length, replicate, take}
 use Rattle.std.specs.Prelude.{nat_lt, Bool, Option, None, Some}
 use Rattle.std.specs.List.{All}
@@ -23,7 +23,7 @@ use Rattle.side_watch.specs.declared.cell.SideCell.{SideCell}
 use Rattle.side_watch.specs.declared.cell.GroupMemory.{GroupMemory}
 use Rattle.side_watch.specs.Sides.{side_sample, zero_side_cell, side_cell_in}
 
--- A watch: the state of the group in each slot, the parent of each, the last sample of the host's
+-- A watch: the state and the parent of the group in each slot, the latest sample of the host's
 -- memory, and the number of sides taken.
 pub record SideView : Type 0 where
   pub cells : List SideCell
@@ -36,33 +36,33 @@ abbrev pub watch_view : List SideCell → List (Option Slot) → HostReading →
 watch_view cells parents host taken =
     record { cells = cells; parents = parent_numbers parents; host = host; taken = taken }
 
--- the state of the group in a slot
+-- the state of the group in `slot`
 abbrev pub side_cell_at : SideView → ℕ → SideCell
 side_cell_at watch slot = side_cell_in watch.cells slot
 
--- a live task is in the group in a slot or below it, as the watch counts
+-- whether a live task is in the group in `slot` or below it, by the watch's number of tasks
 abbrev pub has_tasks : SideView → ℕ → Bool
 has_tasks watch slot = nat_lt 0 (side_cell_at watch slot).tasks
 
--- bytes and counts of a sample are at most 2^60
+-- Bytes and counts of a memory sample are at most 2^60.
 pub record IsSmallMemory (memory : GroupMemory) : Type 0 where
   pub current : memory.current ≤ 2 ^ 60
   pub swap : memory.swap ≤ 2 ^ 60
   pub scan : memory.scan ≤ 2 ^ 60
 
--- all samples are small
+-- The memory samples of all groups are small.
 abbrev pub AreSmallCells : List SideCell → Type 0
 AreSmallCells cells = All (λ (cell : SideCell). IsSmallMemory cell.memory) cells
 
--- The invariant of watches: parents are older, each group has an entry for its parent, and all
--- samples are small.
+-- The invariant of watches: each parent is an older slot, there is a parent entry for each group,
+-- and all samples are small.
 pub record IsWatch (watch : SideView) : Type 0 where
   pub older : AreOlder watch.parents
   pub each : length watch.cells ≡ length watch.parents
   pub small : AreSmallCells watch.cells
   pub host : IsHostReading watch.host
 
--- the watch of groups before any side was taken
+-- the watch of the groups `lives` before any side was taken
 abbrev pub first_watch : List GroupLife → SideView
 first_watch lives = record {
   cells = replicate (length lives) zero_side_cell;
@@ -73,30 +73,30 @@ first_watch lives = record {
 
 -- ---- events
 
--- the events up to a time (ns), or none if there is no time yet
+-- the events up to a time (ns); none for `None`, which is the time before any event
 abbrev pub seen_events : List Event → Option ℕ → List Event
 seen_events events None = []
 seen_events events (Some at) = up_to events at
 
--- a time (ns), if any, isn't after another
+-- The time `before` (ns) isn't after `at`; `None` is before any time.
 abbrev pub IsNotAfter : Option ℕ → ℕ → Type 0
 IsNotAfter None at = Unit {0}
 IsNotAfter (Some before) at = before ≤ at
 
--- the number of live tasks in the group in a slot or below it
+-- the number of live tasks in the group in `slot` or below it
 abbrev pub tasks_under : World → ℕ → ℕ
 tasks_under w slot =
     how_many (λ (task : Task). is_under (parents_of w.groups) task.slot.0 slot)
     (tasks_by.values w.tasks)
 
--- a property holds for each group that these events create
+-- The property `Holds` is true of each group that the events create, and of the root.
 abbrev pub OfEachGroup : List Event → (ℕ → Type 0) → Type 0
 OfEachGroup events Holds = (slot : ℕ) → slot < length (after events).groups → Holds slot
 
--- A watch of all groups of the events has the state after the events up to a time. For each group
--- this is the last sample of its memory, its preference, and the number of live tasks in it or
--- below it, and so whether there is one; for the host it is the last sample of its memory. The
--- watch took the sides of the events up to that time.
+-- A watch of all groups of a trace has the state after the events up to `moment` (ns). For each
+-- group these are the latest memory sample, the preference, and the number of live tasks in it or
+-- below it, which says whether the group is populated; for the host it is the latest sample of its
+-- memory. The watch has taken exactly the sides of these events.
 pub record HasFollowed (events : List Event) (moment : Option ℕ) (watch : SideView) : Type 0 where
   pub parents : watch.parents ≡ parents_of (after events).groups
   pub each : length watch.cells ≡ length (after events).groups
@@ -111,13 +111,13 @@ pub record HasFollowed (events : List Event) (moment : Option ℕ) (watch : Side
       (λ slot. has_tasks watch slot ≡ is_populated (after (seen_events events moment)) slot)
   pub host : watch.host ≡ host_of (seen_events events moment)
 
--- If the groups are those of legal events, a watch of them has the state before any event.
+-- If `lives` are the groups of legal events, the watch has the state before any event.
 abbrev pub Begins : List GroupLife → SideView → Type 0
 Begins lives watch = (limits : Limits) (events : List Event) → AreLegal limits first_world events →
     lives ≡ (after events).groups → HasFollowed events None watch
 
--- If the sides are those of legal events, and a watch had the state after the events up to an
--- earlier time, or before any event, it now has the state after the events up to this time (ns).
+-- If `sides` are the sides of legal events, and `old` has the state after the events up to an
+-- earlier time or before any event, then `new` has the state after the events up to `at` (ns).
 abbrev pub Advances : SideView → SideView → List Side → ℕ → Type 0
 Advances old new sides at = (limits : Limits) (events : List Event) (moment : Option ℕ) →
     AreLegal limits first_world events → sides ≡ sides_of events →

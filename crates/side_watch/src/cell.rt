@@ -1,34 +1,34 @@
-//! The state of one group.
+//! The state of one group in a watch: memory, preference and tasks.
 
 ghost use Rattle.std.specs.Prelude.{◌≡◌};
 ghost use Rattle.side_watch.specs.Sides.{counted, zero_side_cell};
 
 use psi_base::Preference;
 
-/// A sample of a group's memory.
+/// A memory sample of a group.
 #[derive(Clone, Copy, Debug, PartialEq, Eq)]
 pub struct GroupMemory {
-    /// Memory in use, in bytes.
+    /// Memory in use (bytes).
     pub current: u64,
-    /// Swap in use, in bytes.
+    /// Swap in use (bytes).
     pub swap: u64,
-    /// The number of pages scanned for it so far.
+    /// The number of pages scanned for the group up to the sample.
     pub scan: u64,
 }
 
-/// The state of a group after the sides so far.
+/// The state of a group after the sides that the watch has taken.
 #[derive(Clone, Copy, Debug)]
 pub(crate) struct SideCell {
-    /// The last sample of its memory.
+    /// The group's latest memory sample.
     pub(crate) memory: GroupMemory,
-    /// The last preference.
+    /// The group's latest preference.
     pub(crate) preference: Preference,
-    /// The number of live tasks in it or below it.
+    /// The number of live tasks in the group or below it.
     pub(crate) tasks: u32,
 }
 
 impl SideCell {
-    /// A group before its first side.
+    /// Returns the state of a group before its first side: no memory, no preference, no task.
     pub(crate) fn zero() -> SideCell
         ensures { result ≡ zero_side_cell }
     {
@@ -43,7 +43,8 @@ impl SideCell {
         }
     }
 
-    /// Counts a task that joined the group or a group below it (`came`), or left it.
+    /// Updates the number of tasks: if `came` is true, a task joined the group or a group below it,
+    /// otherwise a task left.
     pub(crate) fn count(&mut self, came: bool)
         ensures { self.new ≡ counted came self.old }
     {

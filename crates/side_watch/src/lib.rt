@@ -1,11 +1,12 @@
 //! The state of a trace's groups besides their stall times, followed tick by tick: memory,
-//! preferences, whether tasks live there, and the memory of the host.
+//! preferences, and whether live tasks are in a group, and also the memory of the host.
 //!
 //! [`SideWatch`] takes the *sides* of a trace in order: memory samples, preferences, and tasks that
-//! come or leave. By its contracts, its content at a time is what `kill_spec` defines for the
-//! events up to that time.
+//! join or leave groups. By its contracts, its content at a time is what `kill_spec` defines for
+//! the events up to that time.
 //!
-//! It neither extracts sides from events (proc_plan does) nor decides anything by them: rules do.
+//! The crate neither extracts sides from events (proc_plan does) nor makes decisions by them: rules
+//! do.
 #![tactic(auto)]
 
 mod cell;

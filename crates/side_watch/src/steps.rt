@@ -1,4 +1,4 @@
-//! Applies sides in order.
+//! Applies sides in order to the state of all groups and of the host.
 
 ghost use Rattle.std.specs.Prelude.{◌≡◌, ◌+◌, length};
 ghost use Rattle.psi_spec.specs.LegalGroups.{AreOlder};
@@ -15,7 +15,8 @@ use kill_spec::HostReading;
 use proc_plan::{Side, SideAct};
 use psi_base::{Ns, Preference, Slot};
 
-// Counts a task that came into a group or left it, for the group and all groups above it.
+// Counts a task that joined the group in `slot` (if `came` is true) or left it, for this group and
+// all its ancestors.
 fn count_task(cells: &mut [SideCell], parents: &[Option<Slot>], slot: Slot, came: bool)
     requires older { AreOlder (parent_numbers parents.now) }
     requires each { length cells.old ≡ length parents.now }
@@ -60,7 +61,7 @@ fn set_preference(cells: &mut [SideCell], slot: Slot, preference: Preference)
     }
 }
 
-// Applies a side to all groups.
+// Applies a side to the state of all groups.
 fn take_cells(cells: &mut [SideCell], parents: &[Option<Slot>], what: SideAct)
     requires older { AreOlder (parent_numbers parents.now) }
     requires each { length cells.old ≡ length parents.now }
@@ -91,7 +92,7 @@ fn take_cells(cells: &mut [SideCell], parents: &[Option<Slot>], what: SideAct)
     }
 }
 
-// The host's memory after one more side.
+// Returns the host's memory after a side; `host` is the host's memory before it.
 fn host_after(host: HostReading, what: SideAct) -> HostReading
     requires fits { IsSmall what }
     requires small { IsHostReading host }
@@ -112,8 +113,8 @@ fn host_after(host: HostReading, what: SideAct) -> HostReading
     }
 }
 
-/// Applies the sides after the first `taken` that are due at `at` (ns) to all groups and the host.
-/// Returns the number of sides taken so far.
+/// Applies the sides after the first `from` that are due at `at` (ns) to all groups and the host.
+/// Returns the number of sides taken, including the first `from`.
 pub(crate) fn take_due(
     cells: &mut [SideCell],
     parents: &[Option<Slot>],

@@ -1,4 +1,4 @@
-//! The state of a trace's groups up to a time, besides stall times.
+//! The watch: the state of all groups and of the host after a trace's sides up to a time.
 
 ghost use Rattle.std.specs.Prelude.{◌≡◌, IfOk};
 ghost use Rattle.psi_spec.specs.LegalGroups.{AreGroups};
@@ -22,9 +22,9 @@ use std::marker::Model;
 /// it.
 #[derive(Drop)]
 pub struct SideWatch {
-    /// By slot.
+    /// The state of each group, by slot.
     cells: Vec<SideCell>,
-    /// By slot, `None` for the root.
+    /// The parent of each group, by slot; `None` for the root.
     parents: Vec<Option<Slot>>,
     host: HostReading,
     /// The number of sides taken.
@@ -41,7 +41,7 @@ impl Model for SideWatch {
     ghost invariant = { λ w. IsWatch (watch_view w.cells.items w.parents.items w.host w.taken) };
 }
 
-// The parents of groups, ordered by slot.
+// Returns the parent of each group, by slot.
 fn parents_of(alloc: Global, lives: &[GroupLife]) -> Result<Vec<Option<Slot>>, NoMemory>
     ensures { IfOk result (λ parents. parent_numbers parents.items ≡ parents_of lives.now) }
 {
@@ -53,10 +53,10 @@ fn parents_of(alloc: Global, lives: &[GroupLife]) -> Result<Vec<Option<Slot>>, N
 }
 
 impl SideWatch {
-    /// The watch of the groups before any side: no memory, no preference, no task. Allocates all
-    /// that it needs.
+    /// Creates the watch of the groups before any side: no memory, no preference, no task.
+    /// Allocates everything up front.
     ///
-    /// The groups are all that a trace ever creates, ordered by slot.
+    /// `lives` has all groups that the trace ever creates, by slot.
     pub fn make(alloc: Global, lives: &[GroupLife]) -> Result<SideWatch, NoMemory>
         requires groups { AreGroups lives.now }
         ensures first { IfOk result (λ watch. watch ≡ first_watch lives.now) }
@@ -74,11 +74,11 @@ impl SideWatch {
         })
     }
 
-    /// Takes the sides up to and at `at` (ns) that weren't taken yet. `sides` are all of a trace in
-    /// order, the same at each call. Does not allocate.
+    /// Takes the sides at or before `at` (ns) that the watch hasn't taken yet. `sides` has all
+    /// sides of the trace in order, and must be the same at each call. Does not allocate.
     ///
-    /// The time is proportional to the number of these sides, and for a task that came or left to
-    /// the length of its group's chain.
+    /// The running time is proportional to the number of these sides; a task that joined or left a
+    /// group takes time proportional to the length of the group's chain of ancestors.
     pub fn advance(&mut self, sides: &[Side], at: Ns)
         requires small { AreSmall sides.now }
         ensures advances { Advances self.old self.new sides.now at }
@@ -94,8 +94,8 @@ impl SideWatch {
         self.taken = taken;
     }
 
-    /// The last sample of a group's memory, in bytes and pages. Zeros if there is none, and for a
-    /// slot beyond the last.
+    /// Returns a group's latest memory sample. Zeros if there is none, or if the slot doesn't
+    /// exist.
     pub fn memory(&self, slot: Slot) -> GroupMemory
         ensures memory { result ≡ (side_cell_at self.now slot.0).memory }
         ensures small { IsSmallMemory result }
@@ -103,21 +103,21 @@ impl SideWatch {
         self.cell(slot).memory
     }
 
-    /// A group's last preference: plain if there is none, and for a slot beyond the last.
+    /// Returns a group's latest preference: plain if there is none, or if the slot doesn't exist.
     pub fn preference(&self, slot: Slot) -> Preference
         ensures { result ≡ (side_cell_at self.now slot.0).preference }
     {
         self.cell(slot).preference
     }
 
-    /// Whether a live task is in a group or below it. False for a slot beyond the last.
+    /// Whether a live task is in a group or below it. False if the slot doesn't exist.
     pub fn is_populated(&self, slot: Slot) -> bool
         ensures { result ≡ has_tasks self.now slot.0 }
     {
         self.cell(slot).tasks > 0
     }
 
-    /// The last sample of the host's memory, in bytes. Zeros if there is none.
+    /// Returns the latest sample of the host's memory (bytes). Zeros if there is none.
     pub fn host(&self) -> HostReading
         ensures host { result ≡ self.now.host }
         ensures small { IsHostReading result }
