@@ -1,7 +1,7 @@
-//! From the times of a group on each processor to its shares of an interval and its totals: the
-//! kernel's `collect_percpu_times`.
+//! From a group's times on each processor, computes the group's shares of an interval and its
+//! totals over all processors: the kernel's `collect_percpu_times`.
 //!
-//! It knows nothing of ticks or averages: tick_engine calls it at each tick.
+//! The crate knows nothing of ticks or averages: tick_engine calls it at each tick.
 #![tactic(auto)]
 
 mod rows;

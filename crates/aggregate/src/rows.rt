@@ -1,4 +1,4 @@
-//! The times of all groups on all processors at a tick.
+//! The times of all groups on all processors at a tick, in one allocation.
 ghost use Rattle.std.specs.Prelude.{◌≡◌, ◌<◌, ◌*◌, [], IfOk, length, slice_index_or, slice_set, replicate};
 ghost use Rattle.aggregate.specs.Table as table;
 ghost use Rattle.aggregate.specs.Table.{new_table, put_times, HaveSameSizes, IsPlace, KeepsSizes, SetsOnePlace};
@@ -8,13 +8,13 @@ use psi_base::{Cpu, NoMemory, Slot};
 use std::alloc::Global;
 use std::marker::Model;
 
-/// For each group, by its slot, a row of each processor's times (ns): ordered by state, followed by
-/// interrupt time.
+/// For each group, by its slot, a row with the times (ns) of each processor: the time in each of
+/// the seven states, ordered by state, followed by the interrupt time.
 #[derive(Drop)]
 pub struct Rows {
     cpus: u32,
     slots: u32,
-    /// Row after row, `cpus` entries in each row.
+    /// The rows of all groups, one after another. A row has `cpus` entries.
     times: Vec<Times>,
 }
 
@@ -30,7 +30,7 @@ impl Model for Rows {
 }
 
 impl Rows {
-    /// Zeros for these numbers of processors and groups, in one allocation.
+    /// Creates rows of zeros for `cpus` processors and `slots` groups, in one allocation.
     pub fn make(alloc: Global, cpus: u32, slots: u32) -> Result<Rows, NoMemory>
         ensures { IfOk result (λ rows. rows ≡ new_table cpus slots) }
     {
@@ -47,7 +47,8 @@ impl Rows {
         self.times[place] = times;
     }
 
-    /// Copies the times of other rows with as many groups and processors. Does not allocate.
+    /// Copies all times from `other`. Precondition: both have the same numbers of groups and
+    /// processors. Does not allocate.
     pub fn copy_from(&mut self, other: &Rows)
         requires { HaveSameSizes self.old other.now }
         ensures { self.new ≡ other.now }
@@ -57,7 +58,8 @@ impl Rows {
         self.times.copy_from_slice(&other.times);
     }
 
-    /// Copies the times of a group on each processor. Does not allocate.
+    /// Sets the times of a group on all processors. Precondition: `row` has an entry for each
+    /// processor. Does not allocate.
     pub fn set_row(&mut self, slot: Slot, row: &[Times])
         requires slot { slot.0 < length self.old }
         requires row { length row.now ≡ length (slice_index_or self.old slot.0 []) }
@@ -69,7 +71,7 @@ impl Rows {
         into.copy_from_slice(row);
     }
 
-    /// The times of a group on each processor.
+    /// Returns the times of a group on each processor.
     pub fn row(&self, slot: Slot) -> &[Times]
         requires { slot.0 < length self.now }
         ensures { result.now ≡ slice_index_or self.now slot.0 [] }
@@ -80,7 +82,7 @@ impl Rows {
     }
 }
 
-/// The table with these times, which are stored row after row.
+/// Returns the rows with these times, which are stored one row after another.
 fn rows_with(cpus: u32, slots: u32, times: Vec<Times>) -> Rows
     requires { length times.items ≡ slots * cpus }
     ensures { result ≡ table.rows_of cpus slots times.items }
@@ -88,15 +90,15 @@ fn rows_with(cpus: u32, slots: u32, times: Vec<Times>) -> Rows
     Rows { cpus, slots, times }
 }
 
-/// `count` entries of zeros.
+/// Returns `count` entries of zeros.
 fn no_times(alloc: Global, count: usize) -> Result<Vec<Times>, NoMemory>
     ensures { IfOk result (λ times. times.items ≡ replicate count table.no_times) }
 {
     Ok(vec![in alloc; [0u64; TIMES]; count]?)
 }
 
-/// Laws of tables: their sizes don't change, and an entry that was set is found at its place, while
-/// all others stay the same.
+/// Laws of rows: setting times changes no sizes, the times that were set are found at their place,
+/// and the times at all other places are unchanged.
 pub fn law_rows()
     ensures sizes { KeepsSizes }
     ensures places { SetsOnePlace }

@@ -1,4 +1,4 @@
-//! The totals of a group.
+//! The totals of a group: the sums of its shares over all intervals since it was created.
 ghost use Rattle.std.specs.Prelude.{◌≡◌};
 ghost use Rattle.psi_spec.specs.Within.{last_moment};
 ghost use Rattle.pressure_spec.specs.Share as model;
@@ -7,8 +7,8 @@ ghost use Rattle.pressure_spec.specs.Within.{AreAmountsWithin, most_irq_total};
 use pressure_spec::{Amounts, QUANTITIES};
 use std::marker::Model;
 
-/// How long a group was in each state except nonidle since it was created, and how long interrupts
-/// took from it (ns): the sums of its shares.
+/// How long (ns) a group was in each state except nonidle since it was created, and how long
+/// interrupts took from it: the sums of its shares of all intervals.
 #[derive(Drop)]
 pub struct Totals {
     sums: Amounts,
@@ -23,7 +23,7 @@ impl Model for Totals {
 }
 
 impl Totals {
-    /// The totals of a new group.
+    /// Returns the totals of a new group: zeros.
     pub fn zero() -> Totals
         ensures { result ≡ model.no_totals }
     {
@@ -32,7 +32,7 @@ impl Totals {
         }
     }
 
-    /// Adds the shares of an interval (ns).
+    /// Adds a group's shares (ns) of one more interval.
     pub fn add(&mut self, shares: Amounts)
         requires { AreAmountsWithin last_moment most_irq_total (model.plus self.old shares) }
         ensures { self.new ≡ model.plus self.old shares }
@@ -40,7 +40,8 @@ impl Totals {
         add_each(&mut self.sums, &shares);
     }
 
-    /// The totals (ns), ordered by state, followed by that of interrupt time.
+    /// Returns the totals (ns): those of the states except nonidle, ordered by state, followed by
+    /// the total of interrupt time.
     pub fn get(&self) -> Amounts
         ensures { result ≡ self.now }
     {
@@ -48,7 +49,7 @@ impl Totals {
     }
 }
 
-/// Adds the shares to the sums.
+/// Adds each share to its sum.
 fn add_each(sums: &mut Amounts, shares: &Amounts)
     requires { AreAmountsWithin last_moment most_irq_total (model.plus sums.old shares.now) }
     ensures { sums.new ≡ model.plus sums.old shares.now }

@@ -1,4 +1,4 @@
-//! The shares of an interval.
+//! The shares of an interval: means over processors, weighted by how long the group wasn't idle.
 ghost use Rattle.std.specs.Prelude.{◌≡◌, ◌≤◌, ◌<◌, ◌+◌, ◌*◌, ◌/◌, ℕ, All, length, map, slice_index};
 ghost use Rattle.psi_spec.specs.Within.{longest_tick};
 ghost use Rattle.aggregate.specs.Since.{NoneFell, growth};
@@ -10,18 +10,19 @@ ghost use Rattle.psi_spec.specs.World.{longest_irq};
 
 use pressure_spec::{Amounts, QUANTITIES, TIMES, Times};
 
-/// The unit of a weight: a millisecond (ns). The kernel uses a tick of its timer.
+/// The unit of a weight: a millisecond (ns). The kernel uses a tick of its timer instead.
 const TICK: u64 = 1_000_000;
 
-/// The place of nonidle among the times of a processor.
+/// The index of the nonidle state among the times of a processor.
 const NONIDLE: usize = 6;
 
-/// The places of the pressure quantities among the times of a processor: all but nonidle.
+/// The indexes of the pressure quantities among the times of a processor: all except nonidle.
 const PLACES: [usize; QUANTITIES] = [0, 1, 2, 3, 4, 5, 7];
 
-/// The shares (ns) of an interval over all processors: for each state except nonidle, and for
-/// interrupt time, the weighted mean of `deltas`, a group's times in the interval (ns) on each
-/// processor. A processor's weight is the group's nonidle time there in whole milliseconds.
+/// Returns a group's shares (ns) of an interval over all processors: for each state except nonidle,
+/// and for interrupt time, the weighted mean of `deltas`, which has the group's times (ns) in the
+/// interval on each processor. A processor's weight is the group's nonidle time on it in whole
+/// milliseconds.
 pub fn share(deltas: &[Times]) -> Amounts
     requires few { length deltas.now ≤ 64 }
     requires short { All (AreTimesWithin longest_tick (longest_tick + longest_irq)) deltas.now }
@@ -39,8 +40,9 @@ pub fn share(deltas: &[Times]) -> Amounts
     sums
 }
 
-/// The same for the increments of each processor's times (ns) from the start of an interval to its
-/// end. A processor on which the group was idle has no weight: it adds nothing, and its other times
+/// Returns a group's shares of an interval like `share`, from each processor's times (ns) at the
+/// start (`before`) and at the end (`now`) of the interval. A processor on which the group was
+/// nonidle for less than a millisecond has the weight 0: it adds nothing, and its other times
 /// aren't read.
 pub fn share_since(now: &[Times], before: &[Times]) -> Amounts
     requires few { length now.now ≤ 64 }
@@ -65,7 +67,7 @@ pub fn share_since(now: &[Times], before: &[Times]) -> Amounts
     sums
 }
 
-/// The weight of a processor, from the increments of its times.
+/// Returns the weight of a processor, from the increase of its nonidle time.
 #[inline(always)]
 fn weight_since(now: &Times, before: &Times) -> u64
     requires { (place : ℕ) → slice_index before.now place ≤ slice_index now.now place }
@@ -74,7 +76,7 @@ fn weight_since(now: &Times, before: &Times) -> u64
     (now[NONIDLE] - before[NONIDLE]) / TICK
 }
 
-/// The increment of each of a processor's times.
+/// Returns the increase of each time of a processor.
 #[inline(always)]
 fn growth(now: &Times, before: &Times) -> Times
     requires { (place : ℕ) → slice_index before.now place ≤ slice_index now.now place }
@@ -87,7 +89,7 @@ fn growth(now: &Times, before: &Times) -> Times
     growth
 }
 
-/// Adds the times of a processor, multiplied by its weight, to the sums.
+/// Adds each time of a processor, multiplied by the processor's weight, to its sum.
 fn add_weighted(sums: &mut Amounts, times: &Times, weight: u64)
     requires weight { weight ≤ 60000 }
     requires times { AreTimesWithin longest_tick (longest_tick + longest_irq) times.now }
@@ -101,7 +103,7 @@ fn add_weighted(sums: &mut Amounts, times: &Times, weight: u64)
     }
 }
 
-/// Divides each sum.
+/// Divides each sum by `divisor`, rounding down.
 fn divide(sums: &mut Amounts, divisor: u64)
     requires { 0 < divisor }
     ensures { sums.new ≡ map (λ sum. sum / divisor) sums.old }
