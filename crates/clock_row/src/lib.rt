@@ -11,8 +11,8 @@
 //!                seven times (ns), the mask, the start (ns)
 //!
 //! The seven times are how long the group was in each of its seven states up to the start. The mask
-//! has a bit for each state that the group has been in since the start. So the time in a state up to
-//! a later time follows from the nine words.
+//! has a bit for each state that the group has been in since the start. So the time in a state up
+//! to a later time follows from the nine words.
 //!
 //! To use a row, call `Row::make`, which returns its `ClockWriter`. `ClockWriter::reader` creates a
 //! `ClockReader`, which may be sent to another thread; any number of readers can be created. Both
@@ -20,13 +20,13 @@
 //!
 //! - The writer's `apply` makes the next change of the processor's plan. A plan has at most
 //!   4,000,000 changes, so the sequence number doesn't overflow.
-//! - A reader's `try_sample` (one group) and `try_sample_all` (all groups) try once. They return the
-//!   clock or clocks with the number of changes that these include, or `Busy` if a change was open
-//!   at the first load of the sequence number or began before the second.
+//! - A reader's `try_sample` (one group) and `try_sample_all` (all groups) try once. They return
+//!   the clock or clocks with the number of changes that these include, or `Busy` if a change was
+//!   open at the first load of the sequence number or began before the second.
 //! - A reader's `sample_or` tries up to eight times to sample one group. If each try met a change,
 //!   it returns the earlier sample that the caller passed.
-//! - The writer's `meet` gives a reader the number of changes made: all later samples of this reader
-//!   include at least that many.
+//! - The writer's `meet` gives a reader the number of changes made: all later samples of this
+//!   reader include at least that many.
 //! - The writer's `settle` gives the writer the number of changes that a reader has seen, which is
 //!   at most the number made.
 //!
@@ -52,9 +52,9 @@
 //!     8 a reader or a note is created     9 a reader or the writer takes a note
 //!
 //! A *note* is a message with a number of changes, which `meet` and `settle` pass from one end of
-//! the row to the other. Steps 8 and 9 load word 0 and ignore its value. The writer, each reader and
-//! each note have a *seat*: a handle for making steps. A seat has a *view*: ghost state (it exists
-//! in contracts only) that says what the seat's owner knows of the row.
+//! the row to the other. Steps 8 and 9 load word 0 and ignore its value. The writer, each reader
+//! and each note have a *seat*: a handle for making steps. A seat has a *view*: ghost state (it
+//! exists in contracts only) that says what the seat's owner knows of the row.
 //!
 //! The invariant is `HoldsRule` (specs/Row); the type `RowRule` attaches it to the table. It says:
 //!
@@ -64,11 +64,11 @@
 //! - If the sequence number is still the even number with which a try began, each word that the try
 //!   loaded is still in the row.
 //!
-//! There are ten laws. `law_start` says that the invariant holds before the first change. The nine
-//! others say that the steps 1 to 9 preserve it, in this order: `law_open`, `law_put`, `law_close`,
-//! `law_own`, `law_begin`, `law_load`, `law_end`, `law_split`, `law_take_note`. It follows that the
-//! words loaded between two equal, even loads of the sequence number are clocks after a prefix of
-//! the changes.
+//! There are ten laws. `law_start` says that the invariant holds before the first change. One law
+//! for each of the steps 1 to 9 says that the step preserves the invariant, in this order:
+//! `law_open`, `law_put`, `law_close`, `law_own`, `law_begin`, `law_load`, `law_end`, `law_split`,
+//! `law_take_note`. It follows that the words loaded between two equal, even loads of the sequence
+//! number are clocks after a prefix of the changes.
 #![tactic(auto)]
 
 mod change;
