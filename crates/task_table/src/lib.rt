@@ -6,7 +6,7 @@
 //! its time. An event is handled in two calls, so that running out of memory never hides the cause
 //! against an event:
 //!
-//!     judge      the first cause against the event, or a `Finding`: the tasks and group it concerns
+//!     judge      the first cause against the event, or a `Finding`: its tasks and its group
 //!     perform    the effect of a legal event, and its `Touch`: its change on each processor
 //!
 //! Between the two calls the caller reserves memory for the result of the event. An event looks up
