@@ -15,8 +15,9 @@
 //! to a later time follows from the nine words.
 //!
 //! To use a row, call `Row::make`, which returns its `ClockWriter`. `ClockWriter::reader` creates a
-//! `ClockReader`, which may be sent to another thread; any number of readers can be created. Both
-//! functions fail only if memory runs out.
+//! `ClockReader`, which may be sent to another thread; any number of readers can be created.
+//! `Row::make` fails only if memory runs out, and `reader` only if the row's reference count would
+//! overflow.
 //!
 //! - The writer's `apply` makes the next change of the processor's plan. A plan has at most
 //!   4,000,000 changes, so the sequence number doesn't overflow.

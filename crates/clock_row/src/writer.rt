@@ -134,8 +134,8 @@ impl<'a> IrqClocks for ClockWriter<'a> {
 }
 
 impl<'a> ClockWriter<'a> {
-    /// Creates a reader of the row, which has seen all changes made up to now. `NoMemory` if memory
-    /// runs out.
+    /// Creates a reader of the row, which has seen all changes made up to now. Does not allocate.
+    /// `NoMemory` only if the row's reference count would overflow.
     pub fn reader(&mut self) -> Result<ClockReader, NoMemory>
         ensures same { self.new ≡ self.old }
         ensures row { IfOk result (λ reader. reader.row ≡ self.old.row) }
