@@ -1,4 +1,4 @@
--- Groups that a change reaches, and groups that it doesn't.
+-- Proofs about groups that the walk of a change reaches, and about groups that it doesn't reach.
 use Rattle.std.proofs.Common.{◌≡◌, ℕ, suc, ◌+◌, arith, List, refl, sym, ap, ◌∙◌, subst, Bool, true, false, ⊎_elim, Option, None, Some}
 use Rattle.std.specs.Prelude.{◌&&◌, if◌then◌else◌}
 use Rattle.psi_base.specs.declared.event.Slot.{Slot}
@@ -16,22 +16,23 @@ use Rattle.slot_clocks.specs.declared.chains.Chains.{Chains}
 use Rattle.slot_clocks.specs.Walk.{IsApart, IsTurned, MayStart, MayStartAt, counts_in, height, reaches, slot_in}
 use Rattle.slot_clocks.proofs.ChainLaws.{stands}
 
--- ---- parts of a change, by what is reached
+-- ---- the parts of a change at a group
 
--- what counts on a chain are for a slot that is reached or isn't, from where the chain may start
+-- the counts of a part that apply to a slot: all of them if the part's chain reaches the slot,
+-- otherwise none
 pub chain_is : (parents : List (Option ℕ)) (slot : ℕ) (side : Option (Slot × Counts)) (place : ℕ) (here : Bool) → MayStartAt side place → reaches parents place slot ≡ here → on_chain parents slot side ≡ (if here then counts_in side else no_counts)
 chain_is parents slot None place true start reached = refl
 chain_is parents slot None place false start reached = refl
 chain_is parents slot (Some part) place here start reached = ap (λ b. if b then part.1 else no_counts) (ap (λ (h : ℕ). reaches parents h slot) (sym start) ∙ reached)
 
--- whether the running task is in a group that is reached or isn't
+-- the running task is in a group exactly if its chain reaches the group's slot
 pub current_is : (parents : List (Option ℕ)) (slot : ℕ) (current : Option (Slot × Bool)) (here : Bool) → reaches parents (height (slot_in current)) slot ≡ here → is_current_in parents slot current ≡ here
 current_is parents slot None here reached = reached
 current_is parents slot (Some running) here reached = reached
 
--- ---- a group that isn't reached
+-- ---- groups that the walk doesn't reach
 
--- if the running task isn't in the group, it doesn't matter whether it is in a stall
+-- if the running task isn't in the group, its stall doesn't matter
 known_off : (state : State) (counts : Counts) (one other : Bool) → shows state counts false one ≡ shows state counts false other
 known_off IoSome counts one other = refl
 known_off IoFull counts one other = refl
@@ -44,12 +45,12 @@ known_off Nonidle counts one other = refl
 follows_none : (counts : Counts) → Follows counts no_counts no_counts counts
 follows_none counts = record { io = refl; stalled = refl; running = refl; stalled_running = refl }
 
--- a running task isn't in a group that isn't reached from where its chain may start
+-- if a running task's chain doesn't reach a group, the task isn't in the group
 not_in : (parents : List (Option ℕ)) (slot : ℕ) (current : Option (Slot × Bool)) (place : ℕ) → MayStartAt current place → reaches parents place slot ≡ false → is_current_in parents slot current ≡ false
 not_in parents slot None place start reached = refl
 not_in parents slot (Some running) place start reached = ap (λ (h : ℕ). reaches parents h slot) (sym start) ∙ reached
 
--- no switch of accounting is of a group that isn't reached from where the walk to it may start
+-- if the first chain doesn't reach a group, the group's accounting isn't switched
 pub is_apart : (parents : List (Option ℕ)) (slot : ℕ) (account : Option (Slot × Bool)) (place : ℕ) → AreOlder parents → MayStartAt account place → reaches parents place slot ≡ false → IsApart account slot
 is_apart parents slot None place older start reached = tt
 is_apart parents slot (Some account) place older start reached = λ same. cc (reached, stands parents place slot older (place_is place account.0.0 slot start same))

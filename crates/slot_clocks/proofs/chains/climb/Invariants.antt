@@ -4,8 +4,8 @@ use Rattle.slot_clocks.specs.Walk.{AreTogether, top}
 use Rattle.slot_clocks.proofs.WalkLaws.{IsWalked}
 use Rattle.slot_clocks.proofs.chains.climb.Given as goal
 
--- The chains are at existing slots, and are still together if they were. The change was applied to
--- each group, or the walk is yet to visit it.
+-- The chains are at existing slots, and are still at one height if they were at first. The change
+-- was applied to each group, or the walk hasn't visited the group yet.
 abbrev pub invariant-up : goal.invariant-up
 invariant-up l = record {
   slots : top l.chains ≤ length l.parents;
