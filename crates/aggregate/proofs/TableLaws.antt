@@ -1,4 +1,4 @@
--- Rows that are concatenated in one list.
+-- Proofs about tables whose rows are stored one after another in one list.
 use Rattle.std.proofs.Common.{◌≡◌, ◌≢◌, ℕ, zero, suc, ◌+◌, ◌-◌, ◌*◌, ◌≤◌, ◌<◌, List, [], ◌++◌, length, take, drop, get_or, set, replicate, refl, sym, ap, ◌∙◌, arith, ◌⊎◌, ⊎_elim}
 use Rattle.std.proofs.Math.Nat.{mul-le-mul_right}
 use Rattle.std.proofs.Math.Seq.{take-set-lt}
@@ -6,7 +6,7 @@ use Rattle.std.proofs.lemmas.List.{append_assoc, drop-append-le, drop-drop, drop
 use Rattle.std.proofs.lemmas.List.FromFn.{fill_by_all, get_or-map-range_with_len, length-map-range_with_len}
 use Rattle.aggregate.specs.Table.{row_in, rows_of, new_table, no_times, put_times, times_at, HasSizes, HaveSameSizes, IsPlace, KeepsSizes, SetsOnePlace}
 
--- a row ends within the rows
+-- a row ends at or before the end of all rows
 pub row_end : (slot slots cpus : ℕ) → slot < slots → slot * cpus + cpus ≤ slots * cpus
 row_end slot slots cpus below =
     let next : slot + 1 ≤ slots = omega arith in
@@ -29,11 +29,12 @@ rows_of-replicate cpus slots times =
     let room : cpus ≤ slots * cpus - slot * cpus = omega (arith, row_end slot slots cpus below) in
     rw (get_or-replicate slots slot (replicate cpus times) [] below, drop-replicate (slot * cpus) (slots * cpus) times, take-replicate cpus (slots * cpus - slot * cpus) times room) refl))
 
--- a row after the times of one of its processors were set
+-- after the times of a processor are set, the row of its group has these times and is unchanged
+-- otherwise
 row_set : (cpus slots : ℕ) (flat : List (List ℕ)) (slot cpu : ℕ) (times : List ℕ) → cpu < cpus → row_in cpus (set flat (slot * cpus + cpu) times) slot ≡ set (row_in cpus flat slot) cpu times
 row_set cpus slots flat slot cpu times inside = rw (drop-set-add (slot * cpus) flat cpu times, take-set-lt cpus (drop (slot * cpus) flat) cpu times inside) refl
 
--- another row isn't touched
+-- after the times of a processor are set in one row, the other rows are unchanged
 row_kept : (cpus slots : ℕ) (flat : List (List ℕ)) (slot cpu : ℕ) (times : List ℕ) (other : ℕ) → cpu < cpus → other ≢ slot → row_in cpus (set flat (slot * cpus + cpu) times) other ≡ row_in cpus flat other
 row_kept cpus slots flat slot cpu times other inside apart =
     let case : (other < slot) ⊎ (slot < other) = grind (arith, apart) in
@@ -48,7 +49,7 @@ row_kept cpus slots flat slot cpu times other inside apart =
     rw (drop-set-lt (other * cpus) flat (slot * cpus + cpu) times prefix) refl)
     case
 
--- setting the times of a group on a processor sets them in its row alone
+-- setting the times of a group on a processor changes only the row of the group
 pub rows_of-set : (cpus slots : ℕ) (flat : List (List ℕ)) (slot cpu : ℕ) (times : List ℕ) → slot < slots → cpu < cpus →
     rows_of cpus slots (set flat (slot * cpus + cpu) times) ≡ set (rows_of cpus slots flat) slot (set (get_or (rows_of cpus slots flat) slot []) cpu times)
 rows_of-set cpus slots flat slot cpu times below inside =
@@ -65,7 +66,7 @@ rows_of-set cpus slots flat slot cpu times below inside =
     (λ apart. get_or-set_other rows slot other row [] apart ∙ get_or-rows_of cpus slots flat other [] within ∙ sym (row_kept cpus slots flat slot cpu times other inside apart))
     case))
 
--- copying a row doesn't change other rows
+-- replacing a row doesn't change the other rows
 row_beside : (cpus slots : ℕ) (flat row : List (List ℕ)) (slot other : ℕ) → length flat ≡ slots * cpus → slot < slots → length row ≡ cpus → other < slots → other ≢ slot →
     row_in cpus (take (slot * cpus) flat ++ (row ++ drop (slot * cpus + cpus) flat)) other ≡ row_in cpus flat other
 row_beside cpus slots flat row slot other long below wide within apart =
@@ -94,7 +95,7 @@ row_beside cpus slots flat row slot other long below wide within apart =
     ap (take cpus) (split ∙ ap (drop (here - (start + cpus))) seam ∙ drop-drop (here - (start + cpus)) (start + cpus) flat ∙ ap (λ n. drop n flat) more))
     case
 
--- taking over a row as a whole sets it
+-- a list in which a whole row is replaced is the table with this row
 pub rows_of-taken : (cpus slots : ℕ) (flat row : List (List ℕ)) (slot : ℕ) → length flat ≡ slots * cpus → slot < slots → length row ≡ cpus →
     rows_of cpus slots (take (slot * cpus) flat ++ (row ++ drop (slot * cpus + cpus) flat)) ≡ set (rows_of cpus slots flat) slot row
 rows_of-taken cpus slots flat row slot long below wide =
