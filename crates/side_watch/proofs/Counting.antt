@@ -1,4 +1,5 @@
--- The number of live tasks in a group or below it, from tasks that came and left.
+-- Proofs about the number of live tasks in a group or below it, as a watch counts the tasks that
+-- joined and left.
 use Rattle.std.proofs.Common.{◌≡◌, ℕ, ◌+◌, ◌-◌, ◌≤◌, ◌<◌, List, [], ◌∷◌, ◌++◌, refl, sym, ap, ◌∙◌, subst, arith, Bool, true, false, Option, None, Some, length, ⊎_elim}
 use Rattle.std.specs.Prelude.{map, ◌==◌, IfSome, if◌then◌else◌}
 use Rattle.std.specs.List.{AllByRecursion}
@@ -36,13 +37,13 @@ use Rattle.side_watch.specs.declared.cell.SideCell.{SideCell}
 use Rattle.side_watch.specs.Sides.{cell_by, cell_after, moved, zero_side_cell}
 use Rattle.side_watch.specs.Watch.{tasks_under}
 
--- ---- sides one after the other
+-- ---- one side after another
 
 pub by_both : (parents : List (Option ℕ)) (slot : ℕ) (cell : SideCell) (some more : List Side) → cell_by parents slot cell (some ++ more) ≡ cell_by parents slot (cell_by parents slot cell some) more
 by_both parents slot cell [] more = refl
 by_both parents slot cell (side ∷ some) more = by_both parents slot (cell_after parents slot cell side.what) some more
 
--- a sample counts no task
+-- a sample changes no number of tasks
 sample_counts : (parents : List (Option ℕ)) (slot at : ℕ) (cell : SideCell) (groups : List GroupLife) (a : Act) → (cell_by parents slot cell (sample_by at groups a)).tasks ≡ cell.tasks
 sample_counts parents slot at cell groups (act.Group path) = refl
 sample_counts parents slot at cell groups (act.Prefer path preference) =
@@ -51,13 +52,13 @@ sample_counts parents slot at cell groups (act.Mem path current swap scan) =
     elim ((slot_named groups path).0 == slot) as (λ b. (if b then record cell { memory = record { current = current; swap = swap; scan = scan } } else cell).tasks ≡ cell.tasks) [ true ↦ refl | false ↦ refl ]
 sample_counts parents slot at cell groups _ = refl
 
--- ---- comings and goings
+-- ---- tasks that join and leave
 
--- a task's group leads to this slot
+-- whether the task is in the group in `slot` or below it
 abbrev pub is_below : List (Option ℕ) → ℕ → Task → Bool
 is_below parents slot task = is_under parents task.slot.0 slot
 
--- a group leads to this slot, if there is one
+-- whether the chain of the group `o` contains `slot`; false if there is no group
 abbrev leads : List (Option ℕ) → ℕ → Option Slot → Bool
 leads parents slot o = leads_to parents (number_of_slot o) slot
 
@@ -65,7 +66,8 @@ leads_by_task : (parents : List (Option ℕ)) (slot : ℕ) (o : Option Task) →
 leads_by_task parents slot None = refl
 leads_by_task parents slot (Some task) = refl
 
--- a number of tasks after one came, if its group leads to the slot, and after one left
+-- the number of tasks after a task joined a group; `on` is whether the group's chain contains the
+-- slot. `with_going` is the number after a task left.
 abbrev with_coming : Bool → ℕ → ℕ
 with_coming on tasks = if on then moved true tasks else tasks
 
@@ -89,7 +91,7 @@ going_fits false tasks new is = omega (arith, is)
 same_group : (parents : List (Option ℕ)) (slot old new : ℕ) → (old == new) ≡ true → one (is_under parents old slot) ≡ one (is_under parents new slot)
 same_group parents slot old new is = ⊎_elim (λ same. ap (λ n. one (is_under parents n slot)) same.1) (λ other. absurd (cc (is, other.0))) (eqb_tells old new)
 
--- a task that leaves one group, in which it was counted, and comes into another
+-- a task that leaves the group `old`, in which it was counted, and joins the group `new`
 passage_counts : (parents : List (Option ℕ)) (slot at : ℕ) (cell : SideCell) (new_count : ℕ) (old new : Option Slot) → new_count + one (leads parents slot old) ≡ cell.tasks + one (leads parents slot new) →
     one (leads parents slot old) ≤ cell.tasks → new_count ≤ 65536 → (cell_by parents slot cell (passage at old new)).tasks ≡ new_count
 passage_counts parents slot at cell new_count None None is there few = omega (arith, is)
@@ -115,7 +117,7 @@ running_there : (p : Task → Bool) (tasks : Tasks) (cpu : ℕ) (o : Option (ℕ
 running_there p tasks cpu None is = omega arith
 running_there p tasks cpu (Some e) is = subst (λ o. one (is_some_and o p) ≤ counted p tasks) (running_found tasks cpu e is).0 (counted_there p tasks e.0)
 
--- it is among the tasks before
+-- the task that an act changes is one of the tasks before the act
 before_there : (p : Task → Bool) (tasks : Tasks) (a : Act) → one (is_some_and (before tasks a) p) ≤ counted p tasks
 before_there p tasks (act.Wake pid cpu) = counted_there p tasks pid.0
 before_there p tasks (act.Switch cpu next how) = running_there p tasks cpu.0 (running_on tasks cpu.0) refl
@@ -127,7 +129,7 @@ before_there p tasks _ = omega arith
 
 -- ---- all events
 
--- no more are counted than live
+-- no more tasks are counted than are live
 few_counted : (limits : Limits) (events : List Event) → AreLegal limits first_world events → (p : Task → Bool) → counted p (after events).tasks ≤ 65536
 few_counted limits events legal p =
     let tasks : Tasks = (after events).tasks in
@@ -167,20 +169,21 @@ tasks_known limits parents slot events legal = by_legal limits (Shows parents sl
 
 -- ---- groups created later
 
--- each entry's slot is below the last
+-- the slot of each entry's task is less than `slots`
 entries_within : (cpus slots : ℕ) (tasks : Tasks) → AreWithin cpus slots tasks → (es : List (ℕ × Task)) → AllByRecursion (λ e. task_of tasks e.0 ≡ Some e.1) es → AllByRecursion (λ e. e.1.slot.0 < slots) es
 entries_within cpus slots tasks within [] at = tt
 entries_within cpus slots tasks within (e ∷ es) at =
     let here : (e.1.cpu.0 < cpus) × (e.1.slot.0 < slots) = subst (λ o. IfSome o (λ task. (task.cpu.0 < cpus) × (task.slot.0 < slots))) at.0 (within e.0) in
     (here.1, entries_within cpus slots tasks within es at.1)
 
--- tests that agree on each slot below the last count the same
+-- two tests that agree on all tasks whose slots are less than `slots` count the same number of
+-- tasks
 same_tally : (p q : Task → Bool) (slots : ℕ) → ((task : Task) → task.slot.0 < slots → p task ≡ q task) → (es : List (ℕ × Task)) → AllByRecursion (λ e. e.1.slot.0 < slots) es → tally p (map (λ e. e.1) es) ≡ tally q (map (λ e. e.1) es)
 same_tally p q slots same [] below = refl
 same_tally p q slots same (e ∷ es) below =
     ap (λ b. one b + tally p (map (λ e. e.1) es)) (same e.1 below.0) ∙ ap (λ n. one (q e.1) + n) (same_tally p q slots same es below.1)
 
--- the counts are the same with the parents of groups created later
+-- the number of tasks below a group is the same with the parents of groups that are created later
 pub tasks_later : (limits : Limits) (w : World) → IsLegalWorld limits w → (parents : List (Option ℕ)) → Prolongs (parents_of w.groups) parents → (slot : ℕ) → counted (is_below parents slot) w.tasks ≡ tasks_under w slot
 tasks_later limits w world parents more slot =
     let each : length (parents_of w.groups) ≡ length w.groups = length-map w.groups (λ (group : GroupLife). number_of_slot group.parent) in

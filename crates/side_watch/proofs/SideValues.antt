@@ -1,4 +1,4 @@
--- The samples and preferences of sides are those of the events.
+-- Proofs that the samples and preferences in sides are those in the events.
 use Rattle.std.proofs.Common.{◌≡◌, ℕ, ℤ, List, [], ◌∷◌, ◌++◌, refl, sym, ap, ◌∙◌, true, false, Option, None, Some}
 use Rattle.std.specs.Prelude.{◌==◌, if◌then◌else◌, pos, negsuc}
 use Rattle.std.specs.FinMap as tasks_by
@@ -31,7 +31,7 @@ use Rattle.side_watch.specs.Laws.{known_in, memory_in, preference_in, host_in, M
 
 -- ---- the values of all sides
 
--- tasks that come or leave have no value of this kind
+-- a side about a task that joins or leaves has no value of this kind
 abbrev IsOfSamples : {A : Type 0} → (SideAct → List A) → Type 0
 IsOfSamples shows = (of : Slot) (added : ℤ) → shows (side.Tasks of added) ≡ []
 
@@ -45,7 +45,8 @@ passage_shows shows none at (Some old) (Some new) =
       | false ↦ rw (none old (negsuc 0), none new (pos 1)) refl
     ]
 
--- if the values of an act's sides are the act's, those of events' sides are the events'
+-- if the sides of each act have the values of the act, the sides of all events have the values of
+-- the events
 all_show : {A : Type 0} (shows : SideAct → List A) (known : List GroupLife → Act → List A) → IsOfSamples shows → ((at : ℕ) (groups : List GroupLife) (a : Act) → known_in shows (sample_by at groups a) ≡ known groups a)
     → (w : World) (events : List Event) → values_from (λ (w : World) (event : Event). known w.groups event.act) w events ≡ known_in shows (values_from sides_by w events)
 all_show shows known none each w [] = refl
@@ -87,9 +88,9 @@ host_is_last events = ap (last_or no_host) (all_show host_in (λ (groups : List 
 pub populated_is_counted : PopulatedIsCounted
 populated_is_counted events slot = any_counted (λ (task : Task). is_under (parents_of (after events).groups) task.slot.0 slot) (tasks_by.values (after events).tasks)
 
--- ---- what is kept after sides
+-- ---- the state after sides
 
--- one more side sets the last value if it has one
+-- one more side replaces the last value, if it has one
 memory_step : (parents : List (Option ℕ)) (slot : ℕ) (cell : SideCell) (what : SideAct) (rest : List MemorySample) → last_or (side_sample (cell_after parents slot cell what).memory) rest ≡ last_or (side_sample cell.memory) (memory_in slot what ++ rest)
 memory_step parents slot cell (side.Mem of current swap scan) rest =
     elim (of.0 == slot) as (λ b. last_or (side_sample (if b then record cell { memory = record { current = current; swap = swap; scan = scan } } else cell).memory) rest ≡ last_or (side_sample cell.memory) ((if b then record { current = current; swap = swap; scan = scan } ∷ [] else []) ++ rest)) [ true ↦ refl | false ↦ refl ]

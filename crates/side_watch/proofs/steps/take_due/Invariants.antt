@@ -5,7 +5,7 @@ use Rattle.side_watch.specs.Sides.{cell_by, due_by, host_by, side_cell_in}
 use Rattle.side_watch.specs.Watch.{AreSmallCells}
 use Rattle.side_watch.proofs.steps.take_due.Given as goal
 
--- the remaining sides lead each group and the host to the same state as all sides that are due
+-- Taking the remaining due sides leads each group and the host to the state after all due sides.
 abbrev pub invariant-sides : goal.invariant-sides
 invariant-sides l = record {
   each : length l.cells ≡ length l.fn.cells;
