@@ -15,7 +15,8 @@ pub fn law_masks()
     ensures { MasksAreTheirStates }
 {}
 
-/// The time in a state by a clock never exceeds the time up to which it is read.
+/// If a clock's time in a state doesn't exceed the clock's start, it doesn't exceed any later time
+/// up to which the clock is read either.
 pub fn law_clock_times()
     ensures { NoLongerThanClock }
 {}
