@@ -1,5 +1,6 @@
 -- Touches: the changes that an event makes on the processors that it touches. An *act* is what an
--- event says, such as a switch or a fork. Also how counts of tasks follow such changes.
+-- event says besides its time, such as a switch or a fork. The file also says how counts of tasks
+-- follow such changes.
 use Rattle.std.specs.Prelude.{◌≡◌, ◌≢◌, ℕ, ◌+◌, ◌≤◌, ◌<◌, List, [], ◌∷◌, length, ◌==◌, Bool, true, false, if◌then◌else◌, unwrap_or, Option, None, Some, IfSome}
 use Rattle.std.specs.List.{list_any}
 use Rattle.std.specs.FinMap as tasks_by
