@@ -1,4 +1,5 @@
--- The clocks of all processors, how far they have advanced, and the table of times at a tick.
+-- A crew, which is the pool of worker threads of a replay: the clocks of all processors, the number
+-- of changes that each has made, and the table of times at a tick.
 use Rattle.std.specs.Prelude.{◌≡◌, ◌⊎◌, ℕ, ◌+◌, ◌-◌, ◌*◌, ◌/◌, ◌<◌, ◌≤◌, List, [], length, map, max, min, slice_index_or, Option, None, Some, is_some, true}
 use Rattle.std.specs.List.{All, range_with_len}
 use Rattle.atomic_table.specs.Seated.{TableId}
@@ -20,29 +21,29 @@ use Rattle.replay_workers.specs.declared.ticks.Ticks.{Ticks}
 
 -- ---- ticks
 
--- the moment (ns) of tick `j`, numbered from 0
+-- the time (ns) of tick `j`, numbered from 0
 abbrev pub moment_in : Ticks → ℕ → ℕ
 moment_in ticks j = ticks.first + j * ticks.length
 
--- the moments (ns) of all ticks
+-- the times (ns) of all ticks
 abbrev pub moments_of : Ticks → List ℕ
 moments_of ticks = map (moment_in ticks) (range_with_len 0 ticks.count)
 
--- the last tick's moment (ns)
+-- the time (ns) of the last tick
 abbrev pub last_of : Ticks → ℕ
 last_of ticks = moment_in ticks (ticks.count - 1)
 
 -- ---- crews
 
--- the live samples of a processor in the last interval, and what the reader that takes them knows
+-- the live samples of a processor in the last interval, and the state of the reader that takes them
 pub record WatchView : Type 0 where
   pub samples : List Sample
   pub reader : ReaderView
 
--- A crew: the plans of a trace; the clocks of each processor, and their row if they are in one; the
--- moments (ns) whose tables are ready; `room`, the most ticks that it advances by at once;
--- `requested`, the number of live samples that it takes of a processor in an interval; and each
--- processor's samples, if it takes any.
+-- A crew: the plans of a trace; the clocks of each processor, and the clock row that holds them, if
+-- any; the times (ns) of the ticks whose tables are ready; `room`, the most ticks that the crew
+-- advances by at once; `requested`, the number of live samples per processor and interval; and each
+-- processor's samples, if the crew takes any.
 pub record CrewView : Type 0 where
   pub plans : PlansView
   pub clocks : List OnPlan
@@ -52,30 +53,30 @@ pub record CrewView : Type 0 where
   pub requested : ℕ
   pub watches : List WatchView
 
--- the most bytes for the times of ticks ahead, unless one tick needs more: 64 MB
+-- the most bytes for the times of ticks ahead, unless a single tick needs more: 64 MB
 abbrev pub most_kept : ℕ
 most_kept = 64000000
 
--- the most ticks that a crew advances by at once: with more, the cost of starting threads is no
--- longer noticeable
+-- the most ticks that a crew advances by at once: beyond this number the cost of starting threads
+-- is negligible
 abbrev pub most_ahead : ℕ
 most_ahead = 256
 
--- The most ticks that a crew advances by at once, for these numbers of processors, groups and
--- moments: as many as fit into `most_kept` with 64 bytes for each tick, group and processor, but at
--- most 256, at most `moments` and at least one.
+-- The most ticks that a crew advances by at once, for `cpus` processors, `slots` groups and a trace
+-- of `moments` ticks: the number that fits into `most_kept` at 64 bytes for each tick, group and
+-- processor, but at most 256, at most `moments` and at least one.
 abbrev pub room_of : ℕ → ℕ → ℕ → ℕ
 room_of cpus slots moments = max (min (min (most_kept / max (64 * (slots * cpus)) 1) moments) most_ahead) 1
 
--- the clocks of a processor, by its number
+-- the clocks of processor `cpu`
 abbrev pub clocks_at : List OnPlan → ℕ → OnPlan
 clocks_at clocks cpu = slice_index_or clocks cpu (record { plan = no_plan; made = 0 })
 
--- the row of a processor's clocks, by its number
+-- the row that holds the clocks of processor `cpu`, if any
 abbrev pub row_at : List (Option TableId) → ℕ → Option TableId
 row_at rows cpu = slice_index_or rows cpu None
 
--- the clocks of each processor are in a row
+-- the clocks of every processor are in a row
 abbrev pub AreInRows : PlansView → List (Option TableId) → Type 0
 AreInRows plans rows = (cpu : ℕ) → cpu < length plans.plans → is_some (row_at rows cpu) ≡ true
 
@@ -87,40 +88,40 @@ pub record AreOnPlans (plans : PlansView) (clocks : List OnPlan) : Type 0 where
   pub whole : (cpu : ℕ) → cpu < length clocks → IsPlan (plan_at plans cpu)
   pub slots : (cpu : ℕ) → cpu < length clocks → length (plan_at plans cpu).parents ≡ length plans.lives
 
--- no processor's clocks made a change that is later than a time (ns)
+-- no processor has made a change that is later than `at` (ns)
 pub record AreNotPast (plans : PlansView) (clocks : List OnPlan) (at : ℕ) : Type 0 where
   pub on_plans : AreOnPlans plans clocks
   pub not_past : (cpu : ℕ) → cpu < length clocks → (clocks_at clocks cpu).made ≤ changes_up_to (plan_at plans cpu) at
 
--- each processor's clocks made its changes up to a time (ns), and no others
+-- each processor has made exactly its changes up to `at` (ns)
 pub record AreAt (plans : PlansView) (clocks : List OnPlan) (at : ℕ) : Type 0 where
   pub on_plans : AreOnPlans plans clocks
   pub there : (cpu : ℕ) → cpu < length clocks → (clocks_at clocks cpu).made ≡ changes_up_to (plan_at plans cpu) at
   pub past : (cpu : ℕ) → cpu < length clocks → last_change (plan_at plans cpu) (changes_up_to (plan_at plans cpu) at) ≤ at
 
--- the times (ns) of a slot at `at` (ns) by the first k changes of a plan: the time in each state,
--- followed by the interrupt time
+-- the times (ns) of group `slot` at `at` (ns) by the first `k` changes of a plan: the time in each
+-- state, followed by the interrupt time
 abbrev pub planned_with_irq : PlanView → ℕ → ℕ → ℕ → List ℕ
 planned_with_irq plan slot k at = times_with (λ state. planned_time state plan slot k at) (planned_irq plan slot k)
 
--- these times after all changes up to `at`
+-- the times (ns) of group `slot` at `at` (ns), by all changes of a plan up to `at`
 abbrev pub times_by : PlanView → ℕ → ℕ → List ℕ
 times_by plan slot at = planned_with_irq plan slot (changes_up_to plan at) at
 
 -- ---- live samples
 
--- the samples of a processor, by its number; none for a processor without a reader
+-- the samples of processor `cpu`; no samples if the processor has no reader
 abbrev pub watch_at : List WatchView → ℕ → WatchView
 watch_at watches cpu = slice_index_or watches cpu (record { samples = []; reader = new_reader no_plan 0 })
 
--- the numbers of changes that samples include
+-- the number of changes that each sample includes
 abbrev pub counts_sampled : List Sample → List ℕ
 counts_sampled samples = map (λ (sample : Sample). sample.count) samples
 
 -- A reader took `requested` samples of a slot's clock on a processor, while the writer went from
 -- `before` changes to `now`. Each sample is the clock after its number of changes. These numbers
--- never decrease, and are from `before` to `now`. The reader took the samples with its own tries,
--- at most eight for each; the first sample came after the writer's own clock.
+-- never decrease, and lie between `before` and `now`. The reader made at most eight tries per
+-- sample. `before` is the count of the writer's own clock, which precedes the first sample.
 pub record IsSampled (plan : PlanView) (slot requested before now : ℕ) (old new : WatchView) : Type 0 where
   pub many : length new.samples ≡ requested
   pub clocks : All (λ (sample : Sample). IsClock sample.clock plan slot sample.count) new.samples
@@ -128,8 +129,8 @@ pub record IsSampled (plan : PlanView) (slot requested before now : ℕ) (old ne
   pub tried : IsTried (counts_sampled new.samples) before old.reader new.reader
   pub few : tries_of new.reader ≤ tries_of old.reader + 8 * requested
 
--- If a slot is watched, `requested` samples of it were taken on each processor, while the changes
--- were made; otherwise there are no samples.
+-- If a slot is watched, `requested` samples of its clock were taken on each processor while the
+-- changes were made. Otherwise there are no samples.
 abbrev pub AreSampled : Option Slot → CrewView → CrewView → Type 0
 AreSampled None old new = (cpu : ℕ) → (watch_at new.watches cpu).samples ≡ []
 AreSampled (Some slot) old new = (cpu : ℕ) → cpu < length old.plans.plans →
@@ -138,7 +139,7 @@ AreSampled (Some slot) old new = (cpu : ℕ) → cpu < length old.plans.plans �
 
 -- ---- tables
 
--- A table for all processors and slots has the times of each processor at a time (ns), by its plan.
+-- The table has, for every group and processor, the times at `at` (ns) by the processor's plan.
 pub record IsTableAt (table : List (List (List ℕ))) (plans : PlansView) (at : ℕ) : Type 0 where
   pub sizes : HasSizes (length plans.plans) (length plans.lives) table
   pub times : (slot cpu : ℕ) → slot < length plans.lives → cpu < length plans.plans
@@ -146,8 +147,8 @@ pub record IsTableAt (table : List (List (List ℕ))) (plans : PlansView) (at : 
 
 -- ---- laws
 
--- A crew stores times of at most 64 MB, or those of one tick. It advances by at least one tick at
--- once, and by at most `moments`.
+-- A crew buffers at most 64 MB of times, unless a single tick needs more. It advances by at least
+-- one tick at once, and by no more than `moments` (or one, if `moments` is 0).
 abbrev pub RoomIsSmall : Type 0
 RoomIsSmall = (cpus slots moments : ℕ) →
     (1 ≤ room_of cpus slots moments) × (room_of cpus slots moments ≤ max moments 1)

@@ -1,5 +1,5 @@
--- The lanes of a crew, one for each processor, and how they are dealt to batches, one for each
--- worker.
+-- The lanes of a crew, which is the pool of worker threads of a replay. A lane is one processor
+-- with its stored times; the lanes are dealt to batches, one batch for each worker.
 use Rattle.std.specs.Prelude.{◌≡◌, ◌≢◌, ℕ, ◌+◌, ◌*◌, ◌/◌, ◌%◌, ◌^◌, ◌<◌, ◌≤◌, Bool, List, [], length, map, slice_index_or, Option, None, Some, is_some}
 use Rattle.std.specs.List.{range_with_len}
 use Rattle.plan_laws.specs.Plan.{IsPlan, PlanView, changes_up_to, last_change, no_plan}
@@ -24,24 +24,24 @@ abbrev pub clocks_in : LaneClocks → OnPlan
 clocks_in (Plain clocks) = clocks
 clocks_in (Row writer) = on_of writer
 
--- the row of the clocks, if they are in one
+-- the row of a lane's clocks; `None` if the clocks are plain
 abbrev pub row_of_clocks : LaneClocks → Option TableId
 row_of_clocks (Plain clocks) = None
 row_of_clocks (Row writer) = Some writer.row
 
--- A lane: a processor's number, the row of its clocks if they are in one, the clocks, and the times
--- (ns) that it stores, ordered by tick and then by slot.
+-- A lane: the processor's number, the row of its clocks if they are in one, the clocks, and the
+-- stored times (ns), ordered by tick and then by slot.
 pub record LaneView : Type 0 where
   pub cpu : ℕ
   pub row : Option TableId
   pub on : OnPlan
   pub kept : List (List ℕ)
 
--- no lane
+-- a placeholder for an index without a lane
 abbrev pub no_lane : LaneView
 no_lane = record { cpu = 0; row = None; on = record { plan = no_plan; made = 0 }; kept = [] }
 
--- the times (ns) of a slot that are stored for tick `j`, numbered from 0
+-- the stored times (ns) of `slot` for tick `j`, numbered from 0
 abbrev pub kept_at : List (List ℕ) → ℕ → ℕ → ℕ → List ℕ
 kept_at kept slots j slot = slice_index_or kept (j * slots + slot) []
 
@@ -50,7 +50,7 @@ abbrev pub KeepsTicks : List (List ℕ) → PlanView → Ticks → ℕ → Type 
 KeepsTicks kept plan ticks n = (j slot : ℕ) → j < n → slot < length plan.parents →
     kept_at kept (length plan.parents) j slot ≡ times_by plan slot (moment_in ticks j)
 
--- The times of all slots at `at` (ns) are stored for tick `j`, numbered from 0, and those for
+-- The times of all slots at `at` (ns) are stored for tick `j`, numbered from 0, and the times of
 -- earlier ticks are unchanged.
 pub record KeepsTick (old new : List (List ℕ)) (j : ℕ) (plan : PlanView) (at : ℕ) : Type 0 where
   pub size : length new ≡ length old
@@ -64,14 +64,14 @@ pub record IsLane (plan : PlanView) (slots : ℕ) (on : OnPlan) : Type 0 where
   pub whole : IsPlan plan
   pub slots_are : slots ≡ length plan.parents
 
--- a lane can advance by ticks: there is an entry for each time, and no change was made that is
--- later than the first tick
+-- Precondition for advancing a lane by `ticks`: there is an entry for each time, and no change that
+-- is later than the first tick has been made.
 pub record MayGo (ticks : Ticks) (lane : LaneView) : Type 0 where
   pub room : ticks.count * length lane.on.plan.parents ≤ length lane.kept
   pub not_past : lane.on.made ≤ changes_up_to lane.on.plan ticks.first
 
--- A lane advanced by ticks: its clocks made the changes up to the last tick, and no others, and the
--- times at each tick are stored.
+-- A lane advanced by `ticks`: it made exactly the changes up to the last tick, and the times at
+-- each tick are stored.
 pub record HasGone (ticks : Ticks) (old new : LaneView) : Type 0 where
   pub cpu : new.cpu ≡ old.cpu
   pub row : new.row ≡ old.row
@@ -83,34 +83,34 @@ pub record HasGone (ticks : Ticks) (old new : LaneView) : Type 0 where
 
 -- ---- batches
 
--- a lane of a batch, by its place
+-- lane `k` of a batch
 abbrev pub lane_at : List LaneView → ℕ → LaneView
 lane_at lanes k = slice_index_or lanes k no_lane
 
--- a batch, by its worker
+-- the batch of `worker`
 abbrev pub batch_at : List (List LaneView) → ℕ → List LaneView
 batch_at batches worker = slice_index_or batches worker []
 
--- each lane of a batch can advance by ticks
+-- precondition for advancing a batch: each of its lanes can advance by `ticks`
 abbrev pub MayAllGo : Ticks → List LaneView → Type 0
 MayAllGo ticks lanes = (k : ℕ) → k < length lanes → MayGo ticks (lane_at lanes k)
 
--- each lane of a batch advanced by ticks
+-- each lane of a batch advanced by `ticks`
 pub record HaveGone (ticks : Ticks) (old new : List LaneView) : Type 0 where
   pub many : length new ≡ length old
   pub each : (k : ℕ) → k < length old → HasGone ticks (lane_at old k) (lane_at new k)
 
--- each batch advanced by ticks
+-- each batch advanced by `ticks`
 pub record HaveAllGone (ticks : Ticks) (old new : List (List LaneView)) : Type 0 where
   pub many : length new ≡ length old
   pub each : (worker : ℕ) → worker < length old → HaveGone ticks (batch_at old worker) (batch_at new worker)
 
--- The lane of a processor: lane cpu / workers of batch cpu % workers.
+-- The lane of processor `cpu`: lane cpu / workers of batch cpu % workers.
 abbrev pub lane_of : List (List LaneView) → ℕ → LaneView
 lane_of batches cpu = lane_at (batch_at batches (cpu % length batches)) (cpu / length batches)
 
--- The lane of a processor exists, and stores the times of all groups at `at` (ns) for tick `tick`,
--- numbered from 0.
+-- The lane of processor `cpu` exists, and stores the times of all groups at `at` (ns) for tick
+-- `tick`, numbered from 0.
 pub record IsKept (plans : PlansView) (batches : List (List LaneView)) (cpu tick at : ℕ) : Type 0 where
   pub some : 0 < length batches
   pub place : cpu / length batches < length (batch_at batches (cpu % length batches))
@@ -118,12 +118,12 @@ pub record IsKept (plans : PlansView) (batches : List (List LaneView)) (cpu tick
   pub times : (slot : ℕ) → slot < length plans.lives
       → kept_at (lane_of batches cpu).kept (length plans.lives) tick slot ≡ times_by (plan_at plans cpu) slot at
 
--- the same for each processor
+-- the lane of every processor exists, and stores the times of all groups at `at` (ns) for `tick`
 abbrev pub AreKept : PlansView → List (List LaneView) → ℕ → ℕ → Type 0
 AreKept plans batches tick at = (cpu : ℕ) → cpu < length plans.plans → IsKept plans batches cpu tick at
 
--- A table has the times of a group on the first `cpus` processors at a time (ns), by their plans;
--- the other groups' times are unchanged.
+-- The row of group `slot` in table `new` has the times at `at` (ns) on the first `cpus` processors,
+-- by their plans; the rows of other groups are as in `old`.
 pub record FillsRow (old new : List (List (List ℕ))) (plans : PlansView) (slot cpus at : ℕ) : Type 0 where
   pub here : (cpu : ℕ) → cpu < cpus → times_at new slot cpu ≡ times_by (plan_at plans cpu) slot at
   pub others : (other cpu : ℕ) → other ≢ slot → times_at new other cpu ≡ times_at old other cpu
@@ -132,14 +132,14 @@ pub record FillsRow (old new : List (List (List ℕ))) (plans : PlansView) (slot
 abbrev pub clocks_of : List (List LaneView) → ℕ → List OnPlan
 clocks_of batches cpus = map (λ cpu. (lane_of batches cpu).on) (range_with_len 0 cpus)
 
--- the rows of the first `cpus` clocks
+-- the rows that hold the clocks of the first `cpus` processors; `None` for plain clocks
 abbrev pub rows_of : List (List LaneView) → ℕ → List (Option TableId)
 rows_of batches cpus = map (λ cpu. (lane_of batches cpu).row) (range_with_len 0 cpus)
 
 -- ---- crews
 
--- A lane of a crew is that of a processor: its clocks are on the processor's plan, it has room for
--- the times of `room` ticks, and the times at `ticks` are stored.
+-- A lane belongs to processor `cpu` of a crew: its clocks are on the processor's plan, it has room
+-- for the times of `room` ticks, and the times at `ticks` are stored.
 pub record IsLaneOf (plans : PlansView) (ticks : Ticks) (room cpu : ℕ) (lane : LaneView) : Type 0 where
   pub cpu_is : lane.cpu ≡ cpu
   pub below : cpu < length plans.plans
@@ -149,17 +149,17 @@ pub record IsLaneOf (plans : PlansView) (ticks : Ticks) (room cpu : ℕ) (lane :
   pub size : length lane.kept ≡ room * length plans.lives
   pub keeps : KeepsTicks lane.kept (plan_at plans cpu) ticks ticks.count
 
--- A batch has the lanes of its worker: lane k is that of processor k * workers + worker.
+-- A batch has the lanes of its worker: lane `k` belongs to processor k * workers + worker.
 pub record IsBatchOf (plans : PlansView) (ticks : Ticks) (room workers worker : ℕ) (lanes : List LaneView) : Type 0 where
   pub all : (k : ℕ) → k * workers + worker < length plans.plans → k < length lanes
   pub each : (k : ℕ) → k < length lanes → IsLaneOf plans ticks room (k * workers + worker) (lane_at lanes k)
 
--- before any tick
+-- the ticks of a crew that hasn't advanced yet
 abbrev pub no_ticks : Ticks
 no_ticks = record { first = 0; length = 0; count = 0 }
 
--- A batch has the lanes of its worker before any change, with clocks in rows if `in_rows`, and
--- plain ones otherwise.
+-- A batch has the lanes of its worker before any change. The clocks are in rows if `in_rows`, and
+-- plain otherwise.
 pub record IsNewBatch (plans : PlansView) (room : ℕ) (in_rows : Bool) (workers worker : ℕ) (lanes : List LaneView) : Type 0 where
   pub batch : IsBatchOf plans no_ticks room workers worker lanes
   pub fresh : (k : ℕ) → k < length lanes → (lane_at lanes k).on.made ≡ 0
@@ -171,7 +171,7 @@ pub record AreNewBatches (plans : PlansView) (room : ℕ) (in_rows : Bool) (work
   pub each : (worker : ℕ) → worker < workers → IsNewBatch plans room in_rows workers worker (batch_at batches worker)
 
 -- The lanes of a crew: there is a batch for each worker, and the tables of the first `out` ticks
--- were returned.
+-- have been returned.
 pub record AreLanes (plans : PlansView) (batches : List (List LaneView)) (ticks : Ticks) (out room : ℕ) : Type 0 where
   pub some : 0 < length batches
   pub roomy : 1 ≤ room

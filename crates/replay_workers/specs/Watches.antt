@@ -1,4 +1,5 @@
--- Watchers, which sample the lanes of a crew, and the crew with its watchers.
+-- Watchers, which take live samples of the lanes of a crew (a lane is one processor, a crew the
+-- pool of worker threads), and the crew with its watchers.
 use Rattle.std.specs.Prelude.{◌≡◌, ℕ, ◌+◌, ◌*◌, ◌/◌, ◌%◌, ◌<◌, ◌≤◌, true, List, [], drop, length, map, slice_index_or, Option, Some, is_some}
 use Rattle.std.specs.List.{All}
 use Rattle.atomic_table.specs.Seated.{TableId}
@@ -17,9 +18,9 @@ use Rattle.replay_workers.specs.Lanes.{AreLanes, LaneView, batch_at, clocks_of, 
 
 -- ---- one watcher
 
--- A watcher: a processor's number, the row of its clocks and what is known of that row, the
--- writer's own clock when they last met, the samples of the last interval, and the number of
--- samples in an interval.
+-- A watcher: the processor's number, the row of its clocks, the state of the reader of that row,
+-- the writer's own clock when reader and writer last synchronised, the samples of the last
+-- interval, and the number of samples per interval.
 pub record WatcherView : Type 0 where
   pub cpu : ℕ
   pub row : TableId
@@ -28,11 +29,11 @@ pub record WatcherView : Type 0 where
   pub samples : List Sample
   pub requested : ℕ
 
--- no row
+-- a placeholder for a row
 abbrev pub no_table_id : TableId
 no_table_id = record { words = 0; slots = 0; views_name = 0; atom = 0; block = 0; offset = 0; slot_names = [] }
 
--- no watcher
+-- a placeholder for an index without a watcher
 abbrev pub no_watcher : WatcherView
 no_watcher =
     record {
@@ -44,7 +45,7 @@ no_watcher =
       requested = 0;
     }
 
--- a watcher, by its place
+-- watcher `k` of a list
 abbrev pub watcher_at : List WatcherView → ℕ → WatcherView
 watcher_at watchers k = slice_index_or watchers k no_watcher
 
@@ -52,14 +53,14 @@ watcher_at watchers k = slice_index_or watchers k no_watcher
 abbrev pub watch_seen : WatcherView → WatchView
 watch_seen watcher = record { samples = watcher.samples; reader = watcher.knows }
 
--- it is the same watcher: its processor, row, plan and number of samples are unchanged
+-- the watcher's identity is unchanged: its processor, row, plan and number of samples
 pub record IsSameWatcher (old new : WatcherView) : Type 0 where
   pub cpu : new.cpu ≡ old.cpu
   pub row : new.row ≡ old.row
   pub plan : new.knows.plan ≡ old.knows.plan
   pub requested : new.requested ≡ old.requested
 
--- A new watcher of a lane's row has no sample.
+-- A new watcher of a lane's row, without samples.
 pub record IsNewWatcher (cpu requested : ℕ) (row : Option TableId) (plan : PlanView) (watcher : WatcherView) : Type 0 where
   pub cpu_is : watcher.cpu ≡ cpu
   pub row_is : Some watcher.row ≡ row
@@ -67,15 +68,15 @@ pub record IsNewWatcher (cpu requested : ℕ) (row : Option TableId) (plan : Pla
   pub requested_is : watcher.requested ≡ requested
   pub none : watcher.samples ≡ []
 
--- A watcher may sample a slot: its last sample is the slot's clock after as many changes as it has
--- seen.
+-- Precondition for sampling `slot`: the watcher's last sample is the slot's clock after all the
+-- changes that the watcher has seen.
 pub record MaySample (slot : ℕ) (watcher : WatcherView) : Type 0 where
   pub slot_is : slot < length watcher.knows.plan.parents
   pub clock : IsClock watcher.last.clock watcher.knows.plan slot watcher.last.count
   pub seen : watcher.last.count ≡ watcher.knows.seen
 
--- A watcher met the writer, whose clocks these are: it has seen the writer's changes, and has the
--- writer's clock of a slot as the last sample. It made no try.
+-- A watcher synchronised with the writer of the clocks `on`: it has seen all the writer's changes,
+-- and its last sample is the writer's own clock of `slot`. The watcher made no try.
 pub record HasMet (slot : ℕ) (on : OnPlan) (old new : WatcherView) : Type 0 where
   pub same : IsSameWatcher old new
   pub got : new.knows.got ≡ old.knows.got
@@ -84,8 +85,8 @@ pub record HasMet (slot : ℕ) (on : OnPlan) (old new : WatcherView) : Type 0 wh
   pub count : new.last.count ≡ on.made
   pub clock : IsClock new.last.clock on.plan slot on.made
 
--- A watcher took its samples of a slot after its last sample, with its own tries, at most eight for
--- each, up to the changes that it has seen now.
+-- A watcher took its samples of `slot` after its last sample, up to the changes that it has seen
+-- now. It made at most eight tries per sample.
 pub record HasSampled (slot : ℕ) (old new : WatcherView) : Type 0 where
   pub same : IsSameWatcher old new
   pub many : length new.samples ≡ old.requested
@@ -94,7 +95,7 @@ pub record HasSampled (slot : ℕ) (old new : WatcherView) : Type 0 where
   pub tried : IsTried (counts_sampled new.samples) old.last.count old.knows new.knows
   pub few : tries_of new.knows ≤ tries_of old.knows + 8 * old.requested
 
--- A watcher sampled a slot while a lane made its changes.
+-- A watcher sampled `slot` while its lane made its changes.
 pub record HasWatched (slot : ℕ) (lane_old lane_new : LaneView) (old new : WatcherView) : Type 0 where
   pub same : IsSameWatcher old new
   pub sampled : IsSampled old.knows.plan slot old.requested lane_old.on.made lane_new.on.made (watch_seen old) (watch_seen new)
@@ -110,19 +111,19 @@ pub record HasCleared (old new : WatcherView) : Type 0 where
 abbrev pub IsInRow : LaneView → Type 0
 IsInRow lane = is_some lane.row ≡ true
 
--- the lane of a processor exists
+-- the lane of processor `cpu` exists
 pub record IsLaneThere (batches : List (List LaneView)) (cpu : ℕ) : Type 0 where
   pub some : 0 < length batches
   pub place : cpu / length batches < length (batch_at batches (cpu % length batches))
 
--- A watcher is that of a processor whose lane exists: it has the lane's row and plan.
+-- The lane of processor `cpu` exists, and the watcher has this lane's row and plan.
 pub record IsWatcherThere (batches : List (List LaneView)) (cpu : ℕ) (watcher : WatcherView) : Type 0 where
   pub there : IsLaneThere batches cpu
   pub cpu_is : watcher.cpu ≡ cpu
   pub row : Some watcher.row ≡ (lane_of batches cpu).row
   pub plan : watcher.knows.plan ≡ (lane_of batches cpu).on.plan
 
--- each watcher has a lane
+-- watcher `k` watches the lane of processor `k`
 abbrev pub AreWatching : List (List LaneView) → List WatcherView → Type 0
 AreWatching batches watchers = (k : ℕ) → k < length watchers → IsWatcherThere batches k (watcher_at watchers k)
 
@@ -130,25 +131,25 @@ AreWatching batches watchers = (k : ℕ) → k < length watchers → IsWatcherTh
 abbrev pub HaveSlot : ℕ → List WatcherView → Type 0
 HaveSlot slot watchers = (k : ℕ) → k < length watchers → slot < length (watcher_at watchers k).knows.plan.parents
 
--- each watcher may sample a slot
+-- precondition for sampling `slot` with each watcher
 abbrev pub MayAllSample : ℕ → List WatcherView → Type 0
 MayAllSample slot watchers = (k : ℕ) → k < length watchers → MaySample slot (watcher_at watchers k)
 
--- each watcher met the lane of its processor
+-- each watcher synchronised with the lane of its processor
 pub record HaveMet (slot : ℕ) (batches : List (List LaneView)) (old new : List WatcherView) : Type 0 where
   pub many : length new ≡ length old
   pub each : (k : ℕ) → k < length old → HasMet slot (lane_of batches k).on (watcher_at old k) (watcher_at new k)
 
--- each watcher sampled a slot
+-- each watcher took its samples of `slot`
 pub record HaveSampled (slot : ℕ) (old new : List WatcherView) : Type 0 where
   pub many : length new ≡ length old
   pub each : (k : ℕ) → k < length old → HasSampled slot (watcher_at old k) (watcher_at new k)
 
--- no watcher has seen more changes than the lane of its processor made
+-- no watcher has seen more changes than the lane of its processor has made
 abbrev pub AreSettled : List (List LaneView) → List WatcherView → Type 0
 AreSettled batches watchers = (k : ℕ) → k < length watchers → (watcher_at watchers k).knows.seen ≤ (lane_of batches k).on.made
 
--- each watcher sampled a slot while its lane made changes
+-- each watcher sampled `slot` while the lane of its processor made changes
 pub record HaveWatched (slot : ℕ) (batches_old batches_new : List (List LaneView)) (old new : List WatcherView) : Type 0 where
   pub many : length new ≡ length old
   pub each : (k : ℕ) → k < length old → HasWatched slot (lane_of batches_old k) (lane_of batches_new k) (watcher_at old k)
@@ -159,7 +160,7 @@ pub record HaveCleared (old new : List WatcherView) : Type 0 where
   pub many : length new ≡ length old
   pub each : (k : ℕ) → k < length old → HasCleared (watcher_at old k) (watcher_at new k)
 
--- New watchers of `cpus` processors, which take `requested` samples in an interval.
+-- New watchers of the first `cpus` processors, which take `requested` samples in an interval.
 pub record AreNewWatchers (batches : List (List LaneView)) (cpus requested : ℕ) (watchers : List WatcherView) : Type 0 where
   pub many : length watchers ≡ cpus
   pub each : (cpu : ℕ) → cpu < length watchers → IsNewWatcher cpu requested (lane_of batches cpu).row (lane_of batches cpu).on.plan
@@ -167,27 +168,27 @@ pub record AreNewWatchers (batches : List (List LaneView)) (cpus requested : ℕ
 
 -- ---- crews
 
--- A watcher of a crew is that of a processor: it has its lane's row and plan, and takes `requested`
--- samples in an interval.
+-- A watcher belongs to processor `cpu` of a crew: it has the row and the plan of the processor's
+-- lane, and takes `requested` samples in an interval.
 pub record IsWatcherOf (plans : PlansView) (batches : List (List LaneView)) (requested cpu : ℕ) (watcher : WatcherView) : Type 0 where
   pub cpu_is : watcher.cpu ≡ cpu
   pub row : Some watcher.row ≡ (lane_of batches cpu).row
   pub plan : watcher.knows.plan ≡ plan_at plans cpu
   pub requested_is : watcher.requested ≡ requested
 
--- The watchers of a crew: one for each processor, if it takes samples.
+-- The watchers of a crew: one for each processor if the crew takes samples, none otherwise.
 pub record AreWatchers (plans : PlansView) (batches : List (List LaneView)) (requested : ℕ) (watchers : List WatcherView) : Type 0 where
   pub none : requested ≡ 0 → length watchers ≡ 0
   pub all : 0 < requested → length watchers ≡ length plans.plans
   pub each : (cpu : ℕ) → cpu < length watchers → IsWatcherOf plans batches requested cpu (watcher_at watchers cpu)
 
--- A crew has lanes, and watchers that sample them.
+-- The invariant of a crew: its lanes and its watchers are valid.
 pub record IsCrew (plans : PlansView) (batches : List (List LaneView)) (ticks : Ticks) (out room requested : ℕ)
     (watchers : List WatcherView) : Type 0 where
   pub lanes : AreLanes plans batches ticks out room
   pub watched : AreWatchers plans batches requested watchers
 
--- a crew with these parts
+-- what contracts see of a crew with these parts
 abbrev pub crew_of : PlansView → List (List LaneView) → Ticks → ℕ → ℕ → ℕ → List WatcherView → CrewView
 crew_of plans batches ticks out room requested watchers = record {
   plans = plans;

@@ -1,4 +1,5 @@
-//! The processors of one worker.
+//! A batch: the processors that one worker thread advances.
+//! This module runs the batches of all workers, in threads. `deal` creates them.
 ghost use Rattle.std.specs.Prelude.{◌<◌, ◌≤◌};
 ghost use Rattle.std.specs.List.{All};
 ghost use Rattle.psi_spec.specs.Within.{last_moment};
@@ -13,7 +14,7 @@ use std::marker::Model;
 use std::thread;
 use std::thread::Threads;
 
-/// The lanes of one worker. Contracts see them as a list.
+/// The lanes of one worker; each lane is one processor. Contracts see a list of lanes.
 #[derive(Drop)]
 pub(crate) struct Batch<'a> {
     pub(crate) lanes: Vec<Lane<'a>>,
@@ -29,7 +30,8 @@ impl<'a> Model for Batch<'a> {
 }
 
 impl<'a> Batch<'a> {
-    /// Makes the changes of all lanes up to each tick, and stores the times of all groups there.
+    /// Makes the changes of all lanes up to each tick, and stores the times of all groups at that
+    /// tick.
     pub(crate) fn go_over<G: Gate>(&mut self, ticks: Ticks, gate: &G)
         requires some { 0 < ticks.count }
         requires early { last_of ticks ≤ last_moment }
@@ -41,7 +43,7 @@ impl<'a> Batch<'a> {
         }
     }
 
-    /// The number of changes of all lanes that remain up to a time (ns).
+    /// The number of changes up to `until` (ns) that the lanes still have to make.
     fn changes_left(&self, until: Ns) -> u64 {
         let mut left = 0u64;
         'lanes: for lane in &self.lanes {
@@ -51,8 +53,8 @@ impl<'a> Batch<'a> {
     }
 }
 
-// The number of threads: one for each `worth` changes up to a time (ns), but at most one for each
-// batch, and only the caller's if at most one batch has a change.
+// Returns the number of threads to use: one for each `worth` changes up to `until` (ns), but at
+// most one for each batch. Returns 1 (the caller's thread) if at most one batch has a change.
 fn threads_for(batches: &[Batch<'_>], until: Ns, worth: u64) -> usize
     requires { 0 < worth }
     ensures { 0 < result }
@@ -70,9 +72,9 @@ fn threads_for(batches: &[Batch<'_>], until: Ns, worth: u64) -> usize
     batches.len().min((changes / worth) as usize).max(1)
 }
 
-/// Makes the changes of all batches up to each tick, and stores the times of all groups there. Each
-/// batch runs in its own thread if one can be started, but there is at most one thread for each
-/// `worth` changes. Batches don't depend on each other.
+/// Makes the changes of all batches up to each tick, and stores the times of all groups at that
+/// tick. Each batch runs in its own thread if one can be started, but there is at most one thread
+/// for each `worth` changes. Batches don't depend on each other.
 pub(crate) fn go_all<R: Threads + Sync, G: Gate>(
     rt: &R,
     batches: &mut [Batch<'_>],

@@ -1,4 +1,5 @@
-//! Samples of all processors, taken while their changes are made.
+//! Live samples of all processors, taken while their changes are made.
+//! One extra thread samples the clock rows that the worker threads write.
 ghost use Rattle.std.specs.Prelude.{◌≡◌, ◌<◌, ◌≤◌, ℕ, length, IfOk};
 ghost use Rattle.std.specs.List.{All};
 ghost use Rattle.std.specs.Thread.{IsSync};
@@ -32,12 +33,13 @@ fn watcher_of(
     batch.lanes[cpu.0 as usize / workers].watcher(alloc, requested)
 }
 
-/// The number of changes that are worth a thread, if a crew advances one interval at a time: they
-/// take about as long as starting a thread.
+/// The number of changes that justify a thread of their own, if a crew advances one interval at a
+/// time: making them takes about as long as starting a thread.
 pub(crate) const WORTH_THREAD: u64 = 2_000;
 
-/// Watchers of the lanes of `cpus` processors, whose clocks are in rows. Each takes `requested`
-/// samples in an interval. Allocates everything that they need.
+/// Creates watchers for the lanes of the first `cpus` processors, whose clocks must be in rows.
+/// Each watcher takes `requested` samples in an interval. Allocates everything that the watchers
+/// need.
 pub(crate) fn watch(
     alloc: Global,
     batches: &mut [Batch<'_>],
@@ -131,7 +133,7 @@ fn gone<'a, R: Threads + Sync, G: Gate>(
     batches
 }
 
-// The watchers, after each took all its samples, in order of processors.
+// Returns the watchers, in the same order, after each has taken all its samples of `slot`.
 fn sampled<G: Gate>(mut watchers: Vec<Watcher>, slot: Slot, gate: &G) -> Vec<Watcher>
     requires { MayAllSample slot.0 watchers.items }
     ensures { HaveSampled slot.0 watchers.items result.items }
@@ -142,10 +144,10 @@ fn sampled<G: Gate>(mut watchers: Vec<Watcher>, slot: Slot, gate: &G) -> Vec<Wat
     watchers
 }
 
-/// Makes the changes of all batches up to each tick, like [`go_all`], in as many threads as they
-/// are worth. Meanwhile one more thread takes the samples of a slot for all watchers; each meets
-/// its lane before that, and settles with it afterwards. If there are no watchers, that thread
-/// isn't started.
+/// Makes the changes of all batches up to each tick, like [`go_all`], with one thread for each
+/// `WORTH_THREAD` changes at most. Meanwhile an extra thread takes the samples of `slot` for all
+/// watchers. Each watcher synchronises with its lane before the changes (`meet`) and after them
+/// (`settle`). Without watchers, the extra thread isn't started.
 pub(crate) fn go_beside<'a, R: Threads + Sync, G: Gate>(
     rt: &R,
     batches: Vec<Batch<'a>>,

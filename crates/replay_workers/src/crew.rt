@@ -1,4 +1,5 @@
-//! The clocks of all processors of a trace, which advance by ticks in the threads of workers.
+//! The clocks of all processors of a trace, which a pool of worker threads advances tick by tick.
+//! A crew doesn't compute pressure: it returns a table of times for each tick.
 ghost use Rattle.std.specs.Prelude.{◌≡◌, ◌<◌, ◌≤◌, ℕ, ◌∷◌, [], drop, length, slice_get, IfOk, IfSome, None, Ok, Some, is_some, true};
 ghost use Rattle.plan_laws.specs.Plan.{IsClock};
 ghost use Rattle.psi_spec.specs.Within.{last_moment};
@@ -24,31 +25,31 @@ use std::marker::Model;
 use std::mem;
 use std::thread::Threads;
 
-/// The clocks of all processors. They make the changes of a trace for several ticks at a time, and
-/// each worker makes those of its own processors. They store the times of all groups at each tick,
-/// until [`Crew::fill`] returns them. During an interval one group's clocks can be sampled live.
-/// Contracts see the plans, how many changes each processor's clocks made and their row, the
-/// ticks whose times are ready, the most ticks that the crew advances by at once, and the
-/// samples.
+/// The pool of workers of a replay, with the clocks of all processors. The workers make the changes
+/// of a trace for several ticks at a time; each worker makes those of its own processors. The times
+/// of all groups at each tick are stored until [`Crew::fill`] returns them. During an interval the
+/// clocks of one group can be sampled live. Contracts see the plans, the number of changes that
+/// each processor has made, the rows of the clocks, the ticks whose times are ready, the most ticks
+/// that the crew advances by at once, and the samples.
 ///
-/// A crew that takes live samples has its clocks in rows, even if it watches nothing. To take
-/// samples with readers of its own, a caller gets them from the crew, and lets each settle and meet
-/// with the crew between two intervals.
+/// A crew that takes live samples has its clocks in rows, even if no group is watched. A caller
+/// that wants to sample with its own readers gets them from [`Crew::reader`], and calls
+/// [`Crew::settle`] and [`Crew::meet`] for each reader between two intervals.
 #[derive(Drop)]
 pub struct Crew<'a> {
     alloc: Global,
     plans: &'a Plans,
     /// One batch for each worker: processor `c` belongs to worker `c % workers`.
     batches: Vec<Batch<'a>>,
-    /// The ticks by which the lanes advanced last.
+    /// The ticks of the crew's latest advance.
     ticks: Ticks,
-    /// The number of these ticks whose tables were returned.
+    /// The number of ticks in `ticks` whose tables have been returned.
     out: u32,
     /// The most ticks that the lanes can advance by at once.
     room: u32,
-    /// The number of live samples of a processor in an interval.
+    /// The number of live samples per processor and interval.
     requested: u32,
-    /// One watcher for each processor, if samples are taken.
+    /// One watcher for each processor if samples are taken, none otherwise.
     watchers: Vec<Watcher>,
 }
 
@@ -66,8 +67,8 @@ impl<'a> Model for Crew<'a> {
 }
 
 impl<'a> Crew<'a> {
-    /// The clocks of all processors before the first change, for 1 to 64 workers. `moments` is the
-    /// trace's number of ticks; it bounds the look-ahead. `requested` live samples of a processor
+    /// Creates the clocks of all processors before the first change, for 1 to 64 workers. `moments`
+    /// is the trace's number of ticks; it bounds the look-ahead. `live` samples of each processor
     /// are taken in an interval in which a group is watched. Allocates all that the crew needs.
     pub fn make(
         alloc: Global,
@@ -121,16 +122,16 @@ impl<'a> Crew<'a> {
         self.room
     }
 
-    /// The number of ticks that are ready.
+    /// The number of ticks whose tables can still be returned by `fill`.
     pub fn ready(&self) -> u32
         ensures { result ≡ length self.now.ready }
     {
         self.ticks.count - self.out
     }
 
-    /// Advances by ticks: each worker makes the changes of its processors up to and at each tick,
-    /// and stores the times of all groups there. Discards ready ticks and earlier samples; nothing
-    /// is watched. Does not allocate.
+    /// Advances by `ticks`: each worker makes the changes of its processors up to and including
+    /// each tick, and stores the times of all groups at that tick. Discards ticks that are still
+    /// ready, and earlier samples; no group is watched. Does not allocate.
     pub fn intervals<R: Threads + Sync, G: Gate>(&mut self, rt: &R, ticks: Ticks, gate: &G)
         requires some { 0 < ticks.count }
         requires within { ticks.count ≤ self.old.room }
@@ -144,7 +145,8 @@ impl<'a> Crew<'a> {
         ensures ready { self.new.ready ≡ moments_of ticks }
         ensures live { AreSampled None self.old self.new }
     {
-        // A crew that takes samples advances one interval at a time, even if nothing is watched.
+        // Few changes per call: a crew that takes samples advances one interval at a time, even if
+        // no group is watched.
         let worth = if self.requested > 0 { WORTH_THREAD } else { 1 };
         go_all(rt, &mut self.batches, ticks, worth, gate);
         clear(&mut self.watchers);
@@ -152,7 +154,8 @@ impl<'a> Crew<'a> {
         self.out = 0;
     }
 
-    // Like `intervals`, but takes live samples of a slot while the changes are made.
+    // Advances by `ticks` like `intervals`, but takes live samples of `slot` while the changes are
+    // made.
     fn intervals_beside<R: Threads + Sync, G: Gate>(
         &mut self,
         rt: &R,
@@ -182,10 +185,10 @@ impl<'a> Crew<'a> {
         self.out = 0;
     }
 
-    /// Makes the changes of all processors up to and at a tick's time `at` (ns), and stores the
-    /// times of all groups there. If a slot is watched and the crew takes samples, its clock is
-    /// sampled `requested` times on each processor meanwhile. Discards earlier samples. Does not
-    /// allocate.
+    /// Makes the changes of all processors up to and including the tick at `until` (ns), and stores
+    /// the times of all groups at that tick. If a slot is watched and the crew takes samples, its
+    /// clock is sampled `requested` times on each processor meanwhile. Discards earlier samples.
+    /// Does not allocate.
     pub fn interval<R: Threads + Sync, G: Gate>(
         &mut self,
         rt: &R,
@@ -216,7 +219,8 @@ impl<'a> Crew<'a> {
         }
     }
 
-    /// The live samples of a processor in the last interval, in the order they were taken.
+    /// The live samples of processor `cpu` in the last interval, in the order in which they were
+    /// taken.
     pub fn live(&self, cpu: Cpu) -> &[Sample]
         ensures { result.now ≡ (watch_at self.now.watches cpu.0).samples }
     {
@@ -226,8 +230,8 @@ impl<'a> Crew<'a> {
         }
     }
 
-    /// Copies the times (ns) of all groups on all processors at the first ready tick to a table.
-    /// Does not allocate.
+    /// Copies the times (ns) of all groups on all processors at the first ready tick, whose time is
+    /// `at` (ns), to `rows`. The tick is no longer ready afterwards. Does not allocate.
     pub fn fill(&mut self, at: Ns, rows: &mut Rows)
         requires first { slice_get self.old.ready 0 ≡ Some at }
         requires sizes { HasSizes (length self.old.plans.plans)
@@ -239,7 +243,7 @@ impl<'a> Crew<'a> {
         self.out += 1;
     }
 
-    /// The number of changes of a processor that were made.
+    /// The number of changes that processor `cpu` has made.
     pub fn count(&self, cpu: Cpu) -> u64
         requires { cpu.0 < length self.now.plans.plans }
         ensures { result ≡ (clocks_at self.now.clocks cpu.0).made }
@@ -247,7 +251,7 @@ impl<'a> Crew<'a> {
         lane_in(&self.batches, cpu).count()
     }
 
-    /// The clock of a slot on a processor, after the processor's changes made so far.
+    /// The clock of `slot` on processor `cpu`, after all changes that the processor has made.
     pub fn own(&mut self, cpu: Cpu, slot: Slot) -> Clock
         requires cpu { cpu.0 < length self.old.plans.plans }
         requires slot { slot.0 < length self.old.plans.lives }
@@ -260,8 +264,8 @@ impl<'a> Crew<'a> {
         batch.lanes[cpu.0 as usize / workers].own(slot)
     }
 
-    /// A reader of a processor's row, which has seen the changes made so far. It may be sent to
-    /// another thread.
+    /// Returns a new reader of the row of processor `cpu`, which has seen all changes that the
+    /// processor has made. The reader may be sent to another thread.
     pub fn reader(&mut self, cpu: Cpu) -> Result<ClockReader, NoMemory>
         requires cpu { cpu.0 < length self.old.plans.plans }
         requires in_row { is_some (row_at self.old.rows cpu.0) ≡ true }
@@ -275,8 +279,9 @@ impl<'a> Crew<'a> {
         batch.lanes[cpu.0 as usize / workers].reader()
     }
 
-    /// Notifies a reader of a processor's row of the number of changes made, so that it has seen at
-    /// least that many. Does not allocate, and always returns Ok.
+    /// Shows `reader`, a reader of the row of processor `cpu`, the number of changes made:
+    /// afterwards the reader has seen at least that many. Does not allocate, and always returns
+    /// `Ok`.
     pub fn meet(&mut self, cpu: Cpu, reader: &mut ClockReader) -> Result<(), NoMemory>
         requires cpu { cpu.0 < length self.old.plans.plans }
         requires own { Some reader.old.row ≡ row_at self.old.rows cpu.0 }
@@ -291,8 +296,8 @@ impl<'a> Crew<'a> {
         batch.lanes[cpu.0 as usize / workers].meet(reader)
     }
 
-    /// Learns how many changes a reader of a processor's row has seen, which is at most the number
-    /// made. Does not allocate, and always returns Ok.
+    /// Establishes that `reader`, a reader of the row of processor `cpu`, has seen at most the
+    /// changes that were made. Does not allocate, and always returns `Ok`.
     pub fn settle(&mut self, cpu: Cpu, reader: &mut ClockReader) -> Result<(), NoMemory>
         requires cpu { cpu.0 < length self.old.plans.plans }
         requires own { Some reader.old.row ≡ row_at self.old.rows cpu.0 }

@@ -1,4 +1,5 @@
-//! How processors are dealt to workers.
+//! Deals the processors of a trace to workers, round robin.
+//! Also computes the number of ticks for which a crew has room.
 ghost use Rattle.std.specs.Prelude.{◌≡◌, ◌<◌, ◌≤◌, IfOk};
 ghost use Rattle.replay_workers.specs.Crew.{room_of};
 ghost use Rattle.replay_workers.specs.Lanes.{AreNewBatches, IsNewBatch};
@@ -15,11 +16,11 @@ const MOST_KEPT: u64 = 64_000_000;
 /// The most ticks that a crew advances by at once.
 const MOST_AHEAD: u64 = 256;
 
-/// The size of the eight times of a group on a processor, in bytes.
+/// The size of a group's eight times on one processor, in bytes.
 const TIMES_BYTES: u64 = 64;
 
-/// The most ticks that a crew advances by at once, for a trace with `moments` ticks: as many as fit
-/// into `MOST_KEPT`, at most `MOST_AHEAD`, and at least one.
+/// The most ticks that a crew advances by at once, for a trace with `moments` ticks: the number
+/// that fits into `MOST_KEPT`, at most `MOST_AHEAD` and `moments`, and at least one.
 pub(crate) fn room_for(cpus: u32, slots: u32, moments: u64) -> u32
     requires { cpus ≤ 64 }
     ensures room { result ≡ room_of cpus slots moments }
@@ -30,8 +31,8 @@ pub(crate) fn room_for(cpus: u32, slots: u32, moments: u64) -> u32
     fits.min(moments).min(MOST_AHEAD).max(1) as u32
 }
 
-// The lanes of a worker before any change: lane k is that of processor k * workers + worker. The
-// clocks are in rows or plain.
+// Creates the lanes of `worker` before any change: lane `k` belongs to processor k * workers +
+// worker. The clocks are in rows if `in_rows`, and plain otherwise.
 fn deal_batch<'a>(
     alloc: Global,
     plans: &'a Plans,
@@ -55,8 +56,8 @@ fn deal_batch<'a>(
     Ok(Batch { lanes })
 }
 
-/// All processors, dealt to `workers` workers, before any change. Clocks are in rows if they are to
-/// be sampled.
+/// Deals all processors to `workers` batches, before any change. The clocks are in rows if
+/// `in_rows`, which live sampling needs.
 pub(crate) fn deal<'a>(
     alloc: Global,
     plans: &'a Plans,

@@ -1,4 +1,5 @@
 //! Copies the stored times of all groups at a tick to a table.
+//! The times are stored by processor, and the table is ordered by group.
 ghost use Rattle.std.specs.Prelude.{◌≡◌, ◌+◌, ◌*◌, ◌<◌, ◌/◌, ◌%◌, ℕ, length};
 ghost use Rattle.aggregate.specs.Table.{HasSizes};
 ghost use Rattle.replay_workers.specs.Crew.{IsTableAt};
@@ -10,7 +11,8 @@ use aggregate::Rows;
 use proc_plan::Plans;
 use psi_base::{Cpu, Slot};
 
-/// The place of a processor's lane: its worker's batch, and the index there.
+/// The place of a processor's lane: the index of its worker's batch, and the index within the
+/// batch.
 #[derive(Clone, Copy, Debug)]
 struct LanePlace {
     worker: usize,
@@ -49,7 +51,7 @@ impl LanePlace {
     }
 }
 
-/// The lane of a processor.
+/// The lane of processor `cpu`.
 pub(crate) fn lane_in<'b, 'a>(batches: &'b [Batch<'a>], cpu: Cpu) -> &'b Lane<'a>
     requires some { 0 < length batches.now }
     requires place { cpu.0 / length batches.now
@@ -61,7 +63,8 @@ pub(crate) fn lane_in<'b, 'a>(batches: &'b [Batch<'a>], cpu: Cpu) -> &'b Lane<'a
     &batch.lanes[cpu.0 as usize / workers]
 }
 
-// Copies the times (ns) of a group on all processors, stored for tick `tick`, to its row.
+// Copies the times (ns) of the group in `slot` on all processors, stored for tick `tick`, to the
+// group's row.
 fn fill_row(plans: &Plans, batches: &[Batch<'_>], tick: u32, slot: Slot, rows: &mut Rows)
     requires sizes { HasSizes (length plans.now.plans) (length plans.now.lives) rows.old }
     requires slot { slot.0 < length plans.now.lives }
@@ -84,7 +87,7 @@ fn fill_row(plans: &Plans, batches: &[Batch<'_>], tick: u32, slot: Slot, rows: &
 }
 
 /// Copies the times (ns) of all groups on all processors, stored for tick `tick` (numbered from 0),
-/// to a table: row by row, in the table's order.
+/// to `rows`, row by row.
 pub(crate) fn fill(plans: &Plans, batches: &[Batch<'_>], tick: u32, rows: &mut Rows)
     requires sizes { HasSizes (length plans.now.plans) (length plans.now.lives) rows.old }
     requires unchanged { (at : ℕ) × AreKept plans.now batches.now tick at }

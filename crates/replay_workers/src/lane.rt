@@ -1,4 +1,5 @@
-//! One processor, which advances tick by tick and stores the times at each.
+//! A lane: one processor, which advances tick by tick and stores the times at each tick.
+//! A lane doesn't start threads; its batch runs in one.
 ghost use Rattle.std.specs.Prelude.{◌≡◌, ◌*◌, ◌<◌, ◌≤◌, length, IfOk, Ok, Some, is_some};
 ghost use Rattle.plan_laws.specs.Plan.{IsClock, IsPlan};
 ghost use Rattle.psi_spec.specs.Within.{last_moment};
@@ -20,9 +21,9 @@ use psi_base::{Cpu, NoMemory, Ns, Slot};
 use std::alloc::Global;
 use std::marker::Model;
 
-/// The clocks of one processor, and the times of all its groups at the ticks by which it advanced
-/// last. Contracts see the processor, the row if the clocks are in one, the plan and how many of
-/// its changes were made, and the stored times.
+/// The clocks of one processor, and the times of all groups at the ticks of its latest advance.
+/// Contracts see the processor, the row that holds the clocks (if any), the plan, the number of
+/// changes made, and the stored times.
 #[derive(Drop)]
 pub(crate) struct Lane<'a> {
     cpu: Cpu,
@@ -48,7 +49,7 @@ impl<'a> Model for Lane<'a> {
     ghost invariant = { λ l. IsLane l.plan.now l.slots (clocks_in l.clocks) };
 }
 
-// `count` zeroed entries.
+// Returns `count` zeroed entries.
 fn places(alloc: Global, count: usize) -> Result<Vec<Times>, NoMemory>
     ensures { IfOk result (λ times. length times.items ≡ count) }
 {
@@ -56,8 +57,9 @@ fn places(alloc: Global, count: usize) -> Result<Vec<Times>, NoMemory>
 }
 
 impl<'a> Lane<'a> {
-    /// A processor before its first change, with room for the times of `room` ticks, and with
-    /// clocks in a row if they are to be sampled. Allocates everything that its changes need.
+    /// Creates the lane of processor `cpu` before its first change, with room for the times of
+    /// `room` ticks. The clocks are in a row if `in_row`. Allocates everything that applying
+    /// changes needs.
     pub(crate) fn make(
         alloc: Global,
         plans: &'a Plans,
@@ -93,12 +95,12 @@ impl<'a> Lane<'a> {
         self.clocks.count()
     }
 
-    /// The number of changes that remain up to a time (ns).
+    /// The number of changes up to `until` (ns) that aren't made yet.
     pub(crate) fn changes_left(&self, until: Ns) -> u64 {
         self.plan.until(until).saturating_sub(self.clocks.count())
     }
 
-    /// The clock of a slot, after the changes made so far.
+    /// The clock of `slot`, after all changes that the processor has made.
     pub(crate) fn own(&mut self, slot: Slot) -> Clock
         requires { slot.0 < length self.old.on.plan.parents }
         ensures unchanged { self.new ≡ self.old }
@@ -114,7 +116,7 @@ impl<'a> Lane<'a> {
         &self.kept
     }
 
-    /// A reader of the processor's row, in which its clocks are.
+    /// Returns a new reader of the processor's row. Requires that the clocks are in a row.
     pub(crate) fn reader(&mut self) -> Result<ClockReader, NoMemory>
         requires { IsInRow self.old }
         ensures same { self.new ≡ self.old }
@@ -128,8 +130,8 @@ impl<'a> Lane<'a> {
         writer.reader()
     }
 
-    /// Notifies a reader of the processor's row of the number of changes made. Does not allocate,
-    /// and always returns Ok.
+    /// Shows `reader`, a reader of the processor's row, the number of changes made. Does not
+    /// allocate, and always returns `Ok`.
     pub(crate) fn meet(&mut self, reader: &mut ClockReader) -> Result<(), NoMemory>
         requires { Some reader.old.row ≡ self.old.row }
         ensures ok { result ≡ Ok tt }
@@ -143,8 +145,8 @@ impl<'a> Lane<'a> {
         writer.meet(reader)
     }
 
-    /// Learns how many changes a reader of the processor's row has seen, which is at most the
-    /// number made. Does not allocate, and always returns Ok.
+    /// Establishes that `reader`, a reader of the processor's row, has seen at most the changes
+    /// that were made. Does not allocate, and always returns `Ok`.
     pub(crate) fn settle(&mut self, reader: &mut ClockReader) -> Result<(), NoMemory>
         requires { Some reader.old.row ≡ self.old.row }
         ensures ok { result ≡ Ok tt }
@@ -158,8 +160,8 @@ impl<'a> Lane<'a> {
         writer.settle(reader)
     }
 
-    /// A watcher of the processor, whose clocks are in a row. It takes `requested` samples in an
-    /// interval. Allocates everything that it needs.
+    /// Creates a watcher of the processor, which takes `requested` samples in an interval. Requires
+    /// that the clocks are in a row. Allocates everything that the watcher needs.
     pub(crate) fn watcher(&mut self, alloc: Global, requested: u32) -> Result<Watcher, NoMemory>
         requires { IsInRow self.old }
         ensures same { self.new ≡ self.old }
@@ -172,7 +174,7 @@ impl<'a> Lane<'a> {
         Watcher::make(alloc, self.cpu, writer, requested)
     }
 
-    /// Notifies the processor's watcher of the number of changes made, and of a slot's clock after
+    /// Shows the processor's watcher the number of changes made, and the clock of `slot` after
     /// them.
     pub(crate) fn meet_watcher(&mut self, watcher: &mut Watcher, slot: Slot)
         requires row { Some watcher.old.row ≡ self.old.row }
@@ -187,7 +189,7 @@ impl<'a> Lane<'a> {
         watcher.meet(writer, slot);
     }
 
-    /// Learns from the processor's watcher what it has seen: at most the changes made so far.
+    /// Establishes that the processor's watcher has seen at most the changes that were made.
     pub(crate) fn settle_watcher(&mut self, watcher: &mut Watcher)
         requires { Some watcher.old.row ≡ self.old.row }
         ensures lane { self.new ≡ self.old }
@@ -200,7 +202,7 @@ impl<'a> Lane<'a> {
         watcher.settle(writer);
     }
 
-    /// Makes the changes up to each tick, and stores the times of all groups there.
+    /// Makes the changes up to each tick, and stores the times of all groups at that tick.
     pub(crate) fn go_over<G: Gate>(&mut self, ticks: Ticks, gate: &G)
         requires some { 0 < ticks.count }
         requires early { last_of ticks ≤ last_moment }

@@ -1,4 +1,5 @@
-//! The clocks of one processor, in a row only if they are to be sampled.
+//! The clocks of one processor, which are in a row only if they are sampled live.
+//! Both kinds advance by the same generic code.
 ghost use Rattle.std.specs.Prelude.{◌≡◌, ◌+◌, ◌*◌, ◌<◌, ◌≤◌, length, IfOk, is_some};
 ghost use Rattle.plan_laws.specs.Plan.{IsClock, IsPlan, changes_up_to, last_change};
 ghost use Rattle.psi_spec.specs.Within.{last_moment};
@@ -15,17 +16,17 @@ use proc_plan::{IrqClocks, PlainClocks, Plan, ProcClocks};
 use psi_base::{Cpu, NoMemory, Ns, Slot};
 use std::alloc::Global;
 
-/// The clocks of a processor. A change costs about twice as much if they are in a row.
+/// The clocks of a processor. A change costs about twice as much in a row as in plain clocks.
 #[derive(Drop)]
 pub(crate) enum LaneClocks<'a> {
     /// Plain clocks: no other thread reads them.
     Plain(PlainClocks<'a>),
-    /// Clocks in a row: watchers may read them while changes are made.
+    /// Clocks in a row: watchers in other threads may read them while changes are made.
     Row(ClockWriter<'a>),
 }
 
-// Stores the times (ns) of all groups at tick `tick`, whose time is `at`. The clocks must have
-// made all changes up to `at`.
+// Stores the times (ns) of all groups at tick `tick`, whose time is `at` (ns). Requires that the
+// clocks have made all changes up to `at`.
 fn keep_tick<C: IrqClocks>(clocks: &mut C, slots: u32, tick: u32, at: Ns, kept: &mut [Times])
     requires known { slots ≡ length (C.plan clocks.old).parents }
     requires whole { IsPlan (C.plan clocks.old) }
@@ -76,8 +77,8 @@ fn go_over<C: IrqClocks, G: Gate>(
 }
 
 impl<'a> LaneClocks<'a> {
-    /// The clocks before the first change of a plan with `slots` slots, in a row or plain.
-    /// Allocates everything that their changes need.
+    /// Creates the clocks before the first change of a plan with `slots` slots. They are in a row
+    /// if `in_row`. Allocates everything that applying changes needs.
     pub(crate) fn make(
         alloc: Global,
         plan: &'a Plan,
@@ -105,7 +106,7 @@ impl<'a> LaneClocks<'a> {
         }
     }
 
-    /// The clock of a slot, after the changes made so far.
+    /// The clock of `slot`, after all changes that the clocks have made.
     pub(crate) fn own(&mut self, slot: Slot) -> Clock
         requires { slot.0 < length (clocks_in self.old).plan.parents }
         ensures unchanged { clocks_in self.new ≡ clocks_in self.old }

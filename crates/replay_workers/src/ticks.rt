@@ -1,4 +1,5 @@
 //! The ticks by which a crew advances at once.
+//! Their tables may have been computed before they are needed.
 ghost use Rattle.std.specs.Prelude.{◌≡◌, ◌<◌, ◌^◌};
 ghost use Rattle.replay_workers.specs.Crew.{last_of, moment_in};
 
@@ -16,7 +17,7 @@ pub struct Ticks {
 }
 
 impl Ticks {
-    /// The moment (ns) of tick `number`, counted from 0.
+    /// The time (ns) of tick `number`, counted from 0.
     pub(crate) fn moment(self, number: u32) -> Ns
         requires { moment_in self number < 2 ^ 64 }
         ensures { result ≡ moment_in self number }
@@ -24,7 +25,7 @@ impl Ticks {
         self.first + u64::from(number) * self.length
     }
 
-    /// The last moment (ns).
+    /// The time (ns) of the last tick.
     pub(crate) fn last(self) -> Ns
         requires some { 0 < self.count }
         requires fits { last_of self < 2 ^ 64 }

@@ -1,4 +1,5 @@
-//! A watcher, which samples one processor live.
+//! A watcher, which takes live samples of one processor.
+//! It runs in a thread of its own, beside the worker that makes the changes.
 ghost use Rattle.std.specs.Prelude.{◌≡◌, ◌+◌, ◌*◌, ◌<◌, ◌≤◌, [], length, vec_capacity, vec_len, IfOk, Some};
 ghost use Rattle.std.specs.List.{All};
 ghost use Rattle.plan_laws.specs.Plan.{IsClock};
@@ -18,15 +19,15 @@ use std::alloc::Global;
 use std::marker::Model;
 
 /// A reader of one processor's row, and the samples that it took in the last interval. Contracts
-/// see the processor, the row, what the reader knows, and the samples.
+/// see the processor, the row, the state of the reader, and the samples.
 #[derive(Drop)]
 pub(crate) struct Watcher {
     cpu: Cpu,
     reader: ClockReader,
-    /// The sample before the first of an interval: the writer's own clock.
+    /// The writer's own clock, which precedes the first sample of an interval.
     last: Sample,
     samples: Vec<Sample>,
-    /// The number of samples in an interval.
+    /// The number of samples per interval.
     requested: u32,
 }
 
@@ -48,8 +49,8 @@ impl Model for Watcher {
     ghost invariant = { λ w. w.requested ≤ vec_capacity w.samples };
 }
 
-// Takes `requested` samples of a slot after the last one, and reports each to the gate. `samples`
-// has the capacity for them.
+// Takes `requested` samples of `slot` after `last`, and reports each to the gate. `samples` must
+// have the capacity for them.
 fn sample_on<G: Gate>(
     reader: &mut ClockReader,
     samples: &mut Vec<Sample>,
@@ -88,8 +89,8 @@ fn sample_on<G: Gate>(
 }
 
 impl Watcher {
-    /// A watcher of a writer's row, which takes `requested` samples in an interval. Allocates
-    /// everything that it needs.
+    /// Creates a watcher of the row of `writer`, which takes `requested` samples in an interval.
+    /// Allocates everything that the watcher needs.
     pub(crate) fn make(
         alloc: Global,
         cpu: Cpu,
@@ -134,7 +135,8 @@ impl Watcher {
         self.samples.clear();
     }
 
-    /// Learns from the writer how many changes it made, and its clock of a slot after them.
+    /// Synchronises with the writer: the watcher has then seen all changes that `writer` made, and
+    /// its last sample is the writer's own clock of `slot`.
     pub(crate) fn meet(&mut self, writer: &mut ClockWriter<'_>, slot: Slot)
         requires row { self.old.row ≡ writer.old.row }
         requires plan { self.old.knows.plan ≡ writer.old.knows.plan }
@@ -143,7 +145,7 @@ impl Watcher {
         ensures on { on_of writer.new ≡ on_of writer.old }
         ensures met { HasMet slot.0 (on_of writer.old) self.old self.new }
     {
-        // Both are always Ok.
+        // Both results are always `Ok`.
         let _known = writer.settle(&mut self.reader);
         let _met = writer.meet(&mut self.reader);
         self.last = Sample {
@@ -152,8 +154,7 @@ impl Watcher {
         };
     }
 
-    /// Reports to the writer the number of changes that it has seen: at most those that the writer
-    /// made.
+    /// Establishes that this watcher has seen at most the changes that `writer` made.
     pub(crate) fn settle(&mut self, writer: &mut ClockWriter<'_>)
         requires { self.old.row ≡ writer.old.row }
         ensures same { self.new ≡ self.old }
@@ -161,12 +162,12 @@ impl Watcher {
         ensures on { on_of writer.new ≡ on_of writer.old }
         ensures seen { self.old.knows.seen ≤ writer.old.knows.count }
     {
-        // It is always Ok.
+        // The result is always `Ok`.
         let _known = writer.settle(&mut self.reader);
     }
 
-    /// Takes its samples of a slot, and reports each to the gate. Makes at most eight tries for
-    /// each sample. Does not allocate.
+    /// Takes the watcher's samples of `slot`, and reports each to the gate. Makes at most eight
+    /// tries for each sample. Does not allocate.
     pub(crate) fn sample<G: Gate>(&mut self, slot: Slot, gate: &G)
         requires { MaySample slot.0 self.old }
         ensures { HasSampled slot.0 self.old self.new }
