@@ -1,4 +1,4 @@
--- A replay of a trace after some ticks.
+-- The state of a trace's replay between two ticks, and what replaying one more tick does to it.
 use Rattle.std.specs.Prelude.{◌≡◌, ℕ, ◌+◌, ◌<◌, ◌≤◌, List, [], drop, length, map, Bool, true, false, if◌then◌else◌, Option, None, Some, Result, Ok, Err}
 use Rattle.std.specs.List.{All, flat_map, range_with_len}
 use Rattle.std.specs.Io.KnownBytes.{Appends, Keeps}
@@ -26,9 +26,10 @@ use Rattle.replay_workers.specs.Crew.{AreNotPast, AreSampled, CrewView, WatchVie
 use Rattle.replay_ticks.specs.declared.run_timing.RunTiming.{RunTiming}
 use Rattle.replay_ticks.specs.declared.replay.TickFault.{TickFault}
 
--- A replay: the plans of its trace, the clocks of all processors, the table of the last tick, the
--- engine, the judge of rules, all slots by path, the ticks and reports, the watched path, if any,
--- and the numbers of ticks replayed, signals and kills.
+-- A replay: the plans of its trace, the clocks of all processors (the crew of worker threads), the
+-- table of the last tick, the engine of averages and triggers, the judge of rules, all slots by
+-- path, the ticks and reports, the watched path, if any, and the numbers of ticks replayed, signals
+-- and kills.
 pub record ReplayView : Type 0 where
   pub plans : PlansView
   pub crew : CrewView
@@ -42,7 +43,7 @@ pub record ReplayView : Type 0 where
   pub signals : ℕ
   pub kills : ℕ
 
--- these are the ticks and reports of a trace's replay
+-- `run_timing` has the ticks and reports of the trace's replay
 pub record IsPaced (run_timing : RunTiming) (trace : Trace) (timing : Timing) : Type 0 where
   pub version : version_of run_timing.version ≡ trace.version
   pub length : run_timing.length ≡ timing.length
@@ -53,28 +54,28 @@ pub record IsPaced (run_timing : RunTiming) (trace : Trace) (timing : Timing) : 
 abbrev pub HasPlaces : PlansView → List (List (List ℕ)) → Type 0
 HasPlaces plans rows = HasSizes (length plans.plans) (length plans.lives) rows
 
--- ---- ticks ahead
+-- ---- looking ahead
 
--- the moments (ns) of `count` ticks after the first i
+-- the times (ns) of the `count` ticks after the first `i` ticks
 abbrev pub moments_after : ℕ → ℕ → ℕ → List ℕ
 moments_after length i count = map (tick_moment length) (range_with_len (i + 1) count)
 
--- A crew is ahead of the first i ticks: the tables of the next ticks are ready, perhaps none, and
--- no clock is past these ticks.
+-- The crew may be ahead of the first `i` ticks: tables of zero or more next ticks are ready, and no
+-- processor has made a change later than the last of these ticks.
 pub record IsAhead (plans : PlansView) (crew : CrewView) (trace : Trace) (timing : Timing) (i : ℕ) : Type 0 where
   pub same : crew.plans ≡ plans
   pub ready : crew.ready ≡ moments_after timing.length i (length crew.ready)
   pub within : i + length crew.ready ≤ tick_count trace timing
   pub not_past : AreNotPast plans crew.clocks (tick_moment timing.length (i + length crew.ready))
 
--- The conditions for advancing by ticks after the first i.
+-- Preconditions for advancing the crew by further ticks after the first `i` ticks.
 pub record IsToGo (plans : PlansView) (crew : CrewView) (run_timing : RunTiming) (trace : Trace) (timing : Timing) (i : ℕ) : Type 0 where
   pub planned : IsPlanned plans trace timing
   pub paced : IsPaced run_timing trace timing
   pub left : i < tick_count trace timing
   pub ahead : IsAhead plans crew trace timing i
 
--- The table of the tick after the first i is ready.
+-- The table of tick i + 1 is ready.
 pub record IsReady (plans : PlansView) (crew : CrewView) (trace : Trace) (timing : Timing) (i : ℕ) : Type 0 where
   pub ahead : IsAhead plans crew trace timing i
   pub some : 0 < length crew.ready
@@ -86,7 +87,7 @@ abbrev pub watched_path : Option LiveWatch → Option (List ℕ)
 watched_path None = None
 watched_path (Some watch) = Some watch.path
 
--- the number of samples of a processor in an interval
+-- the number of samples per processor and interval; 0 if nothing is watched
 abbrev pub requested_by : Option LiveWatch → ℕ
 requested_by None = 0
 requested_by (Some watch) = watch.count
@@ -96,7 +97,7 @@ abbrev pub watched_at : Trace → Option (List ℕ) → ℕ → Option ℕ
 watched_at trace None at = None
 watched_at trace (Some path) at = live_slot_at trace.events path at
 
--- a slot is the watched slot at tick i, if any
+-- `slot` is the slot that is watched at tick `i`, if any
 abbrev pub IsSlotAt : Option Slot → Trace → Timing → ℕ → Type 0
 IsSlotAt slot trace timing i = number_of_slot slot ≡ watched_at trace (watched_path timing.watch) (tick_moment timing.length i)
 
@@ -104,22 +105,23 @@ IsSlotAt slot trace timing i = number_of_slot slot ≡ watched_at trace (watched
 abbrev pub AreIdle : List WatchView → Type 0
 AreIdle watches = (cpu : ℕ) → (watch_at watches cpu).samples ≡ []
 
--- If a group is watched, a crew advances tick by tick: `count` tables are ready, and each
--- processor's clocks made the changes up to tick i, and no others. Otherwise there are no samples.
+-- If a group is watched, the crew advances tick by tick: `count` tables are ready, and each
+-- processor has made exactly its changes up to tick `i`, for ticks of `tick` ns. Otherwise there
+-- are no samples.
 abbrev pub GoesByTick : Option LiveWatch → ℕ → CrewView → Trace → ℕ → ℕ → Type 0
 GoesByTick None count crew trace tick i = AreIdle crew.watches
 GoesByTick (Some watch) count crew trace tick i =
     (length crew.ready ≡ count)
     × ((cpu : ℕ) → cpu < trace.cpus → (clocks_at crew.clocks cpu).made ≡ changes_until trace tick cpu i)
 
--- the watched path, the number of samples, and how far the crew has advanced after the first i
--- ticks
+-- after the first `i` ticks, the crew has the watched path and the number of samples of `timing`,
+-- and if a path is watched it has advanced exactly to tick `i`
 pub record IsWatching (crew : CrewView) (live : Option (List ℕ)) (trace : Trace) (timing : Timing) (i : ℕ) : Type 0 where
   pub path : live ≡ watched_path timing.watch
   pub requested : crew.requested ≡ requested_by timing.watch
   pub by_tick : GoesByTick timing.watch 0 crew trace timing.length i
 
--- the lines of a processor's samples at `at` (ns)
+-- the lines of a processor's samples at the tick at `at` (ns)
 abbrev pub samples_text : ℕ → ℕ → List Sample → List ℕ
 samples_text at cpu samples = flat_map (λ (sample : Sample). live_line at cpu sample.count (opened sample.clock at)) samples
 
@@ -132,7 +134,7 @@ abbrev pub AreInTime : ℕ → List WatchView → ℕ → Type 0
 AreInTime cpus watches at =
     (cpu : ℕ) → cpu < cpus → All (λ (sample : Sample). IsInTime sample.clock at) (watch_at watches cpu).samples
 
--- During the changes up to tick i a crew sampled the slot that is watched at that tick, and the
+-- During the changes up to tick `i` the crew sampled the slot that is watched at that tick, and the
 -- lines of the samples are valid live lines of the tick.
 pub record IsLiveTick (old new : CrewView) (trace : Trace) (timing : Timing) (i : ℕ) : Type 0 where
   pub watched : Option Slot
@@ -141,13 +143,13 @@ pub record IsLiveTick (old new : CrewView) (trace : Trace) (timing : Timing) (i 
   pub text : IsLiveText trace timing.length timing.watch i (watches_text (tick_moment timing.length i) trace.cpus new.watches)
   pub in_time : AreInTime trace.cpus new.watches (tick_moment timing.length i)
 
--- a crew after it returned one more table
+-- the crew after it has returned one more table
 abbrev pub handed : CrewView → CrewView
 handed crew = record crew { ready = drop 1 crew.ready }
 
 -- ---- one tick
 
--- The conditions for sampling the tick after the first i, whose moment is `at` (ns).
+-- Preconditions for sampling tick i + 1, whose time is `at` (ns).
 pub record IsToSample (plans : PlansView) (crew : CrewView) (rows : List (List (List ℕ))) (engine : EngineView) (trace : Trace)
     (timing : Timing) (i at : ℕ) : Type 0 where
   pub planned : IsPlanned plans trace timing
@@ -164,8 +166,8 @@ pub record IsTickSampled (plans : PlansView) (crew : CrewView) (rows : List (Lis
   pub sizes : HasPlaces plans rows
   pub ticked : HasTicked engine trace timing number
 
--- The conditions for writing the lines of tick `number`, counted from 1: it was sampled last, and
--- its moment is `at` (ns).
+-- Preconditions for writing the lines of tick `number`, counted from 1: the engine has just taken
+-- that tick, and its time is `at` (ns).
 pub record IsToPut (plans : PlansView) (engine : EngineView) (order : List Slot) (run_timing : RunTiming) (trace : Trace)
     (timing : Timing)
     (number at : ℕ) : Type 0 where
@@ -176,8 +178,8 @@ pub record IsToPut (plans : PlansView) (engine : EngineView) (order : List Slot)
   pub ticked : HasTicked engine trace timing number
   pub by_path : IsPathOrder plans.lives (numbers_of order)
 
--- The conditions for writing the root's pressure files at tick `number`, counted from 1: it was
--- sampled last.
+-- Preconditions for writing the root's pressure files at tick `number`, counted from 1: the engine
+-- has just taken that tick.
 pub record IsToPutRoot (plans : PlansView) (engine : EngineView) (run_timing : RunTiming) (trace : Trace) (timing : Timing)
     (number : ℕ) : Type 0 where
   pub planned : IsPlanned plans trace timing
@@ -192,18 +194,18 @@ due_text trace timing number =
 
 -- ---- the whole replay
 
--- A crew reached the tick after the first i. If it sampled the slot that is watched at that tick,
--- its samples are the tick's. If it advances tick by tick, only that tick's table is ready.
+-- The crew advanced to tick i + 1. If it sampled the slot that is watched at that tick, its samples
+-- belong to that tick. If a group is watched, only the table of that tick is ready.
 pub record IsReached (slot : Option Slot) (old new : CrewView) (trace : Trace) (timing : Timing) (i : ℕ) : Type 0 where
   pub live : IsSlotAt slot trace timing (i + 1) → IsLiveTick old new trace timing (i + 1)
   pub requested : new.requested ≡ old.requested
   pub by_tick : GoesByTick timing.watch 1 new trace timing.length (i + 1)
 
--- the lines of a tick, with these live lines
+-- the lines of tick `i`, with `live` as its live lines
 abbrev pub tick_lines : Trace → Timing → List Rule → ℕ → List ℕ → List ℕ
 tick_lines trace timing rules i live = tick_text trace timing (record { live = λ _. live; rules = rules }) i
 
--- A replay of a trace with rulesets after the first i ticks.
+-- A replay of a trace with these rules after the first `i` ticks.
 pub record IsReplay (replay : ReplayView) (trace : Trace) (timing : Timing) (rules : List Rule) (i : ℕ) : Type 0 where
   pub planned : IsPlanned replay.plans trace timing
   pub paced : IsPaced replay.run_timing trace timing
@@ -219,17 +221,18 @@ pub record IsReplay (replay : ReplayView) (trace : Trace) (timing : Timing) (rul
   pub signals : replay.signals ≡ signals_until trace timing i
   pub kills : replay.kills ≡ kills_until trace timing rules i
 
--- it is a replay of some trace
+-- the replay belongs to some trace, after some number of its ticks
 abbrev pub IsSomeReplay : ReplayView → Type 0
 IsSomeReplay replay = (trace : Trace) × (timing : Timing) × (rules : List Rule) × (i : ℕ) × IsReplay replay trace timing rules i
 
--- a replay has a next tick
+-- precondition for replaying one more tick: the trace has a next tick
 abbrev pub IsTickLeft : ReplayView → Type 0
 IsTickLeft replay =
     (trace : Trace) × (timing : Timing) × (rules : List Rule) × (i : ℕ) × IsReplay replay trace timing rules i
     × (i < tick_count trace timing)
 
--- replaying the next tick: if there is one, samples were taken up to it; otherwise nothing changes
+-- Replaying the next tick, as a relation of the states and the returned flag. `true`: there was a
+-- next tick, and samples were taken up to it. `false`: there was none, and nothing changed.
 abbrev pub Passes : Trace → Timing → List Rule → ℕ → ReplayView → ReplayView → Bool → Type 0
 Passes trace timing rules i old new true =
     (i < tick_count trace timing) × IsReplay new trace timing rules (i + 1) × IsLiveTick old.crew new.crew trace timing (i + 1)
@@ -239,8 +242,9 @@ Passes trace timing rules i old new false = (i ≡ tick_count trace timing) × (
 abbrev pub root_report : Trace → Timing → ℕ → List ℕ
 root_report trace timing i = group_report trace timing i root_group
 
--- The output of the next tick, if there is one: its lines, or a prefix of them after a fault. Its
--- live lines are those of the samples that the crew took up to the tick.
+-- The output of replaying the next tick: its lines, or a prefix of them after a fault; nothing if
+-- there is no next tick. The live lines are the lines of the samples that the crew took up to the
+-- tick.
 abbrev pub TickGives : Trace → Timing → List Rule → ℕ → ReplayView → ReplayView → Option (List ℕ) → Option (List ℕ)
     → Result Bool TickFault → Type 0
 TickGives trace timing rules i old new had has (Ok true) =

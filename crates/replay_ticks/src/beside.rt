@@ -1,5 +1,6 @@
-//! Access for callers that take samples of their own between the ticks of a replay: its progress
-//! and its clocks.
+//! Access for callers that take samples with their own readers between the ticks of a replay: its
+//! progress, its readers and its clocks.
+//! This module starts no threads and takes no samples.
 ghost use Rattle.std.specs.Prelude.{◌≡◌, ◌+◌, ◌<◌, ◌≤◌, ℕ, List, length, IfOk, Some, is_some, true};
 ghost use Rattle.psi_spec.specs.Trace.{Trace};
 ghost use Rattle.plan_laws.specs.Plan.{IsClock};
@@ -25,15 +26,15 @@ impl<'a> Replay<'a> {
         self.run_timing.last
     }
 
-    /// The number of signals at the ticks replayed so far.
+    /// The number of signals in the ticks replayed up to now.
     pub fn signals(&self) -> u64
         ensures { result ≡ self.now.signals }
     {
         self.signals
     }
 
-    /// Replays the next tick, if there is one, and takes no sample, even if a path is watched. Does
-    /// not allocate.
+    /// Replays the next tick without taking samples, even if a path is watched. Requires that there
+    /// is a next tick. Does not allocate.
     pub fn pass_unwatched<R: Threads + Sync, G: Gate>(&mut self, rt: &R, gate: &G)
         requires { IsTickLeft self.old }
         ensures passed { (trace : Trace) (timing : Timing) (rules : List Rule) (i : ℕ) →
@@ -45,8 +46,8 @@ impl<'a> Replay<'a> {
         self.advance(rt, None, gate);
     }
 
-    /// A reader of a processor's row, in which its clocks must be. It has seen the changes made so
-    /// far.
+    /// Returns a new reader of the row of processor `cpu`, which has seen all changes made up to
+    /// now. Requires that the processor's clocks are in a row.
     pub fn reader(&mut self, cpu: Cpu) -> Result<ClockReader, NoMemory>
         requires replay { IsSomeReplay self.old }
         requires cpu { cpu.0 < length self.old.plans.plans }
@@ -59,8 +60,8 @@ impl<'a> Replay<'a> {
         self.crew.reader(cpu)
     }
 
-    /// Notifies a reader of a processor's row of the number of changes made, so that it has seen at
-    /// least that many. Does not allocate.
+    /// Shows `reader`, a reader of the row of processor `cpu`, the number of changes made:
+    /// afterwards the reader has seen at least that many. Does not allocate.
     pub fn meet(&mut self, cpu: Cpu, reader: &mut ClockReader)
         requires replay { IsSomeReplay self.old }
         requires cpu { cpu.0 < length self.old.plans.plans }
@@ -70,12 +71,12 @@ impl<'a> Replay<'a> {
         ensures met { reader.new.knows
             ≡ count_shown (clocks_at self.old.crew.clocks cpu.0).made reader.old.knows }
     {
-        // It is always Ok.
+        // The result is always `Ok`.
         let _met = self.crew.meet(cpu, reader);
     }
 
-    /// Learns how many changes a reader of a processor's row has seen, which is at most the number
-    /// made. Does not allocate.
+    /// Establishes that `reader`, a reader of the row of processor `cpu`, has seen at most the
+    /// changes that were made. Does not allocate.
     pub fn settle(&mut self, cpu: Cpu, reader: &mut ClockReader)
         requires replay { IsSomeReplay self.old }
         requires cpu { cpu.0 < length self.old.plans.plans }
@@ -84,11 +85,12 @@ impl<'a> Replay<'a> {
         ensures same { reader.new ≡ reader.old }
         ensures seen { reader.old.knows.seen ≤ (clocks_at self.old.crew.clocks cpu.0).made }
     {
-        // It is always Ok.
+        // The result is always `Ok`.
         let _settled = self.crew.settle(cpu, reader);
     }
 
-    /// The replay's own clock of a slot on a processor, after the changes made so far.
+    /// The writer's own clock of `slot` on processor `cpu`, with the number of changes that the
+    /// processor has made.
     pub fn last(&mut self, cpu: Cpu, slot: Slot) -> Sample
         requires replay { IsSomeReplay self.old }
         requires cpu { cpu.0 < length self.old.plans.plans }

@@ -1,4 +1,5 @@
-//! Live samples: the watched slot, and the lines of samples.
+//! Live samples: finds the watched slot, and writes the lines of samples.
+//! The crew of workers takes the samples; this module doesn't.
 ghost use Rattle.std.specs.Prelude.{◌≡◌, ◌<◌, ◌^◌, length, IfSome};
 ghost use Rattle.std.specs.List.{All};
 ghost use Rattle.outside.specs.Outside.{HasCause, SameInner};
@@ -17,7 +18,8 @@ use psi_spec::GroupLife;
 use replay_workers::{Crew, Sample};
 use tick_engine::is_live_at;
 
-/// The slot of the group that has a path and is live at `at` (ns). `None` if there is none.
+/// The slot of the group that has `path` and is live at `at` (ns). `None` if there is no such
+/// group.
 pub(crate) fn watched_slot(lives: &[GroupLife], path: &Path, at: Ns) -> Option<Slot>
     requires few { length lives.now < 2 ^ 32 }
     ensures slot { number_of_slot result ≡ live_slot 0 lives.now path.now at }
@@ -32,7 +34,7 @@ pub(crate) fn watched_slot(lives: &[GroupLife], path: &Path, at: Ns) -> Option<S
     None
 }
 
-// Writes the lines of a processor's samples at a tick (ns).
+// Writes the lines of a processor's samples at the tick at `at` (ns).
 #[tactic(auto, using(outside::proofs::Grows::growth))]
 fn put_samples<K: Sink>(
     out: &mut K,
@@ -53,7 +55,8 @@ fn put_samples<K: Sink>(
     Ok(())
 }
 
-/// Writes the lines of a crew's last samples of the first `cpus` processors at a tick (ns).
+/// Writes the lines of the crew's samples of the last interval, for the first `cpus` processors, at
+/// the tick at `at` (ns).
 #[tactic(auto, using(outside::proofs::Grows::growth))]
 pub(crate) fn put_live<K: Sink>(
     out: &mut K,

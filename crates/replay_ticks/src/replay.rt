@@ -1,4 +1,5 @@
-//! A replay of a trace, tick by tick.
+//! A replay of a trace, tick by tick: sampling, rules and output lines.
+//! The types that it combines come from the crates that do the work.
 ghost use Rattle.std.specs.Prelude.{◌≡◌, ◌+◌, ◌<◌, ℕ, List, length, IfSome};
 ghost use Rattle.psi_base.specs.declared.event.Slot.{Slot};
 ghost use Rattle.outside.specs.Outside.{HasCause, SameInner};
@@ -44,7 +45,7 @@ impl From<WriteFailed> for TickFault {
     }
 }
 
-/// A replay of a trace after some ticks. Contracts see all of it.
+/// A replay of a trace after some ticks. Contracts see all fields.
 #[derive(Drop)]
 pub struct Replay<'a> {
     pub(crate) plans: &'a Plans,
@@ -55,13 +56,13 @@ pub struct Replay<'a> {
     /// All slots, sorted by path (bytes).
     pub(crate) order: Vec<Slot>,
     pub(crate) run_timing: RunTiming,
-    /// The watched path.
+    /// The watched path, if any.
     pub(crate) live: Option<Path>,
     /// The number of ticks replayed.
     pub(crate) made: u64,
-    /// The number of signals.
+    /// The number of signals in these ticks.
     pub(crate) signals: u64,
-    /// The number of kills.
+    /// The number of kills in these ticks.
     pub(crate) kills: u64,
 }
 
@@ -85,9 +86,9 @@ impl<'a> Model for Replay<'a> {
     } };
 }
 
-// If no tick is ready, advances the clocks past tick `made`: by all ticks that remain and fit, or
-// by one if a path is watched, because its slot may change at every tick. Then also samples the
-// slot `watched`, if any.
+// If no table is ready, advances the clocks past tick `made`: by all ticks that remain and fit, or
+// by one tick if a path is watched, because its slot may change at every tick. In the second case
+// also samples the slot `watched`, if any.
 fn look_ahead<R: Threads + Sync, G: Gate>(
     rt: &R,
     crew: &mut Crew<'_>,
@@ -126,8 +127,8 @@ fn look_ahead<R: Threads + Sync, G: Gate>(
     }
 }
 
-// Samples all groups at the next tick (ns), whose table is ready, and gives their times to the
-// engine.
+// Copies the times of all groups at the next tick, whose time is `at` (ns), to `rows`, and passes
+// them to the engine. Requires that the tick's table is ready.
 fn sample(crew: &mut Crew<'_>, rows: &mut Rows, engine: &mut Engine, at: Ns)
     requires { (trace : Trace) × (timing : Timing) × (i : ℕ)
         × IsToSample crew.old.plans crew.old rows.old engine.old trace timing i at }
@@ -140,8 +141,8 @@ fn sample(crew: &mut Crew<'_>, rows: &mut Rows, engine: &mut Engine, at: Ns)
     engine.tick(at, rows);
 }
 
-// Writes the reports of the tick that was sampled last, if they are due. The tick is given by its
-// number from 1 and its time (ns).
+// Writes the reports of tick `tick` (counted from 1, at time `at` in ns), if they are due. Requires
+// that `engine` has just taken that tick.
 fn put_due<K: Sink>(
     out: &mut K,
     plans: &Plans,
@@ -165,7 +166,8 @@ fn put_due<K: Sink>(
     Ok(())
 }
 
-// Writes the root's pressure files at the tick that was sampled last, given by its number from 1.
+// Writes the root's pressure files at tick `tick` (counted from 1). Requires that `engine` has just
+// taken that tick.
 fn put_root<K: Sink>(
     out: &mut K,
     plans: &Plans,
@@ -189,8 +191,8 @@ fn put_root<K: Sink>(
 }
 
 impl<'a> Replay<'a> {
-    /// The slot of the watched path at the next tick. `None` if there is no next tick, or if no
-    /// live group has the path then.
+    /// The slot of the watched path at the next tick. `None` if there is no next tick, if no path
+    /// is watched, or if no group with the path is live at that tick.
     pub fn next_slot(&self) -> Option<Slot>
         requires { IsSomeReplay self.now }
         ensures slot { (trace : Trace) (timing : Timing) (rules : List Rule) (i : ℕ) →
@@ -210,7 +212,8 @@ impl<'a> Replay<'a> {
         }
     }
 
-    // Replays the next tick, which must exist. Samples the slot `watched`, if any, up to it.
+    // Replays the next tick, and samples the slot `watched`, if any, up to that tick. Requires that
+    // there is a next tick.
     pub(crate) fn advance<R: Threads + Sync, G: Gate>(
         &mut self,
         rt: &R,
@@ -250,7 +253,7 @@ impl<'a> Replay<'a> {
         self.kills += self.judge.kills().len() as u64;
     }
 
-    /// Replays the next tick, and writes nothing. Returns false if and only if there is none; then
+    /// Replays the next tick, and writes nothing. Returns false if there is no next tick; then
     /// nothing changes. Does not allocate.
     pub fn pass<R: Threads + Sync, G: Gate>(&mut self, rt: &R, gate: &G) -> bool
         requires { IsSomeReplay self.old }
@@ -266,7 +269,7 @@ impl<'a> Replay<'a> {
         true
     }
 
-    // Writes the lines of the last tick, whose time is `at` (ns), except its live lines.
+    // Writes the lines of the last replayed tick, whose time is `at` (ns), except its live lines.
     #[tactic(auto, using(outside::proofs::Grows::growth))]
     fn put_tick<K: Sink>(&self, out: &mut K, at: Ns) -> Result<(), WriteFailed>
         requires { (trace : Trace) × (timing : Timing) × (rules : List Rule) × (i : ℕ)
@@ -293,7 +296,7 @@ impl<'a> Replay<'a> {
         )
     }
 
-    /// Replays the next tick and writes its lines. Returns false if and only if there is none; then
+    /// Replays the next tick and writes its lines. Returns false if there is no next tick; then
     /// nothing is written. After an error the replay can't be used again. Does not allocate.
     pub fn tick<R: Threads + Sync, K: Sink, G: Gate>(
         &mut self,
@@ -317,7 +320,8 @@ impl<'a> Replay<'a> {
         Ok(true)
     }
 
-    /// The kills at the last tick, by ruleset and action; none before the first.
+    /// The kills at the last replayed tick, ordered by ruleset and action; empty before the first
+    /// tick.
     pub fn kills(&self) -> &[Kill]
         ensures { (trace : Trace) (timing : Timing) (rules : List Rule) (i : ℕ) →
             IsReplay self.now trace timing rules i → result.now ≡ kills_in trace timing rules i }
@@ -325,7 +329,8 @@ impl<'a> Replay<'a> {
         self.judge.kills()
     }
 
-    /// Writes the root's pressure files at the last tick.
+    /// Writes the root's pressure files at the last replayed tick. Requires that a tick has been
+    /// replayed.
     pub fn put_root<K: Sink>(&self, out: &mut K) -> Result<(), WriteFailed>
         requires { (trace : Trace) × (timing : Timing) × (rules : List Rule) × (i : ℕ)
             × (0 < i) × IsReplay self.now trace timing rules i }
@@ -338,8 +343,8 @@ impl<'a> Replay<'a> {
         put_root(out, self.plans, &self.engine, self.run_timing, self.made)
     }
 
-    /// Writes the last line, after the last tick: the end time (ns), and the numbers of ticks,
-    /// signals and kills.
+    /// Writes the last line of the output: the end time (ns), and the numbers of ticks, signals and
+    /// kills. Requires that all ticks have been replayed.
     pub fn finish<K: Sink>(&mut self, out: &mut K) -> Result<(), WriteFailed>
         requires { (trace : Trace) × (timing : Timing) × (rules : List Rule)
             × IsReplay self.old trace timing rules (tick_count trace timing) }

@@ -1,4 +1,5 @@
-//! The lines of a tick.
+//! Writes the lines of a tick: signals, kills and reports.
+//! It decides only which groups are live, not when reports are due.
 ghost use Rattle.std.specs.Prelude.{◌≡◌, ◌<◌, length, ◌==◌};
 ghost use Rattle.std.specs.List.{All};
 ghost use Rattle.outside.specs.Outside.{HasCause, SameInner};
@@ -27,7 +28,7 @@ const WITH_IRQ: u32 = 2;
 /// The index of interrupts among the quantities of pressure.
 const IRQ: usize = QUANTITIES - 1;
 
-/// Writes the lines of the triggers that fired at a tick (ns), by their numbers.
+/// Writes the lines of the triggers that fired at the tick at `at` (ns). `fired` has their numbers.
 #[tactic(auto, using(outside::proofs::Grows::growth))]
 pub(crate) fn put_signals<K: Sink>(
     out: &mut K,
@@ -52,7 +53,7 @@ pub(crate) fn put_signals<K: Sink>(
     Ok(())
 }
 
-/// Writes the lines of kills.
+/// Writes one line for each kill.
 #[tactic(auto, using(outside::proofs::Grows::growth))]
 pub(crate) fn put_kills<K: Sink>(
     out: &mut K,
@@ -72,7 +73,7 @@ pub(crate) fn put_kills<K: Sink>(
     Ok(())
 }
 
-// Writes the reports on a group's resources at a tick (ns).
+// Writes a group's reports on IO, memory and CPU at the tick at `at` (ns).
 #[tactic(auto, using(outside::proofs::Grows::growth))]
 fn put_resources<K: Sink>(
     out: &mut K,
@@ -93,7 +94,8 @@ fn put_resources<K: Sink>(
     write_report(out, at, path, Res::Cpu, is_root, totals, averages)
 }
 
-// Writes the report on a group's interrupts at a tick (ns), if the trace's version has interrupts.
+// Writes a group's report on interrupts at the tick at `at` (ns), if the trace's version has
+// interrupts.
 fn put_irq<K: Sink>(
     out: &mut K,
     version: u32,
@@ -113,7 +115,7 @@ fn put_irq<K: Sink>(
     Ok(())
 }
 
-/// Writes a group's reports at a tick (ns) of a trace with this version.
+/// Writes all reports of a group at the tick at `at` (ns). `version` is the trace's version.
 #[tactic(auto, using(outside::proofs::Grows::growth))]
 pub(crate) fn put_files<K: Sink>(
     out: &mut K,
@@ -133,7 +135,8 @@ pub(crate) fn put_files<K: Sink>(
     put_irq(out, version, at, path, totals, averages)
 }
 
-// Writes a group's report at a tick (ns), if the group is live then.
+// Writes the reports of the group in `slot` at the tick at `at` (ns), if the group is live at that
+// time.
 fn put_report<K: Sink>(
     out: &mut K,
     version: u32,
@@ -165,8 +168,8 @@ fn put_report<K: Sink>(
     )
 }
 
-/// Writes the reports of all groups that are live at a tick (ns), in the given order of slots, for
-/// a trace with this version.
+/// Writes the reports of all groups that are live at the tick at `at` (ns), in the order of
+/// `order`. `version` is the trace's version.
 #[tactic(auto, using(outside::proofs::Grows::growth))]
 pub(crate) fn put_reports<K: Sink>(
     out: &mut K,

@@ -1,11 +1,12 @@
 //! The ticks of a trace, and which of them have reports.
+//! When rules are evaluated is decided by the judge of replay_rules.
 ghost use Rattle.std.specs.Prelude.{◌≡◌, ◌<◌};
 ghost use Rattle.pressure_spec.specs.Ticks.{is_report, tick_moment};
 
 use psi_base::Ns;
 use replay_rules::is_due;
 
-/// How a trace is replayed.
+/// The trace's version, its ticks, and the period of its reports.
 #[derive(Clone, Copy, Debug, PartialEq, Eq)]
 pub(crate) struct RunTiming {
     /// The version of the trace: in version 2 reports include interrupts.
@@ -19,8 +20,8 @@ pub(crate) struct RunTiming {
 }
 
 impl RunTiming {
-    /// Whether `tick`, counted from 1, has reports; `at` is its time (ns). The last tick has, and
-    /// each at which a report is due.
+    /// Whether tick `tick`, counted from 1, at time `at` (ns), has reports: it is the last tick, or
+    /// a report is due.
     pub(crate) fn is_report(self, tick: u64, at: Ns) -> bool
         requires some { 0 < tick }
         requires moment { at ≡ tick_moment self.length tick }

@@ -1,4 +1,5 @@
-//! A trace before its first tick.
+//! Creates a replay of a trace before its first tick.
+//! All memory of a replay is allocated here.
 ghost use Rattle.std.specs.Prelude.{◌≡◌, ◌<◌, ◌≤◌, IfOk};
 ghost use Rattle.psi_spec.specs.Header.{IsVersion, version_of};
 ghost use Rattle.psi_spec.specs.Trace.{Trace};
@@ -22,10 +23,11 @@ use run_spec::Options;
 use std::alloc::Global;
 use tick_engine::Engine;
 
-/// A second in ns.
+/// One second (ns).
 const SECOND: Ns = 1_000_000_000;
 
-// The options' watched path, if any, and the number of samples of a processor in an interval.
+// Returns the watched path, if any, and the number of samples per processor and interval (0 if no
+// path is watched).
 fn watched(alloc: Global, options: &Options) -> Result<(Option<Path>, u32), NoMemory>
     ensures path { IfOk result (λ watched. watched.0 ≡ watched_path (watch_of options.now)) }
     ensures requested { IfOk result (λ watched. watched.1 ≡ requested_by (watch_of options.now)) }
@@ -36,9 +38,9 @@ fn watched(alloc: Global, options: &Options) -> Result<(Option<Path>, u32), NoMe
     }
 }
 
-/// A replay before its first tick of the trace that `plans` represent, with rules if any. The trace
-/// has this version, and is accepted with the options' length of a tick. Allocates everything that
-/// the replay needs.
+/// Creates a replay, before its first tick, of the trace that `plans` represent, with rules if
+/// there are any. Requires that the trace is accepted with the tick length of `options`, and that
+/// `version` is its version. Allocates everything that the replay needs.
 pub fn prepare<'a>(
     alloc: Global,
     version: u32,
@@ -64,7 +66,7 @@ pub fn prepare<'a>(
     let interval = Ns::from(options.interval_s) * SECOND;
     let last = plans.finish() / length;
     let (live, requested) = watched(alloc, options)?;
-    // If a path is watched the crew advances tick by tick.
+    // If a path is watched, the crew advances tick by tick.
     let ahead = if live.is_some() { 1 } else { last };
     Ok(Replay {
         plans,
