@@ -1,4 +1,5 @@
--- A judge, and the number of ticks of a trace at which it has decided what rules kill.
+-- The judge, which decides at the ticks of a replay what the rules kill, and its state after some
+-- ticks.
 use Rattle.std.specs.Prelude.{◌≡◌, ℕ, ◌+◌, List, [], Bool, if◌then◌else◌}
 use Rattle.std.specs.Prelude.{Option, None, Some}
 use Rattle.psi_base.specs.declared.event.Slot.{Slot}
@@ -20,10 +21,10 @@ use Rattle.side_watch.specs.Watch.{HasFollowed, SideView}
 use Rattle.group_tree.specs.Tree.{numbers_of}
 use Rattle.replay_rules.specs.Planned.{HasTicked, IsPlanned}
 
--- ---- what a judge keeps
+-- ---- the state of a judge
 
--- An evaluator: the killer, the state of what events report besides pressure, and space for a
--- reading.
+-- An evaluator: the killer, the state that events report in addition to pressure (memory,
+-- preferences, tasks), and space for a reading.
 pub record EvaluatorView : Type 0 where
   pub killer : KillerView
   pub watch : SideView
@@ -44,67 +45,68 @@ judge_of interval evaluator evaluated = record {
   evaluated = evaluated;
 }
 
--- the kills of the last evaluation, if there is an evaluator
+-- the kills of the last evaluation; none without an evaluator
 abbrev pub known_last : Option EvaluatorView → List Kill
 known_last None = []
 known_last (Some evaluator) = evaluator.killer.found
 
--- the kills of a judge at the last tick: none if that was no evaluation
+-- the kills of a judge at the last tick: none if the rules were not evaluated at that tick
 abbrev pub judge_kills : JudgeView → List Kill
 judge_kills judge = if judge.evaluated then known_last judge.evaluator else []
 
--- the rulesets of a rules file; none without a file
+-- the rulesets of a rules file; none if there is no rules file
 abbrev pub rules_of_options : Option Rules → List Rule
 rules_of_options None = []
 rules_of_options (Some maybe_rules) = maybe_rules.rules
 
--- ---- the trace that it represents
+-- ---- the judge's state by the trace
 
--- the reading of a trace at the tick with this number
+-- the reading of a trace at tick `i`
 abbrev pub read_at : Trace → Timing → ℕ → Reading
 read_at trace timing i = reading_at trace.cpus trace.events timing.length i
 
--- the readings of a trace at the evaluations among its first n ticks, the newest first
+-- the readings of a trace at the evaluations among its first `i` ticks, the newest first
 abbrev pub readings_of : Trace → Timing → ℕ → List Reading
 readings_of trace timing i = readings_until trace.cpus trace.events timing.length timing.interval i
 
--- An evaluator with rules has taken these readings of a trace, the newest first: its killer
--- represents them, and its watch is the state after the events up to the time of the newest.
+-- An evaluator has taken these readings of a trace with these rules, the newest first: its killer
+-- is in the state after these readings, and its watch is in the state after the events up to the
+-- newest reading.
 pub record HasRead (evaluator : EvaluatorView) (trace : Trace) (rules : List Rule)
     (readings : List Reading) : Type 0 where
   pub killer : Represents evaluator.killer (lives_of trace) rules readings
   pub watch : HasFollowed trace.events (newest_moment readings) evaluator.watch
   pub lives : evaluator.reading.lives ≡ lives_of trace
 
--- The same for an optional evaluator: without one there are no rules.
+-- An optional evaluator has taken these readings. Without an evaluator there are no rules.
 abbrev pub HasReadAll : Option EvaluatorView → Trace → List Rule → List Reading → Type 0
 HasReadAll None trace rules readings = rules ≡ []
 HasReadAll (Some evaluator) trace rules readings = HasRead evaluator trace rules readings
 
--- A judge with rules has decided at the first `i` ticks of a trace at this `timing`: it has the
--- pace's interval, has taken the readings of all evaluations among these ticks, and has the kills
--- of the last one.
+-- A judge has decided at the first `i` ticks of a trace: its interval is that of `timing`, it has
+-- taken the readings of all evaluations among these ticks, and its kills are those of tick `i`.
 pub record HasJudged (judge : JudgeView) (trace : Trace) (timing : Timing) (rules : List Rule) (i : ℕ)
     : Type 0 where
   pub interval : judge.interval ≡ timing.interval
   pub read : HasReadAll judge.evaluator trace rules (readings_of trace timing i)
   pub kills : judge_kills judge ≡ kills_in trace timing rules i
 
--- At a tick without an evaluation a judge's state stays the same, and there are no kills.
+-- A tick without an evaluation leaves the judge's evaluator unchanged, and there are no kills.
 pub record Rests (old new : JudgeView) : Type 0 where
   pub evaluator : new.evaluator ≡ old.evaluator
   pub kills : judge_kills new ≡ []
 
 -- ---- one tick
 
--- The state before a replay: plans of a trace, which is replayed at this `timing`, with its
--- interval of evaluations (ns).
+-- Preconditions for creating a judge: `plans` represent the trace, which may be replayed with
+-- `timing`, and `interval` (ns) is the time between evaluations.
 pub record IsToBegin (plans : PlansView) (trace : Trace) (timing : Timing) (interval : ℕ)
     : Type 0 where
   pub planned : IsPlanned plans trace timing
   pub interval_is : interval ≡ timing.interval
 
--- The state before an evaluation at a time (ns): that of the tick after the first n.
+-- Preconditions for an evaluation at tick i + 1, whose time is `at` (ns): the engine has taken the
+-- tick, `order` has all slots by path, and the evaluator has taken the readings up to tick `i`.
 pub record IsToEvaluate (evaluator : EvaluatorView) (plans : PlansView) (engine : EngineView)
     (order : List Slot) (trace : Trace) (timing : Timing) (rules : List Rule) (i at : ℕ) : Type 0 where
   pub planned : IsPlanned plans trace timing
@@ -113,9 +115,9 @@ pub record IsToEvaluate (evaluator : EvaluatorView) (plans : PlansView) (engine 
   pub by_path : IsPathOrder plans.lives (numbers_of order)
   pub read : HasRead evaluator trace rules (readings_of trace timing i)
 
--- The state before a decision at the tick after the first n, at its time (ns) and for a tick length
--- (ns). The engine has taken the tick, the order has all slots by path, and the judge has decided
--- at the previous ticks.
+-- Preconditions for a decision at tick i + 1, whose time is `at` (ns), with ticks of `length` ns:
+-- the engine has taken the tick, `order` has all slots by path, and the judge has decided at the
+-- first `i` ticks.
 pub record IsToJudge (judge : JudgeView) (plans : PlansView) (engine : EngineView)
     (order : List Slot) (trace : Trace) (timing : Timing) (rules : List Rule) (i at length : ℕ)
     : Type 0 where

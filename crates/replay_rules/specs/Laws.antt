@@ -8,7 +8,7 @@ use Rattle.kill_spec.specs.Kills.{kills}
 use Rattle.run_spec.specs.Replay.{Timing, kills_in, lives_of}
 use Rattle.replay_rules.specs.Judged.{read_at, readings_of}
 
--- Between evaluations nothing is read.
+-- A tick without an evaluation adds no reading.
 abbrev pub ReadingsStay : Type 0
 ReadingsStay = (trace : Trace) (timing : Timing) (i : ℕ) →
     is_evaluation timing.interval timing.length (i + 1) ≡ false →
@@ -20,25 +20,25 @@ OneReadingMore = (trace : Trace) (timing : Timing) (i : ℕ) →
     is_evaluation timing.interval timing.length (i + 1) ≡ true →
     readings_of trace timing (i + 1) ≡ read_at trace timing (i + 1) ∷ readings_of trace timing i
 
--- Between evaluations nothing is killed.
+-- A tick without an evaluation has no kills.
 abbrev pub NoKillsBetween : Type 0
 NoKillsBetween = (trace : Trace) (timing : Timing) (rules : List Rule) (i : ℕ) →
     is_evaluation timing.interval timing.length i ≡ false → kills_in trace timing rules i ≡ []
 
--- An evaluation kills what the rules kill at its reading, given the previous readings.
+-- The kills of an evaluation are what the rules kill at its reading, given the previous readings.
 abbrev pub KillsAtReading : Type 0
 KillsAtReading = (trace : Trace) (timing : Timing) (rules : List Rule) (i : ℕ) →
     is_evaluation timing.interval timing.length (i + 1) ≡ true →
     kills_in trace timing rules (i + 1)
     ≡ kills (lives_of trace) rules (read_at trace timing (i + 1)) (readings_of trace timing i)
 
--- Without rules nothing is killed.
+-- Without rules there are no kills.
 abbrev pub NoneWithoutRules : Type 0
 NoneWithoutRules = (trace : Trace) (timing : Timing) (i : ℕ) → kills_in trace timing [] i ≡ []
 
 -- The readings of an accepted trace are well formed: each has the live groups in the order of their
--- paths, all values are in range, and it is later than the previous ones. So a ruleset never has
--- two chain-ending kills within the delay of the first.
+-- paths, all values are in range, and each is later than the previous readings. So a ruleset never
+-- has two chain-ending kills within the delay of the first.
 abbrev pub ReadingsAreReadings : Type 0
 ReadingsAreReadings = (trace : Trace) (timing : Timing) (i : ℕ) →
     IsAccepted (limits_of timing.length trace.cpus) trace.events → 0 < timing.length →

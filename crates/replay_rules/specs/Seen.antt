@@ -1,4 +1,5 @@
--- The live groups at an evaluation, as an engine and a watch have them.
+-- The reading of an evaluation, computed from an engine and a watch. The engine has the groups'
+-- averages; the watch has their memory, preferences and tasks.
 use Rattle.std.specs.Prelude.{◌≡◌, ℕ, List, length, map, filter, take}
 use Rattle.psi_spec.specs.declared.machine.GroupLife.{GroupLife}
 use Rattle.psi_spec.specs.Groups.{path_at}
@@ -11,11 +12,11 @@ use Rattle.tick_engine.specs.Engine.{EngineView, averages_in}
 use Rattle.detectors.specs.Views.{ReadingView, reading_of, seen_at}
 use Rattle.side_watch.specs.Watch.{SideView, has_tasks, side_cell_at}
 
--- an engine has the averages of a group for each pressure quantity
+-- the engine has a row of averages for each pressure quantity of the group in `slot`
 abbrev pub HasRows : EngineView → ℕ → Type 0
 HasRows engine slot = length (averages_in engine slot).averages ≡ length pressure_places
 
--- the reading of the group in a slot, from an engine and a watch
+-- the reading of the group in `slot`, from an engine and a watch
 abbrev pub group_by : EngineView → SideView → ℕ → GroupReading
 group_by engine watch slot = record {
   slot = record { 0 = slot };
@@ -27,25 +28,25 @@ group_by engine watch slot = record {
   populated = has_tasks watch slot;
 }
 
--- the slots of an order whose groups are live at a time (ns)
+-- the slots of `order` whose groups are live at `at` (ns)
 abbrev pub slots_live_at : List GroupLife → ℕ → List ℕ → List ℕ
 slots_live_at lives at order = filter (is_live_slot lives at) order
 
--- their paths ascend in byte order
+-- the paths of the live groups are in ascending byte order
 abbrev pub LiveAscend : List GroupLife → ℕ → List ℕ → Type 0
 LiveAscend lives at order = Ascend (map (path_at lives) (slots_live_at lives at order))
 
--- the readings of the groups of an order that are live at a time (ns), from an engine and a watch
+-- the readings of the groups of `order` that are live at `at` (ns), from an engine and a watch
 abbrev pub groups_by :
     EngineView → SideView → List GroupLife → ℕ → List ℕ → List GroupReading
 groups_by engine watch lives at order = map (group_by engine watch) (slots_live_at lives at order)
 
--- the reading of the groups, with the watch's values for the host
+-- the reading of all live groups at `at` (ns), with the watch's values for the host
 abbrev pub reading_by : EngineView → SideView → List GroupLife → ℕ → List ℕ → Reading
 reading_by engine watch lives at order =
     seen_at at watch.host (groups_by engine watch lives at order)
 
--- the same, as the model of a reading of groups with these lives
+-- the reading of all live groups at `at` (ns) as contracts see it, for the groups `lives`
 abbrev pub read_by : EngineView → SideView → List GroupLife → ℕ → List ℕ → ReadingView
 read_by engine watch lives at order =
     reading_of lives (reading_by engine watch lives at order)

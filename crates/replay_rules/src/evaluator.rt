@@ -1,4 +1,5 @@
-//! One evaluation of rules.
+//! One evaluation of rules: reads all live groups, and lets the rules decide.
+//! When an evaluation is due is decided by `judge`.
 ghost use Rattle.std.specs.Prelude.{◌≡◌, ◌∷◌, ◌+◌, ◌<◌, [], ℕ, List, IfOk};
 ghost use Rattle.psi_spec.specs.Trace.{Trace};
 ghost use Rattle.ruleset_json.specs.declared.types.Rule.{Rule};
@@ -18,7 +19,7 @@ use std::alloc::Global;
 use std::marker::Model;
 use tick_engine::Engine;
 
-/// The state between evaluations.
+/// The state that rules need between evaluations.
 #[derive(Drop)]
 pub(crate) struct Evaluator {
     killer: Killer,
@@ -36,8 +37,8 @@ impl Model for Evaluator {
 }
 
 impl Evaluator {
-    /// An evaluator of these rules before the first evaluation of the plans' trace. Allocates
-    /// everything up front.
+    /// Creates an evaluator of these rules, before the first evaluation of the trace of `plans`.
+    /// Allocates everything up front.
     pub(crate) fn make(alloc: Global, plans: &Plans, rules: Rules) -> Result<Evaluator, NoMemory>
         ensures { IfOk result (λ evaluator. (trace : Trace) (timing : Timing) →
             IsPlanned plans.now trace timing → HasRead evaluator trace rules.rules []) }
@@ -50,7 +51,7 @@ impl Evaluator {
         })
     }
 
-    /// The evaluation at the time (ns) of the engine's last tick. Does not allocate.
+    /// Evaluates the rules at the engine's last tick, whose time is `at` (ns). Does not allocate.
     pub(crate) fn evaluate(&mut self, plans: &Plans, engine: &Engine, order: &[Slot], at: Ns)
         requires { (trace : Trace) × (timing : Timing) × (rules : List Rule) × (i : ℕ) ×
             IsToEvaluate self.old plans.now engine.now order.now trace timing rules i at }

@@ -1,4 +1,5 @@
-//! Decides at each tick what rules kill.
+//! Decides at each tick of a replay what the rules kill.
+//! It neither prints nor ends anything.
 ghost use Rattle.std.specs.Prelude.{◌≡◌, ◌+◌, ◌<◌, ℕ, List, IfOk, None, false};
 ghost use Rattle.psi_spec.specs.Trace.{Trace};
 ghost use Rattle.pressure_spec.specs.Ticks.{is_evaluation, tick_moment};
@@ -17,12 +18,12 @@ use std::alloc::Global;
 use std::marker::Model;
 use tick_engine::Engine;
 
-/// Decides what rules kill at the ticks of a replay, in order. Its model has all its fields.
+/// Decides what the rules kill at the ticks of a replay, taken in order. Contracts see all fields.
 #[derive(Drop)]
 pub struct Judge {
-    /// The interval of evaluations (ns).
+    /// The time between evaluations (ns).
     interval: Ns,
-    /// `None` without rules: then a tick costs nothing.
+    /// `None` without rules; then a tick costs nothing.
     evaluator: Option<Evaluator>,
     /// Whether rules were evaluated at the last tick.
     evaluated: bool,
@@ -37,8 +38,9 @@ impl Model for Judge {
 }
 
 impl Judge {
-    /// A judge for the plans' trace with these rules, before the first tick, with this interval of
-    /// evaluations (ns). Allocates everything up front. Without rules it stores nothing.
+    /// Creates a judge of these rules for the trace of `plans`, before the first tick. `interval`
+    /// is the time between evaluations (ns). Allocates everything up front, and nothing if there
+    /// are no rules.
     pub fn make(
         alloc: Global,
         plans: &Plans,
@@ -61,9 +63,10 @@ impl Judge {
         })
     }
 
-    /// The tick at a time (ns), which must be the engine's last, for a tick length (ns). If it is
-    /// an evaluation, all live groups are read, the rules decide, and [`Judge::kills`] has the
-    /// kills. The order has all slots by path. Does not allocate.
+    /// Takes the engine's last tick, whose time is `at` (ns); `length` is the length of a tick
+    /// (ns), and `order` has all slots sorted by path. If an evaluation is due, reads all live
+    /// groups and lets the rules decide; [`Judge::kills`] then returns the kills. Does not
+    /// allocate.
     pub fn tick(&mut self, plans: &Plans, engine: &Engine, order: &[Slot], at: Ns, length: Ns)
         requires { (trace : Trace) × (timing : Timing) × (rules : List Rule) × (i : ℕ) ×
             IsToJudge self.old plans.now engine.now order.now trace timing rules i at length }
@@ -82,8 +85,8 @@ impl Judge {
         }
     }
 
-    /// The kills at the last tick, by ruleset and action. Empty if it was no evaluation, and before
-    /// the first tick.
+    /// The kills at the last tick, by ruleset and action. Empty if the rules were not evaluated at
+    /// that tick, and before the first tick.
     pub fn kills(&self) -> &[Kill]
         ensures { result.now ≡ judge_kills self.now }
     {

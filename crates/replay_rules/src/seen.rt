@@ -1,4 +1,5 @@
-//! The reading of an evaluation.
+//! Fills the reading of an evaluation with the groups that are live.
+//! The averages come from the engine, all other values from the side watch.
 ghost use Rattle.std.specs.Prelude.{◌≡◌, ◌<◌, ℕ, All, length, take};
 ghost use Rattle.pressure_spec.specs.Within.{IsRow};
 ghost use Rattle.pressure_spec.specs.Share.{irq_quantity};
@@ -14,8 +15,8 @@ use psi_base::{Ns, Slot, State};
 use side_watch::SideWatch;
 use tick_engine::{Engine, is_live_at};
 
-/// The averages of a group over 10, 60 and 300 seconds, for each state except nonidle, ordered by
-/// state.
+/// The averages of a group over 10, 60 and 300 seconds, for some and full of IO, memory and CPU, in
+/// this order.
 fn averages_of(engine: &Engine, slot: Slot) -> [[u64; 3]; QUANTITIES - 1]
     requires made { slot.0 < length engine.now.groups }
     requires rows { HasRows engine.now slot.0 }
@@ -33,8 +34,8 @@ fn averages_of(engine: &Engine, slot: Slot) -> [[u64; 3]; QUANTITIES - 1]
     ]
 }
 
-/// The reading of a group: its averages after the tick, and the latest values that the trace
-/// reports for it.
+/// The reading of a group: its averages after the engine's last tick, and the latest values that
+/// the trace reports for it.
 fn read_group(engine: &Engine, watch: &SideWatch, slot: Slot) -> GroupReading
     requires made { slot.0 < length engine.now.groups }
     requires rows { HasRows engine.now slot.0 }
@@ -53,8 +54,8 @@ fn read_group(engine: &Engine, watch: &SideWatch, slot: Slot) -> GroupReading
     }
 }
 
-/// Reads the groups that are live at a time (ns), in this order of slots, which is the order of
-/// their paths. Does not allocate.
+/// Adds the groups that are live at `at` (ns) to a new reading, in the order of `order`. Requires
+/// that `order` has the slots sorted by path. Does not allocate.
 pub(crate) fn fill_reading(
     reading: &mut Reading,
     engine: &Engine,
