@@ -1,4 +1,4 @@
--- The pieces in which a line is sent.
+-- The bytes of a line that is written piece by piece.
 use Rattle.std.specs.Prelude.{ℕ, List, ◌++◌, codes, decimal}
 use Rattle.std.specs.List.{flat_map}
 use Rattle.pressure_spec.specs.File.{percent_text}
@@ -15,6 +15,6 @@ piece_bytes (Number n) = decimal n
 piece_bytes (Text bytes) = bytes.now
 piece_bytes (Percent average) = percent_text average
 
--- pieces, followed by numbers with a space before each, and a newline
+-- the pieces, followed by each number after a space, and a newline
 abbrev pub with_numbers : List Piece → List ℕ → List ℕ
 with_numbers pieces numbers = flat_map piece_bytes pieces ++ flat_map spaced_number numbers ++ codes "\n"

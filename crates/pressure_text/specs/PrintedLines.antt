@@ -1,4 +1,4 @@
--- Which bytes are a pressure file, and which numbers it contains.
+-- Which bytes are a pressure file, and which numbers the file contains.
 use Rattle.std.specs.Prelude.{◌≡◌, ℕ, ◌/◌, ◌^◌, ◌<◌, List, [], ◌∷◌, ◌++◌, All}
 use Rattle.std.specs.Prelude.{slice_index, slice_index_or, ◌&&◌, Bool, if◌then◌else◌}
 use Rattle.psi_base.specs.declared.event.Res.{Res}
@@ -16,7 +16,7 @@ use Rattle.pressure_text.specs.declared.read.PressureFile.{PressureFile}
 abbrev pub spelled_line : Level → PressureLine → List ℕ
 spelled_line level line = known_line level line.hundredths line.total_us
 
--- the numbers of a line are in range
+-- the numbers of a line are in the range that can be printed
 abbrev pub IsTellable : PressureLine → Type 0
 IsTellable line = CanShow line.hundredths line.total_us
 
@@ -33,18 +33,18 @@ pub record ShowsIrq (bytes : List ℕ) (line : PressureLine) : Type 0 where
   pub full_line : IsTellable line
   pub spelled : bytes ≡ spelled_line FullStalled line
 
--- three averages in hundredths of a percent
+-- the three averages in hundredths of a percent, from averages in fixed point
 abbrev pub three_hundredths : List ℕ → List ℕ
 three_hundredths averages =
     in_hundredths (slice_index averages 0) ∷ in_hundredths (slice_index averages 1)
     ∷ in_hundredths (slice_index averages 2) ∷ []
 
--- the numbers of a line, from three averages and a total (ns): hundredths of a percent and whole
--- microseconds
+-- the numbers of a line from three averages (fixed point) and a total (ns): hundredths of a
+-- percent, and whole microseconds
 abbrev pub numbers_known : List ℕ → ℕ → PressureLine
 numbers_known averages total = record { hundredths = three_hundredths averages; total_us = total / 1000 }
 
--- the numbers of the line of a resource at a level
+-- the numbers of the line of a resource at a level, from totals (ns) and averages by state
 abbrev pub known_by_line : Res → Level → List ℕ → List (List ℕ) → PressureLine
 known_by_line res level totals averages =
     numbers_known (slice_index_or averages (state_number (state_of res level)) [])
@@ -65,7 +65,9 @@ ReadsAgain = (res : Res) (is_root : Bool) (totals : List ℕ) (averages : List (
     All (λ total. total < 2 ^ 64) totals → All (λ row. IsRow row) averages →
     Shows (file_text res is_root totals averages) (known_file res is_root totals averages)
 
--- The same for interrupts.
+-- Round trip for the pressure file of interrupts: parsing what is written for a 64-bit total (ns)
+-- and averages of at most 100 percent gives them back, in whole microseconds and hundredths of a
+-- percent.
 abbrev pub IrqReadsAgain : Type 0
 IrqReadsAgain = (averages : List ℕ) (total : ℕ) → total < 2 ^ 64 → IsRow averages →
     ShowsIrq (irq_text averages total) (numbers_known averages total)

@@ -1,4 +1,5 @@
-//! Pressure files, and reports of them.
+//! Writes pressure files, and reports, which are pressure files after a head line.
+//! The averages and totals come from the caller.
 ghost use Rattle.std.specs.Prelude.{[], slice_index_or};
 ghost use Rattle.outside.specs.Outside.{HasCause, SameInner};
 ghost use Rattle.outside.specs.Calls.{PutsAll};
@@ -12,7 +13,7 @@ use outside::{Sink, WriteFailed};
 use pressure_spec::Amounts;
 use psi_base::{Level, Ns, Path, Res, State};
 
-// A line of a pressure file: three averages, and a total (ns).
+// Writes a line of a pressure file from three averages and a total (ns).
 fn put_line<K: Sink>(
     out: &mut K,
     level: Level,
@@ -41,7 +42,7 @@ fn put_line<K: Sink>(
     )
 }
 
-// The line of a resource at a level.
+// Writes the line of a resource at a level.
 fn put_state<K: Sink>(
     out: &mut K,
     res: Res,
@@ -58,7 +59,7 @@ fn put_state<K: Sink>(
     put_line(out, level, averages.get(state), totals[state as usize])
 }
 
-// The `full` line of a resource.
+// Writes the `full` line of a resource, which is all zeros for CPU at the root.
 fn put_full<K: Sink>(
     out: &mut K,
     res: Res,
@@ -77,10 +78,10 @@ fn put_full<K: Sink>(
     put_state(out, res, Level::FullStalled, totals, averages)
 }
 
-/// Writes the pressure file of a resource of a group, as in `Documentation/accounting/psi.rst`: the
-/// `some` line and the `full` line, from the group's totals (ns) of all states except nonidle,
-/// ordered by state, and of interrupts, and from its averages. The root's `full` line of CPU is all
-/// zeros, as in the kernel.
+/// Writes the pressure file of a group's resource, as in `Documentation/accounting/psi.rst`: the
+/// `some` line and the `full` line. `totals` (ns) and `averages` are the group's, ordered by state;
+/// `totals` ends with the interrupt time. The root's `full` line of CPU is all zeros, as in the
+/// kernel.
 pub fn write_file<K: Sink>(
     out: &mut K,
     res: Res,
@@ -97,7 +98,8 @@ pub fn write_file<K: Sink>(
     put_full(out, res, root, &totals, averages)
 }
 
-// The line before a pressure file: the tick (ns), the group's path and the word of the file.
+// Writes the head line of a report: the tick's time (ns), the group's path, and the word for the
+// resource.
 #[tactic(auto, using(outside::proofs::Grows::chain))]
 fn put_head<'a, K: Sink>(
     out: &mut K,
@@ -124,7 +126,7 @@ fn put_head<'a, K: Sink>(
     )
 }
 
-/// Writes the line before the pressure file of a resource: the tick (ns), the group's path and the
+/// Writes the head line of a report on a resource: the tick's time (ns), the group's path, and the
 /// resource.
 pub fn write_report_head<K: Sink>(
     out: &mut K,
@@ -139,8 +141,8 @@ pub fn write_report_head<K: Sink>(
     put_head(out, at, path, res.word().as_bytes())
 }
 
-/// Writes a report on a resource of a group at a tick (ns): [`write_report_head`], and then
-/// [`write_file`].
+/// Writes the report on a group's resource at the tick at `at` (ns): the head line
+/// ([`write_report_head`]), followed by the pressure file ([`write_file`]).
 #[tactic(auto, using(outside::proofs::Grows::chain))]
 pub fn write_report<K: Sink>(
     out: &mut K,
@@ -160,8 +162,8 @@ pub fn write_report<K: Sink>(
     write_file(out, res, root, totals, averages)
 }
 
-/// Writes the report on interrupts of a group at a tick (ns): its head line, and the `full` line
-/// with the total of interrupts (ns) and their averages. Interrupts have no `some` line.
+/// Writes the report on a group's interrupts at the tick at `at` (ns): the head line, followed by
+/// the `full` line with the interrupt total (ns) and its averages. Interrupts have no `some` line.
 #[tactic(auto, using(outside::proofs::Grows::chain))]
 pub fn write_irq<K: Sink>(
     out: &mut K,

@@ -1,4 +1,5 @@
-//! The lines that commands print one by one.
+//! Writes the single lines that commands print.
+//! Pressure files are in `file`.
 ghost use Rattle.std.specs.Prelude.{◌-◌, ◌<◌, ◌^◌};
 ghost use Rattle.outside.specs.Outside.{HasCause, SameInner};
 ghost use Rattle.outside.specs.Calls.{PutsAll};
@@ -12,7 +13,7 @@ use outside::{Sink, WriteFailed, put_all};
 use pressure_spec::Times;
 use psi_base::{Cpu, Ns, Path, TriggerSpec};
 
-/// Writes a line: the pieces in order, then times (ns), each after a space.
+/// Writes a line: the pieces of `head` in order, and then the times (ns), each after a space.
 #[tactic(auto, using(outside::proofs::Grows::chain))]
 pub fn put_timed<K: Sink>(out: &mut K, head: &[Piece], times: &[Ns]) -> Result<(), WriteFailed>
     ensures bytes { PutsAll (K.has out.old) (K.has out.new) result
@@ -25,7 +26,7 @@ pub fn put_timed<K: Sink>(out: &mut K, head: &[Piece], times: &[Ns]) -> Result<(
     put_all(out, b"\n")
 }
 
-// The line of a group on a processor, with its times (ns).
+// Writes the `stall` line of a group on a processor, with its times (ns).
 #[tactic(auto, using(crate::proofs::Puts::times))]
 fn put_stall<K: Sink>(out: &mut K, cpu: Cpu, path: &Path, times: &[Ns]) -> Result<(), WriteFailed>
     ensures bytes { PutsAll (K.has out.old) (K.has out.new) result
@@ -45,7 +46,8 @@ fn put_stall<K: Sink>(out: &mut K, cpu: Cpu, path: &Path, times: &[Ns]) -> Resul
     )
 }
 
-/// Writes the line of a group on a processor: its times (ns) in the seven states, ordered by state.
+/// Writes the `stall` line of a group on a processor: its times (ns) in the seven states, ordered
+/// by state.
 pub fn write_stall<K: Sink>(
     out: &mut K,
     cpu: Cpu,
@@ -60,8 +62,8 @@ pub fn write_stall<K: Sink>(
     put_stall(out, cpu, path, &seven)
 }
 
-/// Writes the line of a group on a processor with interrupts: its times (ns) in the seven states,
-/// ordered by state, and then the time that interrupts took.
+/// Writes the `stall` line of a group on a processor, with interrupts: its times (ns) in the seven
+/// states, ordered by state, followed by the interrupt time.
 pub fn write_stall_irq<K: Sink>(
     out: &mut K,
     cpu: Cpu,
@@ -99,9 +101,9 @@ pub fn write_check<K: Sink>(out: &mut K, events: u64, end: Ns) -> Result<(), Wri
     )
 }
 
-/// Writes a sample of a clock of the watched group, taken at a tick (ns): the processor, the number
-/// of its changes that the sample includes, and the times (ns) in the seven states, ordered by
-/// state.
+/// Writes a `live` line: a sample of the watched group's clock on processor `cpu`, taken for the
+/// tick at `at` (ns). `count` is the number of the processor's changes that the sample includes,
+/// and `seven` are the times (ns) in the seven states, ordered by state.
 #[tactic(auto, using(crate::proofs::Puts::times))]
 pub fn write_live<K: Sink>(
     out: &mut K,
@@ -129,8 +131,8 @@ pub fn write_live<K: Sink>(
     )
 }
 
-/// Writes a signal of a trigger at a tick (ns): its number, the path of its group, and its
-/// resource, level, threshold and window (us).
+/// Writes the line of a trigger that fired at the tick at `at` (ns): its number, the path of its
+/// group, and its resource, level, threshold and window (us).
 #[tactic(auto, using(outside::proofs::Grows::chain))]
 pub fn write_fired<K: Sink>(
     out: &mut K,
@@ -166,8 +168,8 @@ pub fn write_fired<K: Sink>(
     )
 }
 
-/// Writes a kill at a tick (ns): the numbers of the ruleset and of its action, from 0, and the
-/// victim's path.
+/// Writes the line of a kill at the tick at `at` (ns): the numbers of the ruleset and of its
+/// action, counted from 0, and the victim's path.
 #[tactic(auto, using(outside::proofs::Grows::chain))]
 pub fn write_kill<K: Sink>(
     out: &mut K,

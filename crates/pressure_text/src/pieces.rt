@@ -1,4 +1,5 @@
-//! Text in pieces, each sent as it is produced.
+//! Lines in pieces, each written as soon as it is formatted.
+//! No line is built in memory.
 ghost use Rattle.std.specs.Prelude.{◌≡◌, ◌++◌, codes};
 ghost use Rattle.std.specs.List.{flat_map};
 ghost use Rattle.outside.specs.Outside.{HasCause, SameInner};
@@ -14,15 +15,16 @@ const PERCENT: u64 = 2048;
 /// A piece of a line.
 #[derive(Clone, Copy)]
 pub enum Piece<'a> {
-    /// A number in decimal digits.
+    /// A number, written in decimal digits.
     Number(u64),
-    /// A text, unchanged.
+    /// Bytes, written unchanged.
     Text(&'a [u8]),
-    /// An average (2048 is one percent) in percent with two decimals.
+    /// An average in fixed point (2048 is one percent), written in percent with two decimals.
     Percent(u64),
 }
 
-// A point, and an average's hundredths of a percent as two digits.
+// Returns a point, and the fraction of an average in percent as two digits (hundredths, rounded
+// down).
 #[tactic(auto, using(std::proofs::lemmas::Fmt::decimal_digit))]
 fn fraction_of(average: u64) -> [u8; 3]
     ensures { result ≡ codes "." ++ two_digits (hundredths average) }
@@ -33,7 +35,7 @@ fn fraction_of(average: u64) -> [u8; 3]
     [b'.', b'0' + tens, b'0' + ones]
 }
 
-// An average in percent.
+// Writes an average in percent with two decimals.
 #[tactic(auto, using(outside::proofs::Grows::chain))]
 fn put_percent<K: Sink>(out: &mut K, average: u64) -> Result<(), WriteFailed>
     ensures bytes { PutsAll (K.has out.old) (K.has out.new) result (percent_text average) }
@@ -56,7 +58,7 @@ fn put_piece<K: Sink>(out: &mut K, piece: Piece) -> Result<(), WriteFailed>
     }
 }
 
-/// Sends the pieces in order. A failure leaves a prefix of their joined bytes in the sink.
+/// Writes the pieces in order. If a write fails, a prefix of the joined bytes has been written.
 #[tactic(auto, using(outside::proofs::Grows::growth))]
 pub fn put_pieces<K: Sink>(out: &mut K, pieces: &[Piece]) -> Result<(), WriteFailed>
     ensures bytes { PutsAll (K.has out.old) (K.has out.new) result
@@ -70,7 +72,7 @@ pub fn put_pieces<K: Sink>(out: &mut K, pieces: &[Piece]) -> Result<(), WriteFai
     Ok(())
 }
 
-// A number after a space.
+// Writes a space and a number.
 #[tactic(auto, using(outside::proofs::Grows::chain))]
 fn put_spaced<K: Sink>(out: &mut K, number: u64) -> Result<(), WriteFailed>
     ensures bytes { PutsAll (K.has out.old) (K.has out.new) result (spaced_number number) }
@@ -81,7 +83,7 @@ fn put_spaced<K: Sink>(out: &mut K, number: u64) -> Result<(), WriteFailed>
     put_number(out, number)
 }
 
-/// Sends numbers, each after a space.
+/// Writes the numbers, each after a space.
 #[tactic(auto, using(outside::proofs::Grows::growth))]
 pub(crate) fn put_numbers<K: Sink>(out: &mut K, numbers: &[u64]) -> Result<(), WriteFailed>
     ensures bytes { PutsAll (K.has out.old) (K.has out.new) result

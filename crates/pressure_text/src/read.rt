@@ -15,7 +15,7 @@ ghost use Rattle.pressure_text.specs.declared.read.PressureLine.{PressureLine};
 use psi_base::{Level, read_number};
 use std::marker::Model;
 
-/// The greatest average, in hundredths of a percent.
+/// The greatest average: 100 percent, in hundredths of a percent.
 const ALL_TIME: u32 = 10_000;
 
 /// The numbers of a line of a pressure file.
@@ -36,7 +36,7 @@ pub struct PressureFile {
     pub full_line: PressureLine,
 }
 
-// The number of leading digits.
+// Returns the number of leading digits.
 fn digits_at(bytes: &[u8]) -> usize
     ensures count { result ≡ prefix_len is_ascii_digit bytes.now }
     ensures within { result ≤ length bytes.now }
@@ -47,7 +47,7 @@ fn digits_at(bytes: &[u8]) -> usize
         .count()
 }
 
-// The remaining bytes of a text. Contracts see the bytes.
+// The bytes that a parser has not consumed yet. Contracts see the bytes.
 #[derive(Drop)]
 struct Rest<'a> {
     bytes: &'a [u8],
@@ -62,7 +62,7 @@ impl<'a> Model for Rest<'a> {
 }
 
 impl<'a> Rest<'a> {
-    // Skips a prefix, if the text begins with it.
+    // Consumes `text` if the bytes begin with it; otherwise returns `None`.
     fn skip(&mut self, text: &[u8]) -> Option<()>
         ensures { MatchOption result (suffix text.now self.old ≡ None)
             (λ _. suffix text.now self.old ≡ Some self.new) }
@@ -76,7 +76,7 @@ impl<'a> Rest<'a> {
         }
     }
 
-    // Takes the number of all leading digits.
+    // Consumes all leading digits, and returns their number.
     #[tactic(auto, unfolding(crate::specs::FileRead::number_at))]
     fn number(&mut self) -> Option<u64>
         ensures { TakesPiece result self.new (number_at self.old) }
@@ -87,7 +87,7 @@ impl<'a> Rest<'a> {
         Some(number)
     }
 
-    // Takes the number of the first two digits.
+    // Consumes two digits, and returns their number.
     #[tactic(auto, unfolding(crate::specs::FileRead::two_at))]
     fn two_digits(&mut self) -> Option<u32>
         ensures found { TakesPiece result self.new (two_at self.old) }
@@ -105,7 +105,7 @@ impl<'a> Rest<'a> {
         Some(u32::from(tens - b'0') * 10 + u32::from(ones - b'0'))
     }
 
-    // Takes an average, in hundredths of a percent.
+    // Consumes an average, and returns it in hundredths of a percent.
     #[tactic(auto, unfolding(crate::specs::FileRead::average_at))]
     fn average(&mut self) -> Option<u32>
         ensures { TakesPiece result self.new (average_at self.old) }
@@ -123,7 +123,7 @@ impl<'a> Rest<'a> {
         Some(hundredths)
     }
 
-    // Takes the average after this label.
+    // Consumes `label` and an average, and returns the average.
     fn average_past(&mut self, label: &[u8]) -> Option<u32>
         ensures { TakesPiece result self.new (past label.now average_at self.old) }
     {
@@ -131,7 +131,7 @@ impl<'a> Rest<'a> {
         self.average()
     }
 
-    // Takes the number after this label.
+    // Consumes `label` and a number, and returns the number.
     fn number_past(&mut self, label: &[u8]) -> Option<u64>
         ensures { TakesPiece result self.new (past label.now number_at self.old) }
     {
@@ -139,7 +139,7 @@ impl<'a> Rest<'a> {
         self.number()
     }
 
-    // Takes a line.
+    // Consumes the line of `level`, with its newline.
     #[tactic(auto, unfolding(crate::specs::FileRead::line_at))]
     fn line(&mut self, level: Level) -> Option<PressureLine>
         ensures { TakesPiece result self.new (line_at level self.old) }
@@ -157,7 +157,7 @@ impl<'a> Rest<'a> {
     }
 }
 
-// The whole file.
+// Parses a pressure file of two lines, with nothing after them.
 #[tactic(auto, unfolding(crate::specs::FileRead::file_at))]
 fn file_of(bytes: &[u8]) -> Option<PressureFile>
     ensures { result ≡ file_at bytes.now }
@@ -174,7 +174,7 @@ fn file_of(bytes: &[u8]) -> Option<PressureFile>
     })
 }
 
-// The `full` line that is the whole file.
+// Parses a pressure file that consists of a `full` line alone.
 #[tactic(auto, unfolding(crate::specs::FileRead::irq_at))]
 fn irq_of(bytes: &[u8]) -> Option<PressureLine>
     ensures { result ≡ irq_at bytes.now }
@@ -207,8 +207,8 @@ pub fn read_irq(bytes: &[u8]) -> Option<PressureLine>
 }
 
 /// Round trips: [`read_file`] parses what [`write_file`](crate::write_file) writes, and
-/// [`read_irq`] the file that [`write_irq`](crate::write_irq) writes after its head, giving back
-/// 64-bit totals in whole microseconds and averages in hundredths of a percent.
+/// [`read_irq`] parses what [`write_irq`](crate::write_irq) writes after the head line. The results
+/// are the 64-bit totals in whole microseconds, and the averages in hundredths of a percent.
 pub fn law_read_again()
     ensures file { ReadsAgain }
     ensures irq { IrqReadsAgain }
