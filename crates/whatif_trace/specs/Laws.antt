@@ -13,7 +13,7 @@ WithoutIsAccepted =
     (limits : Limits) (events : List Event) (at victim : ℕ) → limits.cpus ≤ most_cpus → IsAccepted limits events
     → length (without events at victim) ≤ most_events → IsAccepted limits (without events at victim)
 
--- After the exits none of the tasks is live.
+-- After the exit events, none of the group's tasks is live.
 abbrev pub ExitsLeaveNone : Type 0
 ExitsLeaveNone =
     (limits : Limits) (events : List Event) (at victim : ℕ) → IsAccepted limits events → at < (after events).last
@@ -22,8 +22,9 @@ ExitsLeaveNone =
     task_of (after (up_to events at ++ exits_from (at + 1) (after (up_to events at))
     (members (after (up_to events at)) victim))).tasks pid ≡ None
 
--- The world after each prefix of the rest is the original trace's world without the tasks that are
--- dead by then, except for the number of lines and the last time.
+-- Compares the worlds of both traces after each prefix of the events that follow the exits: the
+-- world of the new trace is the original world without the tasks that are dead at that point,
+-- except for the number of lines and the last time.
 abbrev pub WorldsWithout : Type 0
 WorldsWithout =
     (limits : Limits) (events : List Event) (at victim : ℕ) → IsAccepted limits events → at < (after events).last

@@ -1,4 +1,5 @@
-//! Copies of events, and the list that stores them.
+//! Copies events, and appends them to the list of events that remain.
+//! Which events remain is decided by the callers.
 ghost use Rattle.std.specs.Prelude.{◌≡◌, ◌∷◌, [], IfOk, true};
 ghost use Rattle.whatif_spec.specs.Without.{acts_if};
 ghost use Rattle.psi_spec.specs.World.{events_at};
@@ -7,7 +8,7 @@ ghost use Rattle.whatif_trace.specs.Left.{Adds, shows_of_group};
 use psi_base::{Act, Event, NoMemory, Ns};
 use std::alloc::Global;
 
-// A copy of an act that samples a group's memory or sets a trigger.
+// Copies an act that samples a group's memory or sets a trigger.
 fn copy_known(alloc: Global, act: &Act) -> Result<Act, NoMemory>
     requires { shows_of_group act.now ≡ true }
     ensures { IfOk result (λ copy. copy ≡ act.now) }
@@ -91,7 +92,7 @@ fn copy_act(alloc: Global, act: &Act) -> Result<Act, NoMemory>
     })
 }
 
-/// A copy of an event, in memory of its own.
+/// Copies an event; the copy owns its memory.
 pub fn copy_event(alloc: Global, event: &Event) -> Result<Event, NoMemory>
     ensures { IfOk result (λ copy. copy ≡ event.now) }
 {
@@ -101,7 +102,7 @@ pub fn copy_event(alloc: Global, event: &Event) -> Result<Event, NoMemory>
     })
 }
 
-/// Appends an event.
+/// Appends the event with this time (ns) and act.
 pub(crate) fn keep(kept: &mut Vec<Event>, at: Ns, act: Act) -> Result<(), NoMemory>
     ensures { Adds kept.old.items kept.new.items result (events_at at (act ∷ [])) }
 {
@@ -109,7 +110,7 @@ pub(crate) fn keep(kept: &mut Vec<Event>, at: Ns, act: Act) -> Result<(), NoMemo
     Ok(())
 }
 
-/// Appends an act if the condition holds.
+/// Appends the event with this time (ns) and act if `test` is true.
 #[tactic(auto, using(crate::proofs::Kept::none_kept))]
 pub(crate) fn keep_if(kept: &mut Vec<Event>, test: bool, at: Ns, act: Act) -> Result<(), NoMemory>
     ensures { Adds kept.old.items kept.new.items result

@@ -1,4 +1,5 @@
-//! The exits of killed tasks.
+//! Appends the exits of killed tasks.
+//! An exit may take up to four events: wake, switch in, end of a memory stall, switch out.
 ghost use Rattle.std.specs.Prelude.{◌≡◌};
 ghost use Rattle.psi_spec.specs.World.{is_active, events_at};
 ghost use Rattle.whatif_spec.specs.Without.{exit_acts, making_room};
@@ -20,7 +21,7 @@ fn is_active(mode: Mode) -> bool
     }
 }
 
-/// How the running task, if any, is switched out for another.
+/// How `running`, the running task (if any), is switched out so that another task can run.
 fn making_room(running: Option<Pid>) -> How
     ensures { result ≡ making_room running }
 {
@@ -30,7 +31,8 @@ fn making_room(running: Option<Pid>) -> How
     }
 }
 
-/// Appends the exit of a task at a time (ns). `running` is the task that runs on its processor.
+/// Appends the events by which `task` exits at `at` (ns). `running` is the task that runs on its
+/// processor, if any.
 #[tactic(auto, using(crate::proofs::Kept::four_kept))]
 fn keep_exit(
     kept: &mut Vec<Event>,
@@ -61,7 +63,7 @@ fn keep_exit(
     keep(kept, at, leaves)
 }
 
-/// Appends the exit of one task, if it is live, and removes it from the runners.
+/// Appends the exit of one task at `at` (ns) if it is live, and updates the running tasks.
 #[tactic(auto, using(crate::proofs::Kept::none_kept))]
 fn keep_one(
     kept: &mut Vec<Event>,
@@ -84,7 +86,8 @@ fn keep_one(
     keep_exit(kept, at, pid, task, running)
 }
 
-/// Appends the exits of tasks at a time (ns), in order, and updates the runners.
+/// Appends the exits of the tasks with these pids at `at` (ns), in order. `runners` are the running
+/// tasks before the exits.
 #[tactic(auto, using(crate::proofs::Kept::none_kept, crate::proofs::Kept::part_kept))]
 pub(crate) fn keep_exits(
     kept: &mut Vec<Event>,

@@ -1,4 +1,5 @@
-//! The tasks of a killed group.
+//! Finds the tasks of a killed group and of its descendants.
+//! Each live task was created by a `fork`, so only forks are searched.
 ghost use Rattle.std.specs.Prelude.{◌≡◌, ◌&&◌, ◌||◌, ◌==◌, ℕ, IfOk, OnOk};
 ghost use Rattle.std.specs.List.Sorted.{IsStrictlySortedBy};
 ghost use Rattle.std.specs.Ordering.{nat_cmp};
@@ -10,7 +11,7 @@ use std::alloc::Global;
 use std::collections::BTreeSet;
 use task_table::Table;
 
-/// Whether a task with this pid is live, in a group or below it.
+/// Whether the task with this pid is live and in the group `victim` or one of its descendants.
 fn is_member(table: &Table, pid: Pid, victim: Slot) -> bool
     ensures { result ≡ is_member table.now.world victim.0 pid.0 }
 {
@@ -20,7 +21,7 @@ fn is_member(table: &Table, pid: Pid, victim: Slot) -> bool
     }
 }
 
-/// Adds a pid if the condition holds.
+/// Adds a pid if `test` is true.
 #[tactic(auto, using(crate::proofs::Adding::none_in))]
 fn add_if(members: &mut BTreeSet<u32>, test: bool, pid: Pid) -> Result<(), NoMemory>
     requires sorted { IsStrictlySortedBy nat_cmp members.old.keys }
@@ -34,7 +35,8 @@ fn add_if(members: &mut BTreeSet<u32>, test: bool, pid: Pid) -> Result<(), NoMem
     Ok(())
 }
 
-/// Adds the task that an event created, if it is live in a group or below it.
+/// Adds the task that an act created, if it is live and in the group `victim` or one of its
+/// descendants.
 #[tactic(auto, using(crate::proofs::Adding::same_member))]
 fn add_forked(
     members: &mut BTreeSet<u32>,
@@ -54,8 +56,8 @@ fn add_forked(
     }
 }
 
-/// The pids of the live tasks that are in a group or below it. The events are those up to the world
-/// of the table.
+/// The pids of the live tasks in the group `victim` and its descendants. Requires that `events`
+/// include the creation of each live task.
 pub(crate) fn members(
     alloc: Global,
     table: &Table,

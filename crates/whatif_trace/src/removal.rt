@@ -1,4 +1,5 @@
-//! A trace without the tasks of a killed group.
+//! Removes the tasks of a killed group from a trace.
+//! This module cuts the trace at the kill; `exits` and `rest` write the second part.
 ghost use Rattle.std.specs.Prelude.{◌≡◌, ◌++◌, ◌<◌, ◌≤◌, IfOk, MatchResult, None, OnOk, Ok, drop, length, nat_lt, take};
 ghost use Rattle.psi_base.specs.Gives.{FaultOf};
 ghost use Rattle.psi_spec.specs.Refusal.{AreLegal, cause_of};
@@ -18,14 +19,14 @@ use std::alloc::Global;
 use std::collections::BTreeSet;
 use task_table::Table;
 
-/// The remaining trace has more event lines than a trace may have.
+/// The error if the remaining trace has more events than a trace may have.
 #[derive(Clone, Copy, Debug, PartialEq, Eq)]
 pub struct TooLarge {
     /// The number of remaining events, above 4,000,000.
     pub events: u64,
 }
 
-/// The number of events before the first that is later than a time (ns).
+/// The number of leading events at or before `at` (ns).
 fn prefix_length(events: &[Event], at: Ns) -> usize
     ensures length { result ≡ prefix_length at events.now }
     ensures inside { result ≤ length events.now }
@@ -45,7 +46,7 @@ fn prefix_of(events: &[Event], count: usize) -> &[Event]
     &events[..count]
 }
 
-/// The events after the first `count`.
+/// The events after the first `count` events.
 fn rest_of(events: &[Event], count: usize) -> &[Event]
     requires { count ≤ length events.now }
     ensures { result.now ≡ drop count events.now }
@@ -53,14 +54,14 @@ fn rest_of(events: &[Event], count: usize) -> &[Event]
     &events[count..]
 }
 
-/// The numbers in a set, ascending.
+/// The numbers of a set, in ascending order.
 fn numbers_of(alloc: Global, pids: &BTreeSet<u32>) -> Result<Vec<u32>, NoMemory>
     ensures { IfOk result (λ numbers. numbers.items ≡ pids.now.keys) }
 {
     Ok(pids.iter().copied().collect(alloc)?)
 }
 
-/// Whether a time (ns) is before the end.
+/// Whether `at` (ns) is before the end of the trace.
 #[tactic(auto, using(crate::proofs::Cutting::before_known))]
 fn is_before_end(events: &[Event], at: Ns) -> bool
     ensures { result ≡ nat_lt at (after events.now).last }
@@ -71,7 +72,7 @@ fn is_before_end(events: &[Event], at: Ns) -> bool
     }
 }
 
-/// Plays a legal event.
+/// Plays one event. Requires that the event is legal.
 fn play_one(table: &mut Table, event: &Event) -> Result<(), NoMemory>
     requires { cause_of table.old.limits table.old.world event.now ≡ None }
     ensures limits { OnOk result (table.new.limits ≡ table.old.limits) }
@@ -84,7 +85,8 @@ fn play_one(table: &mut Table, event: &Event) -> Result<(), NoMemory>
     }
 }
 
-/// Plays events, each legal after the previous ones, and updates the runners.
+/// Plays events, and updates the running tasks. Requires that each event is legal after the
+/// previous ones.
 fn play_all(
     table: &mut Table,
     runners: &mut Vec<Option<Pid>>,
@@ -105,7 +107,8 @@ fn play_all(
     Ok(())
 }
 
-/// Appends the exits of a set of tasks at a time (ns), and updates the runners.
+/// Appends the exits of the tasks in `dead` at `at` (ns). `runners` are the running tasks before
+/// the exits.
 fn keep_all_exits(
     alloc: Global,
     kept: &mut Vec<Event>,
@@ -122,8 +125,8 @@ fn keep_all_exits(
     keep_exits(kept, at, table, runners_then, &pids)
 }
 
-/// The events, split in two, without the tasks that are in a group or below it between the two
-/// parts.
+/// The events of `prefix` and `rest`, without the tasks that are in the group `victim` or one of
+/// its descendants after `prefix`. These tasks exit at `at` (ns).
 fn left_of(
     alloc: Global,
     table: &Table,
@@ -147,7 +150,8 @@ fn left_of(
     Ok(kept)
 }
 
-/// The events without the tasks that are in a group or below it at a time (ns) before the end.
+/// The events without the tasks that are in the group `victim` or one of its descendants at `at`
+/// (ns). Requires that `at` is before the end of the trace.
 fn cut_down(
     alloc: Global,
     cpus: u32,
@@ -171,7 +175,8 @@ fn cut_down(
     left_of(alloc, &table, runners, prefix, rest, at + 1, victim)
 }
 
-/// The events without the tasks that are in a group or below it at a time (ns).
+/// The events without the tasks that are in the group `victim` or one of its descendants at `at`
+/// (ns). If `at` isn't before the end, all events.
 fn all_left(
     alloc: Global,
     cpus: u32,
@@ -193,11 +198,12 @@ fn all_left(
     Ok(kept)
 }
 
-/// The events of a trace without the tasks that are in a group or below it at a time (ns): the
-/// events up to that time, the exits of these tasks a nanosecond later, and the rest without them.
-/// If the time isn't before the end, the result is all events. The trace has 1 to 64 processors,
-/// and no event is later than `latest` (ns). The error is `TooLarge` exactly if more than 4,000,000
-/// events remain; otherwise it is `NoMemory`.
+/// Removes from a trace the tasks that are in the group `victim` or one of its descendants at `at`
+/// (ns). The result has the events up to that time, the exits of these tasks a nanosecond later,
+/// and the later events without these tasks. If `at` isn't before the end, the result is all
+/// events. Requires an accepted trace of 1 to 64 processors without an event later than `latest`
+/// (ns). The error is `TooLarge` exactly if more than 4,000,000 events remain; otherwise it is
+/// `NoMemory`.
 pub fn without(
     alloc: Global,
     cpus: u32,

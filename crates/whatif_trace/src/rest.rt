@@ -1,4 +1,5 @@
 //! The events after the exits, without the dead tasks.
+//! The dead tasks are the killed tasks that haven't exited in the original trace yet.
 ghost use Rattle.std.specs.Prelude.{◌≡◌};
 ghost use Rattle.whatif_spec.specs.Without.{if_alive, is_alive, is_pid_among, switch_without, without_pid};
 ghost use Rattle.psi_spec.specs.World.{events_at};
@@ -10,7 +11,7 @@ use psi_base::{Act, Cpu, Event, How, NoMemory, Ns, Pid};
 use std::alloc::Global;
 use std::collections::BTreeSet;
 
-/// Whether a pid is a dead task's.
+/// Whether `pid` belongs to a dead task.
 #[tactic(auto, using(crate::proofs::Killed::among_keys))]
 fn is_dead(dead: &BTreeSet<u32>, pid: Pid) -> bool
     ensures { result ≡ is_pid_among dead.now.keys pid.0 }
@@ -18,7 +19,7 @@ fn is_dead(dead: &BTreeSet<u32>, pid: Pid) -> bool
     dead.contains(&pid.0)
 }
 
-/// Whether a task, if there is one, isn't dead.
+/// Whether there is a task, and it isn't dead.
 fn is_alive(dead: &BTreeSet<u32>, pid: Option<Pid>) -> bool
     ensures { result ≡ is_alive dead.now.keys pid }
 {
@@ -28,14 +29,14 @@ fn is_alive(dead: &BTreeSet<u32>, pid: Option<Pid>) -> bool
     }
 }
 
-/// The task, or `None` if it is dead.
+/// Returns `next`, or `None` if that task is dead.
 fn if_alive(dead: &BTreeSet<u32>, next: Option<Pid>) -> Option<Pid>
     ensures { result ≡ if_alive dead.now.keys next }
 {
     if is_alive(dead, next) { next } else { None }
 }
 
-/// The task that does an act. `None` for a switch.
+/// The task that performs an act. `None` for a switch and for an act without a task.
 fn doer(act: &Act) -> Option<Pid>
     ensures { result ≡ doer act.now }
 {
@@ -49,7 +50,8 @@ fn doer(act: &Act) -> Option<Pid>
     }
 }
 
-/// Appends what remains of a switch, given the task that is switched out, if any.
+/// Appends what remains of a switch on processor `cpu`. `leaving` is the task that is switched out,
+/// if any.
 #[tactic(auto, using(crate::proofs::Kept::none_kept))]
 fn keep_switch(
     kept: &mut Vec<Event>,
@@ -74,7 +76,7 @@ fn keep_switch(
     }
 }
 
-/// Appends an event other than a switch, unless a dead task does it.
+/// Appends a copy of an event, unless a dead task performs it. The event isn't a switch.
 #[tactic(auto, using(crate::proofs::Kept::none_kept))]
 fn keep_act(
     alloc: Global,
@@ -91,7 +93,7 @@ fn keep_act(
     }
 }
 
-/// Appends what remains of an event.
+/// Appends what remains of an event without the dead tasks.
 fn keep_left(
     alloc: Global,
     kept: &mut Vec<Event>,
@@ -111,7 +113,8 @@ fn keep_left(
     }
 }
 
-/// Removes an exiting task's pid from `dead`: the pid may be reused.
+/// Removes the pid of the task `leaving` from `dead`: it exits in the original trace too, so its
+/// pid may be reused.
 #[tactic(auto, using(crate::proofs::Killed::taken_out))]
 fn revive(dead: &mut BTreeSet<u32>, leaving: Option<Pid>)
     ensures { dead.new.keys ≡ without_pid dead.old.keys leaving }
@@ -122,7 +125,7 @@ fn revive(dead: &mut BTreeSet<u32>, leaving: Option<Pid>)
     }
 }
 
-/// Updates `dead` after an act.
+/// Updates `dead` after an act: a task that exits is no longer in the set.
 fn note_exit(dead: &mut BTreeSet<u32>, runners: &[Option<Pid>], act: &Act)
     ensures { dead.new.keys ≡ dead_left dead.old.keys runners.now act.now }
 {
@@ -136,7 +139,8 @@ fn note_exit(dead: &mut BTreeSet<u32>, runners: &[Option<Pid>], act: &Act)
     }
 }
 
-/// Appends what remains of events without the dead tasks. `runners` is who runs before the events.
+/// Appends what remains of the events without the dead tasks. `runners` are the running tasks
+/// before the events.
 #[tactic(auto, using(crate::proofs::Kept::none_kept, crate::proofs::Kept::part_kept))]
 pub(crate) fn keep_rest(
     alloc: Global,

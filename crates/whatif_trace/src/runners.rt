@@ -1,18 +1,19 @@
-//! The pids of the tasks that run on the processors.
+//! The pids of the tasks that run, by processor.
+//! In contrast to the task table, this list follows the original trace while the rest is cut.
 ghost use Rattle.std.specs.Prelude.{◌≡◌, ◌<◌, IfOk, None, replicate, slice_set};
 ghost use Rattle.whatif_trace.specs.Left.{runner_at, turned};
 
 use psi_base::{Act, Cpu, NoMemory, Pid};
 use std::alloc::Global;
 
-/// A list of `cpus` processors on which no task runs.
+/// A list for `cpus` processors on which no task runs.
 pub(crate) fn no_runners(alloc: Global, cpus: u32) -> Result<Vec<Option<Pid>>, NoMemory>
     ensures { IfOk result (λ runners. runners.items ≡ replicate cpus None) }
 {
     Ok(vec![in alloc; None; cpus as usize]?)
 }
 
-/// The pid of the task that runs on a processor, if any.
+/// The pid of the task that runs on processor `cpu`, if any.
 pub(crate) fn runner_at(runners: &[Option<Pid>], cpu: Cpu) -> Option<Pid>
     ensures { result ≡ runner_at runners.now cpu.0 }
 {
@@ -22,7 +23,7 @@ pub(crate) fn runner_at(runners: &[Option<Pid>], cpu: Cpu) -> Option<Pid>
     }
 }
 
-/// Sets the task that runs on a processor; `None` if it is idle.
+/// Sets the task that runs on processor `cpu`; `None` if the processor is idle.
 pub(crate) fn set_runner(runners: &mut Vec<Option<Pid>>, cpu: Cpu, runner: Option<Pid>)
     ensures { runners.new.items ≡ slice_set runners.old.items cpu.0 runner }
 {
@@ -32,7 +33,7 @@ pub(crate) fn set_runner(runners: &mut Vec<Option<Pid>>, cpu: Cpu, runner: Optio
     }
 }
 
-/// Updates the runners after an act.
+/// Updates the running tasks after an act. Only a switch changes them.
 pub(crate) fn turn(runners: &mut Vec<Option<Pid>>, act: &Act)
     ensures { runners.new.items ≡ turned runners.old.items act.now }
 {
