@@ -16,7 +16,7 @@ use Rattle.whatif_trace.specs.declared.removal.TooLarge.{TooLarge}
 use Rattle.whatif_rounds.specs.declared.rounds.Round.{Round}
 use Rattle.whatif_rounds.specs.declared.rounds.Round.TheVariants as found
 
--- the options are in range, as far as a replay uses them
+-- the options that a replay uses are in range
 pub record MayReplay (options : Options) : Type 0 where
   pub some : 1 ≤ options.tick_ms
   pub short : options.tick_ms ≤ 60000
@@ -24,7 +24,7 @@ pub record MayReplay (options : Options) : Type 0 where
   pub often : options.interval_s ≤ 3600
   pub workers : IsWithin 1 64 options.workers
 
--- a trace is accepted with the tick length of the options
+-- the trace is accepted with the tick length of the options
 pub record IsTraceAt (options : Options) (trace : Trace) : Type 0 where
   pub counted : IsCpuCount trace.cpus
   pub accepted : IsAccepted (limits_of (of_ms options.tick_ms) trace.cpus) trace.events
@@ -33,25 +33,25 @@ pub record IsTraceAt (options : Options) (trace : Trace) : Type 0 where
 abbrev pub trace_from : ℕ → ℕ → List Event → Trace
 trace_from number cpus events = record { version = version_of number; cpus = cpus; events = events }
 
--- plans are those of a trace that may be replayed with the options
+-- the plans are those of `trace`, which may be replayed with the options
 abbrev pub ArePlansOf : PlansView → Options → Trace → Type 0
 ArePlansOf plans options trace = IsPlanned plans trace (timing_of options)
 
--- The result of a round for a trace: the kill with this number, or that there is none, with the
--- trace's plans.
+-- The result of the round with this number: the kill with that number, or `Last` with the trace's
+-- plans if there is no such kill.
 abbrev pub Finds : Options → List Rule → ℕ → Trace → Round → Type 0
 Finds options rules number trace (found.Kill kill) = slice_get (all_kills trace (timing_of options) rules) number ≡ Some kill
 Finds options rules number trace (found.Last plans) =
     (slice_get (all_kills trace (timing_of options) rules) number ≡ None) × ArePlansOf plans options trace
 
--- The plans are those of the trace that remains after all kills.
+-- The plans are those of the last trace, from which all kills were removed.
 abbrev pub AreLastPlans : Options → List Rule → Trace → PlansView → Type 0
 AreLastPlans options rules trace plans =
     (last : Trace) × (last_trace trace (timing_of options) rules ≡ Ok last) × (last.version ≡ trace.version)
     × ArePlansOf plans options last
 
--- a `TooLarge` fault has the number of events of a round's result, which is above the limit; an
--- out-of-memory fault states nothing
+-- a `TooLarge` fault has the number of events that a round left, which is above the limit; nothing
+-- is stated about an out-of-memory fault
 abbrev pub IsOutgrown : Options → List Rule → Trace → Fault TooLarge → Type 0
 IsOutgrown options rules trace (fault.Refused large) = last_trace trace (timing_of options) rules ≡ Err large.events
 IsOutgrown options rules trace (fault.NoMemory _) = ⊤

@@ -1,4 +1,5 @@
-//! Removing kills from a trace, round by round.
+//! Removes kills from a trace, round by round.
+//! Each round replays the remaining trace from its beginning.
 ghost use Rattle.std.specs.Prelude.{◌≡◌, IfOk, MatchResult, Ok};
 ghost use Rattle.psi_base.specs.Gives.{FaultOf};
 ghost use Rattle.psi_spec.specs.Header.{IsVersion};
@@ -20,7 +21,7 @@ use std::alloc::Global;
 use std::thread::Threads;
 use whatif_trace::{TooLarge, without};
 
-/// The maximal number of kills that are removed.
+/// The most kills that are removed.
 const MOST_ROUNDS: usize = 64;
 
 /// The result of a round.
@@ -28,11 +29,11 @@ const MOST_ROUNDS: usize = 64;
 pub(crate) enum Round {
     /// The kill with the round's number.
     Kill(Kill),
-    /// There is no such kill. These are the plans of the trace.
+    /// There is no kill with the round's number. The plans are those of the trace.
     Last(Plans),
 }
 
-// The latest time (ns) of a trace with the options' tick length.
+// The latest time (ns) in a trace that is replayed with the options' tick length.
 fn latest_of(options: &Options) -> Ns
     requires { MayReplay options.now }
     ensures { result ≡ (limits_of (of_ms options.now.tick_ms) 1).latest }
@@ -58,7 +59,8 @@ fn plans_of(
     }
 }
 
-// Looks for kill number `number`, from 0, in an accepted trace with these events.
+// Looks for kill `number`, counted from 0, in a replay of the trace with this version, number of
+// processors and events. Requires that the trace is accepted.
 fn find_in<R: Threads + Sync>(
     rt: &R,
     alloc: Global,
@@ -84,7 +86,8 @@ fn find_in<R: Threads + Sync>(
     }
 }
 
-// The events of an accepted trace without the tasks of a kill's victim.
+// Returns the events without the tasks of the victim of `kill`. Requires that the trace is
+// accepted.
 fn take_out(
     alloc: Global,
     cpus: u32,
@@ -110,10 +113,10 @@ fn take_out(
     )
 }
 
-/// The plans of an accepted trace, given by its version, number of processors and events, after the
-/// victims of its kills by these rules were removed, in order, for at most 64 kills. Each round
-/// replays the trace with these options. The error is `TooLarge` exactly if more than 4,000,000
-/// events remain after a kill.
+/// Removes the victims of the kills from a trace, in order, for at most 64 kills, and returns the
+/// plans of the remaining trace. Each round replays the trace with these rules and options.
+/// Requires that the trace with this version, number of processors and events is accepted. The
+/// error is `TooLarge` exactly if more than 4,000,000 events remain after a kill.
 pub fn last_plans<R: Threads + Sync>(
     rt: &R,
     alloc: Global,

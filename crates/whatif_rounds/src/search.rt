@@ -1,4 +1,5 @@
-//! A replay that looks for a kill and has no output.
+//! Searches for a kill with a replay that prints nothing.
+//! The replay stops at the kill.
 ghost use Rattle.std.specs.Prelude.{◌≡◌, List, IfOk, slice_get};
 ghost use Rattle.kill_spec.specs.declared.kill.Kill.{Kill};
 ghost use Rattle.psi_spec.specs.Header.{IsVersion, version_of};
@@ -23,8 +24,8 @@ use run_spec::Options;
 use std::alloc::Global;
 use std::thread::Threads;
 
-// Kill number `number`, from 0, in order of tick, ruleset and action, of a replay before its first
-// tick.
+// Finds kill `number`, counted from 0 in order of tick, ruleset and action. Requires that the
+// replay is before its first tick.
 fn kill_of<R: Threads + Sync>(rt: &R, replay: &mut Replay<'_>, number: usize) -> Option<Kill>
     requires { (trace : Trace) × (timing : Timing) × (rules : List Rule)
         × IsReplay replay.old trace timing rules 0 }
@@ -43,8 +44,8 @@ fn kill_of<R: Threads + Sync>(rt: &R, replay: &mut Replay<'_>, number: usize) ->
     None
 }
 
-/// Kill number `number`, from 0, in order of tick, ruleset and action, if the trace of these plans
-/// is replayed with these rules and options.
+/// Finds kill `number`, counted from 0 in order of tick, ruleset and action, in a replay of the
+/// trace of `plans` with these rules and options. `None` if there are fewer kills.
 pub(crate) fn find_kill<R: Threads + Sync>(
     rt: &R,
     alloc: Global,
