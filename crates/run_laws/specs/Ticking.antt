@@ -1,4 +1,4 @@
--- A replay, tick by tick.
+-- The ticks of a replay, and what the next tick adds.
 use Rattle.std.specs.Prelude.{◌≡◌, ℕ, ◌+◌, ◌<◌, ◌≤◌, List, [], ◌∷◌, ◌++◌, length}
 use Rattle.psi_base.specs.declared.event.Event.{Event}
 use Rattle.psi_spec.specs.Refusal.{AreLegal}
@@ -14,30 +14,30 @@ use Rattle.ruleset_json.specs.declared.types.Rule.{Rule}
 abbrev pub before_ticks : ℕ → List Event → Tick
 before_ticks cpus events = no_tick cpus (length (after events).groups)
 
--- The ticks of legal events follow one another, for at most as many processors as the world stores
--- a last interrupt time for.
+-- Each tick of legal events is a valid successor of the previous tick. Requires at most `most_cpus`
+-- processors, because the world stores a last interrupt time for that many.
 abbrev pub TicksFollow : Type 0
 TicksFollow =
     (limits : Limits) (cpus : ℕ) (events : List Event) (length i : ℕ) → AreLegal limits first_world events → limits.cpus ≤ most_cpus →
     0 < length → length ≤ longest_tick → tick_moment length (i + 1) ≤ last_moment →
     IsNextTick (last_tick (before_ticks cpus events) (ticks_of cpus events length i)) (tick_of cpus events length (i + 1))
 
--- The next tick is appended to the others.
+-- The first i + 1 ticks are the first `i` ticks, followed by tick i + 1.
 abbrev pub TicksMore : Type 0
 TicksMore = (cpus : ℕ) (events : List Event) (length i : ℕ) →
     ticks_of cpus events length (i + 1) ≡ ticks_of cpus events length i ++ tick_of cpus events length (i + 1) ∷ []
 
--- Its signals are counted with the previous ones.
+-- The signals of tick i + 1 add to the number of signals of the first `i` ticks.
 abbrev pub SignalsMore : Type 0
 SignalsMore = (trace : Trace) (timing : Timing) (i : ℕ) →
     signals_until trace timing (i + 1) ≡ signals_until trace timing i + length (fired_in trace timing (i + 1))
 
--- Its kills are counted with the previous ones.
+-- The kills of tick i + 1 add to the number of kills of the first `i` ticks.
 abbrev pub KillsMore : Type 0
 KillsMore = (trace : Trace) (timing : Timing) (rules : List Rule) (i : ℕ) →
     kills_until trace timing rules (i + 1) ≡ kills_until trace timing rules i + length (kills_in trace timing rules (i + 1))
 
--- Its lines are appended to the previous ones.
+-- The lines of tick i + 1 are appended to the lines of the first `i` ticks.
 abbrev pub TextMore : Type 0
 TextMore = (trace : Trace) (timing : Timing) (beside : Beside) (i : ℕ) →
     ticks_text trace timing beside (i + 1) ≡ ticks_text trace timing beside i ++ tick_text trace timing beside (i + 1)

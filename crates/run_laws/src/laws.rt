@@ -1,15 +1,18 @@
-//! Laws of the output of a replay. Each function has an empty body: its contract is the law.
+//! Laws of the output of a replay.
+//! Each function has an empty body: its contract is the law.
 ghost use Rattle.run_laws.specs.Live.{NoTextAtFirst, OneTextMore, OneTextUnwatched, SlotByLives, TextsGoOn, WholeText};
 ghost use Rattle.run_laws.specs.Reports.{ReportsByOrder};
 ghost use Rattle.run_laws.specs.Ticking.{KillsMore, SignalsMore, TextMore, TicksFollow, TicksMore};
 
-/// The ticks of an accepted trace follow one another: no time falls. A state's time grows by at
-/// most the time between two ticks, and interrupt time by at most that plus a second.
+/// Each tick of an accepted trace is a valid successor of the previous tick: no time decreases, a
+/// state's time grows by at most the time between the ticks, and interrupt time by at most that
+/// plus a second.
 pub fn law_next_tick()
     ensures { TicksFollow }
 {}
 
-/// The next tick: its table, signals, kills and lines are appended to the previous ones.
+/// What the next tick adds: its table, signals, kills and lines come after those of the previous
+/// ticks.
 pub fn law_one_tick_more()
     ensures ticks { TicksMore }
     ensures signals { SignalsMore }
@@ -17,19 +20,19 @@ pub fn law_one_tick_more()
     ensures text { TextMore }
 {}
 
-/// The reports of a tick are those of the slots that are live, in one fixed order of all slots by
-/// path.
+/// The reports of a tick are the reports of the live slots, in a fixed order of all slots by path.
 pub fn law_reports()
     ensures { ReportsByOrder }
 {}
 
-/// The lives of all groups determine the slot of a path at each time.
+/// The lives of all groups determine which slot a path has at each time.
 pub fn law_live_slot()
     ensures { SlotByLives }
 {}
 
-/// Lines with live samples, tick by tick: the next tick, the end after all ticks, an output that
-/// continues from some ticks, and no line before the first tick.
+/// Output with live lines, tick by tick: there is no line before the first tick; the next tick
+/// appends its lines; after all ticks the last line completes the output; and the lines of some
+/// ticks can always be continued to a complete output.
 pub fn law_live_texts()
     ensures more { OneTextMore }
     ensures whole { WholeText }
@@ -37,7 +40,7 @@ pub fn law_live_texts()
     ensures none { NoTextAtFirst }
 {}
 
-/// If no group is watched there is exactly one output.
+/// If no group is watched, there is exactly one possible output.
 pub fn law_unwatched()
     ensures { OneTextUnwatched }
 {}
