@@ -1,4 +1,4 @@
--- The rules of a command, given the bytes of its rules file and drop-in file if these are known.
+-- The rules of a command, if the bytes of its rules file and drop-in file are known.
 use Rattle.std.specs.Prelude.{◌≡◌, ℕ, List, [], Option, None, Some, Ok}
 use Rattle.outside.specs.Outside.{Files, IsAbsent, content_of}
 use Rattle.ruleset_json.specs.declared.types.Rule.{Rule}
@@ -6,9 +6,9 @@ use Rattle.ruleset_json.specs.RuleRanges.{FitsRules}
 use Rattle.run_spec.specs.Outputs.{rules_from}
 use Rattle.run_spec.specs.Run.{content_if_named}
 
--- Rulesets are those of the rules file with this name, with the drop-in file applied, if these are
--- named. Each ruleset is in its ranges. Without a rules file there are none. If the files' bytes
--- are known, they give these rulesets, and neither file is known to be missing.
+-- The rulesets `rules` come from the rules file `named`, with the drop-in file `drop_in` applied,
+-- if these are named. All rulesets are in range, and there are none without a rules file. If the
+-- bytes of the files are known, they determine the rulesets; neither file is known to be missing.
 pub record RulesOption (named drop_in : Option (List ℕ)) (files : Option Files) (rules : List Rule) : Type 0 where
   pub fit : FitsRules rules
   pub none : named ≡ None → rules ≡ []
