@@ -1,9 +1,10 @@
-//! Names of files.
+//! File names as strings, which is what a shelf expects.
+//! A command stores its file names as bytes.
 ghost use Rattle.std.specs.Prelude.{◌≡◌, IsUtf8};
 
 use psi_base::Text;
 
-/// A file name as a string.
+/// Returns a file name as a string. Requires that the name is valid UTF-8.
 pub fn name_of(text: &Text) -> &str
     requires { IsUtf8 text.now }
     ensures { result.now ≡ text.now }

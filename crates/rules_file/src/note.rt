@@ -1,4 +1,5 @@
-//! The messages for errors in a rules file or a drop-in file.
+//! Writes the messages for errors in a rules file or a drop-in file.
+//! The line break after a message is written by the caller.
 ghost use Rattle.std.specs.Prelude.{◌≡◌};
 ghost use Rattle.outside.specs.Outside.{HasCause};
 ghost use Rattle.outside.specs.Calls.{PutsAll};
@@ -24,9 +25,8 @@ fn cause_name(cause: RulesCause) -> &'static [u8]
     }
 }
 
-// Writes the message for an error in a file: the word for the file, the place by the numbers of its
-// ruleset, its group and its item or its action (nothing for the whole file), then `: ` and the
-// name of the cause.
+// Writes the message for an error in a file: the word `file`, the place as the numbers of the
+// ruleset, group, item or action (nothing for the whole file), `: ` and the name of the cause.
 fn put_placed<K: Sink>(
     out: &mut K,
     file: &[u8],

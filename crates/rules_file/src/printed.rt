@@ -1,4 +1,5 @@
-//! `rules`: rules as one line of text.
+//! The command `rules`: prints rules as one line of text.
+//! The line is built in memory first, so nothing is written if memory runs out.
 ghost use Rattle.std.specs.Prelude.{◌≡◌, ◌+◌, ◌≤◌, ◌++◌, IfOk, IfSome, IsUtf8, codes};
 ghost use Rattle.outside.specs.Outside.{SameInner};
 ghost use Rattle.dropin_rules.specs.RulesText.{rules_text};
@@ -16,7 +17,7 @@ use ruleset_json::Rules;
 use run_spec::{Command, Status};
 use std::alloc::Global;
 
-// The line that rules print as.
+// Returns the line that rules are printed as.
 fn rules_line(alloc: Global, rules: &Rules) -> Result<Vec<u8>, NoMemory>
     ensures { IfOk result (λ line. line.items ≡ rules_text rules.now.rules ++ codes "\n") }
 {
@@ -37,7 +38,7 @@ fn put_line<K: Sink>(line: &[u8], out: &mut K) -> Status
     }
 }
 
-// Writes rules. If out of memory, nothing is written.
+// Writes rules as one line. If memory runs out, nothing is written.
 fn print_rules<K: Sink>(alloc: Global, rules: &Rules, out: &mut K) -> Status
     ensures writes { WritesText (rules_text rules.now.rules ++ codes "\n")
         (K.faults out.old) (K.faults out.new) (K.has out.old) (K.has out.new) result }
@@ -49,7 +50,7 @@ fn print_rules<K: Sink>(alloc: Global, rules: &Rules, out: &mut K) -> Status
     }
 }
 
-/// Runs `rules` for a rules file, and a drop-in file, if one is named.
+/// Runs `rules` for the rules file `name`, and the drop-in file if one is named.
 pub fn run_rules<S: Shelf, K: Sink>(
     alloc: Global,
     name: &str,

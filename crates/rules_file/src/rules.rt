@@ -1,4 +1,5 @@
-//! The rules of a command from a shelf: those of its rules file, with a drop-in file applied.
+//! Reads the rules of a command from a shelf, which is the trait for input files.
+//! The result is the rules of the rules file, with the drop-in file applied if one is named.
 ghost use Rattle.std.specs.Prelude.{◌≡◌, ◌+◌, ◌≤◌, None, Some, IfSome, IsUtf8, MatchResult, ⊤};
 ghost use Rattle.psi_base.specs.Gives.{Gives};
 ghost use Rattle.outside.specs.Outside.{counts_of};
@@ -21,12 +22,12 @@ use ruleset_json::{RuleList, Rules, read, read_parts};
 use run_spec::{Options, Status, Which};
 use std::alloc::Global;
 
-/// The largest number of bytes that are read of a rules file or a drop-in file: one more than the
-/// size limit, so that a longer file is rejected.
+/// The most bytes that are read from a rules file or a drop-in file: one more than the size limit,
+/// so that a longer file is detected.
 const MOST: usize = 1_048_577;
 
-// The same rules. By the type of their list each ruleset is in its ranges, which the contract
-// states.
+// Returns the same rules, with a contract that each ruleset is in range: the type of the list
+// ensures it.
 fn in_ranges(rules: Rules) -> Rules
     ensures same { result ≡ rules }
     ensures fit { FitsRules result.rules }
@@ -36,7 +37,7 @@ fn in_ranges(rules: Rules) -> Rules
     }
 }
 
-// The bytes of a rules file or a drop-in file of this kind, or a prefix that is already too long.
+// Returns the bytes of a rules file or a drop-in file, or a prefix that is already too long.
 fn read_bytes<S: Shelf>(
     alloc: Global,
     name: &str,
@@ -87,7 +88,7 @@ fn read_base<S: Shelf>(alloc: Global, name: &str, shelf: &mut S) -> Result<Rules
     }
 }
 
-// Rules with the drop-in file with these bytes applied.
+// Applies a drop-in file with these bytes to the rules `base`.
 #[tactic(auto, unfolding(dropin_rules::specs::Joined::dropped_in))]
 fn dropped(alloc: Global, base: Rules, bytes: &[u8]) -> Result<Rules, Fault<DropFault>>
     ensures { Gives result (dropped_in base bytes.now) }
@@ -99,7 +100,7 @@ fn dropped(alloc: Global, base: Rules, bytes: &[u8]) -> Result<Rules, Fault<Drop
     }
 }
 
-// Reads a drop-in file, and applies it to rules.
+// Reads the drop-in file `name`, and applies it to the rules `base`.
 fn read_over<S: Shelf>(
     alloc: Global,
     base: Rules,
@@ -129,8 +130,8 @@ fn read_over<S: Shelf>(
     }
 }
 
-/// Reads the rules of a rules file, and applies a drop-in file, if one is named. The drop-in file
-/// is read only if the rules are accepted. On failure, the status says why.
+/// Reads the rules of the rules file `name`, and applies the drop-in file if one is named. The
+/// drop-in file is read only if the rules file is accepted. On failure, the status says why.
 pub fn read_joined<S: Shelf>(
     alloc: Global,
     name: &str,
@@ -169,7 +170,8 @@ pub fn read_joined<S: Shelf>(
     }
 }
 
-/// Reads the rules that the options of a replay name, if any. On failure, the status says why.
+/// Reads the rules that the options of a replay name. `None` if the options name no rules file. On
+/// failure, the status says why.
 pub fn read_rules<S: Shelf>(
     alloc: Global,
     options: &Options,
