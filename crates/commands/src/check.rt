@@ -1,4 +1,5 @@
-//! The output of `check`.
+//! The output of `check`, which accepts or refuses a trace without replaying it.
+//! Refusals are reported by the caller.
 ghost use Rattle.std.specs.Prelude.{List};
 ghost use Rattle.outside.specs.Outside.{SameInner};
 ghost use Rattle.psi_base.specs.declared.event.Event.{Event};
@@ -13,7 +14,7 @@ use pressure_text::write_check;
 use run_spec::Status;
 use task_table::Table;
 
-/// Writes the line of an accepted trace.
+/// Writes the line for an accepted trace.
 pub fn write_checked<K: Sink>(table: &Table, out: &mut K) -> Status
     ensures writes { (limits : Limits) (events : List Event) →
         IsPlayed table.now.limits table.now.world limits events →

@@ -1,4 +1,5 @@
-//! The commands for generated traces. They read no file.
+//! The commands for generated traces, `gen` and `stress`.
+//! They read no file.
 ghost use Rattle.std.specs.Prelude.{◌≡◌, ◌++◌, ◌∷◌, List, [], IfOk, None, OnOk};
 ghost use Rattle.outside.specs.Outside.{HasCause, SameInner};
 ghost use Rattle.outside.specs.Calls.{PutsAll};
@@ -46,7 +47,7 @@ pub fn write_generated<K: Sink>(alloc: Global, shape: Shape, out: &mut K) -> Sta
     }
 }
 
-// Adds an event, legal after the previous ones, to a planner.
+// Adds an event to a planner. Requires that the event is legal after the previous events.
 fn take_legal(planner: &mut Planner, event: Event) -> Result<(), NoMemory>
     requires fits { Fits event }
     requires legal { (limits : Limits) × (events : List Event)
@@ -63,7 +64,7 @@ fn take_legal(planner: &mut Planner, event: Event) -> Result<(), NoMemory>
     }
 }
 
-// Splits a generated trace by processor.
+// Generates a trace, and splits it by processor.
 fn plan_generated(alloc: Global, shape: Shape) -> Result<Planner, NoMemory>
     requires { IsShape shape }
     ensures { IfOk result (λ planner.
@@ -77,8 +78,8 @@ fn plan_generated(alloc: Global, shape: Shape) -> Result<Planner, NoMemory>
     Ok(planner)
 }
 
-// Makes all remaining ticks, and writes the report of the root at the last tick, if there is one,
-// and the last line.
+// Replays all remaining ticks, and writes the report on the root at the last tick, if there is a
+// tick, and the last line.
 fn put_end<R: Threads + Sync, K: Sink, G: Gate>(
     rt: &R,
     replay: &mut Replay<'_>,
@@ -102,7 +103,8 @@ fn put_end<R: Threads + Sync, K: Sink, G: Gate>(
     replay.finish(out)
 }
 
-// The defaults of `replay`, but with a report only at the last tick, and with `workers` threads.
+// The options of `stress`: the defaults of `replay`, but with a report only at the last tick, and
+// with `workers` threads.
 fn stress_options(workers: u32) -> Options
     ensures { result ≡ stress_options workers }
 {
@@ -118,7 +120,7 @@ fn stress_options(workers: u32) -> Options
     }
 }
 
-/// Replays a generated trace, and writes the report of the root at its last tick and the last line.
+/// Replays a generated trace, and writes the report on the root at the last tick and the last line.
 /// If memory runs out, nothing is written.
 pub fn write_stress<R: Threads + Sync, K: Sink, G: Gate>(
     rt: &R,

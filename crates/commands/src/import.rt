@@ -1,4 +1,5 @@
-//! `import`: converts a text of the kernel's ftrace to a trace.
+//! The command `import`: converts a text of the kernel's ftrace to a trace.
+//! The text is parsed in ftrace_import.
 ghost use Rattle.std.specs.Prelude.{◌≡◌, ◌+◌, ◌≤◌, ◌++◌, ◌∷◌, IfOk, vec_capacity};
 ghost use Rattle.outside.specs.Outside.{HasCause, SameInner};
 ghost use Rattle.outside.specs.Calls.{PutsAll};
@@ -20,10 +21,10 @@ use run_spec::{Command, Status, Which};
 use std::alloc::Global;
 use trace_gen::{put_event, put_header};
 
-/// The maximal length (bytes) of an event's line, with its newline.
+/// The most bytes of an event's line, including the newline.
 const ROOM: usize = 513;
 
-// The status of a text that can't be imported.
+// The status for an ftrace text that can't be imported.
 fn import_status(fault: ImportFault) -> Status
     ensures { IsStatusOfImport fault result }
 {
@@ -37,7 +38,7 @@ fn import_status(fault: ImportFault) -> Status
     }
 }
 
-// Writes the lines of the remaining events.
+// Writes the lines of the remaining events. Requires that `line` has capacity for any event's line.
 fn put_events<K: Sink>(
     events: &mut Imported,
     line: &mut Vec<u8>,
@@ -55,7 +56,8 @@ fn put_events<K: Sink>(
     Ok(())
 }
 
-// Writes the header for `cpus` processors, and the lines of the remaining events.
+// Writes the header for `cpus` processors, and the lines of the remaining events. Requires that
+// `line` has capacity for any event's line.
 #[tactic(auto, using(outside::proofs::Grows::chain))]
 fn put_imported<K: Sink>(
     cpus: u32,
@@ -74,14 +76,14 @@ fn put_imported<K: Sink>(
     put_events(events, line, out)
 }
 
-// An empty line with capacity for that of any event.
+// Creates an empty line with capacity for any event's line.
 fn new_line(alloc: Global) -> Result<Vec<u8>, NoMemory>
     ensures { IfOk result (λ line. 513 ≤ vec_capacity line) }
 {
     Ok(Vec::with_capacity(alloc, ROOM)?)
 }
 
-// Writes the trace of imported events. If memory runs out, nothing is written.
+// Writes the trace with the imported events. If memory runs out, nothing is written.
 fn write_imported<K: Sink>(alloc: Global, cpus: u32, mut events: Imported, out: &mut K) -> Status
     requires { AllFit events.left }
     ensures writes { WritesText (text_of (import_trace cpus events.left))
@@ -107,7 +109,7 @@ fn write_imported<K: Sink>(alloc: Global, cpus: u32, mut events: Imported, out: 
     }
 }
 
-/// Runs `import` for a text of ftrace from a machine with this number of processors. The whole text
+/// Runs `import` for the ftrace text `name`, from a machine with `cpus` processors. The whole text
 /// is read before anything is written.
 pub fn run_import<S: Shelf, K: Sink>(
     alloc: Global,

@@ -1,4 +1,5 @@
-//! The lines of `stall`.
+//! Writes the lines of `stall`.
+//! The clocks must have made all changes of the trace before.
 
 ghost use Rattle.std.specs.Prelude.{◌≡◌, ℕ, ◌<◌, ◌≤◌, length};
 ghost use Rattle.std.specs.List.{All};
@@ -19,8 +20,8 @@ use psi_base::{Cpu, Ns, Slot};
 use psi_spec::GroupLife;
 use replay_workers::own_times;
 
-// Writes the line of a group on a processor at the last time (ns) of a trace without interrupt
-// time.
+// Writes the line of a group on a processor at the last time (ns) of a trace of version 1, which
+// has no interrupt time.
 fn put_times<K: Sink, C: ProcClocks>(
     out: &mut K,
     cpu: Cpu,
@@ -46,7 +47,8 @@ fn put_times<K: Sink, C: ProcClocks>(
     write_stall(out, cpu, path, clocks.own(slot).opened(last))
 }
 
-// Writes the line of a group on a processor at the last time (ns) of a trace with interrupt time.
+// Writes the line of a group on a processor at the last time (ns) of a trace of version 2, which
+// has interrupt time.
 fn put_irq_times<K: Sink, C: IrqClocks>(
     out: &mut K,
     cpu: Cpu,
@@ -72,7 +74,7 @@ fn put_irq_times<K: Sink, C: IrqClocks>(
     write_stall_irq(out, cpu, path, own_times(clocks, slot, last))
 }
 
-// Writes the line of a group on a processor at the last time (ns) of a trace, by its version.
+// Writes the line of a group on a processor at the last time (ns) of a trace with this version.
 fn put_group<K: Sink, C: IrqClocks>(
     out: &mut K,
     version: u32,
@@ -103,7 +105,8 @@ fn put_group<K: Sink, C: IrqClocks>(
     }
 }
 
-// Writes the lines of a processor at the last time (ns) of a trace, for groups in this order.
+// Writes the lines of a processor at the last time (ns) of a trace, for the groups in the order
+// `order`.
 #[tactic(auto, using(outside::proofs::Grows::growth))]
 fn put_processor<K: Sink, C: IrqClocks>(
     out: &mut K,
@@ -132,8 +135,9 @@ fn put_processor<K: Sink, C: IrqClocks>(
     Ok(())
 }
 
-/// Writes the lines of all processors, in order, at the last time (ns) of a trace, for groups in
-/// this order. The clocks are those of the plans, after all changes.
+/// Writes the lines of all processors at the last time (ns) of a trace: processor by processor, for
+/// the groups in the order `order`. Requires that each processor's clocks have made all changes of
+/// its plan.
 pub(crate) fn put_lines<K: Sink>(
     out: &mut K,
     version: u32,

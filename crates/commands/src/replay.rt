@@ -1,4 +1,5 @@
-//! The output of `replay`.
+//! The output of `replay`, which `whatif` writes too.
+//! The lines of a tick are written in replay_ticks.
 ghost use Rattle.std.specs.Prelude.{◌≡◌, ◌≤◌, List};
 ghost use Rattle.outside.specs.Outside.{HasCause, SameInner};
 ghost use Rattle.psi_base.specs.declared.event.Event.{Event};
@@ -24,7 +25,8 @@ use run_spec::{Options, Status};
 use std::alloc::Global;
 use std::thread::Threads;
 
-// Makes all remaining ticks, and writes their lines and the last line.
+// Replays all ticks, and writes their lines and the last line. Requires that the replay is before
+// its first tick.
 fn put_replay<R: Threads + Sync, K: Sink, G: Gate>(
     rt: &R,
     replay: &mut Replay<'_>,
@@ -48,8 +50,8 @@ fn put_replay<R: Threads + Sync, K: Sink, G: Gate>(
     }
 }
 
-/// Writes the output of `replay` for the plans' trace, in the format of its version, with rules if
-/// there are any. If memory runs out, nothing is written.
+/// Writes the output of `replay` for the trace of `plans`, with rules if there are any. `version`
+/// is the trace's version. If memory runs out, nothing is written.
 pub fn write_planned<R: Threads + Sync, K: Sink, G: Gate>(
     rt: &R,
     alloc: Global,
@@ -88,8 +90,8 @@ pub fn write_planned<R: Threads + Sync, K: Sink, G: Gate>(
     }
 }
 
-/// Writes the output of `replay` for a trace that was split by processor, in the format of its
-/// version, with rules if there are any. If memory runs out, nothing is written.
+/// Writes the output of `replay` for the trace that `planner` has split by processor, with rules if
+/// there are any. `version` is the trace's version. If memory runs out, nothing is written.
 pub fn write_replay<R: Threads + Sync, K: Sink, G: Gate>(
     rt: &R,
     alloc: Global,

@@ -1,4 +1,5 @@
-//! The stall sums of a trace: it is split by processor, and then clocks make the changes of each.
+//! The output of `stall`: the stall sums of a trace at its end.
+//! The trace has been split by processor; each processor's clocks make its changes in a thread.
 ghost use Rattle.std.specs.Prelude.{◌≡◌, ℕ, ◌<◌, ◌≤◌, List, length};
 ghost use Rattle.psi_base.specs.declared.event.Event.{Event};
 ghost use Rattle.outside.specs.Outside.{SameInner};
@@ -21,8 +22,8 @@ use std::alloc::Global;
 use std::thread;
 use std::thread::Threads;
 
-// Makes all changes of all processors, each in a thread of its own if that can be started. Threads
-// don't communicate.
+// Makes all changes of all processors, each processor in its own thread if one can be started. The
+// threads don't communicate.
 fn make_each<R: Threads + Sync>(rt: &R, plans: &Plans, clocks: &mut [PlainClocks<'_>])
     requires each { length clocks.old ≡ length plans.now.plans }
     requires few { length clocks.old ≤ 64 }
@@ -51,8 +52,8 @@ fn make_each<R: Threads + Sync>(rt: &R, plans: &Plans, clocks: &mut [PlainClocks
     );
 }
 
-/// Writes the stall sums of a trace that was split by processor, in the format of its version. If
-/// memory runs out, nothing is written.
+/// Writes the stall sums of the trace that `planner` has split by processor. `version` is the
+/// trace's version. If memory runs out, nothing is written.
 pub fn write_stalls<R: Threads + Sync, K: Sink>(
     rt: &R,
     alloc: Global,
