@@ -1,4 +1,5 @@
 //! Runs each command on its files.
+//! The work is done in the crates `commands`, `rules_file` and `whatif_rounds`.
 ghost use Rattle.std.specs.Prelude.{◌≡◌, ◌+◌, ◌≤◌, None, IfSome, IsUtf8};
 ghost use Rattle.outside.specs.Outside.{SameInner};
 ghost use Rattle.run_spec.specs.MostRead.{most_read};
@@ -23,7 +24,7 @@ use std::thread::Threads;
 use task_table::Table;
 use trace_file::{TraceFault, play_trace};
 
-/// The status of a trace that can't be read.
+/// The status for a trace that can't be read.
 pub(crate) fn fault_status(fault: TraceFault) -> Status
     ensures status { IsStatusOf fault result }
 {
@@ -40,7 +41,7 @@ pub(crate) fn fault_status(fault: TraceFault) -> Status
     }
 }
 
-// Runs `stall` on a trace.
+// Runs `stall` on the trace file `name`.
 fn run_stall<R: Threads + Sync, S: Shelf, K: Sink>(
     rt: &R,
     alloc: Global,
@@ -67,7 +68,7 @@ fn run_stall<R: Threads + Sync, S: Shelf, K: Sink>(
     }
 }
 
-// Runs `check` on a trace, with this length of a tick (ms).
+// Runs `check` on the trace file `name`, for ticks of `tick_ms` ms.
 fn run_check<S: Shelf, K: Sink>(
     alloc: Global,
     name: &str,
@@ -96,7 +97,8 @@ fn run_check<S: Shelf, K: Sink>(
     }
 }
 
-// Runs `replay` on a trace, with the rules of its rules file and drop-in file, if it names them.
+// Runs `replay` on the trace file `name`, with the rules of the rules file and the drop-in file if
+// the options name them.
 fn run_replay<R: Threads + Sync, S: Shelf, K: Sink, G: Gate>(
     rt: &R,
     alloc: Global,
@@ -140,7 +142,7 @@ fn run_replay<R: Threads + Sync, S: Shelf, K: Sink, G: Gate>(
     }
 }
 
-/// Runs a command on its files.
+/// Runs a command on its files, and writes its output.
 pub(crate) fn run_command<R: Threads + Sync, S: Shelf, K: Sink, G: Gate>(
     rt: &R,
     alloc: Global,

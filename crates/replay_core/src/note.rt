@@ -1,4 +1,5 @@
-//! Messages for statuses.
+//! Writes the messages of statuses.
+//! A message names files as the command line does.
 ghost use Rattle.std.specs.Prelude.{◌≡◌, ◌++◌, codes, option_map};
 ghost use Rattle.dropin_rules.specs.FaultText.{drop_fault_text};
 ghost use Rattle.ruleset_json.specs.FaultText.{fault_text};
@@ -16,7 +17,7 @@ use ruleset_json::RulesFault;
 use run_spec::{Command, Status, Which};
 use trace_file::put_refusal;
 
-// The name of the cause of a rejected ftrace line.
+// The name of the cause for which a line of ftrace is rejected.
 fn import_cause_name(cause: ImportCause) -> &'static [u8]
     ensures { result.now ≡ import_cause_text cause }
 {
@@ -32,7 +33,7 @@ fn import_cause_name(cause: ImportCause) -> &'static [u8]
     }
 }
 
-// Writes the message for a rejected ftrace line.
+// Writes the message for a rejected line of ftrace.
 fn put_import_refusal<N: Sink>(
     note: &mut N,
     line: u32,
@@ -76,7 +77,7 @@ fn put_drop_in_fault<N: Sink>(note: &mut N, fault: DropFault) -> Result<(), Writ
     put_all(note, b"\n")
 }
 
-// The name of a command's file of this kind.
+// The name of the command's file of the kind `which`; empty if the command names no such file.
 fn file_name(command: Option<&Command>, which: Which) -> &[u8]
     ensures { result.now ≡ name_text (option_map (λ command. command.now) command.entry) which }
 {
@@ -100,7 +101,7 @@ fn file_name(command: Option<&Command>, which: Which) -> &[u8]
     }
 }
 
-/// Writes the message of a status in one line, and nothing for `Done`. Does not allocate.
+/// Writes the message of a status as one line, or nothing for `Done`. Does not allocate.
 pub(crate) fn put_status<N: Sink>(
     note: &mut N,
     command: Option<&Command>,

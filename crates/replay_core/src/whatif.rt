@@ -1,4 +1,5 @@
-//! `whatif`: replays what is left of a trace without the victims of its kills.
+//! The command `whatif`: removes the victims of all kills from a trace, and replays the rest.
+//! The rounds that remove the victims are in whatif_rounds.
 ghost use Rattle.std.specs.Prelude.{◌≡◌, ◌+◌, ◌≤◌, IfSome, IsSome, IsUtf8};
 ghost use Rattle.outside.specs.Outside.{SameInner};
 ghost use Rattle.psi_spec.specs.Header.{IsVersion};
@@ -23,7 +24,7 @@ use std::thread::Threads;
 use trace_file::{Keeper, play_trace};
 use whatif_rounds::{TooLarge, last_plans};
 
-// The status if the rounds leave no last trace.
+// The status if the rounds fail: too many events remain, or memory ran out.
 fn rounds_status(fault: Fault<TooLarge>) -> Status
     ensures { IsStatusOfRounds fault result }
 {
@@ -35,8 +36,9 @@ fn rounds_status(fault: Fault<TooLarge>) -> Status
     }
 }
 
-// Removes the victims of its kills from a trace with this version and these events, and writes the
-// output of the remaining trace. All rounds run before anything is written.
+// Removes the victims of all kills from the trace with this version, number of processors and
+// events, and writes the output of `replay` for the remaining trace. All rounds run before anything
+// is written.
 fn write_whatif<R: Threads + Sync, K: Sink, G: Gate>(
     rt: &R,
     alloc: Global,
@@ -62,7 +64,8 @@ fn write_whatif<R: Threads + Sync, K: Sink, G: Gate>(
     }
 }
 
-/// Runs `whatif` on a trace, with the rules of its rules file and drop-in file, if it names one.
+/// Runs `whatif` on the trace file `name`, with the rules of the rules file, and the drop-in file
+/// if the options name one. Requires that the options name a rules file.
 pub(crate) fn run_whatif<R: Threads + Sync, S: Shelf, K: Sink, G: Gate>(
     rt: &R,
     alloc: Global,
