@@ -1,5 +1,7 @@
--- Observers during a replay: how they are prepared for an interval, and what they have seen after
--- some ticks.
+-- Observers during a replay: how they are prepared for an interval, and which samples they have
+-- taken after some ticks. Each observer is a thread that samples one group's clocks on all
+-- processors; it adds its samples as entries to a common journal, and reads the replay's state on a
+-- board.
 use Rattle.std.specs.Prelude.{◌≡◌, ℕ, ◌+◌, ◌<◌, ◌≤◌, false, List, [], ◌∷◌, length, map, slice_get, slice_index_or, Option, Some}
 use Rattle.std.specs.List.{All, flat_map, range_with_len}
 use Rattle.ruleset_json.specs.declared.types.Rule.{Rule}
@@ -26,8 +28,8 @@ use Rattle.observe_core.specs.Observing.{ObserverView, last_at}
 
 -- ---- the start
 
--- The initial watcher of all processors of the observer with this number, during a replay: it has
--- no entry.
+-- The initial watcher of observer `number`, which has a reader for each processor's row and no
+-- entry.
 pub record IsNewWatcher (number : ℕ) (replay : ReplayView) (watcher : WatcherView) : Type 0 where
   pub number_is : watcher.observer ≡ number
   pub plans_are : watcher.plans ≡ replay.plans
@@ -37,8 +39,8 @@ pub record IsNewWatcher (number : ℕ) (replay : ReplayView) (watcher : WatcherV
 
 -- ---- before an interval
 
--- A watcher with these last samples may be prepared for a slot by a replay: they have the same
--- plans, and its readers belong to the rows of the replay's clocks.
+-- Preconditions for preparing a watcher, with these last samples, for a slot: the watcher has the
+-- plans of the replay, and its readers belong to the rows of the replay's clocks.
 pub record MayReady (replay : ReplayView) (slot : ℕ) (watcher : WatcherView) (lasts : List Sample) : Type 0 where
   pub some : IsSomeReplay replay
   pub few : length replay.plans.plans ≤ 64
@@ -48,12 +50,12 @@ pub record MayReady (replay : ReplayView) (slot : ℕ) (watcher : WatcherView) (
   pub rows_are : (cpu : ℕ) → cpu < length replay.plans.plans → Some (reader_at watcher.readers cpu).row ≡ row_at replay.crew.rows cpu
   pub lasts_are : length lasts ≡ length replay.plans.plans
 
--- the number of changes of a processor that a pool's clocks have made
+-- the number of changes that a processor's clocks have made
 abbrev pub made_by : CrewView → ℕ → ℕ
 made_by crew cpu = (clocks_at crew.clocks cpu).made
 
--- The clocks of a processor notified the watcher's reader there: it has seen the changes that they
--- made, at least as many as it saw before.
+-- The watcher's reader of processor `cpu` was shown the number of changes made: it has now seen at
+-- least that many, and had seen no more than that many before.
 pub record HasMet (cpu made : ℕ) (old new : WatcherView) : Type 0 where
   pub reader : ReaderEnd
   pub are : new ≡ with_reader old cpu reader
@@ -61,8 +63,9 @@ pub record HasMet (cpu made : ℕ) (old new : WatcherView) : Type 0 where
   pub knows : reader.knows ≡ count_shown made (reader_at old.readers cpu).knows
   pub before : (reader_at old.readers cpu).knows.seen ≤ made
 
--- A watcher is prepared on the first `cpus` processors: its readers there have seen the changes
--- that were made, at least as many as they saw before. Nothing else of it changed.
+-- A watcher is prepared on the first `cpus` processors: each of its readers there has seen exactly
+-- the changes that were made, and had seen no more than these before. Nothing else of the watcher
+-- changed.
 pub record ArePreparedChanges (made : ℕ → ℕ) (cpus : ℕ) (old new : WatcherView) : Type 0 where
   pub observer_is : new.observer ≡ old.observer
   pub plans_are : new.plans ≡ old.plans
@@ -74,13 +77,14 @@ pub record ArePreparedChanges (made : ℕ → ℕ) (cpus : ℕ) (old new : Watch
   pub before : (cpu : ℕ) → cpu < cpus → (reader_at old.readers cpu).knows.seen ≤ made cpu
   pub later : (cpu : ℕ) → cpus ≤ cpu → reader_at new.readers cpu ≡ reader_at old.readers cpu
 
--- The last samples of the first `cpus` processors are the clocks of a slot there, after the changes
--- that were made.
+-- The last samples of the first `cpus` processors are the clocks of `slot`, after all changes that
+-- were made.
 pub record AreLasts (plans : PlansView) (slot : ℕ) (made : ℕ → ℕ) (cpus : ℕ) (lasts : List Sample) : Type 0 where
   pub counts : (cpu : ℕ) → cpu < cpus → (last_at lasts cpu).count ≡ made cpu
   pub clocks : (cpu : ℕ) → cpu < cpus → IsClock (last_at lasts cpu).clock (plan_at plans cpu) slot (last_at lasts cpu).count
 
--- An observer is ready to watch a slot.
+-- An observer is prepared to watch `slot`: its readers have seen all changes, and its last samples
+-- are the current clocks. Nothing else of the observer changed.
 pub record IsReady (plans : PlansView) (slot : ℕ) (made : ℕ → ℕ) (old new : ObserverView) : Type 0 where
   pub pass_is : new.pass ≡ old.pass
   pub parts_are : new.parts ≡ old.parts
@@ -91,7 +95,7 @@ pub record IsReady (plans : PlansView) (slot : ℕ) (made : ℕ → ℕ) (old ne
   pub prepared_changes : ArePreparedChanges made (length old.lasts) old.watcher new.watcher
   pub lasts_are : AreLasts plans slot made (length old.lasts) new.lasts
 
--- all observers are ready
+-- all observers are prepared to watch `slot`
 pub record AreReady (plans : PlansView) (slot : ℕ) (made : ℕ → ℕ) (old new : List ObserverView) : Type 0 where
   pub many : length new ≡ length old
   pub each : (number : ℕ) (d : ObserverView) → number < length old
@@ -99,25 +103,25 @@ pub record AreReady (plans : PlansView) (slot : ℕ) (made : ℕ → ℕ) (old n
 
 -- ---- after some ticks
 
--- the sample of an entry
+-- the sample of an entry, without its times
 abbrev pub look_of : Entry → Look
 look_of entry = record { observer = entry.observer; cpu = entry.cpu.0; slot = entry.slot.0; count = entry.count }
 
--- the samples of entries
+-- the samples of entries, without their times
 abbrev pub looks_of : List Entry → List Look
 looks_of entries = map look_of entries
 
--- an entry has an existing processor and group, and the processor's plan
+-- an entry names an existing processor, and has that processor's plan
 pub record IsOn (plans : PlansView) (entry : Entry) : Type 0 where
   pub cpu : entry.cpu.0 < length plans.plans
   pub plan : entry.plan.now ≡ plan_at plans entry.cpu.0
 
--- the same for all entries
+-- each entry names an existing processor, and has that processor's plan
 abbrev pub AreOn : PlansView → List Entry → Type 0
 AreOn plans [] = Unit {0}
 AreOn plans (entry ∷ entries) = IsOn plans entry × AreOn plans entries
 
--- What stays the same while a trace is replayed with observers: the plans, the rows of all
+-- What doesn't change while a trace is replayed with observers: the plans, the rows of all
 -- processors, the board, the trace, its timing, and the observed path.
 pub record Setting : Type 0 where
   pub plans : PlansView
@@ -127,21 +131,21 @@ pub record Setting : Type 0 where
   pub timing : Timing
   pub path : List ℕ
 
--- the slot that the path has at a tick
+-- the slot of the observed path at tick `i`, if a live group has the path
 abbrev pub slot_in : Setting → ℕ → Option ℕ
 slot_in set i = live_slot_at set.trace.events set.path (tick_moment set.timing.length i)
 
--- the samples that are due for each observer at a tick
+-- the samples that each observer must take at tick `i`
 abbrev pub due_in : Setting → ℕ → List Due
 due_in set i = due_at set.trace set.timing.length i (slot_in set i)
 
--- the samples that are due at the first n ticks
+-- the samples that each observer must take at the first `count` ticks
 abbrev pub due_until : Setting → ℕ → List Due
 due_until set count = flat_map (due_in set) (range_with_len 1 count)
 
--- The constant properties of each observer, by its number: it has the plans and the board, its
--- readers belong to the rows, and it has a last sample for each processor, and one part of the
--- journal's ledger. It didn't run out of memory.
+-- The constant properties of observer `number`: it has the plans and the board, its readers belong
+-- to the rows, and it has a last sample for each processor, and one part of the journal's ledger.
+-- It has not run out of memory.
 pub record IsPlaced (set : Setting) (number : ℕ) (observer : ObserverView) : Type 0 where
   pub number_is : observer.watcher.observer ≡ number
   pub plans_are : observer.watcher.plans ≡ set.plans
@@ -152,92 +156,95 @@ pub record IsPlaced (set : Setting) (number : ℕ) (observer : ObserverView) : T
   pub backed : observer.parts ≡ 1
   pub whole : observer.failed ≡ false
 
--- A list has the samples of an observer, by its number, that were due at the first `i` ticks; their
--- counts on a processor never fall, and are at most what its reader has seen.
+-- `own` has the samples of observer `number` that were due at the first `i` ticks. Their change
+-- counts on each processor never decrease, and are at most what the processor's reader has seen.
 pub record HasTaken (set : Setting) (i number : ℕ) (readers : List ReaderEnd) (own : List Entry) : Type 0 where
   pub by : AreBy number own
   pub on : AreOn set.plans own
   pub done : AreDone (due_until set i) (looks_of own)
   pub rise : (cpu : ℕ) → RiseWithin 0 (counts_by number cpu (looks_of own)) (reader_at readers cpu).knows.seen
 
--- The journal rejected no entry of an observer.
+-- The journal has rejected no entry of the observer.
 abbrev pub IsIn : ObserverView → Type 0
 IsIn observer = observer.fell ≡ false
 
--- The journal rejected no entry of any observer.
+-- The journal has rejected no entry of any observer.
 abbrev pub AreIn : List ObserverView → Type 0
 AreIn observers = All IsIn observers
 
--- An observer's share counts all its entries, unless the journal rejected one.
+-- The observer's share counts all its entries, unless the journal has rejected one.
 abbrev pub IsCounted : ObserverView → Type 0
 IsCounted observer = IsIn observer → observer.amount ≡ length observer.watcher.own
 
--- the same for all observers
+-- each observer's share counts all its entries, unless the journal has rejected one
 abbrev pub AreCounted : List ObserverView → Type 0
 AreCounted observers = All IsCounted observers
 
--- The observer with this number has taken the samples that were due at the first `i` ticks, and
--- added them to the journal.
+-- Observer `number` has taken the samples that were due at the first `i` ticks, and added them to
+-- the journal.
 pub record HasObserved (set : Setting) (i number : ℕ) (observer : ObserverView) : Type 0 where
   pub placed : IsPlaced set number observer
   pub taken : HasTaken set i number observer.watcher.readers observer.watcher.own
   pub counted : IsCounted observer
 
--- The same for all observers, by their numbers.
+-- Each observer has taken the samples that were due at the first `i` ticks, and added them to the
+-- journal.
 abbrev pub HaveObserved : Setting → ℕ → List ObserverView → Type 0
 HaveObserved set i observers =
     (number : ℕ) (d : ObserverView) → number < length observers → HasObserved set i number (slice_index_or observers number d)
 
--- A new observer has taken no sample.
+-- A new observer, which has taken no sample.
 pub record IsNew (set : Setting) (number : ℕ) (observer : ObserverView) : Type 0 where
   pub placed : IsPlaced set number observer
   pub none : observer.watcher.own ≡ []
   pub nothing : observer.amount ≡ 0
 
--- Observers may begin in a setting with a replay: it has these plans and rows.
+-- Precondition for creating observers in a setting: the replay has the setting's plans and rows.
 pub record MayBegin (set : Setting) (replay : ReplayView) : Type 0 where
   pub plans_are : replay.plans ≡ set.plans
   pub rows_are : replay.crew.rows ≡ set.rows
 
--- A replay that watches the path, after its first `i` ticks.
+-- A replay of the setting's trace, which watches the setting's path, after its first `i` ticks.
 pub record IsReached (set : Setting) (replay : ReplayView) (i : ℕ) : Type 0 where
   pub plans_are : replay.plans ≡ set.plans
   pub rows_are : replay.crew.rows ≡ set.rows
   pub replayed : IsReplay replay set.trace set.timing [] i
   pub watch : set.timing.watch ≡ Some (record { path = set.path; count = 1 })
 
--- A replay after its first `i` ticks, during which observers have taken their samples.
+-- A replay after its first `i` ticks, with observers that have taken the samples due at these
+-- ticks.
 pub record IsObserved (set : Setting) (replay : ReplayView) (observers : List ObserverView) (i : ℕ) : Type 0 where
   pub reached : IsReached set replay i
   pub observed : HaveObserved set i observers
 
--- observers with this board, before the first tick of the replay
+-- observers of this board, before the first tick of the replay
 abbrev pub IsToBegin : TableId → ReplayView → List ObserverView → Type 0
 IsToBegin board replay observers = (set : Setting) × (set.board ≡ board) × IsObserved set replay observers 0
 
--- observers with this board, and at least one tick remains
+-- precondition for one more tick: observers of this board have taken the samples up to some tick,
+-- and at least one tick remains
 abbrev pub IsToGo : TableId → ReplayView → List ObserverView → Type 0
 IsToGo board replay observers =
     (set : Setting) × (i : ℕ) × (set.board ≡ board) × IsObserved set replay observers i × (i < tick_count set.trace set.timing)
 
--- no observer ran out of memory
+-- no observer has run out of memory
 abbrev pub AreWhole : List ObserverView → Type 0
 AreWhole observers = All (λ (observer : ObserverView). observer.failed ≡ false) observers
 
 -- ---- the board
 
--- the state after a tick
+-- the board's state after tick `i`
 abbrev pub state_at : Trace → Timing → ℕ → BoardState
 state_at trace timing i = record { tick = i; events = signals_until trace timing i; kills = 0 }
 
--- the board showed the states of tick 0 and of the first `i` ticks, in order
+-- the board has shown the states after tick 0 to tick `i`, in order
 pub record AreShown (trace : Trace) (timing : Timing) (i : ℕ) (states : List BoardState) : Type 0 where
   pub many : length states ≡ i + 1
   pub each : (k : ℕ) → k ≤ i → slice_get states k ≡ Some (state_at trace timing k)
 
 -- ---- one tick of the replay
 
--- a replay made its next tick, with the same plans and rows
+-- the replay has made its next tick; its plans and rows are unchanged
 pub record HasPassed (old new : ReplayView) : Type 0 where
   pub plans_are : new.plans ≡ old.plans
   pub rows_are : new.crew.rows ≡ old.crew.rows

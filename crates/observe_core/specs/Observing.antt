@@ -1,4 +1,5 @@
--- Observers: the state of each, when it may watch a slot, and what watching does.
+-- The state of one observer, the preconditions for watching a slot, and the effect of watching. An
+-- observer is a thread that samples one group's clocks on all processors.
 use Rattle.std.specs.Prelude.{◌≡◌, Bool, false, ℕ, ◌+◌, ◌<◌, ◌≤◌, List, ◌++◌, length, slice_get, slice_index_or, Some}
 use Rattle.atomic_table.specs.Seated.{TableId}
 use Rattle.psi_counts.specs.Clock.{zero_clock}
@@ -10,17 +11,18 @@ use Rattle.observer_log.specs.declared.entry.Entry.{Entry}
 use Rattle.observer_log.specs.Board.{BoardEnd, after_read}
 use Rattle.observer_log.specs.Watch.{AreReaders, IsTakenBy, WatcherView, named_by, reader_at}
 
--- ---- looks at all processors
+-- ---- samples of all processors
 
 abbrev pub no_sample : Sample
 no_sample = record { count = 0; clock = zero_clock }
 
--- the last sample on a processor
+-- the last sample of processor `cpu`
 abbrev pub last_at : List Sample → ℕ → Sample
 last_at lasts cpu = slice_index_or lasts cpu no_sample
 
--- A watcher may sample a slot on each processor: it has a reader and a last sample for each, which
--- is the slot's clock after as many changes as the reader has seen.
+-- Preconditions for sampling `slot` on each processor: the watcher has a reader and a last sample
+-- for each processor, and the last sample is the slot's clock after all changes that the reader has
+-- seen.
 pub record CanLook (slot : ℕ) (lasts : List Sample) (watcher : WatcherView) : Type 0 where
   pub few : length watcher.plans.plans ≤ 64
   pub lasts_are : length lasts ≡ length watcher.plans.plans
@@ -30,15 +32,15 @@ pub record CanLook (slot : ℕ) (lasts : List Sample) (watcher : WatcherView) : 
       → IsClock (last_at lasts cpu).clock (plan_at watcher.plans cpu) slot (last_at lasts cpu).count
   pub seen : (cpu : ℕ) → cpu < length watcher.plans.plans → (last_at lasts cpu).count ≡ (reader_at watcher.readers cpu).knows.seen
 
--- These entries are one for each of the first `cpus` processors, in order, none earlier than the
--- last sample there.
+-- `taken` has one entry for each of the first `cpus` processors, in order. No entry has a lower
+-- change count than the processor's last sample.
 pub record AreTaken (observer : ℕ) (plans : PlansView) (slot : ℕ) (lasts : List Sample) (cpus : ℕ) (taken : List Entry) : Type 0 where
   pub many : length taken ≡ cpus
   pub each : (cpu : ℕ) (entry : Entry) → slice_get taken cpu ≡ Some entry
       → IsTakenBy observer plans cpu slot (last_at lasts cpu).count entry
 
--- A watcher sampled a slot on each of the first `cpus` processors: the entries are at the end of
--- its list, and the reader of each processor has seen as many changes as the entry's count.
+-- A watcher sampled `slot` on each of the first `cpus` processors: the new entries are at the end
+-- of its list, and each processor's reader has seen as many changes as the entry counts.
 pub record HaveLooked (slot : ℕ) (lasts : List Sample) (cpus : ℕ) (old new : WatcherView) : Type 0 where
   pub observer_is : new.observer ≡ old.observer
   pub plans_are : new.plans ≡ old.plans
@@ -53,9 +55,9 @@ pub record HaveLooked (slot : ℕ) (lasts : List Sample) (cpus : ℕ) (old new :
 
 -- ---- observers
 
--- An observer: its watcher, its pass of the board, the parts of its share of the journal, the
--- number of entries that the share counts, its last sample on each processor, whether the journal
--- rejected an entry, and whether it ran out of memory for one.
+-- An observer: its watcher, its access to the board, the parts of its share of the journal's
+-- ledger, the number of entries that the share counts, the last sample on each processor, whether
+-- the journal has rejected an entry, and whether the observer ran out of memory for one.
 pub record ObserverView : Type 0 where
   pub watcher : WatcherView
   pub pass : BoardEnd
@@ -65,13 +67,13 @@ pub record ObserverView : Type 0 where
   pub fell : Bool
   pub failed : Bool
 
--- The observer may watch a slot with this board.
+-- Preconditions for watching `slot` with this board.
 pub record CanWatch (board : TableId) (slot : ℕ) (observer : ObserverView) : Type 0 where
   pub board_is : observer.pass.board ≡ board
   pub backed : 0 < observer.parts
   pub can : CanLook slot observer.lasts observer.watcher
 
--- An observer watched a slot: it read the board once, and sampled the slot on each processor,
+-- An observer watched `slot`: it read the board once, and sampled the slot on each processor,
 -- unless it ran out of memory. It added each entry to the journal, unless the journal rejected one.
 pub record HasWatched (slot : ℕ) (old new : ObserverView) : Type 0 where
   pub board_is : new.pass.board ≡ old.pass.board
@@ -85,7 +87,7 @@ pub record HasWatched (slot : ℕ) (old new : ObserverView) : Type 0 where
   pub stood : new.fell ≡ false → old.fell ≡ false
   pub added : new.failed ≡ false → new.fell ≡ false → new.amount ≡ old.amount + length old.lasts
 
--- All observers watched a slot.
+-- Each observer watched `slot`.
 pub record HaveAllWatched (slot : ℕ) (old new : List ObserverView) : Type 0 where
   pub many : length new ≡ length old
   pub each : (number : ℕ) (d : ObserverView) → number < length old

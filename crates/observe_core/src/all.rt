@@ -1,4 +1,5 @@
-//! All observers, each in its own thread.
+//! Runs all observers, each in its own thread.
+//! The threads end when each observer has sampled all processors once.
 ghost use Rattle.std.specs.List.{All};
 ghost use Rattle.observe_core.specs.Observing.{CanWatch, HasWatched, HaveAllWatched};
 
@@ -11,8 +12,8 @@ use std::sync::ledger::Ledger;
 use std::thread;
 use std::thread::Threads;
 
-/// Makes each observer watch a slot in its own thread, or in the caller's if no thread can be
-/// started.
+/// Makes each observer watch `slot` once, in its own thread, or in the caller's thread if none can
+/// be started.
 pub(crate) fn watch_all<L: Ledger + Send + Sync, R: Threads + Wait + Sync, G: Gate>(
     rt: &R,
     observers: &mut Vec<Observer<'_, '_, L>>,

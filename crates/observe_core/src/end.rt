@@ -1,4 +1,5 @@
-//! Ends observers, and merges their lists in the journal's order.
+//! Ends the observers, and merges their lists of entries in the journal's order.
+//! All ticks have been replayed before.
 ghost use Rattle.std.specs.Prelude.{◌≡◌, ◌+◌, ℕ, IfOk, length, map};
 ghost use Rattle.std.specs.List.{All};
 ghost use Rattle.observer_log.specs.Board.{IsLast};
@@ -14,17 +15,18 @@ use std::alloc::Global;
 use std::sync::Wait;
 use std::sync::ledger::{Ledger, Share};
 
-/// The results of observers, by their numbers.
+/// The results of all observers, by observer.
 #[derive(Drop)]
 pub(crate) struct Ended<'a> {
-    /// Their lists.
+    /// The entries of each observer.
     pub(crate) own: Vec<Own<'a>>,
-    /// The last state of the board that each observer read.
+    /// The state of the board that each observer read last.
     pub(crate) states: Vec<BoardState>,
 }
 
-/// Ends all observers, in order, and merges their shares into `all`. These count all entries of the
-/// lists, unless the journal rejected one. NoMemory if an observer ran out of memory.
+/// Ends all observers, in order, and merges their shares of the journal's ledger into `all`. The
+/// shares count all entries of the lists, unless the journal rejected one. Fails with `NoMemory` if
+/// an observer ran out of memory.
 pub(crate) fn end_all<'a, L: Ledger, R: Wait>(
     rt: &R,
     alloc: Global,
@@ -58,8 +60,8 @@ pub(crate) fn end_all<'a, L: Ledger, R: Wait>(
     Ok(Ended { own, states })
 }
 
-/// The entries of the lists, in the journal's order. `all` has all shares, which count these
-/// entries.
+/// Returns the entries of all lists, in the journal's order. Requires that `all` has merged all
+/// shares.
 pub(crate) fn ordered<'a, L: Ledger>(
     mut journal: Journal<'a, L>,
     all: &mut Share<L>,
@@ -71,7 +73,7 @@ pub(crate) fn ordered<'a, L: Ledger>(
     ensures own { IfOk result (λ entries. (observer : ℕ) →
         by observer entries.items ≡ list_of own.now observer) }
 {
-    // The journal has as many entries as were added with the shares.
+    // The journal has exactly the entries that the shares count.
     journal.audit(all);
     journal.order(own)
 }

@@ -1,4 +1,4 @@
-//! Writes the printed lines.
+//! Writes the output: the lines of samples and of board states, and the last line.
 ghost use Rattle.std.specs.Prelude.{◌≤◌, length};
 ghost use Rattle.std.specs.List.{flat_map};
 ghost use Rattle.outside.specs.Outside.{HasCause, SameInner};
@@ -11,7 +11,7 @@ use pressure_text::{Piece, put_pieces, put_timed};
 use psi_base::Ns;
 
 // Writes the line of a sample: its observer and processor, the number of changes, the time (ns),
-// and its times (ns) in the seven states, in order.
+// and the times (ns) in the seven states, ordered by state.
 #[tactic(auto, using(pressure_text::proofs::Puts::times))]
 fn put_entry<K: Sink>(out: &mut K, entry: &Entry<'_>) -> Result<(), WriteFailed>
     ensures bytes { PutsAll (K.has out.old) (K.has out.new) result (entry_line entry.now) }
@@ -89,7 +89,7 @@ fn put_entries<K: Sink>(out: &mut K, entries: &[Entry<'_>]) -> Result<(), WriteF
     Ok(())
 }
 
-// Writes the lines of the board's states that the observers read last, by their numbers.
+// Writes the lines of the states that the observers read last, by observer.
 #[tactic(auto, using(outside::proofs::Grows::growth))]
 fn put_states<K: Sink>(out: &mut K, states: &[BoardState]) -> Result<(), WriteFailed>
     requires { length states.now ≤ 8 }
@@ -103,8 +103,8 @@ fn put_states<K: Sink>(out: &mut K, states: &[BoardState]) -> Result<(), WriteFa
     Ok(())
 }
 
-/// Writes all lines: the samples in this order, the last state of the board that each observer
-/// read, and the end (ns).
+/// Writes the whole output: the samples in the order of `entries`, the state of the board that each
+/// observer read last, and the end time (ns).
 #[tactic(auto, using(outside::proofs::Grows::chain))]
 pub(crate) fn put_observed<K: Sink>(
     out: &mut K,

@@ -1,4 +1,5 @@
-//! Takes samples of all processors, in order.
+//! Takes samples of all processors for one observer, in the order of processors.
+//! Each sample is added to the journal at once.
 ghost use Rattle.std.specs.Prelude.{◌≡◌, ◌+◌, ◌<◌, None, length, IfOk};
 ghost use Rattle.observe_core.specs.Observing.{CanLook, HaveLooked};
 
@@ -9,7 +10,7 @@ use psi_base::{Cpu, NoMemory, Slot};
 use std::sync::ledger::{Ledger, Share};
 use std::sync::{Mutex, Wait};
 
-// Adds an entry to the journal, unless the journal rejects it.
+// Adds an entry to the journal. Returns the rejection if the journal rejects the entry.
 fn enter<'a, L: Ledger, R: Wait>(
     rt: &R,
     journal: &Mutex<Journal<'a, L>>,
@@ -28,9 +29,9 @@ fn enter<'a, L: Ledger, R: Wait>(
     }
 }
 
-/// Samples a slot on each processor, after the last sample there, and adds each entry to the
-/// journal. If the journal rejects entries, the last rejection is returned. Calls the gate after
-/// each sample.
+/// Samples `slot` on each processor, not before the processor's last sample, and adds each sample
+/// to the journal. Returns the last rejection if the journal rejected an entry. Calls the gate
+/// after each sample.
 pub(crate) fn look_at_all<'a, L: Ledger, R: Wait, G: Gate>(
     rt: &R,
     journal: &Mutex<Journal<'a, L>>,

@@ -1,4 +1,4 @@
-//! Messages for statuses.
+//! Writes the messages of statuses.
 ghost use Rattle.std.specs.Prelude.{◌≡◌};
 ghost use Rattle.outside.specs.Outside.{HasCause};
 ghost use Rattle.outside.specs.Calls.{PutsAll};
@@ -10,7 +10,7 @@ use observe_spec::ObserveStatus;
 use outside::{Sink, WriteFailed, put_all, put_each};
 use trace_file::put_refusal;
 
-// The name of the trace's file, if there is a request.
+// The name of the trace file; empty if there is no request.
 fn trace_name<'a>(request: Option<&Request<'a>>) -> &'a [u8]
     ensures { result.now ≡ trace_text (requested_in request.entry) }
 {
@@ -20,7 +20,7 @@ fn trace_name<'a>(request: Option<&Request<'a>>) -> &'a [u8]
     }
 }
 
-/// Writes the message of a status in one line, and nothing for `Done`. Does not allocate.
+/// Writes the message of a status as one line, or nothing for `Done`. Does not allocate.
 pub(crate) fn put_status<N: Sink>(
     note: &mut N,
     request: Option<&Request<'_>>,

@@ -1,4 +1,5 @@
-//! Replays a trace from its plans, while observers sample it.
+//! Replays a trace from its plans while observers sample it.
+//! It returns the samples, and writes nothing.
 ghost use Rattle.std.specs.Prelude.{◌≡◌, [], Some, IfOk, length};
 ghost use Rattle.psi_spec.specs.Header.{version_of};
 ghost use Rattle.psi_spec.specs.Trace.{Trace};
@@ -30,13 +31,13 @@ use std::thread::Threads;
 /// The result of observing a trace.
 #[derive(Drop)]
 pub(crate) struct Observed<'a> {
-    /// The samples.
+    /// The samples, in the journal's order.
     pub(crate) entries: Vec<Entry<'a>>,
-    /// The last state of the board that each observer read, by their numbers.
+    /// The state of the board that each observer read last, by observer.
     pub(crate) states: Vec<BoardState>,
 }
 
-// The options of a replay with observers of a path.
+// The options of a replay with observers of the group `path`.
 fn options(alloc: Global, path: &Path) -> Result<Options, NoMemory>
     ensures { IfOk result (λ options. options ≡ options_on (Some path.now)) }
 {
@@ -52,7 +53,8 @@ fn options(alloc: Global, path: &Path) -> Result<Options, NoMemory>
     })
 }
 
-// A replay of a trace of a version with observers of a path, before its first tick.
+// Creates a replay of the trace of `plans` with observers of the group `path`, before its first
+// tick. `version` is the trace's version.
 fn prepared<'a>(
     alloc: Global,
     version: u32,
@@ -71,8 +73,8 @@ fn prepared<'a>(
     prepare(alloc, version, plans, None, &options)
 }
 
-/// Replays a trace from its plans with observers, each in its own thread if one can be started. The
-/// blank ledger has one part for each observer.
+/// Replays the trace of `plans` with observers, each in its own thread if one can be started.
+/// `blank` has one part of the journal's ledger for each observer.
 pub(crate) fn observe_trace<'a, L: Ledger + Send + Sync, R: Threads + Wait + Sync, G: Gate>(
     rt: &R,
     alloc: Global,

@@ -1,4 +1,5 @@
-//! One observer.
+//! One observer: it samples a group on all processors, and reads the board.
+//! Its samples are also entries of the journal that all observers share.
 ghost use Rattle.std.specs.Prelude.{◌≡◌, ◌+◌, false, is_some, IfOk};
 ghost use Rattle.observer_log.specs.Board.{IsLast};
 ghost use Rattle.observe_core.specs.Observing.{CanWatch, HasWatched};
@@ -12,20 +13,20 @@ use std::marker::Model;
 use std::sync::ledger::{Ledger, Share};
 use std::sync::{Mutex, Wait};
 
-/// One observer. It may be sent to another thread. Contracts see its watcher, its pass of the
-/// board, the parts and the amount of its share of the journal, its last samples, whether the
-/// journal rejected an entry, and whether it ran out of memory.
+/// An observer, which may be sent to another thread. Contracts see its watcher, its access to the
+/// board, the parts and the amount of its share of the journal's ledger, its last samples, whether
+/// the journal rejected an entry, and whether the observer ran out of memory.
 #[derive(Drop)]
 pub struct Observer<'j, 'a, L: Ledger> {
     pub(crate) journal: &'j Mutex<Journal<'a, L>>,
     pub(crate) watcher: Watcher<'a>,
     pub(crate) pass: BoardPass,
     pub(crate) share: Share<L>,
-    /// The last sample on each processor: the writer's own clock, before an interval.
+    /// The last sample on each processor: the writer's own clock before an interval.
     pub(crate) lasts: Vec<Sample>,
     /// The journal's last rejection of an entry, if any.
     pub(crate) fell: Option<Fall>,
-    /// Whether memory ran out for an entry.
+    /// The failure, if memory ran out for an entry.
     pub(crate) failed: Option<NoMemory>,
 }
 
@@ -47,7 +48,7 @@ impl<'j, 'a, L: Ledger> Model for Observer<'j, 'a, L> {
 }
 
 impl<'j, 'a, L: Ledger> Observer<'j, 'a, L> {
-    /// An observer with these parts.
+    /// Creates an observer with these parts, which has taken no sample.
     pub fn new(
         journal: &'j Mutex<Journal<'a, L>>,
         watcher: Watcher<'a>,
@@ -74,7 +75,7 @@ impl<'j, 'a, L: Ledger> Observer<'j, 'a, L> {
         }
     }
 
-    /// Reads the board once, and samples a slot on each processor.
+    /// Reads the board once, and samples `slot` on each processor.
     pub(crate) fn watch<R: Wait, G: Gate>(&mut self, rt: &R, board: &Board, slot: Slot, gate: &G)
         requires { CanWatch board.now slot.0 self.old }
         ensures { HasWatched slot.0 self.old self.new }
@@ -95,16 +96,17 @@ impl<'j, 'a, L: Ledger> Observer<'j, 'a, L> {
         }
     }
 
-    /// Whether memory ran out for an entry.
+    /// The failure, if memory ran out for an entry.
     pub fn failed(&self) -> Option<NoMemory>
         ensures { is_some result ≡ self.now.failed }
     {
         self.failed
     }
 
-    /// Ends an observer: it is notified of all published states, reads the board for the last time,
-    /// and is notified again. Returns its list and the state that it read, and merges its share
-    /// into `all`. NoMemory if memory ran out for an entry.
+    /// Ends the observer: it is shown all published states and reads the board for the last time,
+    /// and what it has read is checked against the published states. Returns its list and the state
+    /// that it read last, and merges its share into `all`. Fails with `NoMemory` if memory ran out
+    /// for an entry.
     pub fn end<R: Wait>(
         self,
         rt: &R,

@@ -1,4 +1,4 @@
-//! Runs a request: reads its trace, observes it and writes the samples.
+//! Runs a request: reads the trace, observes it and writes the samples.
 ghost use Rattle.std.specs.Prelude.{◌≡◌, ◌+◌, ◌*◌, ◌/◌, ◌≤◌, ◌<◌, [], length};
 ghost use Rattle.outside.specs.Outside.{HasCause};
 ghost use Rattle.outside.specs.Calls.{PutsAll};
@@ -27,10 +27,10 @@ use std::sync::ledger::Blank;
 use std::thread::Threads;
 use trace_file::{TraceFault, read_plans};
 
-/// The maximum number of samples.
+/// The most samples of a run.
 const MOST_SAMPLES: u64 = 1_000_000;
 
-// The status of a trace that can't be read.
+// The status for a trace that can't be read.
 fn fault_status(fault: TraceFault) -> ObserveStatus
     ensures status { IsStatusOf fault result }
 {
@@ -45,8 +45,8 @@ fn fault_status(fault: TraceFault) -> ObserveStatus
     }
 }
 
-// The maximum number of samples that `observers` observers of a trace take: one per tick, observer
-// and processor.
+// The number of samples of a trace if its path is live at every tick: one per tick, observer and
+// processor.
 fn samples_requested(plans: &Plans, observers: u32) -> u64
     requires early { plans.now.finish ≤ last_moment }
     requires few { length plans.now.plans ≤ 64 }
@@ -56,7 +56,7 @@ fn samples_requested(plans: &Plans, observers: u32) -> u64
     plans.finish() / DEFAULT_TICK * u64::from(observers) * u64::from(plans.cpus())
 }
 
-// Writes all lines in large pieces.
+// Writes all lines, gathered in large pieces.
 fn send<K: Sink>(
     pending: &mut Pending,
     entries: &[Entry<'_>],
@@ -77,7 +77,7 @@ fn send<K: Sink>(
     }
 }
 
-// Writes the samples and the observers' last states.
+// Writes the samples, and the states of the board that the observers read last.
 fn write<K: Sink>(
     pending: &mut Pending,
     observed: &Observed<'_>,
@@ -96,8 +96,8 @@ fn write<K: Sink>(
     }
 }
 
-// Observes a trace of this version through its plans, and writes the samples. Writes nothing if
-// there would be too many samples or memory runs out.
+// Observes the trace of `plans`, and writes the samples. `version` is the trace's version. Writes
+// nothing if there would be too many samples or if memory runs out.
 fn write_observed<R: Threads + Wait + Sync, K: Sink, G: Gate>(
     rt: &R,
     alloc: Global,
@@ -128,7 +128,7 @@ fn write_observed<R: Threads + Wait + Sync, K: Sink, G: Gate>(
     }
 }
 
-/// Runs a request.
+/// Runs a request: reads the trace, observes it and writes the samples.
 pub(crate) fn run_request<R: Threads + Wait + Sync, S: Shelf, K: Sink, G: Gate>(
     rt: &R,
     alloc: Global,

@@ -1,4 +1,4 @@
-//! Creates observers.
+//! Creates the observers of a replay, with a reader for each processor.
 ghost use Rattle.std.specs.Prelude.{◌≡◌, ◌<◌, ℕ, Some, IfOk, length, slice_index_or};
 ghost use Rattle.replay_ticks.specs.Replays.{IsSomeReplay};
 ghost use Rattle.replay_workers.specs.Crew.{AreInRows, row_at};
@@ -17,7 +17,7 @@ use std::alloc::Global;
 use std::sync::ledger::{Ledger, Share};
 use std::sync::{Mutex, Wait};
 
-// A reader of the clocks of each processor.
+// Returns a reader of each processor's row. Requires that the clocks are in rows.
 fn readers_of(
     alloc: Global,
     cpus: u32,
@@ -38,7 +38,8 @@ fn readers_of(
     Ok(readers)
 }
 
-// An initial last sample for each processor.
+// Returns a placeholder as the last sample of each processor; `ready` replaces it before the first
+// interval.
 fn places(alloc: Global, cpus: u32) -> Result<Vec<Sample>, NoMemory>
     ensures { IfOk result (λ lasts. length lasts.items ≡ cpus) }
 {
@@ -49,7 +50,7 @@ fn places(alloc: Global, cpus: u32) -> Result<Vec<Sample>, NoMemory>
     Ok(vec![in alloc; none; cpus as usize]?)
 }
 
-// A watcher of all processors, for the observer with this number.
+// Creates the watcher of all processors for observer `number`.
 fn watcher_of<'a>(
     alloc: Global,
     number: u32,
@@ -66,7 +67,7 @@ fn watcher_of<'a>(
     Ok(Watcher::make(alloc, number, plans, readers))
 }
 
-// Creates the observer with this number.
+// Creates observer `number`.
 fn observer_of<'j, 'a, L: Ledger>(
     alloc: Global,
     number: u32,
@@ -90,8 +91,8 @@ fn observer_of<'j, 'a, L: Ledger>(
     Ok(Observer::new(journal, watcher, pass, share, lasts))
 }
 
-/// Creates 1 to 8 observers, before the first tick of a replay. Each gets one part of the journal's
-/// ledger.
+/// Creates `count` observers (1 to 8), before the first tick of a replay. Each gets one part of the
+/// journal's ledger.
 pub(crate) fn make_observers<'j, 'a, L: Ledger, R: Wait>(
     rt: &R,
     alloc: Global,

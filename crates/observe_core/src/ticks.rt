@@ -1,4 +1,4 @@
-//! All ticks of a replay with observers.
+//! Replays all ticks with observers, and publishes each tick on the board.
 ghost use Rattle.std.specs.Prelude.{◌≡◌, None, IfOk, ◌∷◌, [], length};
 ghost use Rattle.run_spec.specs.Replay.{tick_count};
 ghost use Rattle.observer_log.specs.Board.{first_state};
@@ -14,7 +14,7 @@ use std::sync::Wait;
 use std::sync::ledger::Ledger;
 use std::thread::Threads;
 
-// The first observer's out-of-memory failure, if any had one.
+// The out-of-memory failure of the first observer that had one, if any.
 fn failure<L: Ledger>(observers: &[Observer<'_, '_, L>]) -> Option<NoMemory>
     ensures { result ≡ None → AreWhole observers.now }
 {
@@ -26,8 +26,8 @@ fn failure<L: Ledger>(observers: &[Observer<'_, '_, L>]) -> Option<NoMemory>
     None
 }
 
-/// Runs all ticks of a replay, and returns the observers. Each tick is published on the board after
-/// it was made.
+/// Replays all ticks, and returns the observers. The state after each tick is published on the
+/// board. Fails with `NoMemory` if an observer runs out of memory.
 pub(crate) fn all_ticks<'j, 'a, L: Ledger + Send + Sync, R: Threads + Wait + Sync, G: Gate>(
     rt: &R,
     mut replay: Replay<'a>,

@@ -1,4 +1,4 @@
-//! Parses the words.
+//! Parses the words of the command line.
 ghost use Rattle.std.specs.Prelude.{◌≡◌, IfOk, IfSome, MatchResult, Some, map, string_bytes};
 ghost use Rattle.observe_spec.specs.Words.{is_trace_name, request_of};
 ghost use Rattle.run_spec.specs.Words.{number_within};
@@ -8,23 +8,23 @@ ghost use Rattle.observe_core.specs.Requested.{RefusesWords, request_in};
 use psi_base::{Fault, NoMemory, Path, read_number};
 use std::alloc::Global;
 
-/// The words aren't a name, a number and a path.
+/// The error if the words aren't a trace's name, a number of observers and a path.
 #[derive(Clone, Copy, Debug, PartialEq, Eq)]
 pub(crate) struct BadWords;
 
-/// A request.
+/// What the words request: a trace to replay, and observers of one group.
 #[derive(Drop)]
 pub(crate) struct Request<'a> {
     /// The name of the trace's file, or `-` for standard input.
     pub(crate) trace: &'a str,
     /// The number of observers: 1 to 8.
     pub(crate) observers: u32,
-    /// The path of the group that they observe.
+    /// The path of the group that the observers sample.
     pub(crate) path: Path,
 }
 
-// Whether a trace's file may have this name: it isn't empty, and doesn't begin with `-` unless it
-// is `-`.
+// Whether a trace file may have this name: the name isn't empty, and doesn't begin with `-` unless
+// it is `-` (standard input).
 fn is_trace_name(name: &str) -> bool
     ensures { result ≡ is_trace_name name.now }
 {
@@ -36,7 +36,7 @@ fn is_trace_name(name: &str) -> bool
     }
 }
 
-// The number of observers that a word spells.
+// Parses the number of observers. `None` unless `word` is a number from 1 to 8.
 fn observers_in(word: &str) -> Option<u32>
     ensures exact { result ≡ number_within 1 8 word.now }
     ensures within { IfSome result (IsWithin 1 8) }
@@ -47,8 +47,9 @@ fn observers_in(word: &str) -> Option<u32>
     }
 }
 
-/// The request that the words spell; they don't include the program's name. Only a path needs
-/// memory, so exactly the words that aren't a request are rejected.
+/// Parses the request that the words spell, without the program's name. `BadWords` exactly if the
+/// words aren't a request. Only the path needs memory, so `NoMemory` implies that the words are a
+/// request.
 #[tactic(auto, unfolding(observe_spec::specs::Words::request_of))]
 pub(crate) fn read_request(alloc: Global, words: &[String]) -> Result<Request<'_>, Fault<BadWords>>
     ensures exact { MatchResult result
