@@ -1,4 +1,4 @@
--- A processor for tests: tasks in groups, and the clocks that follow their changes.
+-- A processor for tests: tasks in groups, and the clocks that follow the changes of the tasks.
 use Rattle.std.specs.Prelude.{◌≡◌, ℕ, ◌≤◌, ◌<◌, List, length, Bool, Option, IfSome}
 use Rattle.std.specs.List.{All, sum_by}
 use Rattle.psi_base.specs.declared.event.Slot.{Slot}
@@ -8,22 +8,22 @@ use Rattle.psi_spec.specs.World.{most_groups}
 use Rattle.psi_counts.specs.Touch.{AreAtMost, on_chain}
 use Rattle.slot_clocks.specs.Clocks.{AreReported, ClocksView, cell_at}
 
--- a slot in range
+-- the running task, if any, is in an existing group
 abbrev pub IsSlot : ℕ → Option (Slot × Bool) → Type 0
 IsSlot groups current = IfSome current (λ running. running.0.0 < groups)
 
--- a task is in an existing group, and counts at most once
+-- a task, if it is live, is in an existing group and adds at most one to each count
 abbrev pub IsTask : ℕ → Option (Slot × Counts) → Type 0
 IsTask groups task = IfSome task (λ part. (part.0.0 < groups) × AreAtMost 1 part.1)
 
--- a group's counts are the sums over the tasks in it and below it
+-- a group's counts are the sums over the tasks in the group and its descendants
 pub record AreSums (parents : List (Option ℕ)) (slot : ℕ) (tasks : List (Option (Slot × Counts))) (counts : Counts) : Type 0 where
   pub io : counts.io ≡ sum_by (λ task. (on_chain parents slot task).io) tasks
   pub stalled : counts.stalled ≡ sum_by (λ task. (on_chain parents slot task).stalled) tasks
   pub running : counts.running ≡ sum_by (λ task. (on_chain parents slot task).running) tasks
   pub stalled_running : counts.stalled_running ≡ sum_by (λ task. (on_chain parents slot task).stalled_running) tasks
 
--- the clocks represent the tasks
+-- the clocks have the counts of the tasks
 pub record IsProcessor (parents : List (Option ℕ)) (groups : ℕ) (tasks : List (Option (Slot × Counts))) (clocks : ClocksView)
     (last : ℕ) : Type 0 where
   pub older : AreOlder parents

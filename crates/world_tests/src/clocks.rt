@@ -1,11 +1,12 @@
-//! Masks of states, and clocks.
+//! Tests of masks of states, and of single clocks.
+//! Groups and plans play no part here.
 
 use crate::events::is;
 use cpu_clock::Clock;
 use psi_base::State;
 use state_mask::{Counts, Mask, STATES, mask_of};
 
-/// Counts in the order of their fields.
+/// Makes counts from four numbers, in the order of the fields.
 fn counts([io, stalled, running, stalled_running]: [u32; 4]) -> Counts {
     Counts {
         io,
@@ -19,8 +20,9 @@ const N: bool = false;
 
 const Y: bool = true;
 
-/// Counts, whether the running task is among them and in a stall, and the expected states: IO some
-/// and full, memory some and full, CPU some and full, nonidle.
+/// Counts, whether the running task is among the counted tasks, whether the running task is in a
+/// memory stall, and which states hold: IO some and full, memory some and full, CPU some and full,
+/// nonidle.
 const STATES_HELD: [([u32; 4], bool, bool, [bool; 7]); 13] = [
     ([0, 0, 0, 0], N, N, [N, N, N, N, N, N, N]),
     ([1, 0, 0, 0], N, N, [Y, Y, N, N, N, N, Y]),
@@ -32,10 +34,10 @@ const STATES_HELD: [([u32; 4], bool, bool, [bool; 7]); 13] = [
     ([0, 0, 1, 0], Y, N, [N, N, N, N, N, N, Y]),
     ([0, 0, 1, 0], N, N, [N, N, N, N, Y, Y, Y]),
     ([0, 0, 2, 0], Y, N, [N, N, N, N, Y, N, Y]),
-    // The running task is in a stall: memory full, which the counts alone would exclude.
+    // Memory full holds because the running task is in a stall; the counts alone would exclude it.
     ([0, 1, 2, 1], Y, Y, [N, N, Y, Y, Y, N, Y]),
     ([0, 1, 2, 1], Y, N, [N, N, Y, N, Y, N, Y]),
-    // The running task is in a stall elsewhere.
+    // The running task is in a stall, but isn't among the counted tasks.
     ([0, 1, 2, 1], N, Y, [N, N, Y, N, Y, Y, Y]),
 ];
 
@@ -56,7 +58,7 @@ fn states_by_counts(rt: HostRuntime) {
     assert!(rt; !Mask::empty().holds(State::Nonidle));
 }
 
-// A task forks and starts at 0, and waits for IO from 500,000,000 ns.
+// A task is created and starts to run at 0, and waits for IO from 500,000,000 ns.
 #[test]
 fn clock_of_three_changes(rt: HostRuntime) {
     let mut clock = Clock::zero();
@@ -77,9 +79,9 @@ fn clock_of_three_changes(rt: HostRuntime) {
     is(&rt, again, words, "words of the clock of the words");
 }
 
-/// Counts at 35 ns for a task that runs from 10 ns, whether the running task is among them, and the
-/// words of the clock afterwards. If the states stay the same the clock is unchanged; otherwise it
-/// restarts at 35 ns.
+/// For a task that runs from 10 ns: the counts at 35 ns, whether the running task is among the
+/// counted tasks, and the words of the clock afterwards. If the states are unchanged, so is the
+/// clock; otherwise the clock restarts at 35 ns.
 const TURNS: [([u32; 4], bool, [u64; 9]); 4] = [
     ([0, 0, 1, 0], true, [0, 0, 0, 0, 0, 0, 0, 0b100_0000, 10]),
     ([0, 0, 2, 0], true, [0, 0, 0, 0, 0, 0, 25, 0b101_0000, 35]),

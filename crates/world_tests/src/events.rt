@@ -11,7 +11,7 @@ use std::alloc::Global;
 use std::fmt::Debug;
 use std::process::Abort;
 
-/// A task waits for IO for one second, and then for a processor.
+/// A task that waits for IO for one second, and then for a processor.
 pub const WAITS: [&[u8]; 5] = [
     b"0 fork 1 / 0",
     b"0 switch 0 1 idle",
@@ -20,8 +20,8 @@ pub const WAITS: [&[u8]; 5] = [
     b"2000000000 end",
 ];
 
-/// A task of the root runs for two seconds, with a quarter of a second of interrupts. Interrupts
-/// after it was switched out don't count for it.
+/// A task of the root that runs for two seconds, with a quarter of a second of interrupts. Later
+/// interrupts, when no task runs, count for no group.
 pub const INTERRUPTS: [&[u8]; 6] = [
     b"0 fork 1 / 0",
     b"0 switch 0 1 idle",
@@ -31,7 +31,7 @@ pub const INTERRUPTS: [&[u8]; 6] = [
     b"2000000000 end",
 ];
 
-/// The events of lines.
+/// Parses one event from each line.
 pub fn events_of(alloc: Global, lines: &[&[u8]]) -> Result<Vec<Event>, Fault<Cause>>
     ensures { IfOk result (λ events. AllFit events.items) }
 {
@@ -43,7 +43,7 @@ pub fn events_of(alloc: Global, lines: &[&[u8]]) -> Result<Vec<Event>, Fault<Cau
     Ok(events)
 }
 
-/// The plans of lines.
+/// Builds the plans of the trace with these lines.
 pub fn plans_of(rt: &impl Abort, alloc: Global, cpus: u32, latest: Ns, lines: &[&[u8]]) -> Plans
     requires counted { IsCpuCount cpus }
     requires short { latest ≤ last_moment }
@@ -53,7 +53,7 @@ pub fn plans_of(rt: &impl Abort, alloc: Global, cpus: u32, latest: Ns, lines: &[
     Plans::build(alloc, cpus, latest, &events).expect(rt, "plans")
 }
 
-/// Aborts the test if `found` isn't `wanted`, and prints the case. It is one function because a
+/// Aborts the test with the case if `found` isn't `wanted`. This is a function of its own because a
 /// formatted check is expensive to prove at each call.
 pub fn is<T: Copy + PartialEq + Debug, C: Copy + Debug>(
     rt: &impl Abort,

@@ -1,4 +1,5 @@
-//! The tree of groups.
+//! Tests of the tree of groups: creation, removal, accounting and orders.
+//! Tasks aren't involved.
 
 use crate::events::is;
 use group_tree::Tree;
@@ -11,8 +12,8 @@ fn path(rt: &impl Abort, alloc: Global, text: &str) -> Path {
     read.expect(rt, "a path")
 }
 
-/// Creates a group, or returns the cause that rejects it, which `add_cause` must have returned
-/// before.
+/// Creates a group, or returns the cause that rejects it. Checks that `add_cause` predicts the
+/// same.
 fn add(rt: &impl Abort, alloc: Global, tree: &mut Tree, text: &str, at: Ns) -> Result<Slot, Cause> {
     let path = path(rt, alloc, text);
     let predicted = tree.add_cause(&path);
@@ -25,8 +26,8 @@ fn add(rt: &impl Abort, alloc: Global, tree: &mut Tree, text: &str, at: Ns) -> R
     outcome
 }
 
-/// Removes a group, or returns the cause that rejects it, which `remove_cause` must have returned
-/// before.
+/// Removes a group, or returns the cause that rejects it. Checks that `remove_cause` predicts the
+/// same.
 fn remove(
     rt: &impl Abort,
     alloc: Global,
@@ -41,8 +42,8 @@ fn remove(
     outcome
 }
 
-/// Switches a group's accounting, or returns the cause that rejects it, which `pressure_cause` must
-/// have returned before.
+/// Switches a group's accounting, or returns the cause that rejects it. Checks that
+/// `pressure_cause` predicts the same.
 fn switch(
     rt: &impl Abort,
     alloc: Global,
@@ -57,7 +58,7 @@ fn switch(
     outcome
 }
 
-/// Groups, some of them removed and created again with the same path.
+/// Creates groups, removes some of them, and creates these again with the same paths.
 fn small_forest(rt: &impl Abort, alloc: Global) -> Tree {
     let mut tree = Tree::new(alloc).expect(rt, "memory");
     for text in &["/a", "/a/b", "/b"] {
@@ -72,7 +73,7 @@ fn small_forest(rt: &impl Abort, alloc: Global) -> Tree {
     tree
 }
 
-/// The groups of the forest: path, parent, and from when to when (ns) it is live.
+/// The groups of the forest: path, parent, and the times (ns) of creation and removal.
 const LIVES: [(&str, Option<Slot>, Ns, Option<Ns>); 8] = [
     ("/", None, 0, None),
     ("/a", Some(Slot(0)), 1, Some(2)),
@@ -84,7 +85,7 @@ const LIVES: [(&str, Option<Slot>, Ns, Option<Ns>); 8] = [
     ("/a/b/c", Some(Slot(5)), 3, None),
 ];
 
-// A path that is created again has a new slot, and the removed group keeps its own.
+// A path that is created again gets a new slot; the slot of the removed group is unchanged.
 #[test]
 fn lives_of_groups(rt: HostRuntime) {
     let tree = small_forest(&rt, rt.alloc());
@@ -95,8 +96,8 @@ fn lives_of_groups(rt: HostRuntime) {
     }
 }
 
-// Accounting belongs to one live group: it is independent of a removed group with the same path, of
-// ancestors and of descendants. It is on for a new group.
+// Accounting belongs to one live group, not to a removed group with the same path, to ancestors or
+// to descendants. Accounting is on for a new group.
 #[test]
 fn accounts_of_groups(rt: HostRuntime) {
     let mut tree = small_forest(&rt, rt.alloc());
@@ -154,7 +155,7 @@ fn found_groups(rt: HostRuntime) {
     }
 }
 
-/// Checks the slots from a group's to the root's.
+/// Checks the chain of slots from a group to the root.
 fn has_above(rt: &impl Abort, alloc: Global, tree: &Tree, slot: Slot, want: &[Slot]) {
     assert!(rt; (slot.0 as usize) < tree.len());
     let up: Vec<Slot> = tree.chain(slot).collect(alloc).expect(rt, "memory");
@@ -181,7 +182,7 @@ fn groups_above(rt: HostRuntime) {
     }
 }
 
-// In byte order `.` comes before `/`.
+// In byte order, `.` comes before `/`.
 #[test]
 fn live_groups_by_path(rt: HostRuntime) {
     let tree = small_forest(&rt, rt.alloc());
@@ -199,7 +200,7 @@ fn have_paths(rt: &impl Abort, tree: &Tree, slots: &[Slot], paths: &[&str]) {
     }
 }
 
-// Removed groups are next to the groups that have their paths now.
+// In the order of paths, a removed group is next to the live group with the same path.
 #[test]
 fn all_groups_by_path(rt: HostRuntime) {
     let tree = small_forest(&rt, rt.alloc());
@@ -208,13 +209,13 @@ fn all_groups_by_path(rt: HostRuntime) {
     have_paths(&rt, &tree, &order, &want);
 }
 
-/// Creates and removes a group whose path is used again and again, and checks its slot.
+/// Creates and removes a group at the path `/g`, and checks the slot.
 fn made_and_gone(rt: &impl Abort, alloc: Global, tree: &mut Tree, slot: Slot) {
     is(rt, add(rt, alloc, tree, "/g", 1), Ok(slot), "made");
     is(rt, remove(rt, alloc, tree, "/g", 1), Ok(slot), "gone");
 }
 
-// At most 1,024 groups are created, including the root. This limit is checked before any other
+// At most 1,024 groups can be created, including the root. This limit is checked before any other
 // cause.
 #[test]
 fn at_most_1024_groups(rt: HostRuntime) {

@@ -1,5 +1,5 @@
-//! Observers: which entries a journal accepts and in which order it returns them, what a watcher
-//! accepts, and a board with two threads.
+//! Tests of observers: the entries that a journal accepts, the order of its entries, gates, and a
+//! board with two threads.
 mod added;
 mod boards;
 mod entries;

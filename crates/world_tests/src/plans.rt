@@ -1,4 +1,4 @@
-//! Traces split by processor.
+//! Tests of plans: traces that are split by processor.
 mod accounts;
 mod changes;
 mod clocks;

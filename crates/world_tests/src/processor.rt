@@ -1,4 +1,4 @@
-//! A processor with tasks in groups, whose changes fit the clocks.
+//! A processor for the tests: tasks in groups, with clocks whose counts always match the tasks.
 
 ghost use Rattle.std.specs.Prelude.{length, IsTrue};
 ghost use Rattle.std.proofs.Props.{props};
@@ -13,10 +13,11 @@ use slot_clocks::{PackedChange, SlotClocks};
 use std::alloc::Global;
 use std::test::Fail;
 
-/// The last time (ns) of a clock.
+/// The last time (ns) that a clock supports.
 const LAST_MOMENT: Ns = 60_000_000_000_000_000;
 
-/// A processor with tasks in groups: for each task its group and counts, `None` if it isn't live.
+/// A processor with tasks in groups. `tasks` has the group and the counts of each task, `None` if
+/// the task isn't live.
 #[derive(Drop)]
 pub struct Processor {
     parents: Vec<Option<Slot>>,
@@ -27,7 +28,7 @@ pub struct Processor {
         (length parents.items) tasks.items clocks last } by { Prim.hlevel props },
 }
 
-// Each parent has a smaller slot.
+// Whether each parent has a smaller slot than its child.
 fn are_older(parents: &[Option<Slot>]) -> bool
     ensures { IsTrue result → AreOlder (parent_numbers parents.now) }
 {
@@ -41,7 +42,8 @@ fn are_older(parents: &[Option<Slot>]) -> bool
     true
 }
 
-// Whether the task's group number is below `groups`, and the task counts at most once.
+// Whether the task isn't live, or is in one of the first `groups` slots and adds at most one to
+// each count.
 fn is_task(task: Option<(Slot, Counts)>, groups: usize) -> bool
     ensures { IsTrue result → IsTask groups task }
 {
@@ -57,7 +59,7 @@ fn is_task(task: Option<(Slot, Counts)>, groups: usize) -> bool
     }
 }
 
-// Whether the running task's group number is below `groups`.
+// Whether no task runs, or the running task is in one of the first `groups` slots.
 fn is_slot(current: Option<(Slot, bool)>, groups: usize) -> bool
     ensures { IsTrue result → IsSlot groups current }
 {
@@ -68,7 +70,7 @@ fn is_slot(current: Option<(Slot, bool)>, groups: usize) -> bool
 }
 
 impl Processor {
-    /// A processor with `tasks` tasks, none of them live, and groups with these parents.
+    /// Creates a processor with `tasks` tasks, none of them live, and groups with these parents.
     pub fn new(alloc: Global, parents: Vec<Option<Slot>>, tasks: usize) -> Result<Processor, Fail> {
         if tasks > 1000 || parents.len() > 1024 || !are_older(&parents) {
             return Err(Fail::new("there are too many tasks or groups, or a parent comes late"));
@@ -87,8 +89,9 @@ impl Processor {
         })
     }
 
-    /// A change: new counts of one task, and the running task. Returns whether it was made: it
-    /// isn't if there is no such task or group, or if the time is before the last change.
+    /// Makes a change: sets the group and the counts of one task, and the running task. Returns
+    /// false, without a change, if the task or a group doesn't exist, or if `at` is before the last
+    /// change.
     pub fn change(
         &mut self,
         at: Ns,
@@ -119,8 +122,8 @@ impl Processor {
         true
     }
 
-    /// The times (ns) of a group up to `at`, `None` unless `at` is at or after the last change and
-    /// within the limit of clocks.
+    /// Returns the times (ns) of a group up to `at`. `None` if `at` is before the last change or
+    /// beyond the limit of clocks.
     pub fn opened(&self, slot: Slot, at: Ns) -> Option<[u64; 7]> {
         if at < self.last || at > LAST_MOMENT {
             return None;
@@ -128,7 +131,7 @@ impl Processor {
         Some(self.clocks.clock(slot).opened(at))
     }
 
-    /// The clock of a group.
+    /// Returns the clock of a group.
     pub fn clock(&self, slot: Slot) -> Clock {
         self.clocks.clock(slot)
     }

@@ -1,4 +1,4 @@
-//! Rows of clocks: what a row contains with one thread, and with its writer in another thread.
+//! Tests of clock rows, with one thread, and with a reader and a writer in two threads.
 mod alone;
 mod irqs;
 mod live;

@@ -1,4 +1,4 @@
-//! The clocks of a processor.
+//! Tests of the clocks of one processor, change by change.
 
 use crate::events::is;
 use crate::processor::Processor;
@@ -7,7 +7,7 @@ use psi_counts::Counts;
 use std::alloc::Global;
 use std::process::Abort;
 
-/// One task that is ready or running.
+/// The counts of one task that is ready or running.
 const READY: Counts = Counts {
     io: 0,
     stalled: 0,
@@ -15,7 +15,7 @@ const READY: Counts = Counts {
     stalled_running: 0,
 };
 
-/// One task that is ready or running, in a stall.
+/// The counts of one task that is ready or running, in a memory stall.
 const READY_IN_STALL: Counts = Counts {
     io: 0,
     stalled: 1,
@@ -23,7 +23,7 @@ const READY_IN_STALL: Counts = Counts {
     stalled_running: 1,
 };
 
-/// One task that waits for IO in a stall.
+/// The counts of one task that waits for IO, in a memory stall.
 const WAITS_IN_STALL: Counts = Counts {
     io: 1,
     stalled: 1,
@@ -35,22 +35,23 @@ const WAITS_IN_STALL: Counts = Counts {
 #[derive(Clone, Copy)]
 struct Row {
     at: Ns,
-    /// The number of the task that changes, and its counts from then on.
+    /// The number of the task that changes, and its group and counts after the change.
     task: usize,
     now: Option<(Slot, Counts)>,
-    /// The group of the running task, and whether the task is in a stall.
+    /// The group of the running task, and whether that task is in a memory stall. `None` if the
+    /// processor is idle.
     current: Option<(Slot, bool)>,
-    /// The words of the four clocks: the times of IO some and full, memory some and full, CPU some
-    /// and full and nonidle, the mask with a bit for each in this order, and the start.
+    /// The words of the four clocks: the times (ns) of IO some and full, memory some and full, CPU
+    /// some and full and nonidle, a mask with one bit for each of these states, and the start (ns).
     clocks: [[u64; 9]; 4],
 }
 
 /// The words of a clock that no change has reached.
 const ZERO: [u64; 9] = [0; 9];
 
-/// The rows for the root, /a, /a/b and /c.
+/// The expected rows for the root, /a, /a/b and /c.
 const ROWS: [Row; 7] = [
-    // A fork in /a/b.
+    // Task 0 is created in /a/b.
     Row {
         at: 10,
         task: 0,
@@ -63,7 +64,7 @@ const ROWS: [Row; 7] = [
             ZERO,
         ],
     },
-    // A switch to it from idle, which changes no count.
+    // The idle processor switches to task 0, which changes no count.
     Row {
         at: 20,
         task: 2,
@@ -76,7 +77,7 @@ const ROWS: [Row; 7] = [
             ZERO,
         ],
     },
-    // It enters a memory stall.
+    // Task 0 enters a memory stall.
     Row {
         at: 35,
         task: 0,
@@ -89,8 +90,8 @@ const ROWS: [Row; 7] = [
             ZERO,
         ],
     },
-    // A fork in /a: memory full because of the running task, though the counts alone would exclude
-    // it.
+    // Task 1 is created in /a. Memory full holds because the running task is in a stall; the counts
+    // alone would exclude it.
     Row {
         at: 50,
         task: 1,
@@ -103,7 +104,7 @@ const ROWS: [Row; 7] = [
             ZERO,
         ],
     },
-    // The first waits for IO, still in its stall, and the second runs.
+    // Task 0 waits for IO, still in its stall, and task 1 runs.
     Row {
         at: 70,
         task: 0,
@@ -116,7 +117,7 @@ const ROWS: [Row; 7] = [
             ZERO,
         ],
     },
-    // The second moves to /c, and runs there.
+    // Task 1 moves to /c, and runs there.
     Row {
         at: 90,
         task: 1,
@@ -129,7 +130,7 @@ const ROWS: [Row; 7] = [
             [0, 0, 0, 0, 0, 0, 0, 0b100_0000, 90],
         ],
     },
-    // It exits.
+    // Task 1 exits.
     Row {
         at: 100,
         task: 1,
@@ -144,7 +145,7 @@ const ROWS: [Row; 7] = [
     },
 ];
 
-/// A processor with `tasks` tasks and groups with these parents.
+/// Creates a processor with `tasks` tasks and groups with these parents.
 fn processor(
     rt: &impl Abort,
     alloc: Global,
@@ -157,7 +158,7 @@ fn processor(
     }
 }
 
-/// The words of the clocks of the first four groups.
+/// Returns the words of the clocks of the first four groups.
 fn words(processor: &Processor) -> [[u64; 9]; 4] {
     [Slot(0), Slot(1), Slot(2), Slot(3)].map(|slot| processor.clock(slot).to_words())
 }
@@ -172,7 +173,7 @@ fn changes_of_a_processor(rt: HostRuntime) {
         is(&rt, is_made, true, row.at);
         is(&rt, words(&processor), row.clocks, row.at);
     }
-    // Up to a time after the last change.
+    // The times up to 170 ns, after the last change.
     let opened = processor.opened(Slot(2), 170);
     is(
         &rt,
@@ -182,7 +183,7 @@ fn changes_of_a_processor(rt: HostRuntime) {
     );
 }
 
-/// A hundred groups, each a child of the previous one.
+/// Returns the parents of a hundred groups, each a child of the previous one.
 fn nested(rt: &impl Abort, alloc: Global) -> Vec<Option<Slot>> {
     let mut parents = Vec::new(alloc);
     parents.push(None).expect(rt, "memory");
@@ -192,7 +193,7 @@ fn nested(rt: &impl Abort, alloc: Global) -> Vec<Option<Slot>> {
     parents
 }
 
-/// In all groups except the root a task has waited for the processor since 7 ns.
+/// Checks that in all groups except the root a task has waited for the processor since 7 ns.
 fn wait_since_seven(rt: &impl Abort, processor: &Processor) {
     for slot in 1..100u32 {
         let words = processor.clock(Slot(slot)).to_words();
@@ -200,7 +201,7 @@ fn wait_since_seven(rt: &impl Abort, processor: &Processor) {
     }
 }
 
-// A change reaches all of them at once. A slot out of range has the zero clock.
+// One change reaches all groups of the chain at once. A slot out of range has the zero clock.
 #[test]
 fn groups_that_a_change_first_reaches(rt: HostRuntime) {
     let parents = nested(&rt, rt.alloc());

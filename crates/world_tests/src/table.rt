@@ -1,3 +1,3 @@
-//! The table of tasks.
+//! Tests of the table of tasks: rejected lines, and changes of processors.
 mod causes;
 mod touches;

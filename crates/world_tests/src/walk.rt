@@ -1,4 +1,4 @@
-//! Clocks after changes of a plan.
+//! The clocks of a plan after some changes, for the tests.
 
 ghost use Rattle.std.specs.Prelude.{◌≡◌, ◌≤◌, length, IfOk};
 
@@ -6,7 +6,7 @@ use proc_plan::{PlainClocks, Plan, ProcClocks};
 use psi_base::NoMemory;
 use std::alloc::Global;
 
-/// The clocks of the first `slots` slots after `changes` changes of a plan.
+/// Returns plain clocks of the first `slots` slots after `changes` changes of a plan.
 pub fn clocks_after<'a>(
     alloc: Global,
     plan: &'a Plan,

@@ -1,4 +1,4 @@
-//! A watch over a whole trace.
+//! A test of the side watch, which follows memory, preferences and tasks over a whole trace.
 
 use crate::events::{is, plans_of};
 use kill_spec::HostReading;
@@ -8,7 +8,7 @@ use side_watch::{GroupMemory, SideWatch};
 use std::alloc::Global;
 use std::process::Abort;
 
-/// A task in a nested group, which moves up and exits, and a path that is created again.
+/// A task in a nested group moves up and exits, and a path is created again.
 const LINES: [&[u8]; 16] = [
     b"1 group /a",
     b"1 group /a/b",
@@ -28,8 +28,8 @@ const LINES: [&[u8]; 16] = [
     b"12 end",
 ];
 
-/// Which of the four groups have a live task in them or below them: the root, `/a`, and the two
-/// with the path `/a/b`.
+/// Whether each of the four groups has a live task in it or its descendants: the root, `/a`, and
+/// the two groups with the path `/a/b`.
 fn populated(watch: &SideWatch) -> [bool; 4] {
     [
         watch.is_populated(Slot(0)),
@@ -48,7 +48,7 @@ fn preferences(watch: &SideWatch) -> [Preference; 4] {
     ]
 }
 
-/// The memory of the two groups with the path `/a/b`.
+/// The memory samples of the two groups with the path `/a/b`.
 fn memories(watch: &SideWatch) -> [GroupMemory; 2] {
     [watch.memory(Slot(2)), watch.memory(Slot(3))]
 }
@@ -61,7 +61,7 @@ fn memory(current: u64, swap: u64, scan: u64) -> GroupMemory {
     }
 }
 
-/// The values without a sample.
+/// The values of a group without a memory sample.
 const NONE: GroupMemory = GroupMemory {
     current: 0,
     swap: 0,
@@ -80,8 +80,8 @@ const HOST: HostReading = HostReading {
     swap_free: 250,
 };
 
-// At 1 no task is live. At 3 each ancestor has the task too, and the later of two samples at that
-// time counts. The host is sampled at 5.
+// At 1 ns no task is live. At 3 ns the task counts for each ancestor too, and the later of two
+// samples at that time is used. The host is sampled at 5 ns.
 fn first_moments(rt: &impl Abort, watch: &mut SideWatch, plans: &Plans) {
     let plain = Preference::Plain;
     watch.advance(plans.sides(), 1);
@@ -99,7 +99,7 @@ fn first_moments(rt: &impl Abort, watch: &mut SideWatch, plans: &Plans) {
     is(rt, watch.host(), NO_HOST, "the host at 4");
 }
 
-// At 8 the path has a new group, without a sample. At 12 the task has exited.
+// At 8 ns the path has a new group, without a sample. At 12 ns the task has exited.
 fn last_moments(rt: &impl Abort, watch: &mut SideWatch, plans: &Plans) {
     let [plain, avoid, prefer] = [Preference::Plain, Preference::Avoid, Preference::Prefer];
     watch.advance(plans.sides(), 8);
@@ -119,7 +119,7 @@ fn last_moments(rt: &impl Abort, watch: &mut SideWatch, plans: &Plans) {
     is(rt, memories(watch), known, "memories at 12");
 }
 
-// Follows the trace, at all of its times.
+// Follows the trace through both halves, with one watch.
 fn at_all_moments(rt: &impl Abort, alloc: Global, plans: &Plans) {
     let mut watch = SideWatch::make(alloc, plans.lives()).expect(rt, "memory");
     first_moments(rt, &mut watch, plans);

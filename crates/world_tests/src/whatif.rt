@@ -1,4 +1,4 @@
-//! Small traces, and what remains of each after a kill.
+//! Tests of small traces, and of what remains of each after a kill.
 
 ghost use Rattle.psi_spec.specs.Trace.{AllFit};
 
@@ -13,10 +13,10 @@ use whatif_trace::without;
 /// The number of processors of each trace.
 const CPUS: u32 = 2;
 
-/// The latest time (ns).
+/// The latest time (ns) of a trace.
 const LATEST: u64 = 2_000_000_000_000_000;
 
-/// A single ready task.
+/// A trace with a single ready task, in the victim.
 const READY: [&[u8]; 4] = [
     b"0 group /s",
     b"0 group /s/a",
@@ -24,7 +24,7 @@ const READY: [&[u8]; 4] = [
     b"36 end",
 ];
 
-/// It runs, and exits.
+/// What remains of `READY`: the killed task is switched in and exits.
 const READY_LEFT: [&[u8]; 6] = [
     b"0 group /s",
     b"0 group /s/a",
@@ -34,9 +34,9 @@ const READY_LEFT: [&[u8]; 6] = [
     b"36 end",
 ];
 
-/// Tasks of the victim: one waits, one runs in a stall, one is blocked in a stall and one is ready.
-/// A task of the root also runs, and is switched out for two of them. One of them is created again
-/// as a task of the root.
+/// A trace with four tasks of the victim: one waits, one runs in a stall, one is blocked in a stall
+/// and one is ready. A task of the root also runs, and is switched out for two of them. The pid of
+/// one of them is used again later, for a task of the root.
 const MANY: [&[u8]; 22] = [
     b"0 group /s",
     b"0 group /s/a",
@@ -62,7 +62,7 @@ const MANY: [&[u8]; 22] = [
     b"29 end",
 ];
 
-/// Their exits at 11 ns, and what remains of the later lines.
+/// What remains of `MANY`: the exits of the four tasks at 11 ns, and the remaining later lines.
 const MANY_LEFT: [&[u8]; 31] = [
     b"0 group /s",
     b"0 group /s/a",
@@ -97,7 +97,7 @@ const MANY_LEFT: [&[u8]; 31] = [
     b"29 end",
 ];
 
-/// The lines of events, each with a newline after it.
+/// Returns the lines of events, each with a newline.
 fn text_of(rt: &impl Abort, alloc: Global, events: &[Event]) -> Vec<u8>
     requires { AllFit events.now }
 {
@@ -111,7 +111,7 @@ fn text_of(rt: &impl Abort, alloc: Global, events: &[Event]) -> Vec<u8>
     text
 }
 
-/// The remaining lines of a trace without the tasks of a group at a time (ns).
+/// Returns the lines that remain without the tasks of the group `victim` at `at` (ns).
 fn left_of(rt: &impl Abort, alloc: Global, lines: &[&[u8]], at: u64, victim: Slot) -> Vec<u8> {
     let events = events_of(alloc, lines).expect(rt, "events");
     drop(Plans::build(alloc, CPUS, LATEST, &events).expect(rt, "a legal trace"));
@@ -119,7 +119,8 @@ fn left_of(rt: &impl Abort, alloc: Global, lines: &[&[u8]], at: u64, victim: Slo
     text_of(rt, alloc, &left)
 }
 
-/// Checks that exactly these lines remain without the tasks of a group at a time (ns).
+/// Checks that exactly the lines `want` remain without the tasks of the group `victim` at `at`
+/// (ns).
 fn leaves(rt: &impl Abort, alloc: Global, lines: &[&[u8]], at: u64, victim: Slot, want: &[&[u8]]) {
     let wanted = events_of(alloc, want).expect(rt, "events");
     let wanted = text_of(rt, alloc, &wanted);

@@ -1,4 +1,4 @@
-//! Which entries a journal accepts, and in which order it returns them.
+//! Tests of the entries that a journal accepts, and of the order in which it returns them.
 
 ghost use Rattle.std.specs.Prelude.{◌≡◌, length};
 
@@ -13,15 +13,15 @@ use std::marker::Brand;
 use std::process::Abort;
 use std::sync::ledger::Blank;
 
-// An entry with fewer changes than the last entry of its observer and processor is rejected, with
-// the last one's count.
+// An entry with fewer changes than the last entry of the same observer and processor is rejected;
+// the error has the count of the last entry.
 #[test]
 fn counts_never_fall(rt: HostRuntime) {
     let plans = plans_of(&rt, rt.alloc(), 1, 2_000_000_000, &WAITS);
     falls(&rt, rt.alloc(), &plans);
 }
 
-// Whether an entry was rejected because this count is greater.
+// Whether an entry was rejected because the last entry's count `last` is greater.
 fn is_fall_from(added: Result<(), AddFault>, last: u64) -> bool {
     match added {
         Err(AddFault::Falls(fall)) => fall.last() == last,
@@ -46,7 +46,8 @@ fn falls(rt: &impl Abort, alloc: Global, plans: &Plans)
     is(rt, added.entries, 1, "entries");
 }
 
-// Equal entries of two observers are adjacent, whichever comes first.
+// Counts are compared for each observer alone: an entry with fewer changes than the last entry of
+// another observer is accepted.
 #[test]
 fn counts_are_each_observers_own(rt: HostRuntime) {
     let plans = plans_of(&rt, rt.alloc(), 1, 2_000_000_000, &WAITS);
@@ -67,8 +68,8 @@ fn both_added(rt: &impl Abort, alloc: Global, plans: &Plans)
     is(rt, added.entries, 2, "entries");
 }
 
-// A journal that doesn't match the lists returns list after list; a journal that matches returns
-// its own order.
+// If a journal's entries don't match the lists, the lists are returned one after another; if they
+// match, the entries are returned in the journal's order.
 #[test]
 fn entries_in_the_order_of_the_journal(rt: HostRuntime) {
     let plans = plans_of(&rt, rt.alloc(), 1, 2_000_000_000, &WAITS);
@@ -76,13 +77,13 @@ fn entries_in_the_order_of_the_journal(rt: HostRuntime) {
     in_order(&rt, rt.alloc(), &plans);
 }
 
-// The only entry of a list.
+// Returns the only entry of a list.
 fn only_entry<'a>(rt: &impl Abort, own: &Own<'a>) -> Entry<'a> {
     assert!(rt; own.entries().len() == 1);
     own.entries()[0]
 }
 
-// Checks that there is one entry of each of two observers, in this order.
+// Checks that there are two entries, by these two observers in this order.
 fn are_by(rt: &impl Abort, entries: &[Entry<'_>], observers: [u32; 2]) {
     assert!(rt; entries.len() == 2);
     let found = [entries[0].observer, entries[1].observer];

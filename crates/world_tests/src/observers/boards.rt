@@ -1,4 +1,4 @@
-//! A board with two threads.
+//! A board that is written and read by two threads, for the tests.
 
 ghost use Rattle.std.specs.Prelude.{◌≡◌, ◌+◌, length};
 ghost use Rattle.std.specs.Thread.{IsSync};
@@ -9,10 +9,10 @@ use std::process::Abort;
 use std::sync::Wait;
 use std::thread::{Threads, join, yield_now};
 
-/// The maximal number of reads, whatever the driver does at the same time.
+/// The most reads of the observer, so that the test ends.
 const READS: u64 = 20_000_000;
 
-/// The number of events of a tick.
+/// The number of signals that each tick adds.
 const EVENTS_OF_A_TICK: u64 = 3;
 
 /// What an observer read: the distinct states while the driver was running, and the last state.
@@ -22,7 +22,7 @@ pub struct Readings {
     pub last: BoardState,
 }
 
-// Publishes ticks up to number `ticks`.
+// Publishes the states of ticks 1 to `ticks`.
 fn published<R: Wait>(rt: &R, board: &Board, mut driver: DriverPass, ticks: u32) -> DriverPass
     requires board { driver.board ≡ board.now }
     requires first { length driver.states ≡ 1 }
@@ -42,7 +42,7 @@ fn published<R: Wait>(rt: &R, board: &Board, mut driver: DriverPass, ticks: u32)
     driver
 }
 
-// Reads until the tick is shown, or until the limit of reads.
+// Reads the board until it shows tick `ticks`, or until `READS` reads. Returns the distinct states.
 fn watched<R: Wait>(
     rt: &R,
     alloc: Global,
@@ -68,8 +68,8 @@ fn watched<R: Wait>(
     (pass, states)
 }
 
-/// A driver publishes `ticks` ticks while an observer in another thread reads them. Then `notify`
-/// gives the observer all states of the driver, and it reads the last one.
+/// A driver publishes `ticks` ticks while an observer reads them in another thread. Then the
+/// observer is notified of all published states, and reads the last one.
 pub fn beside<R: Abort + Threads + Wait + Sync>(rt: &R, alloc: Global, ticks: u32) -> Readings {
     let (board, mut driver) = Board::make(alloc).expect(rt, "memory");
     let pass = board.pass(rt, &mut driver).expect(rt, "memory");

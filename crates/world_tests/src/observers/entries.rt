@@ -1,4 +1,4 @@
-//! Entries and lists for the root of a trace of one processor.
+//! Entries and lists of observers, for the tests: samples of the root of a trace of one processor.
 
 ghost use Rattle.std.specs.Prelude.{◌≡◌, ◌≤◌, length, IfOk};
 ghost use Rattle.observer_log.specs.Entries.{AreBy};
@@ -19,7 +19,7 @@ const ROOT: Slot = Slot(0);
 
 const FIRST: Cpu = Cpu(0);
 
-/// An observer's entry for the root after `changes` changes of a plan with only the root.
+/// Returns the entry of `observer` for the root after `count` changes of a plan with only the root.
 pub fn entry_after<'a>(
     rt: &impl Abort,
     alloc: Global,
@@ -40,7 +40,7 @@ pub fn entry_after<'a>(
     Entry::take(observer, plan, FIRST, ROOT, &sample)
 }
 
-// A reader of a plan's row that has seen no change, and the root's clock at that point.
+// Returns a reader of a new row, before any change, and the root's clock at that point.
 fn first_sample(rt: &impl Abort, alloc: Global, plan: &Plan) -> (ClockReader, Sample)
     requires { length plan.now.parents ≡ 1 }
     ensures reader { result.0.knows ≡ new_reader plan.now result.1.count }
@@ -55,8 +55,8 @@ fn first_sample(rt: &impl Abort, alloc: Global, plan: &Plan) -> (ClockReader, Sa
     (reader, sample)
 }
 
-/// The list of an observer that looked once at the root, before its first change. A gate is called
-/// before the sample. `Err` if the look ran out of memory.
+/// Returns the list of an observer that sampled the root once, before its first change. The gate is
+/// called before the sample. `Err` if memory ran out.
 pub fn look_at_gate<'a, G: Gate>(
     rt: &impl Abort,
     alloc: Global,
@@ -79,7 +79,7 @@ pub fn look_at_gate<'a, G: Gate>(
     }
 }
 
-/// The list of an observer that looked once at the root, before its first change.
+/// Returns the list of an observer that sampled the root once, before its first change.
 pub fn one_look<'a>(rt: &impl Abort, alloc: Global, observer: u32, plans: &'a Plans) -> Own<'a>
     requires one { length plans.now.plans ≡ 1 }
     requires root { length plans.now.lives ≡ 1 }

@@ -1,4 +1,4 @@
-//! Looks with a gate.
+//! Tests of the gate that is called before each sample of an observer.
 
 ghost use Rattle.std.specs.Prelude.{◌≡◌, length};
 
@@ -12,14 +12,14 @@ use std::process::Abort;
 use std::sync::atomic::AtomicU64;
 use std::sync::atomic::Ordering::SeqCst;
 
-/// A task runs to the end.
+/// A task that runs to the end.
 const RUNS: [&[u8]; 3] = [b"0 fork 1 / 0", b"0 switch 0 1 idle", b"2000000000 end"];
 
-/// The observer whose looks are counted.
+/// The observer whose samples are counted.
 const OBSERVER: u32 = 5;
 
-/// A gate that counts its calls before a sample of the observer on processor 0, and all other
-/// calls.
+/// A gate that counts its calls before a sample of `OBSERVER` on processor 0 (`ahead`), and all
+/// other calls (`otherwise`).
 #[derive(Drop)]
 struct Counting {
     ahead: AtomicU64,
@@ -45,7 +45,7 @@ impl Gate for Counting {
     }
 }
 
-// A look calls its gate once, before the sample and with the number of its observer. Out of memory,
+// The gate is called once, before the sample, with the number of the observer. If memory runs out,
 // there is neither a sample nor a call.
 #[test]
 fn a_look_calls_its_gate_once(rt: HostRuntime) {
@@ -53,7 +53,7 @@ fn a_look_calls_its_gate_once(rt: HostRuntime) {
     called_once(&rt, rt.alloc(), &plans);
 }
 
-// The number of entries of one look, `None` if it ran out of memory.
+// Returns the number of entries after one sample. `None` if memory ran out.
 fn entries_of(
     rt: &impl Abort,
     alloc: Global,
@@ -70,7 +70,7 @@ fn entries_of(
     }
 }
 
-// The number of calls before a sample of the observer, and of all other calls.
+// Returns the number of calls before a sample of `OBSERVER`, and the number of all other calls.
 fn calls(gate: &Counting) -> [u64; 2] {
     [gate.ahead.load(SeqCst), gate.otherwise.load(SeqCst)]
 }

@@ -1,4 +1,4 @@
-//! Journals of one or two entries.
+//! Journals of one or two entries, for the tests.
 
 ghost use Rattle.std.specs.Prelude.{◌≡◌};
 ghost use Rattle.observer_log.specs.Entries.{AreBy};
@@ -8,7 +8,7 @@ use psi_base::NoMemory;
 use std::alloc::Global;
 use std::sync::ledger::{Blank, Ledger};
 
-/// The answers of a new journal to two entries, and its number of entries afterwards.
+/// The results of adding two entries to a new journal, and the number of entries afterwards.
 #[derive(Clone, Copy, Debug)]
 pub struct Added {
     pub first: Result<(), AddFault>,
@@ -35,8 +35,8 @@ pub fn add_both<L: Ledger>(
     }
 }
 
-/// The entries of two observers' lists in the order of a new journal, to which `added` was added
-/// first.
+/// Adds the entries `added` to a new journal, and returns the entries of two observers' lists in
+/// the journal's order.
 pub fn ordered<'a, L: Ledger>(
     alloc: Global,
     blank: Blank,
@@ -52,7 +52,7 @@ pub fn ordered<'a, L: Ledger>(
     let (book, mut share) = blank.open::<L>();
     let mut journal = Journal::make(alloc, book);
     'entries: for entry in added {
-        // Rejected entries are left out.
+        // A rejected entry isn't in the journal.
         let _ = journal.add(*entry, &mut share);
     }
     journal.order(&[first, second])

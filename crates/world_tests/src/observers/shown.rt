@@ -1,4 +1,4 @@
-//! Reads of a board while its driver is running.
+//! A test that reads a board while its driver is running.
 
 use crate::events::is;
 use crate::observers::boards::beside;
@@ -6,8 +6,8 @@ use crate::observers::boards::beside;
 /// The number of published ticks.
 const TICKS: u32 = 10_000;
 
-// Each state that was read was published, the ticks increase, and the last state is the last
-// tick's.
+// Each state that was read had been published, the ticks never decrease, and the last state is that
+// of the last tick.
 #[test]
 fn reads_beside_the_driver(rt: HostRuntime) {
     let readings = beside(&rt, rt.alloc(), TICKS);

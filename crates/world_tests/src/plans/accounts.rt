@@ -1,4 +1,4 @@
-//! Groups whose accounting is switched, in the plans of processors and their clocks.
+//! Tests of groups whose accounting is switched, in the plans of processors and in their clocks.
 
 ghost use Rattle.std.specs.Prelude.{◌≡◌, length};
 
@@ -11,7 +11,7 @@ use psi_counts::Change;
 use std::alloc::Global;
 use std::process::Abort;
 
-/// The task of a group waits for IO, and for half a second the group's accounting is off.
+/// A task of /a waits for IO; for half a second the accounting of /a is off.
 const LINES: [&[u8]; 7] = [
     b"0 group /a",
     b"0 fork 1 /a 0",
@@ -22,7 +22,7 @@ const LINES: [&[u8]; 7] = [
     b"2000000000 end",
 ];
 
-/// A processor's change for switching the first group below the root, while no task runs.
+/// The change by which the accounting of slot 1 is switched on a processor on which no task runs.
 fn account(at: Ns, on: bool) -> Change {
     Change {
         at,
@@ -34,7 +34,8 @@ fn account(at: Ns, on: bool) -> Change {
     }
 }
 
-// Both processors have the switches, and the second has nothing else.
+// The switches of accounting are in the plans of both processors; the second plan has no other
+// change.
 #[test]
 fn accounts_of_each_processor(rt: HostRuntime) {
     let plans = plans_of(&rt, rt.alloc(), 2, 2_000_000_000, &LINES);
@@ -55,8 +56,8 @@ fn each_has_accounts(rt: &impl Abort, plans: &Plans)
     is(rt, nth(rt, second, 2), on, "on on 1");
 }
 
-/// The values of the first processor's clocks after a number of changes, for the group in a slot:
-/// its interrupt time (ns), and its clock as words.
+/// The first processor's clocks after `changes` changes, for the group in `slot`: its interrupt
+/// time (ns), and the words of its clock.
 struct Row {
     changes: u64,
     slot: u32,
@@ -78,7 +79,7 @@ fn shows_row(rt: &impl Abort, alloc: Global, plans: &Plans, row: &Row)
     is(rt, clocks.own(slot).to_words(), row.words, case);
 }
 
-/// Checks the number of groups, the number of changes of the first processor, and these rows of its
+/// Checks the number of groups, the number of changes of the first processor, and the rows for its
 /// clocks.
 fn shows(rt: &impl Abort, alloc: Global, plans: &Plans, counts: (usize, u64), rows: &[Row])
     requires { length plans.now.plans ≡ 1 }
@@ -90,14 +91,14 @@ fn shows(rt: &impl Abort, alloc: Global, plans: &Plans, counts: (usize, u64), ro
     }
 }
 
-/// How long (ns) the task waits before its group's accounting is switched off.
+/// How long (ns) the task has waited when its group's accounting is switched off.
 const SECOND: Ns = 1_000_000_000;
 
-/// The time (ns) at which accounting is on again.
+/// The time (ns) at which accounting is switched on again.
 const AGAIN: Ns = 1_500_000_000;
 
-/// While accounting is off no state holds, and the times up to then stay. The root's clock
-/// continues.
+/// While accounting is off, no state of the group holds and its times don't change. The root's
+/// clock continues.
 const OFF_AND_ON: [Row; 4] = [
     Row {
         changes: 4,
@@ -131,8 +132,8 @@ fn clocks_of_a_group_off(rt: HostRuntime) {
     shows(&rt, rt.alloc(), &plans, (2, 5), &OFF_AND_ON);
 }
 
-/// A task of /a/b runs, waits for IO and is ready, while first /a is off and then /a/b. At one
-/// time, one is switched off and the other on.
+/// A task of /a/b runs, waits for IO and is ready, while the accounting of /a and later of /a/b is
+/// off. At one time, one of them is switched off and the other on.
 const NESTED: [&[u8]; 12] = [
     b"0 group /a",
     b"0 group /a/b",
@@ -148,8 +149,8 @@ const NESTED: [&[u8]; 12] = [
     b"5000 end",
 ];
 
-/// Accounting is switched for one group only: its ancestors and descendants continue. The state of
-/// the tasks while a group is off is known when it is on again.
+/// Accounting is switched for one group only: its ancestors and descendants continue. Changes of
+/// the tasks while a group is off are reflected when it is switched on again.
 const OF_NESTED: [Row; 3] = [
     Row {
         changes: 9,

@@ -1,4 +1,4 @@
-//! Plans of a trace with a wake on another processor.
+//! Tests of the changes in plans, for a trace with a wakeup on another processor.
 
 use crate::events::{is, plans_of};
 use proc_plan::{Plan, Side, SideAct};
@@ -6,7 +6,7 @@ use psi_base::{Cpu, Ns, Slot};
 use psi_counts::{Change, Counts};
 use std::process::Abort;
 
-/// A task waits for IO on the first processor, and wakes on the second.
+/// A task that waits for IO on the first processor, and wakes up on the second.
 const LINES: [&[u8]; 5] = [
     b"0 fork 1 / 0",
     b"0 switch 0 1 idle",
@@ -15,10 +15,10 @@ const LINES: [&[u8]; 5] = [
     b"4000000000 end",
 ];
 
-/// The time (ns) at which the task wakes.
+/// The time (ns) of the wakeup.
 const WOKEN: Ns = 2_000_000_000;
 
-/// One task that is ready or runs.
+/// The counts of one task that is ready or running.
 const UP: Counts = Counts {
     io: 0,
     stalled: 0,
@@ -26,7 +26,7 @@ const UP: Counts = Counts {
     stalled_running: 0,
 };
 
-/// One task that waits for IO.
+/// The counts of one task that waits for IO.
 const WAITS: Counts = Counts {
     io: 1,
     stalled: 0,
@@ -34,7 +34,8 @@ const WAITS: Counts = Counts {
     stalled_running: 0,
 };
 
-/// A change of the root.
+/// A change of the root's counts: `minus` is subtracted, `plus` is added, and afterwards the task
+/// runs if `runs`.
 fn change(at: Ns, minus: Option<Counts>, plus: Option<Counts>, runs: bool) -> Change {
     let root = Slot(0);
     Change {
@@ -47,7 +48,7 @@ fn change(at: Ns, minus: Option<Counts>, plus: Option<Counts>, runs: bool) -> Ch
     }
 }
 
-/// Change number `k` of a plan, from 1.
+/// Returns change number `k` of a plan, counted from 1.
 pub fn nth(rt: &impl Abort, plan: &Plan, k: u64) -> Change {
     assert!(rt; 1 <= k && k <= plan.len(), "no change {k}");
     plan.change(k)
@@ -63,7 +64,7 @@ fn has_changes(rt: &impl Abort, plan: &Plan, want: &[Change]) {
     }
 }
 
-// The wake changes both processors, and each has only its own changes. A switch that changes no
+// The wakeup changes both processors; each plan has only its own changes. A switch that changes no
 // count is a change too.
 #[test]
 fn changes_of_each_processor(rt: HostRuntime) {
@@ -80,7 +81,7 @@ fn changes_of_each_processor(rt: HostRuntime) {
     has_changes(&rt, plans.plan(Cpu(1)), &second);
 }
 
-// Changes at exactly the time are among those up to it.
+// A change at exactly the given time is among the changes up to that time.
 #[test]
 fn changes_up_to_a_moment(rt: HostRuntime) {
     let plans = plans_of(&rt, rt.alloc(), 2, 4_000_000_000, &LINES);
@@ -97,7 +98,7 @@ fn changes_up_to_a_moment(rt: HostRuntime) {
     }
 }
 
-// What the plans store besides the changes.
+// The parts of the plans that belong to no single processor.
 #[test]
 fn what_all_processors_share(rt: HostRuntime) {
     let plans = plans_of(&rt, rt.alloc(), 2, 4_000_000_000, &LINES);

@@ -1,4 +1,4 @@
-//! Clocks that follow a plan.
+//! A test of clocks that follow a plan.
 
 ghost use Rattle.std.specs.Prelude.{◌≡◌, length};
 
@@ -15,8 +15,8 @@ fn clocks_of_the_root(rt: HostRuntime) {
     show_of_the_root(&rt, rt.alloc(), plans.plan(Cpu(0)));
 }
 
-// The words of the root's clock: the times of IO some and full, memory some and full, CPU some and
-// full and nonidle, the mask with a bit for each in this order, and the start.
+// Checks the words of the root's clock: the times (ns) of IO some and full, memory some and full,
+// CPU some and full and nonidle, a mask with one bit for each of these states, and the start (ns).
 fn show_of_the_root(rt: &impl Abort, alloc: Global, plan: &Plan)
     requires { length plan.now.parents ≡ 1 }
 {

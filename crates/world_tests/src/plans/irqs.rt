@@ -1,4 +1,4 @@
-//! Interrupt times of groups, by the clocks of plans.
+//! Tests of the interrupt times of groups, in the clocks of plans.
 
 ghost use Rattle.std.specs.Prelude.{◌≡◌, length};
 
@@ -10,8 +10,8 @@ use psi_base::{Cpu, Slot};
 use std::alloc::Global;
 use std::process::Abort;
 
-/// The root has /a, /a/b and /c. A task of /a/b runs on the first processor, moves to /c, migrates
-/// to the second processor and exits there.
+/// The groups are the root, /a, /a/b and /c. A task of /a/b runs on the first processor, moves to
+/// /c, migrates to the second processor and exits there.
 const LINES: [&[u8]; 21] = [
     b"0 group /a",
     b"0 group /a/b",
@@ -36,35 +36,35 @@ const LINES: [&[u8]; 21] = [
     b"8000 end",
 ];
 
-/// A processor, the number of its changes made, and the interrupt times (ns) of the root, /a, /a/b
-/// and /c at that point.
+/// A processor, a number of changes, and the interrupt times (ns) of the root, /a, /a/b and /c
+/// after these changes.
 const ROWS: [(u32, u64, [u64; 4]); 16] = [
-    // The task arrives and starts to run.
+    // The task is created and starts to run.
     (0, 0, [0, 0, 0, 0]),
     (0, 2, [0, 0, 0, 0]),
-    // Some interrupts: none at the same time as the previous ones, and some later.
+    // Interrupts of 100 ns, of 0 ns at the same time, and of 1 ns later.
     (0, 3, [100, 100, 100, 0]),
     (0, 4, [100, 100, 100, 0]),
     (0, 5, [101, 101, 101, 0]),
-    // It moves.
+    // The task moves.
     (0, 6, [101, 101, 101, 0]),
     (0, 7, [121, 101, 101, 20]),
-    // It waits for the processor, which is idle, and then leaves it.
+    // The task is ready but not running, so the processor is idle; then the task leaves it.
     (0, 9, [121, 101, 101, 20]),
     (0, 10, [121, 101, 101, 20]),
     (0, 11, [121, 101, 101, 20]),
-    // The other processor is idle until the task arrives and starts to run.
+    // The second processor is idle until the task arrives and starts to run.
     (1, 1, [0, 0, 0, 0]),
     (1, 2, [0, 0, 0, 0]),
     (1, 4, [0, 0, 0, 0]),
     (1, 5, [4, 0, 0, 4]),
-    // It exits.
+    // The task exits.
     (1, 6, [4, 0, 0, 4]),
     (1, 7, [4, 0, 0, 4]),
 ];
 
-// The interrupt times (ns) of the four groups after `changes` changes of a plan, or after all that
-// it has.
+// Returns the interrupt times (ns) of the four groups after `changes` changes of a plan, or after
+// all changes if there are fewer.
 fn irqs_after(rt: &impl Abort, alloc: Global, plan: &Plan, changes: u64) -> [u64; 4]
     requires { length plan.now.parents ≡ 4 }
 {
@@ -91,8 +91,8 @@ fn interrupts_of_each_processor(rt: HostRuntime) {
     }
 }
 
-// The root's interrupt time (ns) after `changes` changes of a plan with only the root, read twice
-// from its clocks, and the number of changes made afterwards.
+// Reads the root's interrupt time (ns) twice after `changes` changes of a plan with only the root.
+// Returns both readings, and the number of changes made afterwards.
 fn root_after(rt: &impl Abort, alloc: Global, plan: &Plan, changes: u64) -> (u64, u64, u64)
     requires { length plan.now.parents ≡ 1 }
 {

@@ -1,4 +1,4 @@
-//! Which traces are rejected, at which line and why.
+//! Tests of traces that are rejected: the first rejected line, and the cause.
 
 use crate::events::{events_of, is};
 use proc_plan::Plans;
@@ -6,8 +6,8 @@ use psi_base::{Cause, Fault, Refusal};
 use std::alloc::Global;
 use std::process::Abort;
 
-/// Traces of one processor up to 1,000 ns, by their lines from the second one. Each row has the
-/// first line against which there is a cause, and the cause.
+/// Traces of one processor up to 1,000 ns, as the lines after the header. Each row has the number
+/// of the first rejected line, and the cause.
 const ROWS: [(&[&[u8]], u32, Cause); 12] = [
     (&[b"1 fork 1 /a 0", b"2 end"], 2, Cause::UnknownGroup),
     (&[b"1 fork 1 / 1", b"2 end"], 2, Cause::BadCpu),
@@ -43,7 +43,7 @@ const ROWS: [(&[&[u8]], u32, Cause); 12] = [
     (&[], 2, Cause::NoEnd),
 ];
 
-/// Why there are no plans of these lines; `None` if there are.
+/// Returns why no plans can be built from these lines; `None` if they can.
 fn fault_of(rt: &impl Abort, alloc: Global, lines: &[&[u8]]) -> Option<Fault<Refusal>> {
     let events = events_of(alloc, lines).expect(rt, "events");
     Plans::build(alloc, 1, 1000, &events).err()

@@ -1,10 +1,10 @@
-//! What a trace contains besides the changes of processors.
+//! Tests of the parts of a trace that aren't changes of processors.
 
 use crate::events::{is, plans_of};
 use proc_plan::{Side, SideAct};
 use psi_base::{Cpu, Level, Ns, Preference, Res, Slot, TriggerSpec};
 
-/// One trace with everything that isn't a change.
+/// A trace with every kind of event that isn't a change of a processor.
 const LINES: [&[u8]; 19] = [
     b"1 group /a",
     b"1 group /a/b",
@@ -14,13 +14,13 @@ const LINES: [&[u8]; 19] = [
     b"4 prefer /a none",
     b"5 host 100 50 25",
     b"6 trigger /a io some 150000 1000000",
-    // It moves to another group, and then to the group that it is already in.
+    // The task moves to another group, and then to the group that it is already in.
     b"7 move 1 /a/b",
     b"8 move 1 /a/b",
     b"9 switch 0 1 idle",
     b"9 trigger / memory full 1 500000",
     b"10 switch 0 0 exit",
-    // From here the path has another slot.
+    // From here on the path /a/b has another slot.
     b"11 rmgroup /a/b",
     b"11 group /a/b",
     b"12 mem /a/b 1 2 3",
@@ -33,7 +33,7 @@ fn side(at: Ns, what: SideAct) -> Side {
     Side { at, what }
 }
 
-/// A task that enters a group (1) or leaves it (-1).
+/// The side event of a task that enters a group (`added` is 1) or leaves it (-1).
 fn task(at: Ns, slot: u32, added: i8) -> Side {
     let slot = Slot(slot);
     side(at, SideAct::Tasks { slot, added })

@@ -1,4 +1,4 @@
-//! Rows with one thread.
+//! Tests of clock rows whose reader and writer are in one thread.
 
 ghost use Rattle.std.specs.Prelude.{◌≡◌, ◌≤◌, length};
 
@@ -12,11 +12,11 @@ use std::process::Abort;
 
 const ROOT: Slot = Slot(0);
 
-/// The root's clock after three of its changes: a task waits for IO, and nothing runs.
+/// The root's clock after three changes: a task waits for IO, and no task runs.
 const WAITING: [u64; 9] = [0, 0, 0, 0, 0, 0, 500_000_000, 0b100_0011, 500_000_000];
 
-// What a row shows of the root after three changes, to a reader from before them and to a reader
-// from after them.
+// Shows the root's clock after three changes, to a reader created before them and to a reader
+// created after them.
 fn shown_early_and_late(rt: &impl Abort, alloc: Global, plan: &Plan) -> [Shown; 2]
     requires root { length plan.now.parents ≡ 1 }
     requires changes { 3 ≤ length plan.now.changes }
@@ -26,7 +26,7 @@ fn shown_early_and_late(rt: &impl Abort, alloc: Global, plan: &Plan) -> [Shown; 
     [early, show_late(rt, &mut writer, ROOT)]
 }
 
-// What a row shows of the root after three changes, to a reader that had seen `seen` of them.
+// The expected values of the root after three changes, for a reader that had seen `seen` of them.
 fn waiting(seen: u64) -> Shown {
     Shown {
         made: 3,
@@ -37,8 +37,8 @@ fn waiting(seen: u64) -> Shown {
     }
 }
 
-// Each reader samples the writer's own clock. A reader that was made after the changes has seen
-// them; a reader made before them samples the same, even without a `meet`.
+// Each reader samples the writer's own clock. A reader that was created after the changes has seen
+// them; a reader that was created before them gets the same sample, even without a `meet`.
 #[test]
 fn one_slot_after_three_changes(rt: HostRuntime) {
     let plans = plans_of(&rt, rt.alloc(), 1, 2_000_000_000, &WAITS);
@@ -56,7 +56,7 @@ fn both_sample_the_same(rt: &impl Abort, alloc: Global, plans: &Plans)
     is(rt, late, waiting(3), "by the reader from after");
 }
 
-/// Two tasks, one of them in a group, take turns on a processor.
+/// Two tasks, one of them in a group, that run alternately on a processor.
 const TURNS: [&[u8]; 6] = [
     b"0 group /a",
     b"0 fork 1 /a 0",
@@ -66,7 +66,8 @@ const TURNS: [&[u8]; 6] = [
     b"2000000000 end",
 ];
 
-// The clocks of all slots after four changes and a `meet`; the reader samples them at one count.
+// Returns the clocks of both slots after four changes and a `meet`; the reader samples both clocks
+// at one count.
 fn all_after_four(rt: &impl Abort, alloc: Global, plan: &Plan) -> [Clock; 2]
     requires slots { length plan.now.parents ≡ 2 }
     requires changes { 4 ≤ length plan.now.changes }
@@ -78,8 +79,8 @@ fn all_after_four(rt: &impl Abort, alloc: Global, plan: &Plan) -> [Clock; 2]
     clocks
 }
 
-// The last switch doesn't change the root's states, so its clock keeps its start; the group's clock
-// restarts.
+// The last switch doesn't change the root's states, so the root's clock isn't restarted; the
+// group's clock is.
 #[test]
 fn all_slots_at_one_count(rt: HostRuntime) {
     let plans = plans_of(&rt, rt.alloc(), 1, 2_000_000_000, &TURNS);

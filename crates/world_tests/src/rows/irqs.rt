@@ -1,4 +1,4 @@
-//! Interrupt time that a writer stores next to its row.
+//! Tests of the interrupt time that a writer stores next to its row.
 
 ghost use Rattle.std.specs.Prelude.{◌≡◌, ◌≤◌, length};
 
@@ -11,11 +11,11 @@ use std::process::Abort;
 
 const ROOT: Slot = Slot(0);
 
-/// The root's clock while the task runs: interrupts don't change it.
+/// The root's clock while the task runs; interrupts don't change it.
 const RUNNING: [u64; 9] = [0, 0, 0, 0, 0, 0, 0, 0b100_0000, 0];
 
-// The root's interrupt time (ns) after `changes` changes of a plan with only the root, and what the
-// two ends of the row have of the root.
+// Returns the root's interrupt time (ns) after `changes` changes of a plan with only the root, and
+// the root's values at both ends of the row.
 fn shown_after(rt: &impl Abort, alloc: Global, plan: &Plan, changes: u64) -> (u64, Shown)
     requires root { 1 ≡ length plan.now.parents }
     requires changes { changes ≤ length plan.now.changes }
@@ -25,8 +25,8 @@ fn shown_after(rt: &impl Abort, alloc: Global, plan: &Plan, changes: u64) -> (u6
     (irq, show(&mut writer, &mut reader, ROOT))
 }
 
-// Only interrupts during a running task count. They aren't among the words of the row: its clock
-// stays the same, and the change is seen.
+// Interrupt time counts only while a task runs. It isn't part of the row: an interrupt leaves the
+// clock unchanged, but counts as a change that the reader sees.
 #[test]
 fn interrupts_of_the_root(rt: HostRuntime) {
     let plans = plans_of(&rt, rt.alloc(), 1, 2_000_000_000, &INTERRUPTS);
@@ -52,8 +52,8 @@ fn beside_a_task_alone(rt: &impl Abort, alloc: Global, plans: &Plans)
     is(rt, third, (250_000_000, want), "after the third change");
 }
 
-/// Interrupts while a task in a nested group runs, while a task runs that moves to the root, and
-/// while the processor is idle.
+/// Interrupts while a task in a nested group runs, while a task runs that has moved to the root,
+/// and while the processor is idle.
 const GROUPS: [&[u8]; 14] = [
     b"0 group /a",
     b"0 group /a/b",
@@ -86,7 +86,8 @@ fn has_irqs(rt: &impl Abort, alloc: Global, plan: &Plan, changes: u64, wanted: [
     is(rt, (changes, found), (changes, wanted), "by changes");
 }
 
-// A group has the interrupts of the tasks in it and below it, and keeps them when a task leaves.
+// A group counts the interrupts during tasks of the group and its descendants. The time stays with
+// the group when a task leaves.
 #[test]
 fn interrupts_of_groups(rt: HostRuntime) {
     let plans = plans_of(&rt, rt.alloc(), 1, 2_000_000_000, &GROUPS);

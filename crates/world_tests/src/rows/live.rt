@@ -1,4 +1,4 @@
-//! Samples while a writer is running.
+//! A test of samples that are taken while a writer is running.
 
 ghost use Rattle.std.specs.Prelude.{◌≡◌, ◌≤◌, ◌^◌, length};
 
@@ -11,10 +11,11 @@ use std::alloc::Global;
 use std::process::Abort;
 use std::thread::Threads;
 
-/// How often two tasks, one of them in a group, alternate, with three changes each time.
+/// The number of rounds in which two tasks, one of them in a group, alternate. Each round has three
+/// changes.
 const ROUNDS: u64 = 33_333;
 
-// One round, beginning at `at`.
+// Appends the lines of one round, which begins at `at` (ns).
 fn put_round(rt: &impl Abort, text: &mut String, at: u64)
     requires { at ≤ 2 ^ 63 }
 {
@@ -24,7 +25,7 @@ fn put_round(rt: &impl Abort, text: &mut String, at: u64)
     writeln!(text, "{wakes} wake 2 0").expect(rt, "memory");
 }
 
-/// The lines of a trace with 100,002 changes.
+/// Returns the lines of a trace with 100,002 changes.
 fn lines(rt: &impl Abort, alloc: Global) -> String {
     let begin = "0 group /a\n0 fork 1 / 0\n0 fork 2 /a 0\n0 switch 0 1 idle\n";
     let mut text = String::from_str(alloc, begin).expect(rt, "memory");
@@ -46,7 +47,7 @@ fn plans_of_rounds(rt: &impl Abort, alloc: Global) -> Plans
     plans_of(rt, alloc, 1, 60_000_000_000, &lines)
 }
 
-// Samples of the group while a writer makes all changes.
+// Returns samples of the group that were taken while a writer made all changes.
 fn sampled<R: Abort + Threads + Sync>(rt: &R, alloc: Global, plans: &Plans) -> Vec<Sample>
     requires { length plans.now.plans ≡ 1 }
 {
@@ -62,8 +63,8 @@ fn sampled<R: Abort + Threads + Sync>(rt: &R, alloc: Global, plans: &Plans) -> V
     samples
 }
 
-// Each sample equals the clock of a single thread after the same number of changes, and counts
-// never fall. The reader ends once it has seen all changes.
+// Each sample equals the clock of a single thread after the same number of changes, and the counts
+// never decrease. The reader ends once it has seen all changes.
 #[test]
 fn samples_beside_the_writer(rt: HostRuntime) {
     let plans = plans_of_rounds(&rt, rt.alloc());

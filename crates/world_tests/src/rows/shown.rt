@@ -1,4 +1,4 @@
-//! What a row shows of a slot.
+//! The values of a slot at both ends of a clock row, for the tests.
 
 ghost use Rattle.std.specs.Prelude.{◌≡◌, ◌≤◌, ◌<◌, length};
 
@@ -11,19 +11,20 @@ use std::process::Abort;
 /// The values of a slot at the two ends of a row.
 #[derive(Clone, Copy, Debug, PartialEq, Eq)]
 pub struct Shown {
-    /// The number of changes that the writer made.
+    /// The number of changes that the writer has made.
     pub made: u64,
-    /// The words of its own clock.
+    /// The words of the writer's own clock.
     pub own: [u64; 9],
     /// The number of changes that the reader had seen before it tried to sample.
     pub seen: u64,
-    /// Its sample: the number of changes, and the words. `None` if a change interfered.
+    /// The reader's sample: the number of changes, and the words of the clock. `None` if a change
+    /// interfered.
     pub sampled: Option<(u64, [u64; 9])>,
-    /// The number of changes that it has seen afterwards.
+    /// The number of changes that the reader has seen after the sample.
     pub seen_then: u64,
 }
 
-/// Makes changes until there are `changes`.
+/// Makes changes until `changes` have been made in total.
 fn make_changes(writer: &mut ClockWriter<'_>, changes: u64)
     requires all { changes ≤ length writer.old.knows.plan.changes }
     requires within { writer.old.knows.count ≤ changes }
@@ -35,7 +36,8 @@ fn make_changes(writer: &mut ClockWriter<'_>, changes: u64)
     }
 }
 
-/// A writer that made `changes` changes of a plan, and a reader from before them.
+/// Returns a writer that has made `changes` changes of a plan, and a reader that was created before
+/// them.
 pub fn writer_after<'a>(
     rt: &impl Abort,
     alloc: Global,
@@ -55,7 +57,7 @@ pub fn writer_after<'a>(
     (writer, reader)
 }
 
-/// A reader's sample of a slot.
+/// Returns the reader's sample of a slot. `None` if a change interfered.
 fn sample_of(reader: &mut ClockReader, slot: Slot) -> Option<(u64, [u64; 9])>
     requires { slot.0 < length reader.old.knows.plan.parents }
 {
@@ -65,7 +67,7 @@ fn sample_of(reader: &mut ClockReader, slot: Slot) -> Option<(u64, [u64; 9])>
     }
 }
 
-/// The values of a slot at the two ends.
+/// Returns the values of a slot at the writer and at `reader`.
 pub fn show(writer: &mut ClockWriter<'_>, reader: &mut ClockReader, slot: Slot) -> Shown
     requires writer { slot.0 < length writer.old.knows.plan.parents }
     requires reader { slot.0 < length reader.old.knows.plan.parents }
@@ -82,7 +84,7 @@ pub fn show(writer: &mut ClockWriter<'_>, reader: &mut ClockReader, slot: Slot) 
     }
 }
 
-/// The values of a slot at the writer and at a new reader, after `meet` and `settle`.
+/// Returns the values of a slot at the writer and at a new reader, after `meet` and `settle`.
 pub fn show_late(rt: &impl Abort, writer: &mut ClockWriter<'_>, slot: Slot) -> Shown
     requires { slot.0 < length writer.old.knows.plan.parents }
 {

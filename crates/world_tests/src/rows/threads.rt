@@ -1,4 +1,4 @@
-//! A writer and a reader with a thread each.
+//! A writer and a reader of a clock row in two threads, for the tests.
 
 ghost use Rattle.std.specs.Prelude.{◌≡◌, ◌≤◌, ◌<◌, length};
 
@@ -9,14 +9,14 @@ use std::alloc::Global;
 use std::process::Abort;
 use std::thread::{Threads, join, yield_now};
 
-/// After this number of changes the writer yields, so that the two also alternate on a single
-/// processor.
+/// The writer yields after this number of changes, so that writer and reader also alternate on a
+/// single processor.
 const CHANGES_IN_A_TURN: u64 = 512;
 
-/// The maximal number of tries of the reader, whatever the writer does at the same time.
+/// The most tries of the reader, so that the test ends.
 const TRIES: u64 = 20_000_000;
 
-/// Makes the changes of a plan up to number `changes`.
+/// Makes changes of a plan until `changes` have been made in total.
 fn written<'a>(mut writer: ClockWriter<'a>, changes: u64) -> ClockWriter<'a>
     requires all { changes ≤ length writer.knows.plan.changes }
     requires within { writer.knows.count ≤ changes }
@@ -30,14 +30,16 @@ fn written<'a>(mut writer: ClockWriter<'a>, changes: u64) -> ClockWriter<'a>
     writer
 }
 
-/// Appends a sample, if its count differs from the last one's and there is memory.
+/// Appends a sample if its count differs from the count of the last sample. Does nothing if memory
+/// runs out.
 fn keep(samples: &mut Vec<Sample>, sample: Sample) {
     if samples.last().is_none_or(|last| last.count != sample.count) {
         let _ = samples.push(sample);
     }
 }
 
-/// Samples a slot until the reader has seen `all` changes, or until the limit of tries.
+/// Samples a slot until the reader has seen `all` changes, or until `TRIES` tries. Returns the
+/// samples.
 fn sampled(alloc: Global, mut reader: ClockReader, slot: Slot, all: u64) -> Vec<Sample>
     requires { slot.0 < length reader.knows.plan.parents }
 {
@@ -53,7 +55,7 @@ fn sampled(alloc: Global, mut reader: ClockReader, slot: Slot, all: u64) -> Vec<
     samples
 }
 
-/// A writer makes `changes` changes of a plan in one thread, while a reader in another samples a
+/// Makes `changes` changes of a plan in one thread, while a reader in another thread samples a
 /// slot. Returns the number of changes made, and the samples.
 pub fn beside<R: Abort + Threads + Sync>(
     rt: &R,
@@ -82,8 +84,8 @@ pub fn beside<R: Abort + Threads + Sync>(
     (writer.count(), samples)
 }
 
-/// The counts of samples never fall, and each clock equals plain clocks after the same number of
-/// changes.
+/// Whether the counts of the samples never decrease, and each clock equals the plain clock after
+/// the same number of changes.
 pub fn are_plain(
     alloc: Global,
     plan: &Plan,

@@ -1,4 +1,4 @@
-//! Which lines are rejected, and why.
+//! Tests of lines that are rejected, and of the causes.
 
 ghost use Rattle.std.specs.Prelude.{◌≤◌};
 
@@ -9,9 +9,9 @@ use std::alloc::Global;
 use std::process::Abort;
 use task_table::Table;
 
-/// One trace of two processors up to 1,000 ns. Each line is followed by its cause. A rejected line
-/// doesn't change the table. If there are two causes against a line, the earlier in the order of
-/// causes is expected.
+/// One trace of two processors up to 1,000 ns. Each line is followed by its cause, or `ok`. A
+/// rejected line doesn't change the table. If a line has two causes, the earlier one in the order
+/// of causes is expected.
 const LINES: &str = "5 fork 1 / 0 | ok;\
     4 fork 2 / 0 | TimeBack;\
     4 fork 1 / 2 | TimeBack;\
@@ -85,8 +85,8 @@ const LINES: &str = "5 fork 1 / 0 | ok;\
     1000 end | AfterEnd;\
     4 fork 1 / 2 | AfterEnd";
 
-/// One trace of two processors up to 4 s with `irq` lines, in the same format. Each is compared
-/// with the last one of its processor, whatever is between them.
+/// One trace of two processors up to 4 s with `irq` lines, in the format of `LINES`. Each `irq`
+/// line is compared with the last one of the same processor, whatever is between them.
 const IRQ_LINES: &str = "5 irq 2 6 | BadCpu;\
     5 irq 2 1000000001 | BadCpu;\
     5 irq 0 6 | IrqTooLong;\
@@ -110,8 +110,8 @@ const IRQ_LINES: &str = "5 irq 2 6 | BadCpu;\
     2000000014 end | ok;\
     2000000014 irq 0 0 | AfterEnd";
 
-/// One trace of two processors up to 1,000 ns with `pressure` lines, in the same format. Switching
-/// to the current setting is legal.
+/// One trace of two processors up to 1,000 ns with `pressure` lines, in the format of `LINES`.
+/// Switching to the current setting is legal.
 const PRESSURE_LINES: &str = "5 pressure /x on | UnknownGroup;\
     5 pressure / off | RootPressure;\
     5 pressure / on | RootPressure;\
@@ -128,7 +128,7 @@ const PRESSURE_LINES: &str = "5 pressure /x on | UnknownGroup;\
     8 end | ok;\
     8 pressure / off | AfterEnd";
 
-/// The table of a trace of `cpus` processors up to a time (ns).
+/// Creates the table of a trace of `cpus` processors up to `latest` (ns).
 fn table(rt: &impl Abort, alloc: Global, cpus: u32, latest: Ns) -> Table
     requires some { 1 ≤ cpus }
     requires few { cpus ≤ 64 }
@@ -136,7 +136,7 @@ fn table(rt: &impl Abort, alloc: Global, cpus: u32, latest: Ns) -> Table
     Table::new(alloc, cpus, latest).expect(rt, "memory")
 }
 
-/// The event of a line of the second format.
+/// Parses the event of a line in format version 2.
 fn event(rt: &impl Abort, alloc: Global, line: &str) -> Event {
     read_event(alloc, 2, line.as_bytes()).expect(rt, line)
 }
@@ -149,7 +149,7 @@ fn is_named(rt: &impl Abort, alloc: Global, cause: Option<Cause>, name: &str) ->
     }
 }
 
-/// Plays the event, and returns the first cause against it.
+/// Plays an event, and returns the cause that rejects it, if any.
 fn played(rt: &impl Abort, table: &mut Table, event: &Event) -> Option<Cause> {
     match table.step(event) {
         Ok(_) => None,
@@ -158,7 +158,7 @@ fn played(rt: &impl Abort, table: &mut Table, event: &Event) -> Option<Cause> {
     }
 }
 
-/// Checks that the table checks and plays the line of the row as expected.
+/// Checks that the table predicts and gives the cause in the row.
 fn plays_row(rt: &impl Abort, alloc: Global, table: &mut Table, row: &str) {
     let (line, want) = row.split_once(" | ").expect(rt, row);
     let event = event(rt, alloc, line);
@@ -168,14 +168,14 @@ fn plays_row(rt: &impl Abort, alloc: Global, table: &mut Table, row: &str) {
     is(rt, is_named(rt, alloc, played, want), true, row);
 }
 
-/// The same for each of these rows.
+/// Checks each row of `rows`, in order, as `plays_row` does.
 fn plays(rt: &impl Abort, alloc: Global, table: &mut Table, rows: &str) {
     for row in rows.split(';') {
         plays_row(rt, alloc, table, row);
     }
 }
 
-/// The live group with this path.
+/// Returns the live group with this path, if any.
 fn found(rt: &impl Abort, alloc: Global, table: &Table, path: &str) -> Option<Slot> {
     let read = Path::read(alloc, path.as_bytes()).expect(rt, "memory");
     table.groups().find(&read.expect(rt, path))
@@ -220,7 +220,7 @@ fn refuses(rt: &impl Abort, alloc: Global, table: &mut Table, line: &str, cause:
     is(rt, table.play(&event), Err(Fault::Refused(cause)), line);
 }
 
-// One line above a limit is rejected: the 257th trigger.
+// The table has at most 256 triggers: the 257th is rejected.
 #[test]
 fn triggers_up_to_the_limit(rt: HostRuntime) {
     let mut table = table(&rt, rt.alloc(), 1, 1000);
@@ -240,7 +240,7 @@ fn pressure_lines_up_to_the_limit(rt: HostRuntime) {
     }
 }
 
-/// Creates the task with this pid, in the root and on the first processor.
+/// Creates the task `pid` in the root, on the first processor.
 fn fork(rt: &impl Abort, alloc: Global, table: &mut Table, pid: u32) -> Result<(), Fault<Cause>> {
     let act = Act::Fork {
         pid: Pid(pid),

@@ -1,4 +1,4 @@
-//! The changes of processors by lines.
+//! Tests of the changes that each line makes on processors.
 
 use crate::events::is;
 use psi_base::{Cpu, Ns, Slot};
@@ -45,12 +45,12 @@ const LINES: &str = "1 group /a;\
     17 rmgroup /a;\
     18 end";
 
-/// The number of a digit.
+/// Returns the value of a decimal digit.
 fn number(digit: u8) -> u32 {
     u32::from(digit.wrapping_sub(b'0'))
 }
 
-/// The counts of one task and its group, if there is one.
+/// Returns the counts of one task and its group; `None` if there is no task.
 fn part(kind: u8, slot: u8) -> Option<(Slot, Counts)> {
     let (io, stalled, running, stalled_running) = match kind {
         b'a' => (0, 0, 0, 0),
@@ -69,7 +69,7 @@ fn part(kind: u8, slot: u8) -> Option<(Slot, Counts)> {
     Some((Slot(number(slot)), counts))
 }
 
-/// The processor with its change at this time (ns), if there is one.
+/// Returns a processor and its change at `at` (ns); `None` if no processor changes.
 fn change(at: Ns, known: &str) -> Option<(Cpu, Change)> {
     let (known, irq) = known.split_once(" +").unwrap_or((known, "0"));
     let [cpu, _, from, minus, _, to, plus, _, slot, current] = known.as_bytes() else {
@@ -90,7 +90,8 @@ fn change(at: Ns, known: &str) -> Option<(Cpu, Change)> {
     Some((Cpu(number(*cpu)), change))
 }
 
-/// The group whose accounting is switched, if one is.
+/// Returns the group whose accounting is switched and whether it is switched on; `None` if there is
+/// no switch.
 fn account(known: &str) -> Option<(Slot, bool)> {
     match known.as_bytes() {
         [slot, b' ', b'o', b'n'] => Some((Slot(number(*slot)), true)),
@@ -99,7 +100,7 @@ fn account(known: &str) -> Option<(Slot, bool)> {
     }
 }
 
-/// The expected changes after a line, at this time (ns).
+/// Returns the expected changes of a line at `at` (ns).
 fn touch(at: Ns, known: &str) -> Touch {
     let (first, second) = known.split_once(" | ").unwrap_or((known, ""));
     Touch {
@@ -109,7 +110,7 @@ fn touch(at: Ns, known: &str) -> Touch {
     }
 }
 
-/// Checks that the line of the row makes the changes after it.
+/// Checks that the line of a row makes the changes in the row.
 fn plays_row(rt: &impl Abort, alloc: Global, table: &mut Table, row: &str) {
     let (line, known) = row.split_once(" | ").unwrap_or((row, ""));
     let event = read_event(alloc, 2, line.as_bytes()).expect(rt, line);
