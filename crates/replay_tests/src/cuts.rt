@@ -1,4 +1,4 @@
-//! A trace that is truncated after any of its bytes.
+//! Tests of a trace that is truncated after any of its bytes.
 
 use crate::runs::{Host, assert_prints, assert_refused};
 use psi_base::Cause;
@@ -16,7 +16,8 @@ const TRACE: &str = "psitrace 1 cpus=1\n\
 
 const COMMANDS: [&str; 3] = ["check t", "stall t", "replay t --report-s 2"];
 
-/// Checks that each command rejects a prefix of the trace at this line, the first incomplete one.
+/// Checks that each command rejects a prefix of the trace at line `line`, which is its first
+/// incomplete line.
 fn assert_prefix_refused(rt: &impl Host, prefix: &[u8], line: u32) {
     let (cause, name) = if line == 1 {
         (Cause::BadHeader, "BadHeader")

@@ -1,11 +1,12 @@
-//! Drop-in files applied to rules: their effects, and the messages if they are rejected.
+//! Tests of drop-in files that are applied to rules: their effects, and the messages if they are
+//! rejected.
 
 use crate::runs::{Failing, Files, Host, NO_FAULT, Ran, assert_run, run_files};
 use replay_core::Status;
 use std::process::Abort;
 
-/// The one task of a group, which is killed at each evaluation unless the ruleset's post-action
-/// delay is running.
+/// A trace with a group of one task. The group is killed at each evaluation, unless the ruleset's
+/// post-action delay is running.
 const LIVING: &str = "psitrace 1 cpus=1\n\
     0 group /s\n\
     0 group /s/a\n\
@@ -33,22 +34,22 @@ const NEITHER: &str = r#"{"name":"r","post_action_delay":"1"}"#;
 
 const REPLAY: &str = "replay t --rules r --drop-in d --tick-ms 1000 --report-s 0";
 
-/// The rules, printed as one line.
+/// The rules `KILLS` as `rules` prints them: one line.
 const PRINTED: &str =
     "{\"rulesets\":[{\"actions\":[{\"args\":{\"always_continue\":\"false\",\"cgroup\":\"s/*\",\"growing_size_percentile\":\"80\",\"min_growth_ratio\":\"1.250\",\"post_action_delay\":\"15\",\"recursive\":\"false\",\"size_threshold\":\"50\"},\"name\":\"kill_by_memory_size_or_growth\"}],\"detectors\":[[\"g\",{\"args\":{\"cgroup\":\"s/*\",\"negate\":\"false\"},\"name\":\"exists\"}]],\"name\":\"r\"}]}\n";
 
-/// The last line of a run that kills three times, or never.
+/// The last line of a run with three kills, and of a run without kills.
 const THREE: &str = "end 36000000000 ticks=36 events=0 kills=3\n";
 
 const NONE_KILLED: &str = "end 36000000000 ticks=36 events=0 kills=0\n";
 
-/// A drop-in file with these parts.
+/// Makes a drop-in file with these parts.
 fn drop_in_of(rt: &impl Host, parts: &[&str]) -> String {
     let parts = parts.join(rt.alloc(), ",").expect(rt, "memory");
     format!(in rt.alloc(); "{{\"rulesets\":[{parts}]}}").expect(rt, "memory")
 }
 
-/// Runs a command line with the trace, the rules and a drop-in file with these parts.
+/// Runs a command line with the trace `LIVING`, the rules, and a drop-in file with these parts.
 fn run_over(rt: &impl Host, line: &str, rules: &str, parts: &[&str]) -> Ran {
     let drop_in = drop_in_of(rt, parts);
     let files = Files {
@@ -59,7 +60,7 @@ fn run_over(rt: &impl Host, line: &str, rules: &str, parts: &[&str]) -> Ran {
     run_files(rt, line, files, 65536, NO_FAULT)
 }
 
-/// Checks that a run succeeded, and that its output begins and ends with these lines.
+/// Checks that a run succeeded, and that its output begins with `first` and ends with `last`.
 fn assert_done(rt: &impl Abort, ran: &Ran, first: &str, last: &str) {
     let is_done = ran.status.code() == 0
         && ran.output.starts_with(first.as_bytes())
@@ -68,7 +69,7 @@ fn assert_done(rt: &impl Abort, ran: &Ran, first: &str, last: &str) {
     assert!(rt; is_done, "{ran} in place of {first:?} to {last:?}");
 }
 
-/// Checks that a run ended with this exit status and note, and printed nothing.
+/// Checks that a run ended with this exit status and this note, and printed nothing.
 fn assert_reported(rt: &impl Abort, line: &str, ran: &Ran, code: u8, note: &str) {
     let is_reported = ran.status.code() == code
         && ran.output.is_empty()
@@ -76,35 +77,35 @@ fn assert_reported(rt: &impl Abort, line: &str, ran: &Ran, code: u8, note: &str)
     assert!(rt; is_reported, "{line}, {ran} in place of {code} {note:?}");
 }
 
-/// Checks the last line of a replay with the rules and these parts.
+/// Checks the last line of a replay with the rules `KILLS` and these drop-in parts.
 fn assert_replays(rt: &impl Host, parts: &[&str], last: &str) {
     assert_done(rt, &run_over(rt, REPLAY, KILLS, parts), "", last);
 }
 
 #[test]
 fn parts_replace(rt: HostRuntime) {
-    // A file without parts changes nothing.
+    // A drop-in file without parts changes nothing.
     assert_replays(&rt, &[], THREE);
     assert_replays(&rt, &[NEVER], NONE_KILLED);
     // Two parts for one ruleset are applied in order.
     assert_replays(&rt, &[ALWAYS, NEVER], NONE_KILLED);
     assert_replays(&rt, &[NEVER, ALWAYS], THREE);
-    // If two rulesets have the same name, the part applies to the first: the second one's kills
-    // remain.
+    // If two rulesets have the same name, the part applies to the first; the second one still
+    // kills.
     let ran = run_over(&rt, REPLAY, TWICE, &[NEVER]);
     let first = "kill 5000000000 ruleset=1 action=0 /s/a\n";
     assert_done(&rt, &ran, first, THREE);
 }
 
-/// Checks that a replay and the command that prints rules reject these parts with this exit status
-/// and note.
+/// Checks that `replay` and `rules` both reject these drop-in parts with this exit status and note.
 fn assert_refused(rt: &impl Host, rules: &str, parts: &[&str], code: u8, note: &str) {
     for line in &[REPLAY, "rules r --drop-in d"] {
         assert_reported(rt, line, &run_over(rt, line, rules, parts), code, note);
     }
 }
 
-/// The same for the usual rules: the note names the part and the fault.
+/// Checks that `replay` and `rules` both reject these drop-in parts for the rules `KILLS`, with a
+/// note that names the part and the fault.
 fn assert_parts_refused(rt: &impl Host, parts: &[&str], note: &str) {
     assert_refused(rt, KILLS, parts, 9, note);
 }
@@ -114,16 +115,16 @@ fn refused_parts(rt: HostRuntime) {
     let unknown = "drop-in ruleset 0: UnknownRule\n";
     assert_parts_refused(&rt, &[NEVER_FOR_Q], unknown);
     assert_parts_refused(&rt, &[NEVER, NEITHER], "drop-in ruleset 1: NoParts\n");
-    // The first part is checked completely before the second one.
+    // The first part is checked completely before the second part.
     assert_parts_refused(&rt, &[NEVER_FOR_Q, NEITHER], unknown);
-    // A malformed part is reported before both.
+    // A malformed part is reported before faults of other parts.
     assert_parts_refused(&rt, &[NEITHER, "1"], "drop-in ruleset 1: WrongKind\n");
     assert_parts_refused(&rt, &["{"], "drop-in: BadJson\n");
     // A fault of the rules file is reported before any fault of the drop-in file.
     assert_refused(&rt, "[]", &["{"], 3, "rules: WrongKind\n");
 }
 
-/// Command lines, each with its exit status and note if the drop-in file is rejected.
+/// Command lines, each with its exit status and note if the drop-in file is faulty.
 const ORDER: [(&str, u8, &str); 6] = [
     (
         "replay u --rules r --drop-in d",
@@ -152,20 +153,20 @@ const RULES_ALONE: Files = Files {
     drop_in: r#"{"rulesets":[]}"#,
 };
 
-/// Checks the exit status and note of printing the rules if a call fails.
+/// Checks the exit status and note of `rules` if one call fails.
 fn assert_fault(rt: &impl Host, line: &str, failing: Failing, code: u8, note: &str) {
     let ran = run_files(rt, line, RULES_ALONE, 65536, failing);
     assert_reported(rt, line, &ran, code, note);
 }
 
-/// The rules as one line; each call fails in turn.
+/// Checks that `rules` prints one line, and that the failure of each single call is reported.
 #[test]
 fn printed_rules(rt: HostRuntime) {
     for line in &["rules r", "rules r --drop-in d"] {
         let ran = run_files(&rt, line, RULES_ALONE, 65536, NO_FAULT);
         assert_run(&rt, line, &ran, Status::Done, PRINTED, "");
     }
-    // For each file, one read returns its bytes and one its end.
+    // For each file, one read returns its bytes and one read returns its end.
     for read in 0..4 {
         let failing = Failing { read, ..NO_FAULT };
         assert_fault(&rt, "rules r --drop-in d", failing, 5, "read fault\n");

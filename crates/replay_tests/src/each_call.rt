@@ -1,14 +1,15 @@
-//! Replays in which each read and each write fails in turn.
+//! Tests of replays in which each read and each write fails in turn.
 
 use crate::gates::{LIVE_LINES, ONE_PROCESSOR};
 use crate::replays::REPLAYED;
 use crate::runs::{Failing, Files, Host, NO_FAULT, NONE, ONE_WAIT, Ran, run_files, trace_alone};
 use replay_core::Status;
 
-/// The maximal number of bytes of a call.
+/// The most bytes that one call moves.
 const MOST: usize = 7;
 
-/// A group has more memory than the rules allow from the first evaluation, at 5 s.
+/// A trace with a group that has more memory than the rules allow from the first evaluation on, at
+/// 5 s.
 const LOADED: &str = "psitrace 1 cpus=1\n\
     0 group /s\n\
     0 group /s/a\n\
@@ -16,7 +17,7 @@ const LOADED: &str = "psitrace 1 cpus=1\n\
     0 mem /s/a 100 0 0\n\
     22000000000 end\n";
 
-/// Rules that kill it after 15 seconds above the limit.
+/// Rules that kill the group after 15 seconds above the limit.
 const RULES: &str = "{\"rulesets\":[{\"name\":\"r\",\"detectors\":[[\"g\",\
     {\"name\":\"memory_above\",\"args\":{\"cgroup\":\"s/a\",\"threshold\":\"50\",\"duration\":\"15\"}}]],\
     \"actions\":[{\"name\":\"kill_by_memory_size_or_growth\",\"args\":{\"cgroup\":\"s/*\"}}]}]}";
@@ -30,12 +31,12 @@ struct Replay<'a> {
 }
 
 impl Replay<'_> {
-    /// Whether a run had no fault and a complete output.
+    /// Whether a run had no fault and printed one of the possible outputs completely.
     fn is_whole(&self, ran: &Ran) -> bool {
         ran.status == Status::Done && ran.note.is_empty() && self.outputs.contains(&ran.output)
     }
 
-    /// Whether a run ended with a failed write, after a prefix of an output.
+    /// Whether a run ended with a failed write, after a proper prefix of a possible output.
     fn is_prefix_of(&self, ran: &Ran) -> bool {
         let is_reported = ran.note.as_slice() == b"write fault\n".as_slice();
         let is_prefix_of = self.outputs.iter().any(|whole| ran.output.len() < whole.len()
@@ -50,8 +51,8 @@ fn is_unread(ran: &Ran) -> bool {
     ran.status == Status::ReadFault && is_reported && ran.output.is_empty()
 }
 
-/// Whether a replay with this failed read succeeds, because the read isn't made. Otherwise the run
-/// must end with the failed read.
+/// Runs a replay in which read `read` fails. Returns true if the run succeeds because it makes
+/// fewer reads. Otherwise checks that the run ends with the failed read, and returns false.
 fn is_read(rt: &impl Host, replay: &Replay, read: u64) -> bool {
     let failing = Failing { read, ..NO_FAULT };
     let ran = run_files(rt, replay.line, replay.files, MOST, failing);
@@ -60,7 +61,8 @@ fn is_read(rt: &impl Host, replay: &Replay, read: u64) -> bool {
     is_whole
 }
 
-/// The same for a failed write.
+/// Runs a replay in which write `write` fails. Returns true if the run succeeds because it makes
+/// fewer writes. Otherwise checks that the run ends with the failed write, and returns false.
 fn is_written(rt: &impl Host, replay: &Replay, write: u64) -> bool {
     let failing = Failing { write, ..NO_FAULT };
     let ran = run_files(rt, replay.line, replay.files, MOST, failing);
@@ -73,7 +75,7 @@ fn is_written(rt: &impl Host, replay: &Replay, write: u64) -> bool {
     is_whole
 }
 
-/// The number of reads. Each of them fails the run if it fails.
+/// Returns the number of reads of a replay. Checks that the run fails if any of them fails.
 fn reads_of(rt: &impl Host, replay: &Replay) -> u64 {
     for read in 0..NONE {
         if is_read(rt, replay, read) {
@@ -83,7 +85,7 @@ fn reads_of(rt: &impl Host, replay: &Replay) -> u64 {
     panic!(rt; "{}: each read fails", replay.line)
 }
 
-/// The same for its writes.
+/// Returns the number of writes of a replay. Checks that the run fails if any of them fails.
 fn writes_of(rt: &impl Host, replay: &Replay) -> u64 {
     for write in 0..NONE {
         if is_written(rt, replay, write) {
@@ -93,7 +95,7 @@ fn writes_of(rt: &impl Host, replay: &Replay) -> u64 {
     panic!(rt; "{}: each write fails", replay.line)
 }
 
-/// Checks that there were enough calls for these bytes.
+/// Checks that the number of calls is large enough for these bytes.
 fn assert_enough(rt: &impl Host, line: &str, calls: u64, bytes: usize) {
     assert!(rt;
         (bytes / MOST) as u64 <= calls,
@@ -101,7 +103,7 @@ fn assert_enough(rt: &impl Host, line: &str, calls: u64, bytes: usize) {
     );
 }
 
-/// Checks a replay in which each read and each write fails in turn, and then none.
+/// Checks a replay in which no call fails, and in which each read and each write fails in turn.
 fn assert_each_call_fails(rt: &impl Host, line: &str, files: Files, outputs: &[Vec<u8>]) {
     let replay = Replay {
         line,
@@ -113,17 +115,17 @@ fn assert_each_call_fails(rt: &impl Host, line: &str, files: Files, outputs: &[V
     assert_enough(rt, line, writes_of(rt, &replay), printed);
 }
 
-/// The output of a command line if no call fails.
+/// Returns the output of a command line with no injected failure.
 fn printed(rt: &impl Host, line: &str, files: Files) -> Vec<u8> {
     run_files(rt, line, files, 65536, NO_FAULT).output
 }
 
-/// A list of one output.
+/// Returns a list with this one output.
 fn one_output(rt: &impl Host, output: Vec<u8>) -> Vec<Vec<u8>> {
     vec![in rt.alloc(); output].expect(rt, "memory")
 }
 
-/// For each possible live line, the output preceded by it.
+/// Returns, for each possible live line, that line followed by the output `plain`.
 fn with_live_lines(rt: &impl Host, plain: &[u8]) -> Vec<Vec<u8>> {
     let mut outputs = Vec::new(rt.alloc());
     for live in &LIVE_LINES {
@@ -141,7 +143,7 @@ fn one_wait(rt: HostRuntime) {
     assert_each_call_fails(&rt, "replay t", trace_alone(ONE_WAIT.as_bytes()), &outputs);
 }
 
-/// The rules are read before the trace, by calls of the same shelf.
+/// The rules file is read before the trace, by calls of the same shelf.
 #[test]
 fn one_kill(rt: HostRuntime) {
     let line = "replay t --rules r --tick-ms 1000 --report-s 0";
@@ -156,7 +158,7 @@ fn one_kill(rt: HostRuntime) {
     assert_each_call_fails(&rt, line, files, &one_output(&rt, whole));
 }
 
-/// The live line may be that of the previous tick or of any change since then, and may differ
+/// The live line may show the state at the previous tick or after any later change, and may differ
 /// between runs.
 #[test]
 fn one_live_line(rt: HostRuntime) {

@@ -1,4 +1,4 @@
-//! Reads and writes that fail.
+//! Tests of reads and writes that fail.
 
 use crate::runs::{
     Failing, Host, NONE, ONE_WAIT, assert_prints_nothing, assert_prints_prefix, assert_run,
@@ -13,8 +13,8 @@ const REFUSED_IN_PREFIX: &str = "psitrace 1 cpus=1\n5 fork 1 / 0\n4 end\n5 end\n
 
 const AFTER_THE_END: &str = "psitrace 1 cpus=1\n5 end\nxyz";
 
-/// Checks that `stall` prints nothing, and ends with this status and note, if this read of at most
-/// `most` bytes fails.
+/// Checks that `stall` prints nothing and ends with this status and note if read `read` fails. A
+/// read returns at most `most` bytes.
 fn assert_unread(rt: &impl Host, trace: &str, most: usize, read: u64, status: Status, note: &str) {
     assert_prints_nothing(rt, "stall t", trace, most, read, status, note);
 }
@@ -27,7 +27,7 @@ fn reads_that_fail(rt: HostRuntime) {
     assert_unread(&rt, ONE_WAIT, 1, 40, fault, known);
     // The read after the end fails.
     assert_unread(&rt, ONE_WAIT, 65536, 1, fault, known);
-    // A rejected line that was already read is reported, though the next read would fail.
+    // A rejected line that was already read is reported, although the next read would fail.
     let back = Status::Trace {
         line: 3,
         cause: Cause::TimeBack,
@@ -40,7 +40,7 @@ fn reads_that_fail(rt: HostRuntime) {
         back,
         "trace line 3: TimeBack\n",
     );
-    // Bytes after the end are detected by the first of them: the second one isn't read.
+    // One byte after the end is enough for the error: the next read isn't made.
     let refused = Status::Trace {
         line: 3,
         cause: Cause::AfterEnd,
@@ -60,7 +60,7 @@ fn writes_that_fail(rt: HostRuntime) {
     for write in &[0, 1, 5] {
         assert_prints_prefix(&rt, "stall t", ONE_WAIT, 7, *write, SUMS);
     }
-    // A failed write of a note changes no status.
+    // A failed write of the note doesn't change the status.
     let failing = Failing {
         read: 0,
         write: NONE,

@@ -1,4 +1,5 @@
-//! Threads that run at the same time: a gate blocks each of them until another one has arrived.
+//! Tests that threads run at the same time: a gate blocks each thread until another one has
+//! arrived.
 
 use crate::runs::{Host, assert_run, run_gated, run_open};
 use outside::Gate;
@@ -7,10 +8,10 @@ use replay_core::Status;
 use std::sync::atomic::AtomicBool;
 use std::sync::atomic::Ordering::SeqCst;
 
-/// How often a thread checks for another one before it gives up.
+/// How often a thread checks for another thread before it gives up.
 const TURNS: u32 = 200_000_000;
 
-/// A task runs on the one processor, waits for IO for a second, and is ready until the end.
+/// A trace of one processor. Its task runs, waits for IO for a second, and is ready until the end.
 pub const ONE_PROCESSOR: &str = "psitrace 1 cpus=1\n\
     0 fork 1 / 0\n\
     0 switch 0 1 idle\n\
@@ -18,7 +19,7 @@ pub const ONE_PROCESSOR: &str = "psitrace 1 cpus=1\n\
     1500000000 wake 1 0\n\
     2000000000 end\n";
 
-/// The possible live lines, by the number of changes made.
+/// The possible live lines of `ONE_PROCESSOR`, by the number of changes made.
 pub const LIVE_LINES: [&str; 5] = [
     "live 2000000000 cpu=0 count=0 0 0 0 0 0 0 0",
     "live 2000000000 cpu=0 count=1 0 0 0 0 2000000000 2000000000 2000000000",
@@ -27,7 +28,8 @@ pub const LIVE_LINES: [&str; 5] = [
     "live 2000000000 cpu=0 count=4 1000000000 1000000000 0 0 500000000 500000000 2000000000",
 ];
 
-/// One processor waits for IO, and a task runs on another for a second.
+/// A trace of two processors: a task waits for IO on the first, and a task runs for a second on the
+/// second.
 const TWO_PROCESSORS: &str = "psitrace 1 cpus=2\n\
     0 fork 1 / 0\n\
     0 fork 2 / 1\n\
@@ -37,7 +39,7 @@ const TWO_PROCESSORS: &str = "psitrace 1 cpus=2\n\
     1000000000 switch 1 0 sleep\n\
     2000000000 end\n";
 
-/// The first processor has twice the weight of the second.
+/// The report on `TWO_PROCESSORS`: the first processor has twice the weight of the second.
 const REPORTED: &str = "report 2000000000 / io\n\
     some avg10=11.95 avg60=2.15 avg300=0.45 total=1333333\n\
     full avg10=11.95 avg60=2.15 avg300=0.45 total=1333333\n\
@@ -49,7 +51,7 @@ const REPORTED: &str = "report 2000000000 / io\n\
     full avg10=0.00 avg60=0.00 avg300=0.00 total=0\n\
     end 2000000000 ticks=1 events=0 kills=0\n";
 
-/// A gate at which the first changes of processors 0 and 1 wait for each other.
+/// A gate at which each of processors 0 and 1 waits, at its first change, for the other.
 #[derive(Drop)]
 struct Meeting {
     first: AtomicBool,
@@ -57,7 +59,7 @@ struct Meeting {
     is_missed: AtomicBool,
 }
 
-/// Waits until another thread has arrived, and records it if none did.
+/// Waits until another thread has arrived. Sets `is_missed` if none arrives.
 fn wait_for(other: &AtomicBool, is_missed: &AtomicBool) {
     for _ in 0..TURNS {
         if other.load(SeqCst) {
@@ -99,8 +101,8 @@ fn workers_meet(rt: HostRuntime) {
     assert!(rt; !gate.is_missed.load(SeqCst), "a worker waited in vain");
 }
 
-/// A gate at which a change of a processor and the first sample there wait for each other: the
-/// sample is taken once the change is made, and the next change is made once the sample is taken.
+/// A gate that forces an order on processor `cpu`: its first sample is taken after change `count`,
+/// and its next change is made after that sample.
 #[derive(Drop)]
 struct Between {
     cpu: Cpu,
@@ -143,15 +145,15 @@ impl Gate for Between {
     }
 }
 
-/// Line number `number`, from 0.
+/// Returns line `number` of a text, counted from 0.
 fn line_of(text: &[u8], number: usize) -> &[u8] {
     text.split(|byte| *byte == b'\n')
         .nth(number)
         .unwrap_or(b"".as_slice())
 }
 
-/// Checks that a command line prints this line at this place, if the first sample of a processor is
-/// taken after this number of its changes.
+/// Checks that a command line prints the expected live line at its place if the gate orders the
+/// first sample of a processor after one of its changes.
 fn assert_samples_between(
     rt: &impl Host,
     line: &str,
@@ -187,14 +189,14 @@ fn samples_while_workers_run(rt: HostRuntime) {
     }
 }
 
-/// The index of a line among the possible live lines, searched from `from`.
+/// Returns the index of a line among the possible live lines, if it is at least `from`.
 fn place_from(line: &[u8], from: usize) -> Option<usize> {
     let place = LIVE_LINES.iter().position(|live| live.as_bytes() == line)?;
     if place < from { None } else { Some(place) }
 }
 
-/// Whether an output begins with `count` live lines, whose numbers of changes never fall, and the
-/// rest is `end`.
+/// Whether an output consists of `count` live lines, whose numbers of changes never decrease,
+/// followed by `end`.
 fn begins_live(output: &[u8], count: usize, end: &[u8]) -> bool {
     let mut from = 0;
     for number in 0..count {
@@ -206,7 +208,8 @@ fn begins_live(output: &[u8], count: usize, end: &[u8]) -> bool {
     output.ends_with(end) && line_of(output, count) == line_of(end, 0)
 }
 
-/// Checks that a command line prints `count` live lines before what is printed without them.
+/// Checks that a command line prints `count` live lines, followed by `plain`, the output without
+/// live samples.
 fn assert_begins_live(rt: &impl Host, line: &str, count: usize, plain: &[u8]) {
     let ran = run_open(rt, line, ONE_PROCESSOR);
     assert!(rt; begins_live(&ran.output, count, plain), "{line}, {ran}");

@@ -1,4 +1,4 @@
-//! The calls of a gate: one for each change with its number, and two for each sample.
+//! Tests of the calls of a gate: one for each change, with its number, and two for each sample.
 
 use crate::runs::{Host, Ran, run_gated};
 use outside::Gate;
@@ -7,7 +7,8 @@ use replay_core::Status;
 use std::sync::atomic::Ordering::SeqCst;
 use std::sync::atomic::{AtomicBool, AtomicU64};
 
-/// Three ticks of two processors; the root is live at each. In the second interval nothing changes.
+/// A trace of two processors and three ticks. The root is live at each tick, and in the second
+/// interval nothing changes.
 const THREE_TICKS: &str = "psitrace 1 cpus=2\n\
     0 fork 1 / 0\n\
     0 fork 2 / 1\n\
@@ -19,22 +20,22 @@ const THREE_TICKS: &str = "psitrace 1 cpus=2\n\
     5000000000 switch 1 0 sleep\n\
     6000000000 end\n";
 
-/// The number of changes of each of its processors.
+/// The number of changes of each processor in `THREE_TICKS`.
 const CHANGES: [u64; 2] = [5, 3];
 
-/// Capacity for the samples of a processor.
+/// The most samples of a processor that can be stored.
 const ROOM: usize = 16;
 
-/// The calls of a gate for a processor.
+/// The gate's calls for one processor.
 #[derive(Drop)]
 struct Notice {
-    /// The number of changes.
+    /// The number of calls for a change.
     moved: AtomicU64,
     /// The number of calls before a sample.
     requested: AtomicU64,
     /// The number of calls after a sample.
     sampled: AtomicU64,
-    /// The number of changes before each sample.
+    /// For each sample, the number of changes that it includes.
     counts: Vec<AtomicU64>,
 }
 
@@ -52,7 +53,7 @@ impl Notice {
         }
     }
 
-    /// The number of changes before sample number `number`.
+    /// The number of changes that sample `number` includes.
     fn count_at(&self, number: usize) -> Option<u64> {
         self.counts.get(number).map(|count| count.load(SeqCst))
     }
@@ -62,7 +63,7 @@ impl Notice {
 #[derive(Drop)]
 struct Counting {
     known: Vec<Notice>,
-    /// The number of samples of a processor in an interval.
+    /// The number of samples per processor and interval.
     each: u64,
     is_wrong: AtomicBool,
 }
@@ -77,22 +78,22 @@ impl Counting {
         }
     }
 
-    /// Records whether a call was as expected.
+    /// Records that a call was unexpected, unless `is_right` is true.
     fn note(&self, is_right: Option<bool>) {
         if is_right != Some(true) {
             self.is_wrong.store(true, SeqCst);
         }
     }
 
-    /// Whether a change of a processor is the next one.
+    /// Whether change number `count` of a processor follows the previous one.
     fn is_next_change(&self, cpu: Cpu, count: u64) -> Option<bool> {
         let known = self.known.get(cpu.0 as usize)?;
         let before = known.moved.fetch_add(1, SeqCst);
         Some(before < count && count - before == 1)
     }
 
-    /// Whether a sample of a processor is the next one of its interval, and the previous one was
-    /// taken.
+    /// Whether sample `index` of a processor is the next one of its interval, after the previous
+    /// sample was taken.
     fn is_next_sample(&self, cpu: Cpu, index: u32) -> Option<bool> {
         let known = self.known.get(cpu.0 as usize)?;
         let before = known.requested.fetch_add(1, SeqCst);
@@ -100,7 +101,8 @@ impl Counting {
         Some(place == u64::from(index) && known.sampled.load(SeqCst) == before)
     }
 
-    /// Whether the gate was called before this sample, which was taken after `count` changes.
+    /// Whether the gate was called before this sample. Stores `count`, the number of changes that
+    /// the sample includes.
     fn is_requested(&self, cpu: Cpu, count: u64) -> Option<bool> {
         let known = self.known.get(cpu.0 as usize)?;
         let before = known.sampled.fetch_add(1, SeqCst);
@@ -124,7 +126,7 @@ impl Gate for Counting {
     }
 }
 
-/// The count in a live line of a processor. `None` for another line.
+/// Returns the number of changes in a live line of processor `cpu`. `None` for any other line.
 fn live_count(line: &[u8], cpu: u8) -> Option<u64> {
     let rest = line.strip_prefix(b"live ")?;
     let mut words = rest.split(|byte| *byte == b' ').skip(1);
@@ -135,8 +137,8 @@ fn live_count(line: &[u8], cpu: u8) -> Option<u64> {
     read_number(words.next()?.strip_prefix(b"count=")?)
 }
 
-/// Whether a processor has `samples` live lines, each with the number of changes that the gate
-/// received for its sample.
+/// Whether a processor has `samples` live lines, each with the number of changes that the gate was
+/// called with.
 fn are_lines(ran: &Ran, cpu: u8, known: &Notice, samples: usize) -> bool {
     let lines = ran.output.split(|byte| *byte == b'\n');
     let live = lines.filter_map(|line| live_count(line, cpu)).count();
@@ -150,7 +152,8 @@ fn are_lines(ran: &Ran, cpu: u8, known: &Notice, samples: usize) -> bool {
             .all(|(number, count)| known.count_at(number) == Some(count))
 }
 
-/// Whether the gate of a run received all changes and `samples` samples of each processor.
+/// Whether the gate of a run was called for all changes, and for `samples` samples of each
+/// processor.
 fn is_reported(ran: &Ran, gate: &Counting, samples: usize) -> bool {
     ran.status == Status::Done
         && !gate.is_wrong.load(SeqCst)
@@ -160,15 +163,15 @@ fn is_reported(ran: &Ran, gate: &Counting, samples: usize) -> bool {
         })
 }
 
-/// Checks that the gate of a command line receives each change, and `samples` samples of each
-/// processor, with `each` an interval.
+/// Checks that the gate of a command line is called for each change, and for `samples` samples of
+/// each processor, `each` of them in an interval.
 fn assert_reported(rt: &impl Host, line: &str, each: u64, samples: usize) {
     let gate = Counting::new(rt, each);
     let ran = run_gated(rt, line, THREE_TICKS, &gate);
     assert!(rt; is_reported(&ran, &gate, samples), "{line}, {ran}");
 }
 
-// For any number of workers.
+// The calls don't depend on the number of workers.
 #[test]
 fn each_change_once(rt: HostRuntime) {
     assert_reported(&rt, "replay t", 1, 0);

@@ -1,5 +1,5 @@
-//! Traces at their limits, and one beyond. The limits of event lines are tested with the built
-//! program, those of a rules file in rule_tests.
+//! Tests of traces at their limits, and one beyond. The limits of event lines are tested with the
+//! built program, those of a rules file in rule_tests.
 
 use crate::runs::{Host, assert_prints, assert_refused};
 use psi_base::Cause;
@@ -7,17 +7,17 @@ use std::process::Abort;
 
 const HEADER: &str = "psitrace 1 cpus=1\n";
 
-/// Appends a piece.
+/// Appends `piece` to a text.
 fn push(rt: &impl Abort, text: &mut String, piece: &str) {
     text.push_str(piece).expect(rt, "memory");
 }
 
-/// A text that can grow.
+/// Makes a growable text that begins with `prefix`.
 fn text_of(rt: &impl Host, prefix: &str) -> String {
     String::from_str(rt.alloc(), prefix).expect(rt, "memory")
 }
 
-/// A text followed by a piece `times` times.
+/// Makes a text of `prefix` and `times` copies of `piece`.
 fn repeated(rt: &impl Host, prefix: &str, piece: &str, times: usize) -> String {
     let mut text = text_of(rt, prefix);
     for _ in 0..times {
@@ -26,13 +26,13 @@ fn repeated(rt: &impl Host, prefix: &str, piece: &str, times: usize) -> String {
     text
 }
 
-/// Checks that `check` accepts these lines, followed by an end, and prints this.
+/// Checks that `check` accepts these lines, followed by an end, and prints `known`.
 fn assert_accepted(rt: &impl Host, lines: &str, known: &str) {
     let trace = repeated(rt, lines, "0 end\n", 1);
     assert_prints(rt, "check t", &trace, 65536, known);
 }
 
-/// Checks that `check` rejects these lines at this one with this cause.
+/// Checks that `check` rejects line `number` with this cause.
 fn assert_line_refused(rt: &impl Host, lines: &str, number: u32, cause: Cause, name: &str) {
     assert_refused(rt, "check t", lines.as_bytes(), number, cause, name);
 }

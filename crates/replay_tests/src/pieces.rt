@@ -1,4 +1,4 @@
-//! Accepted traces that are read, and whose output is written, in pieces.
+//! Tests of accepted traces whose text is read, and whose output is written, in pieces.
 
 use crate::runs::{Host, assert_prints};
 use std::process::Abort;
@@ -120,13 +120,13 @@ const TRACES: &str = "psitrace 1 cpus=1\n\
     stall cpu=0 /b 0 0 0 0 0 0 0\n|\
     ok lines=12 events=11 end=7\n";
 
-/// A part of a row, and the rest of the row.
+/// Splits a row after its first part.
 fn part_of<'a>(rt: &impl Abort, row: &'a str) -> (&'a str, &'a str) {
     row.split_once('|').expect(rt, "a trace and two outputs")
 }
 
-/// Checks that both commands print what follows the trace, if the shelf and the sinks move at most
-/// `most` bytes a call.
+/// Checks that `stall` and `check` print the outputs in a row for its trace. The shelf and the
+/// sinks move at most `most` bytes per call.
 fn assert_row(rt: &impl Host, row: &str, most: usize) {
     let (trace, outputs) = part_of(rt, row);
     let (sums, line) = part_of(rt, outputs);

@@ -1,10 +1,10 @@
-//! A replay whose trace is read, and whose output is written, byte by byte; each call fails in
-//! turn.
+//! Tests of a replay whose trace is read, and whose output is written, byte by byte. Each call
+//! fails in turn.
 
 use crate::runs::{ONE_WAIT, assert_prints, assert_prints_nothing, assert_prints_prefix};
 use replay_core::Status;
 
-/// The one tick of the trace, at its end.
+/// The output of a replay of `ONE_WAIT`, whose only tick is at its end.
 pub const REPLAYED: &str = "report 2000000000 / io\n\
     some avg10=18.11 avg60=3.27 avg300=0.68 total=2000000\n\
     full avg10=18.11 avg60=3.27 avg300=0.68 total=2000000\n\

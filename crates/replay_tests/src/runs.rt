@@ -1,5 +1,5 @@
-//! Runs words with one trace, and at most one rules file and one drop-in file, in memory, with
-//! assertions about a run. A test ends if memory runs out.
+//! Runs a command line with one trace, and at most one rules file and one drop-in file, in memory;
+//! and checks of a run. A test aborts if memory runs out.
 
 use outside::{Gate, OpenGate};
 use outside_fakes::{MemShelf, MemSink};
@@ -9,7 +9,8 @@ use std::fmt;
 use std::process::Abort;
 use std::thread::Threads;
 
-/// Which call of the shelf, the output and the note fails, counted from 0. `NONE` fails none.
+/// The number of the read, of the write and of the note's write that fails, each counted from 0.
+/// `NONE` means that none fails.
 #[derive(Clone, Copy, Debug)]
 pub struct Failing {
     pub read: u64,
@@ -17,7 +18,7 @@ pub struct Failing {
     pub note: u64,
 }
 
-/// A call that isn't made.
+/// The number of a call that no test reaches.
 pub const NONE: u64 = 1_000_000;
 
 /// No call fails.
@@ -37,13 +38,13 @@ pub const ONE_WAIT: &str = "psitrace 1 cpus=1\n\
     0 switch 0 0 iowait\n\
     2000000000 end\n";
 
-/// What a test needs: threads, memory, and a way to abort.
+/// What a test needs from its runtime: threads, memory, and a way to abort.
 pub trait Host: Threads + AllocGlobal + Sync + Abort {}
 
 impl<R: Threads + AllocGlobal + Sync + Abort> Host for R {}
 
-/// The results of a run: its status, output and note. For messages, also the length of the trace
-/// and the maximal number of bytes of a call.
+/// The results of a run: its status, output and note. The length of the trace and the most bytes
+/// per call are there for messages.
 #[derive(Drop)]
 pub struct Ran {
     pub status: Status,
@@ -54,7 +55,7 @@ pub struct Ran {
     failing: Failing,
 }
 
-/// Bytes as they are shown in a message.
+/// Returns bytes as text for a message.
 fn shown(bytes: &[u8]) -> &str {
     str::from_utf8(bytes).unwrap_or("no text")
 }
@@ -71,8 +72,7 @@ impl fmt::Display for Ran {
     }
 }
 
-/// The files of the shelf: a trace with the name `t`, rules with the name `r`, and a drop-in file
-/// with the name `d`.
+/// The files on the shelf: a trace named `t`, rules named `r`, and a drop-in file named `d`.
 #[derive(Clone, Copy)]
 pub struct Files<'a> {
     pub trace: &'a [u8],
@@ -80,7 +80,7 @@ pub struct Files<'a> {
     pub drop_in: &'a str,
 }
 
-/// A trace, without rules and drop-in file.
+/// Files with this trace, and with empty rules and drop-in files.
 pub fn trace_alone(trace: &[u8]) -> Files<'_> {
     Files {
         trace,
@@ -89,7 +89,7 @@ pub fn trace_alone(trace: &[u8]) -> Files<'_> {
     }
 }
 
-/// The words of a command line, split at spaces.
+/// Splits a command line into words at spaces.
 fn words_of(rt: &impl Host, line: &str) -> Vec<String> {
     let mut words = Vec::new(rt.alloc());
     for word in line.split(' ') {
@@ -99,19 +99,19 @@ fn words_of(rt: &impl Host, line: &str) -> Vec<String> {
     words
 }
 
-/// A file of the shelf.
+/// Makes a file of the shelf from a name and bytes.
 fn file_of(rt: &impl Host, name: &str, bytes: &[u8]) -> (Text, Text) {
     let name = Text::make(rt.alloc(), name.as_bytes()).expect(rt, "memory");
     let bytes = Text::make(rt.alloc(), bytes).expect(rt, "memory");
     (name, bytes)
 }
 
-/// The number of the one call that fails.
+/// Makes the list of failing calls, which has one number.
 fn call_of(rt: &impl Host, call: u64) -> Vec<u64> {
     vec![in rt.alloc(); call].expect(rt, "memory")
 }
 
-/// A shelf that returns at most `most` bytes a call.
+/// Makes a shelf that returns at most `most` bytes per call.
 fn shelf_of(rt: &impl Host, files: Files, most: usize, failing: Failing) -> MemShelf {
     let held = vec![in rt.alloc();
         file_of(rt, "t", files.trace),
@@ -122,14 +122,14 @@ fn shelf_of(rt: &impl Host, files: Files, most: usize, failing: Failing) -> MemS
     MemShelf::new(held, most.max(1), call_of(rt, failing.read))
 }
 
-/// A sink that accepts at most `most` bytes a call; one call fails.
+/// Makes a sink that accepts at most `most` bytes per call, and fails at call `call`.
 fn sink_of(rt: &impl Host, most: usize, call: u64) -> MemSink {
     let sink = MemSink::new(rt.alloc(), ROOM, most.max(1), call_of(rt, call));
     sink.expect(rt, "memory")
 }
 
-/// Runs a command line with a shelf, with some failing calls and with a gate that may block
-/// threads. The shelf and both sinks move at most `most` bytes a call.
+/// Runs a command line with these files, injected failures, and a gate that may block threads. The
+/// shelf and both sinks move at most `most` bytes per call.
 fn run_over(
     rt: &impl Host,
     line: &str,
@@ -161,13 +161,13 @@ fn run_over(
     }
 }
 
-/// Runs a command line with these files and some failing calls.
+/// Runs a command line with these files and injected failures.
 pub fn run_files(rt: &impl Host, line: &str, files: Files, most: usize, failing: Failing) -> Ran {
     run_over(rt, line, files, most, failing, &OpenGate)
 }
 
-/// Runs a command line with this trace, without rules and failing calls, with a gate that may block
-/// threads.
+/// Runs a command line with this trace, without rules or injected failures, with a gate that may
+/// block threads.
 pub fn run_gated(rt: &impl Host, line: &str, trace: &str, gate: &impl Gate) -> Ran {
     run_over(
         rt,
@@ -179,12 +179,12 @@ pub fn run_gated(rt: &impl Host, line: &str, trace: &str, gate: &impl Gate) -> R
     )
 }
 
-/// Runs a command line with this trace, without rules and failing calls.
+/// Runs a command line with this trace, without rules or injected failures.
 pub fn run_open(rt: &impl Host, line: &str, trace: &str) -> Ran {
     run_gated(rt, line, trace, &OpenGate)
 }
 
-/// Runs a command line with this trace, without rules, with some failing calls.
+/// Runs a command line with this trace and injected failures, without rules.
 pub fn run_trace(rt: &impl Host, line: &str, trace: &str, most: usize, failing: Failing) -> Ran {
     run_files(rt, line, trace_alone(trace.as_bytes()), most, failing)
 }
@@ -207,14 +207,14 @@ pub fn assert_run(
     );
 }
 
-/// Checks that a command line prints this output for this trace, if no call fails.
+/// Checks that a command line prints exactly this output for this trace, with no injected failure.
 pub fn assert_prints(rt: &impl Host, line: &str, trace: &str, most: usize, output: &str) {
     let ran = run_trace(rt, line, trace, most, NO_FAULT);
     assert_run(rt, line, &ran, Status::Done, output, "");
 }
 
-/// Checks that a command line ends with this status and note, and prints nothing, if this call of
-/// the shelf fails.
+/// Checks that a command line ends with this status and note and prints nothing if read `read`
+/// fails.
 pub fn assert_prints_nothing(
     rt: &impl Host,
     line: &str,
@@ -228,7 +228,7 @@ pub fn assert_prints_nothing(
     assert_run(rt, line, &ran, status, "", note);
 }
 
-/// Checks that a command line prints a prefix of this output, if this call of the sink fails.
+/// Checks that a command line prints a prefix of this output if one write fails.
 pub fn assert_prints_prefix(
     rt: &impl Host,
     line: &str,
@@ -248,7 +248,7 @@ pub fn assert_prints_prefix(
     );
 }
 
-/// Checks that this trace is rejected at this line with this cause, and that the note names the
+/// Checks that this trace is rejected at line `number` with this cause, and that the note names the
 /// cause.
 pub fn assert_refused(
     rt: &impl Host,

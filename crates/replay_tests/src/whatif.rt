@@ -1,27 +1,27 @@
-//! Traces without the victims of kills.
+//! Tests of `whatif`, which replays traces without the victims of kills.
 
 use crate::runs::{Failing, Files, Host, NO_FAULT, Ran, assert_run, run_files};
 use replay_core::Status;
 
 const WHATIF: &str = "whatif t --rules r --tick-ms 1000 --report-s 0";
 
-/// Any group under `/s` is killed at each evaluation, with a post-action delay of 15 s for the
-/// ruleset: the group with most memory, and of two equal ones the first by path.
+/// Rules that kill a group under `/s` at each evaluation, with a post-action delay of 15 s for the
+/// ruleset. The victim is the group with most memory, and of equal groups the first by path.
 const KILLS: &str =
     r#"{"rulesets":[{"name":"r","detectors":[["g",{"name":"exists","args":{"cgroup":"s/*"}}]],"actions":[{"name":"kill_by_memory_size_or_growth","args":{"cgroup":"s/*"}}]}]}"#;
 
-/// At one evaluation `/s/a` is killed and then `/s/b`.
+/// Rules that kill `/s/a` and then `/s/b` at one evaluation.
 const BOTH: &str =
     r#"{"rulesets":[{"name":"r","detectors":[["g",{"name":"exists","args":{"cgroup":"s/*"}}]],"actions":[{"name":"kill_by_memory_size_or_growth","args":{"cgroup":"s/a","always_continue":"true"}},{"name":"kill_by_memory_size_or_growth","args":{"cgroup":"s/b"}}]}]}"#;
 
-/// The one task of a group.
+/// A trace with one group of one task.
 const ONE: &str = "psitrace 1 cpus=1\n\
     0 group /s\n\
     0 group /s/a\n\
     0 fork 1 /s/a 0\n\
     36000000000 end\n";
 
-/// A task of each of two groups.
+/// A trace with two groups of one task each.
 const TWO: &str = "psitrace 1 cpus=1\n\
     0 group /s\n\
     0 group /s/a\n\
@@ -30,7 +30,8 @@ const TWO: &str = "psitrace 1 cpus=1\n\
     0 fork 2 /s/b 0\n\
     36000000000 end\n";
 
-/// The victim forks one more task after its kill. This task stays live, and may be killed.
+/// A trace in which the victim forks another task after the kill. This task is not removed, and may
+/// be killed later.
 const LATER: &str = "psitrace 1 cpus=1\n\
     0 group /s\n\
     0 group /s/a\n\
@@ -40,14 +41,14 @@ const LATER: &str = "psitrace 1 cpus=1\n\
     7000000000 switch 0 3 exit\n\
     36000000000 end\n";
 
-/// The trace ends at the first evaluation.
+/// A trace that ends at the first evaluation.
 const AT_END: &str = "psitrace 1 cpus=1\n\
     0 group /s\n\
     0 group /s/a\n\
     0 fork 1 /s/a 0\n\
     5000000000 end\n";
 
-/// Runs a command line with a trace and rules and some failing calls.
+/// Runs a command line with this trace, these rules and injected failures.
 fn run_over(rt: &impl Host, line: &str, trace: &str, rules: &str, failing: Failing) -> Ran {
     let files = Files {
         trace: trace.as_bytes(),
@@ -57,7 +58,8 @@ fn run_over(rt: &impl Host, line: &str, trace: &str, rules: &str, failing: Faili
     run_files(rt, line, files, 65536, failing)
 }
 
-/// Whether an output begins with exactly these lines of kills, and ends with this line.
+/// Whether an output begins with the lines `kills`, has no other kill, and ends with the line
+/// `end`.
 fn has_kills(output: &[u8], kills: &str, end: &str) -> bool {
     let others = output.strip_prefix(kills.as_bytes());
     let others = others.and_then(|others| str::from_utf8(others).ok());
@@ -66,7 +68,7 @@ fn has_kills(output: &[u8], kills: &str, end: &str) -> bool {
     no_more && output.ends_with(end.as_bytes())
 }
 
-/// Checks that `whatif` prints these lines of kills, the report of the last tick and the last line.
+/// Checks that `whatif` prints the lines `kills`, has no other kill, and ends with the line `end`.
 fn assert_shows(rt: &impl Host, trace: &str, rules: &str, kills: &str, end: &str) {
     let ran = run_over(rt, WHATIF, trace, rules, NO_FAULT);
     let is_done = ran.status == Status::Done && ran.note.is_empty();

@@ -1,4 +1,4 @@
-//! Words that are no command, missing files, and statuses.
+//! Tests of words that aren't a command, of missing files, and of the codes of statuses.
 
 use crate::runs::{Host, NONE, ONE_WAIT, assert_prints_nothing};
 use dropin_rules::{DropCause, DropFault};
@@ -18,7 +18,7 @@ fn assert_reported(rt: &impl Host, line: &str, status: Status, note: &str) {
     assert_prints_nothing(rt, line, ONE_WAIT, 7, NONE, status, note);
 }
 
-// The shelf in memory has no files with the names `u` and `-`.
+// The shelf in memory has no files named `u` and `-`.
 #[test]
 fn words_and_names(rt: HostRuntime) {
     let usage =
@@ -29,7 +29,7 @@ fn words_and_names(rt: HostRuntime) {
     assert_reported(&rt, "stall -", NO_FILE, "no file: -\n");
 }
 
-// An out-of-memory failure, as returned by an allocation that always fails.
+// Returns the error of an allocation that always fails.
 fn short_of_memory(rt: &impl Abort, alloc: Global) -> NoMemory {
     match Vec::<u8>::with_capacity(alloc, usize::MAX) {
         Ok(_) => panic!(rt; "there is room for all bytes that can be named"),
