@@ -1,4 +1,4 @@
-//! Checks before a test takes a reading or asks for a victim, and checks of results.
+//! Range checks that establish the preconditions of the tested calls, and checks of results.
 
 ghost use Rattle.std.specs.Prelude.{◌≡◌, ◌<◌, ◌≤◌, All, length, true};
 ghost use Rattle.pressure_spec.specs.Within.{IsRow};
@@ -12,10 +12,10 @@ use ruleset_json::{Action, After, Size};
 use std::fmt::Display;
 use std::process::Abort;
 
-/// The maximal number of bytes and scans in a sample (2^60).
+/// The most bytes or scans in a sample (2^60).
 pub const MOST: u64 = 1 << 60;
 
-/// The greatest average, 100 percent.
+/// The greatest average in fixed point: 100 percent.
 const WHOLE: u64 = 204_800;
 
 /// Whether a sample of the host is in range.
@@ -49,7 +49,7 @@ fn are_rows(rows: &[[u64; 3]]) -> bool
     true
 }
 
-/// Whether a group is in range, with its slot below `slots`.
+/// Whether a group's values are in range and its slot is below `slots`.
 pub fn is_group(group: &GroupReading, slots: usize) -> bool
     ensures { result ≡ true → IsGroupReading slots group.now }
 {
@@ -57,7 +57,7 @@ pub fn is_group(group: &GroupReading, slots: usize) -> bool
     (group.slot.0 as usize) < slots && is_small && are_rows(&group.averages)
 }
 
-/// Whether a group's path comes after those of a reading.
+/// Whether a group's path comes after all paths of a reading.
 pub fn comes_last(reading: &Reading, group: &GroupReading) -> bool
     requires { group.now.slot.0 < length reading.now.lives }
     ensures { result ≡ true → ComesLast reading.now group.now }
@@ -119,7 +119,7 @@ pub fn is_action(action: &Action) -> bool
     }
 }
 
-/// Checks that the text is the expected one in this case.
+/// Checks that `found` is the text `wanted`. `case` names the case in the message.
 pub fn is_text(rt: &impl Abort, found: &str, wanted: &str, case: impl Display + Drop) {
     assert_eq!(rt; found, wanted, "at {case}");
 }

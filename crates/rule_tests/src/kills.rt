@@ -1,5 +1,5 @@
-//! Rules with rows of readings, each with the expected kills. These follow from the rules of chains
-//! and of post-action delays.
+//! Tests of rules: rows of readings, each with the expected kills. These follow from the rules of
+//! action chains and of post-action delays.
 
 use crate::checks::is_text;
 use crate::readings::{NO_HOST, SECOND, life, using};
@@ -13,22 +13,23 @@ use ruleset_json::{Rules, read};
 use std::alloc::Global;
 use std::process::Abort;
 
-/// A reading as tests write it, five seconds after the previous one: the memory (bytes) of the
-/// group `/a`, if it is live, and the expected kills, each as time (s), ruleset, action and slot.
+/// A reading, five seconds after the previous one, and the expected kills. The reading is the
+/// memory (bytes) of the group `/a`, `None` if it isn't live. Each kill is a time (s), ruleset,
+/// action and slot.
 type Case = (Option<u64>, &'static str);
 
-/// The root and a child of it.
+/// The root and one of its children.
 fn groups(rt: &impl Abort, alloc: Global) -> [GroupLife; 2] {
     [life(rt, alloc, "/", None), life(rt, alloc, "/a", None)]
 }
 
-/// The rules of a text with `'` in place of `"`.
+/// Parses the rules of a text in which `'` replaces `"`.
 fn rules(rt: &impl Abort, alloc: Global, text: &str) -> Rules {
     let text = quoted(rt, alloc, text);
     read(alloc, text.as_bytes()).expect(rt, "rules")
 }
 
-/// The group `/a` with `current` bytes of memory, if it is live.
+/// The group `/a` with `current` bytes of memory; `None` if it isn't live.
 fn group(current: &Option<u64>) -> Option<GroupReading> {
     match current {
         Some(current) => using(1, *current),
@@ -36,7 +37,7 @@ fn group(current: &Option<u64>) -> Option<GroupReading> {
     }
 }
 
-/// Kills as a text.
+/// Formats kills as a text.
 fn shown(rt: &impl Abort, alloc: Global, kills: &[Kill]) -> String {
     let mut text = String::new(alloc);
     for kill in kills {
@@ -47,7 +48,7 @@ fn shown(rt: &impl Abort, alloc: Global, kills: &[Kill]) -> String {
     text
 }
 
-/// Checks the kills at each row.
+/// Checks the kills at each row, in order.
 fn kills(rt: &impl Abort, alloc: Global, text: &str, rows: &[Case]) {
     let mut rig = Rig::make(rt, alloc, &groups(rt, alloc));
     let killer = Killer::make(alloc, rules(rt, alloc, text), rig.reading.lives());

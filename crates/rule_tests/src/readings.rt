@@ -1,4 +1,4 @@
-//! The parts of readings in tests.
+//! The parts of which tests build readings: hosts, groups and their lives.
 use detectors::{GroupReading, HostReading};
 use pressure_spec::QUANTITIES;
 use psi_base::{Ns, Path, Preference, Slot};
@@ -6,23 +6,23 @@ use psi_spec::GroupLife;
 use std::alloc::Global;
 use std::process::Abort;
 
-/// A second (ns).
+/// One second (ns).
 pub const SECOND: Ns = 1_000_000_000;
 
-/// A host without samples.
+/// A host without a sample.
 pub const NO_HOST: HostReading = HostReading {
     mem_total: 0,
     swap_total: 0,
     swap_free: 0,
 };
 
-/// The path of a text.
+/// Parses a path.
 pub fn path(rt: &impl Abort, alloc: Global, text: &str) -> Path {
     let path = Path::read(alloc, text.as_bytes()).expect(rt, "memory");
     path.expect(rt, text)
 }
 
-/// The life of a group that was created at 0.
+/// The life of a group that was created at 0 and is still live.
 pub fn life(rt: &impl Abort, alloc: Global, text: &str, parent: Option<Slot>) -> GroupLife {
     GroupLife {
         path: path(rt, alloc, text),
@@ -33,7 +33,7 @@ pub fn life(rt: &impl Abort, alloc: Global, text: &str, parent: Option<Slot>) ->
     }
 }
 
-/// A group with tasks and without other values.
+/// A group with tasks, whose other values are zero.
 pub fn bare_group(slot: u32) -> GroupReading {
     GroupReading {
         slot: Slot(slot),
@@ -46,14 +46,14 @@ pub fn bare_group(slot: u32) -> GroupReading {
     }
 }
 
-/// A group that uses memory (bytes).
+/// A group that uses `current` bytes of memory.
 pub fn using(slot: u32, current: u64) -> Option<GroupReading> {
     let mut group = bare_group(slot);
     group.current = current;
     Some(group)
 }
 
-/// A group with a count of scans.
+/// A group with `scan` page scans.
 pub fn scanned(slot: u32, scan: u64) -> Option<GroupReading> {
     let mut group = bare_group(slot);
     group.scan = scan;

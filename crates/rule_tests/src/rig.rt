@@ -1,4 +1,4 @@
-//! Readings that a test takes in order.
+//! A rig: one reading that a test fills again and again, at increasing times.
 ghost use Rattle.std.specs.Prelude.{◌≡◌, None, Some};
 ghost use Rattle.detectors.specs.Views.{IsAfter};
 
@@ -9,14 +9,15 @@ use psi_spec::GroupLife;
 use std::alloc::Global;
 use std::process::Abort;
 
-/// A reading, and its time (ns) after the first one.
+/// A reading, and its time (ns), which is `None` before the first reading.
 #[derive(Drop)]
 pub struct Rig {
     pub reading: Reading,
     last: Option<Ns>,
 }
 
-/// Puts groups into a reading. Each must be in range and come next.
+/// Adds groups to a reading. Checks that each is in range, and that its path comes after the
+/// previous paths.
 fn put_groups(rt: &impl Abort, reading: &mut Reading, groups: &[Option<GroupReading>])
     ensures lives { reading.new.lives ≡ reading.old.lives }
     ensures at { reading.new.seen.at ≡ reading.old.seen.at }
@@ -34,7 +35,7 @@ fn put_groups(rt: &impl Abort, reading: &mut Reading, groups: &[Option<GroupRead
 }
 
 impl Rig {
-    /// A rig of groups with these lives, before the first reading.
+    /// Makes a rig of groups with these lives, before the first reading.
     pub fn make(rt: &impl Abort, alloc: Global, lives: &[GroupLife]) -> Rig
         ensures lives { result.reading.lives ≡ lives.now }
         ensures last { result.last ≡ None }
@@ -46,8 +47,8 @@ impl Rig {
         }
     }
 
-    /// The next reading, at a later time (ns): the host, and the groups in the byte order of their
-    /// paths.
+    /// Fills the reading at a later time `at` (ns), with the host and the groups in the byte order
+    /// of their paths.
     pub fn read(
         &mut self,
         rt: &impl Abort,

@@ -1,4 +1,4 @@
-//! Rules files, the patterns of paths in them, and rules as text.
+//! Tests of rules files, of the path patterns in them, and of rules printed as text.
 mod faults;
 mod forms;
 mod json;

@@ -1,5 +1,5 @@
-//! Choices with rows of readings, each with the expected victim. The numbers follow from the rules
-//! of victims.
+//! Tests of the choice of a victim: rows of readings with the expected victim. The numbers follow
+//! from the rules of victims.
 
 ghost use Rattle.std.specs.Prelude.{◌≡◌, length};
 
@@ -15,10 +15,10 @@ use std::alloc::Global;
 use std::process::Abort;
 use victim_rank::{MatchTable, Past, victim};
 
-/// A reading as tests write it: the groups in the byte order of their paths.
+/// A reading: the groups in the byte order of their paths, `None` for a group that isn't live.
 type Row = [Option<GroupReading>; 3];
 
-/// A group that uses memory (bytes), with a preference.
+/// A group that uses `current` bytes of memory and has a preference.
 fn preferring(slot: u32, current: u64, preference: Preference) -> Option<GroupReading> {
     let mut group = bare_group(slot);
     group.current = current;
@@ -26,7 +26,7 @@ fn preferring(slot: u32, current: u64, preference: Preference) -> Option<GroupRe
     Some(group)
 }
 
-/// A group without a task.
+/// A group that uses `current` bytes of memory and has no task.
 fn empty(slot: u32, current: u64) -> Option<GroupReading> {
     let mut group = bare_group(slot);
     group.current = current;
@@ -34,22 +34,22 @@ fn empty(slot: u32, current: u64) -> Option<GroupReading> {
     Some(group)
 }
 
-/// A group with swap in use (bytes).
+/// A group that uses `swap` bytes of swap.
 fn swapping(slot: u32, swap: u64) -> Option<GroupReading> {
     let mut group = bare_group(slot);
     group.swap = swap;
     Some(group)
 }
 
-/// A group with memory full averages over 10 s and over 60 s.
+/// A group with these memory full averages over 10 s and over 60 s.
 fn pressed(slot: u32, ten: u64, sixty: u64) -> Option<GroupReading> {
     let mut group = bare_group(slot);
     group.averages[State::MemFull as usize] = [ten, sixty, 0];
     Some(group)
 }
 
-/// The root, three children of it, and two children of the first of them, whose paths come before
-/// those of the others.
+/// Six groups: the root, three of its children, and two children of the first child, whose paths
+/// come before the paths of the second and third child.
 fn lives(rt: &impl Abort, alloc: Global) -> [GroupLife; 6] {
     [
         life(rt, alloc, "/", None),
@@ -61,7 +61,7 @@ fn lives(rt: &impl Abort, alloc: Global) -> [GroupLife; 6] {
     ]
 }
 
-/// The action's `After`: delay, recursive, always_continue.
+/// The options of an action for the time after it, without a delay.
 fn after(recursive: bool) -> After {
     After {
         recursive,
@@ -70,12 +70,13 @@ fn after(recursive: bool) -> After {
     }
 }
 
-/// The children of the root.
+/// A pattern that matches the children of the root.
 fn below_root(rt: &impl Abort, alloc: Global) -> Patterns {
     Patterns::read(alloc, "*").expect(rt, "patterns")
 }
 
-/// The children of the root, by size or growth: half of the memory of all, or a growth by 1.25.
+/// An action that chooses a child of the root by size or growth: one with at least half of all
+/// memory, or one that grew by at least 1.25.
 fn size_or_growth(rt: &impl Abort, alloc: Global, percentile: u32, recursive: bool) -> Action {
     Action::SizeOrGrowth {
         cgroup: below_root(rt, alloc),
@@ -109,7 +110,7 @@ fn pg_scan(rt: &impl Abort, alloc: Global) -> Action {
     }
 }
 
-/// Checks that the victim at the reading is the group in the `wanted` slot.
+/// Checks that the action's victim at a reading is the group in slot `wanted`, or none.
 fn is_victim(
     rt: &impl Abort,
     alloc: Global,
@@ -126,7 +127,8 @@ fn is_victim(
     assert_eq!(rt; victim(action, &table, reading, past, lives), wanted);
 }
 
-/// Checks that the victim at the last of these readings is the group in the `wanted` slot.
+/// Checks that the action's victim at the last of these readings is the group in slot `wanted`, or
+/// none.
 fn kills(rt: &impl Abort, alloc: Global, action: &Action, rows: &[Row], wanted: Option<Slot>) {
     let mut rig = Rig::make(rt, alloc, &lives(rt, alloc));
     let past = Past::make(alloc, rig.reading.lives().len() as u32);
@@ -142,7 +144,8 @@ fn kills(rt: &impl Abort, alloc: Global, action: &Action, rows: &[Row], wanted: 
 
 // ---- size or growth
 
-// No group has half of 108. The second grew from a mean of 30 to 38, by 1.27.
+// No group has half of the total of 108. The second group grew from a mean of 30 to 38, by a factor
+// of 1.27.
 #[test]
 fn growth_is_over_the_mean_of_the_past(rt: HostRuntime) {
     let before = [using(1, 40), using(2, 30), using(3, 30)];
@@ -158,8 +161,9 @@ fn growth_is_over_the_mean_of_the_past(rt: HostRuntime) {
     kills(&rt, rt.alloc(), &action, &[now], Some(Slot(1)));
 }
 
-// A reading at which the group wasn't live is left out, and so is the fifth size before the current
-// one: over four sizes of 30 it grew by 1.23, and over three of them and one of 10 by 1.48.
+// A reading at which the group wasn't live doesn't count, nor does the fifth size before the
+// current one. With four sizes of 30 the group grew by a factor of 1.23; with three of them and one
+// of 10 it would be 1.48.
 #[test]
 fn the_past_has_four_sizes(rt: HostRuntime) {
     let first = [using(1, 40), using(2, 10), using(3, 40)];
@@ -183,7 +187,7 @@ fn the_past_has_four_sizes(rt: HostRuntime) {
     );
 }
 
-// One of three groups is above percentile 80: 0.6, rounded up. So the group that grew isn't
+// One of three groups is above percentile 80 (0.6, rounded up), so the group that grew isn't
 // considered.
 #[test]
 fn the_percentile_is_rounded_up(rt: HostRuntime) {
@@ -205,8 +209,8 @@ fn the_percentile_is_rounded_up(rt: HostRuntime) {
     );
 }
 
-// A group with half of all is chosen though another grew. If the total is 0 each group has its
-// share, and the first path is chosen.
+// A group with half of the total is chosen although another group grew. If the total is 0, each
+// group has its share, and the group with the first path is chosen.
 #[test]
 fn half_of_all_is_large(rt: HostRuntime) {
     let before = [using(1, 50), using(2, 10), None];
@@ -315,7 +319,8 @@ fn pressure_and_scans_are_above_zero(rt: HostRuntime) {
 
 // ---- children
 
-// The choice descends to a child, though no pattern matches it, and stops if no child is eligible.
+// The choice descends to a child even if no pattern matches the child. It stops if no child is
+// eligible.
 #[test]
 fn recursive_goes_down(rt: HostRuntime) {
     let sizes = [using(1, 60), using(4, 20), using(5, 40)];

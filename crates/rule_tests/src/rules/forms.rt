@@ -1,10 +1,10 @@
-//! The arguments: each form at its limits, and each default.
+//! Tests of plugin arguments: each syntactic form at its limits, and each default.
 use crate::rules::shown::reads_rows;
 
-/// The fault of the one detector.
+/// The message for a fault of the only detector.
 const AT_ITEM: &str = "rules ruleset 0 group 0 item 0: @";
 
-/// The fault of the one action.
+/// The message for a fault of the only action.
 const AT_ACTION: &str = "rules ruleset 0 action 0: @";
 
 const OF_NUMBER: &str =
@@ -202,7 +202,7 @@ true~/true false
 'x,x,x,x,x,x,x,x,x,x,x,x,x,x,x,x,?'!BadArg
 null!WrongKind";
 
-// Unknown arguments, and those of other plugins, are accepted with any value.
+// Unknown arguments, and arguments of other plugins, are accepted with any value.
 const UNKNOWN: &str =
     "'g0','dry':'true','duration':null,'recursive':'no','post_action_delay':[{}]~/g0 false
 'g0'},'kind':[],'Args':{~/g0 false";
@@ -238,14 +238,14 @@ fn resources(rt: HostRuntime) {
     reads_rows(&rt, rt.alloc(), OF_RESOURCE, rules, AT_ITEM, RESOURCES);
 }
 
-// Each default of a detector.
+// The defaults of each detector.
 const OF_DETECTOR: &str =
     "{'rulesets':[{'name':'r','detectors':[['g',{'name':@}}]],'actions':[]}]}";
 
 const DETECTORS: &str = "'exists','args':{'cgroup':'g0'~exists /g0 false
 'pressure_rising_beyond','args':{'cgroup':'g0','resource':'memory','threshold':1,'duration':2~pressure_rising_beyond /g0 Memory 1 2 850";
 
-// Each default of an action, and each argument.
+// The defaults of each action, and each argument.
 const OF_ACTION: &str = "{'rulesets':[{'name':'r','detectors':[],'actions':[{'name':@}}]}]}";
 
 const ACTIONS: &str =
@@ -276,7 +276,7 @@ fn defaults(rt: HostRuntime) {
     reads_rows(&rt, rt.alloc(), OF_ACTION, "r: @;\n", AT_ACTION, ACTIONS);
 }
 
-// An action without a delay has the ruleset's.
+// An action without a delay of its own has the ruleset's delay.
 const OF_DELAY: &str =
     "{'rulesets':[{'silence-logs':null,'name':'r','detectors':[],'post_action_delay':@}}]}],'version':1.5}";
 

@@ -1,13 +1,13 @@
-//! Which texts are JSON, and how long they may be.
+//! Tests of the JSON syntax of rules files, and of their length limit.
 use crate::rules::shown::{reads, reads_bytes, reads_rows};
 use std::alloc::Global;
 use std::process::Abort;
 
 const LARGEST: usize = 1_048_576;
 
-// Texts around `rulesets`. Space, escapes, and the last of equal keys; under an unknown key any
-// number except those that overflow a float; half a pair of surrogates; no comments, no trailing
-// commas, nothing after the value.
+// Texts with white space, escapes, equal keys (the last one counts), numbers under an unknown key
+// (any number except one that overflows a float), half a surrogate pair, comments, trailing commas,
+// and text after the value.
 const TEXTS: &str = " \t\r{'rulesets':[]} \t\r~
 {'\\u0072ulesets':[]}~
 {'rulesets':5,'rulesets':[]}~
@@ -56,7 +56,7 @@ fn bytes_that_are_no_text(rt: HostRuntime) {
     reads_bytes(&rt, alloc, b"\xef\xbb\xbf{\"rulesets\":[]}", bad);
 }
 
-// Checks what is read from an object with lists nested to this depth.
+// Checks the result of reading an object with lists nested to depth `depth`.
 fn reads_nested(rt: &impl Abort, alloc: Global, depth: usize, text: &str) {
     let lists = depth.saturating_sub(1);
     let open = "[".repeat(alloc, lists).expect(rt, "memory");
@@ -72,7 +72,7 @@ fn nesting(rt: HostRuntime) {
     reads_nested(&rt, rt.alloc(), 128, "rules: BadJson");
 }
 
-// Checks what is read from the bytes, padded with spaces to `length` bytes.
+// Checks the result of reading the bytes, padded with spaces to `length` bytes.
 fn reads_padded(rt: &impl Abort, alloc: Global, bytes: &[u8], length: usize, text: &str) {
     let mut long = Vec::from_slice(alloc, bytes).expect(rt, "memory");
     long.resize(length, b' ').expect(rt, "memory");

@@ -1,11 +1,12 @@
-//! Patterns of paths: which paths they match, and which texts are malformed.
+//! Tests of path patterns: which paths they match, and which texts are malformed.
 use crate::readings;
 use path_match::{PatternFault, Patterns};
 use psi_base::Fault;
 use std::alloc::Global;
 use std::process::Abort;
 
-// Checks whether the patterns of a text match a path, and that a copy gives the same result.
+// Checks whether the patterns of a text match a path, and that a copy of the patterns gives the
+// same result.
 fn is_so(rt: &impl Abort, alloc: Global, text: &str, path: &str, wanted: bool) {
     let patterns = Patterns::read(alloc, text).expect(rt, text);
     let copy = patterns.copy(alloc).expect(rt, "memory");
@@ -14,7 +15,7 @@ fn is_so(rt: &impl Abort, alloc: Global, text: &str, path: &str, wanted: bool) {
     assert!(rt; found == (wanted, wanted), "{text} {path}: {found:?}");
 }
 
-// Each row is a text of patterns, a space, and a path.
+// Checks each row, which is a text of patterns, a space, and a path.
 fn are_so(rt: &impl Abort, alloc: Global, rows: &str, wanted: bool) {
     for row in rows.split('\n') {
         let (text, path) = row.split_once(' ').expect(rt, row);
@@ -22,7 +23,7 @@ fn are_so(rt: &impl Abort, alloc: Global, rows: &str, wanted: bool) {
     }
 }
 
-// Patterns with a path that they match.
+// Patterns, each with a path that they match.
 const MATCHING: &str = "system.slice/*,web /system.slice/a.service\n\
     system.slice/*,web /web\n\
     / /\n\
@@ -55,7 +56,7 @@ const MATCHING: &str = "system.slice/*,web /system.slice/a.service\n\
     x,y,*.scope /b.scope\n\
     5 /5";
 
-// Patterns with a path that they don't match.
+// Patterns, each with a path that they don't match.
 const OTHERS: &str = "system.slice/*,web /system.slice\n\
     system.slice/*,web /system.slice/a/b\n\
     system.slice/*,web /\n\
@@ -86,7 +87,7 @@ fn patterns_match(rt: HostRuntime) {
     are_so(&rt, rt.alloc(), OTHERS, false);
 }
 
-// Why the text is rejected; `None` if it isn't.
+// Returns why a text is rejected; `None` if it is accepted.
 fn fault_of(rt: &impl Abort, alloc: Global, text: &str) -> Option<PatternFault> {
     match Patterns::read(alloc, text) {
         Ok(_) => None,
@@ -95,12 +96,12 @@ fn fault_of(rt: &impl Abort, alloc: Global, text: &str) -> Option<PatternFault> 
     }
 }
 
-// Checks that the text is rejected with this fault, or has patterns if there is none.
+// Checks that a text is rejected with this fault, or accepted if `fault` is `None`.
 fn is_read(rt: &impl Abort, alloc: Global, text: &str, fault: Option<PatternFault>) {
     assert_eq!(rt; fault_of(rt, alloc, text), fault, "at {text}");
 }
 
-// The same for the prefix followed by each of these ends.
+// Checks `prefix` followed by each of the ends, which are separated by `|`, as `is_read` does.
 fn are_read(rt: &impl Abort, alloc: Global, prefix: &str, ends: &str, fault: Option<PatternFault>) {
     for end in ends.split('|') {
         let text = [prefix, end].concat(alloc).expect(rt, "memory");
@@ -134,7 +135,7 @@ fn limits(rt: HostRuntime) {
     is_so(&rt, alloc, last, "/a/b/c", false);
 }
 
-// The piece `times` times.
+// Returns `times` copies of `piece`.
 fn repeated(rt: &impl Abort, alloc: Global, piece: &str, times: usize) -> String {
     piece.repeat(alloc, times).expect(rt, "memory")
 }
@@ -148,8 +149,8 @@ fn long_texts(rt: HostRuntime) {
     is_read(&rt, alloc, &repeated(&rt, alloc, "/a", 33), None);
 }
 
-// Checks whether the piece `times` times, followed by this end, matches the path of the root's
-// child with 254 letters `a`.
+// Checks whether `times` copies of `piece`, followed by an end, match the path of the root's child
+// whose name is 254 letters `a`.
 fn is_so_of_long(
     rt: &impl Abort,
     alloc: Global,
@@ -176,7 +177,7 @@ fn long_patterns(rt: HostRuntime) {
     is_so_of_long(&rt, alloc, "a", 300, "", false);
 }
 
-// Checks whether the text of `levels` levels matches the path of 32.
+// Checks whether a pattern of `levels` levels matches a path of 32 levels.
 fn is_so_of_deep(rt: &impl Abort, alloc: Global, levels: usize, wanted: bool) {
     let text = repeated(rt, alloc, "/*", levels);
     let path = repeated(rt, alloc, "/a", 32);

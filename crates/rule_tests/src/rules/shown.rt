@@ -1,4 +1,5 @@
-//! The result of reading a rules file, as one text: the rules, or the printed fault.
+//! Formats the result of reading a rules file as one text, for comparison: the rules, or the
+//! printed fault.
 use crate::checks::is_text;
 use crate::readings::path;
 use path_match::Patterns;
@@ -10,16 +11,16 @@ use std::alloc::Global;
 use std::fmt::Display;
 use std::process::Abort;
 
-// Paths for which it is shown whether patterns match.
+// Paths that are tried on each pattern: those that match are in the formatted text.
 const SAMPLE: [&str; 7] = ["/", "/g0", "/g1", "/g2", "/5", "/true", "/s/a"];
 
-/// Appends this to the text.
+/// Appends a value to a text.
 pub fn put(rt: &impl Abort, to: &mut String, text: impl Display + Drop) {
     to.write(text).expect(rt, "memory");
 }
 
-// The name of a plugin and the paths of the sample that its patterns match, each with a space after
-// it.
+// Appends the name of a plugin and the sample paths that its patterns match, each with a space
+// after it.
 fn put_plugin(rt: &impl Abort, alloc: Global, to: &mut String, name: &str, patterns: &Patterns) {
     put(rt, to, name);
     put(rt, to, " ");
@@ -96,7 +97,7 @@ fn put_after(rt: &impl Abort, to: &mut String, after: &After) {
     );
 }
 
-// An action is shown with its own fields, followed by those that each action has.
+// An action prints as its own fields, followed by the fields that all actions share.
 fn put_action(rt: &impl Abort, alloc: Global, to: &mut String, action: &Action) {
     let after = match action {
         Action::SizeOrGrowth {
@@ -164,8 +165,8 @@ fn put_actions(rt: &impl Abort, alloc: Global, to: &mut String, actions: &[Actio
     }
 }
 
-// A ruleset is its name and a colon, then each group in brackets, each detector with a semicolon
-// before it, then each action with a semicolon after it.
+// A ruleset prints as its name and a colon, each group in brackets with a semicolon before each
+// detector, and then each action with a semicolon after it.
 fn put_rule(rt: &impl Abort, alloc: Global, to: &mut String, rule: &Rule) {
     put_name(rt, to, &rule.name);
     put(rt, to, ":");
@@ -186,7 +187,7 @@ fn put_number(rt: &impl Abort, to: &mut String, word: &str, number: u32) {
     put(rt, to, format_args!(" {word} {number}"));
 }
 
-// The place of a fault, with a space before each word.
+// Appends the place of a fault, with a space before each word.
 fn put_place(rt: &impl Abort, to: &mut String, place: Place) {
     match place {
         Place::Whole => {}
@@ -221,35 +222,36 @@ fn put_read(rt: &impl Abort, alloc: Global, to: &mut String, bytes: &[u8]) {
     }
 }
 
-// Checks what is read from the bytes of the file.
+// Checks the result of reading bytes. `file` names the case in the message.
 fn reads_file(rt: &impl Abort, alloc: Global, bytes: &[u8], text: &str, file: &str) {
     let mut shown = String::new(alloc);
     put_read(rt, alloc, &mut shown, bytes);
     is_text(rt, &shown, text, file);
 }
 
-/// Checks what is read from the bytes.
+/// Checks the result of reading bytes.
 pub fn reads_bytes(rt: &impl Abort, alloc: Global, bytes: &[u8], text: &str) {
     reads_file(rt, alloc, bytes, text, "bytes");
 }
 
-/// The text with quotes in place of its `'`.
+/// Replaces each `'` of a text by a double quote.
 pub fn quoted(rt: &impl Abort, alloc: Global, text: &str) -> String {
     text.replace(alloc, "'", "\"").expect(rt, "memory")
 }
 
-/// Checks what is read from the file, whose quotes are written `'`.
+/// Checks the result of reading a file, in which `'` replaces each double quote.
 pub fn reads(rt: &impl Abort, alloc: Global, file: &str, text: &str) {
     let quoted = quoted(rt, alloc, file);
     reads_file(rt, alloc, quoted.as_bytes(), text, file);
 }
 
-/// The text with this in place of its first `@`, if it has one.
+/// Replaces the first `@` of a text, if any, by `value`.
 pub fn with(rt: &impl Abort, alloc: Global, text: &str, value: &str) -> String {
     text.replacen(alloc, "@", value, 1).expect(rt, "memory")
 }
 
-// Checks what is read from the file: both have their value in place of `@`.
+// Checks the result of reading a file. Both the file and the expected text have a value in place of
+// their `@`.
 fn reads_with(
     rt: &impl Abort,
     alloc: Global,
@@ -261,7 +263,8 @@ fn reads_with(
     reads(rt, alloc, &file, &text);
 }
 
-// The file and the text of a row: after a `~` the rules, and after a `!` the fault.
+// Splits a row into the replacement for the file, and the expected text with its replacement:
+// `rules` after a `~`, `fault` after a `!`.
 fn parted<'a>(
     rt: &impl Abort,
     row: &'a str,
@@ -275,9 +278,9 @@ fn parted<'a>(
     (value, fault, cause)
 }
 
-/// Files and what is read from them, one row each. A row has the replacement for the `@` of the
-/// file, followed by `~` and the replacement in the rules as they are shown, or by `!` and the
-/// replacement in the fault.
+/// Checks the results of reading files, one per row. A row has the replacement for the `@` of the
+/// file, followed by `~` and the replacement in the formatted rules, or by `!` and the replacement
+/// in the fault.
 pub fn reads_rows(
     rt: &impl Abort,
     alloc: Global,

@@ -1,4 +1,4 @@
-//! Whole rules files: the usual one, field by field, and lists at their limits.
+//! Tests of whole rules files: a usual one, field by field, and lists at their limits.
 use crate::rules::shown::{reads, reads_rows, with};
 use ruleset_json::{ActionList, GroupList, Rule, RuleList, Rules, read};
 use std::alloc::Global;
@@ -29,7 +29,7 @@ fn usual_file(rt: HostRuntime) {
     reads(&rt, rt.alloc(), USUAL, SHOWN);
 }
 
-// Rules of one ruleset, and the same with a bad pattern.
+// A file with one ruleset; its action's pattern is `s/`, followed by the replacement for `@`.
 const ONE: &str =
     "{'rulesets':[{'name':'r','detectors':[['g',{'name':'exists','args':{'cgroup':'s/*'}}]],'actions':[{'name':'kill_by_memory_size_or_growth','args':{'cgroup':'s/@'}}]}]}";
 
@@ -40,7 +40,7 @@ fn file_of_one(rt: HostRuntime) {
     reads_rows(&rt, rt.alloc(), ONE, rules, fault, "*~\n?!");
 }
 
-// Pieces of a file, and how they are shown.
+// A list in a file: its repeated piece, and how the pieces print.
 struct Lists {
     file: &'static str,
     piece: &'static str,
@@ -51,15 +51,14 @@ struct Lists {
     fault: &'static str,
 }
 
-// Checks what is read from the file with the piece `times` times.
+// Checks the result of reading a file whose list has `times` pieces.
 fn reads_listed(rt: &impl Abort, alloc: Global, lists: &Lists, times: usize, text: &str) {
     let pieces = vec![in alloc; lists.piece; times].expect(rt, "memory");
     let pieces = pieces.join(alloc, lists.between).expect(rt, "memory");
     reads(rt, alloc, &with(rt, alloc, lists.file, &pieces), text);
 }
 
-// Checks that a file with the maximal number of pieces is accepted, and that one more piece gives
-// the fault.
+// Checks that a file with the most pieces is accepted, and that one more piece gives the fault.
 fn are_limited(rt: &impl Abort, alloc: Global, lists: &Lists) {
     let shown = lists.shown.repeat(alloc, lists.most).expect(rt, "memory");
     let rules = with(rt, alloc, lists.rules, &shown);
@@ -118,7 +117,8 @@ fn lists_at_their_limits(rt: HostRuntime) {
 const ALL: &[u8] =
     b"{\"rulesets\":[{\"name\":\"r\",\"detectors\":[[\"g\"],[\"h\"]],\"actions\":[{\"name\":\"kill_by_pg_scan\",\"args\":{\"cgroup\":\"g0\"}}]}]}";
 
-// Whether the rule has the name `r`, one action and two groups, and one group after one is removed.
+// Whether the rule has the name `r`, one action and two groups, and one group is left if another is
+// removed.
 fn is_the_rule(rule: Rule) -> bool {
     let Rule {
         name,
@@ -134,7 +134,7 @@ fn is_the_rule(rule: Rule) -> bool {
     is_taken && lengths == (2, 1, 1) && name.bytes() == b"r".as_slice()
 }
 
-// Lists return their members, and are built from them again.
+// Lists give up their members, and are built from them again.
 #[test]
 fn lists_again(rt: HostRuntime) {
     let Rules { rules } = read(rt.alloc(), ALL).expect(&rt, "rules");

@@ -1,12 +1,12 @@
-//! Rules as text: the result of reading a file is written, and reading the written text gives the
-//! same result (a round trip).
+//! Tests of rules printed as text: the result of reading a file is printed, and reading the printed
+//! text gives the same result (a round trip).
 use crate::rules::shown::{quoted, with};
 use dropin_rules::write_rules;
 use ruleset_json::read;
 use std::alloc::Global;
 use std::process::Abort;
 
-// The text of the rules that are read from the bytes, after a mark.
+// Returns the printed text of the rules that are read from bytes, after a mark `>`.
 fn written(rt: &impl Abort, alloc: Global, bytes: &[u8]) -> Vec<u8> {
     let rules = read(alloc, bytes).expect(rt, "rules");
     let mut text = Vec::from_slice(alloc, b">".as_slice()).expect(rt, "memory");
@@ -14,20 +14,21 @@ fn written(rt: &impl Abort, alloc: Global, bytes: &[u8]) -> Vec<u8> {
     text
 }
 
-// Checks that the bytes are written as this text, appended to what is already there.
+// Checks that the rules in `bytes` print as `text`, appended to what is already there.
 fn writes_once(rt: &impl Abort, alloc: Global, bytes: &[u8], text: &[u8]) {
     let written = written(rt, alloc, bytes);
     let suffix = written.strip_prefix(b">").expect(rt, "no mark");
     assert_eq!(rt; str::from_utf8(suffix), str::from_utf8(text));
 }
 
-// The same, and that the text is written as itself.
+// Like `writes_once`, and also checks that `text` is stable: reading and printing it gives `text`
+// again.
 fn writes_bytes(rt: &impl Abort, alloc: Global, bytes: &[u8], text: &[u8]) {
     writes_once(rt, alloc, bytes, text);
     writes_once(rt, alloc, text, text);
 }
 
-// The same for texts whose quotes are written `'`.
+// Like `writes_bytes`, for texts in which `'` replaces each double quote.
 fn writes(rt: &impl Abort, alloc: Global, file: &str, text: &str) {
     let (file, text) = (quoted(rt, alloc, file), quoted(rt, alloc, text));
     writes_bytes(rt, alloc, file.as_bytes(), text.as_bytes());
@@ -44,17 +45,17 @@ fn file_of_one(rt: HostRuntime) {
     );
 }
 
-// The text before a mark, and after it.
+// Splits a text at a mark.
 fn halves<'a>(rt: &impl Abort, text: &'a str, mark: char) -> (&'a str, &'a str) {
     text.split_once(mark).expect(rt, text)
 }
 
-// The text with this in place of its first `@`, and that in place of the next.
+// Replaces the first `@` of a text by `first`, and the second one by `next`.
 fn with_both(rt: &impl Abort, alloc: Global, text: &str, first: &str, next: &str) -> String {
     with(rt, alloc, &with(rt, alloc, text, first), next)
 }
 
-// Checks how a plugin with this name and these arguments is written.
+// Checks how a plugin with this name and these arguments prints.
 fn writes_plugin(
     rt: &impl Abort,
     alloc: Global,
@@ -67,7 +68,8 @@ fn writes_plugin(
     writes(rt, alloc, &file, &text);
 }
 
-// Plugins, one row each: a name, after a `|` its arguments, and after a `~` the written arguments.
+// Checks how plugins print, one per row: a name, `|`, its arguments, `~`, and the printed
+// arguments.
 fn writes_rows(rt: &impl Abort, alloc: Global, file: &str, text: &str, rows: &str) {
     for row in rows.split('\n') {
         let (name, args) = halves(rt, row, '|');
@@ -121,7 +123,7 @@ fn actions(rt: HostRuntime) {
     writes_rows(&rt, rt.alloc(), OF_ACTION, ACTION, ACTIONS);
 }
 
-// Names of a ruleset and a group, and how they are written.
+// Names of a ruleset and a group, and how they print.
 const NAMES: [(&str, &str); 7] = [
     ("", ""),
     ("a\\\"b\\\\c\\/d", "a\\\"b\\\\c/d"),
