@@ -1,4 +1,4 @@
--- A machine whose times are set by a test.
+-- A simulated machine for the tests: an engine of ticks, whose table of times is set by a test.
 use Rattle.std.specs.Prelude.{◌≡◌, ℕ, ◌+◌, ◌<◌, ◌≤◌, List, length, slice_index}
 use Rattle.pressure_spec.specs.Share.{irq_place}
 use Rattle.psi_spec.specs.World.{longest_irq}
@@ -7,30 +7,31 @@ use Rattle.aggregate.specs.Table.{HasSizes}
 use Rattle.tick_engine.specs.Engine.{EngineView}
 use Rattle.tick_engine.specs.Tables.{tick_at}
 
--- No time of a processor fell between two ticks, the later at a time (ns). A state's time grew by
--- at most `most` (ns), interrupt time by at most a second more, and interrupt time is at most the
--- tick's time.
+-- The growth of one processor's times between two ticks, the later at `at` (ns): no time decreased,
+-- a state's time grew by at most `most` (ns), interrupt time grew by at most a second more, and
+-- interrupt time is at most `at`.
 pub record GrewWithin (most at : ℕ) (before now : List ℕ) : Type 0 where
   pub kept : (place : ℕ) → slice_index before place ≤ slice_index now place
   pub grown : (place : ℕ) → place < irq_place → slice_index now place ≤ slice_index before place + most
   pub irq_grown : slice_index now irq_place ≤ slice_index before irq_place + most + longest_irq
   pub irq_early : slice_index now irq_place ≤ at
 
--- the same for a group on each processor
+-- the same bounds for the times of one group on each processor
 pub record RowGrewWithin (most at : ℕ) (before now : List (List ℕ)) : Type 0 where
   pub kept : (cpu place : ℕ) → time_of before cpu place ≤ time_of now cpu place
   pub grown : (cpu place : ℕ) → place < irq_place → time_of now cpu place ≤ time_of before cpu place + most
   pub irq_grown : (cpu : ℕ) → time_of now cpu irq_place ≤ time_of before cpu irq_place + most + longest_irq
   pub irq_early : (cpu : ℕ) → time_of now cpu irq_place ≤ at
 
--- the same for each group of a table
+-- the same bounds for the times of each group on each processor
 pub record TableGrewWithin (most at : ℕ) (before now : List (List (List ℕ))) : Type 0 where
   pub kept : (slot cpu place : ℕ) → time_in before slot cpu place ≤ time_in now slot cpu place
   pub grown : (slot cpu place : ℕ) → place < irq_place → time_in now slot cpu place ≤ time_in before slot cpu place + most
   pub irq_grown : (slot cpu : ℕ) → time_in now slot cpu irq_place ≤ time_in before slot cpu irq_place + most + longest_irq
   pub irq_early : (slot cpu : ℕ) → time_in now slot cpu irq_place ≤ at
 
--- this tick is the engine's last, and the next table has its sizes
+-- the engine has taken the tick at `at` (ns) with the table `last`, and both tables have the sizes
+-- of the machine
 pub record IsMachine (cpus slots at : ℕ) (last next : List (List (List ℕ))) (engine : EngineView) : Type 0 where
   pub cpus_are : engine.cpus ≡ cpus
   pub slots_are : length engine.groups ≡ slots

@@ -1,4 +1,4 @@
-//! The arithmetic of pressure: averages, triggers and shares.
+//! Tests of the arithmetic of pressure: averages, triggers and shares.
 
 use crate::check::is;
 use aggregate::{Rows, Totals, share};
@@ -8,10 +8,10 @@ use std::alloc::Global;
 use std::process::Abort;
 use window_trigger::Trigger;
 
-/// A second (ns).
+/// One second (ns).
 const SECOND: u64 = 1_000_000_000;
 
-/// A millisecond (ns).
+/// One millisecond (ns).
 const MILLISECOND: u64 = 1_000_000;
 
 #[test]
@@ -33,12 +33,12 @@ fn powers(rt: HostRuntime) {
     is(&rt, power(1677, u64::MAX), 0, "1677 to the greatest");
 }
 
-/// The totals of a group that was in an IO stall without a break up to a time (ns).
+/// The totals of a group that has been in an IO stall without a break up to `at` (ns).
 fn io_until(at: u64) -> [u64; 7] {
     [at, at, 0, 0, 0, 0, 0]
 }
 
-// Ticks of 2 s: each is an update for a whole period.
+// With ticks of 2 s, each tick updates the averages for one full period.
 #[test]
 fn averages_of_full_periods(rt: HostRuntime) {
     let mut averages = Averages::new(0);
@@ -56,7 +56,7 @@ fn averages_of_full_periods(rt: HostRuntime) {
     is(&rt, averages.irq(), [0, 0, 0], "interrupts");
 }
 
-// Interrupts take half of the first two seconds, and nothing of the next two.
+// Interrupts take half of the first two seconds, and no time in the next two.
 #[test]
 fn averages_of_interrupts(rt: HostRuntime) {
     let mut averages = Averages::new(0);
@@ -67,8 +67,8 @@ fn averages_of_interrupts(rt: HostRuntime) {
     is(&rt, averages.get(State::CpuFull), [0, 0, 0], "processors");
 }
 
-// Ticks of 5 s: one period is missed at the first and two at the second, and time above the length
-// of the sample is carried over.
+// With ticks of 5 s, one period is missed at the first tick and two at the second; time beyond the
+// length of a sample is carried over.
 #[test]
 fn averages_of_missed_periods(rt: HostRuntime) {
     let mut averages = Averages::new(0);
@@ -87,7 +87,7 @@ fn weighted_shares(rt: HostRuntime) {
     let part = 1_333_333_333;
     let want = [part, part, 0, 0, 0, 0, 0];
     is(&rt, share(&[waits, runs]), want, "waits and runs");
-    // Less than a timer tick has no weight.
+    // Time shorter than a timer tick doesn't count.
     let short = [900_000, 900_000, 0, 0, 0, 0, 900_000, 900_000];
     is(&rt, share(&[short]), [0; 7], "less than a timer tick");
     is(&rt, share(&[]), [0; 7], "no processors");
@@ -95,8 +95,8 @@ fn weighted_shares(rt: HostRuntime) {
     is(&rt, share(&[every]), [1, 2, 3, 4, 5, 6, 8], "every state");
 }
 
-// Processor 0 is busy for two seconds, one of them with interrupts, and processor 1 for a second
-// without interrupts: a plain mean would be half a second.
+// Processor 0 is busy for two seconds, one of them with interrupts; processor 1 is busy for a
+// second without interrupts. A plain mean would be half a second.
 #[test]
 fn weighted_interrupts(rt: HostRuntime) {
     let interrupted = [0, 0, 0, 0, 0, 0, 2 * SECOND, SECOND];
@@ -124,8 +124,8 @@ fn rows_by_slot_and_processor(rt: HostRuntime) {
     is(&rt, rows.row(Slot(2)), &[[2; 8], [0; 8]], "slot 2");
 }
 
-/// Checks that a trigger with this threshold and window (us) is created, or rejected as out of
-/// range.
+/// Checks whether a trigger with this threshold and window (us) can be created; if not, it is
+/// rejected as out of range.
 fn is_made(rt: &impl Abort, threshold: u64, window: u64, good: bool) {
     let refused = Trigger::new(0, 0, threshold, window).err();
     let wanted = if good { None } else { Some(Cause::BadWindow) };
@@ -144,8 +144,8 @@ fn windows_in_range(rt: HostRuntime) {
     is_made(&rt, u64::MAX, u64::MAX, false);
 }
 
-/// Checks at which ticks (ms), every 100 ms up to 2500 ms, a trigger of 150 ms in a window of a
-/// second fires, if the stall lasts up to `until` (ms).
+/// Checks when a trigger of 150 ms in a window of a second fires, with ticks every 100 ms up to
+/// 2500 ms, and a stall that lasts up to `until` (ms). `wanted` has the times of the signals (ms).
 fn are_signals(rt: &impl Abort, alloc: Global, until: u64, wanted: &[u64]) {
     let mut at = Vec::new(alloc);
     let mut trigger = Trigger::new(0, 0, 150_000, 1_000_000).expect(rt, "a trigger");
@@ -158,8 +158,8 @@ fn are_signals(rt: &impl Abort, alloc: Global, until: u64, wanted: &[u64]) {
     is(rt, at.as_slice(), wanted, "signals");
 }
 
-// In a stall that doesn't end, the trigger fires once a window. If the stall ends after the first
-// signal, the pending event is signalled, and none after it.
+// During a stall that doesn't end, the trigger fires once per window. If the stall ends after the
+// first signal, a pending event is still signalled, and no further one.
 #[test]
 fn signals_of_a_trigger(rt: HostRuntime) {
     are_signals(&rt, rt.alloc(), 2500, &[200, 1200, 2200]);

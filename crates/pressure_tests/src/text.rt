@@ -1,3 +1,3 @@
-//! The lines that commands print, and pressure files, written and read again.
+//! Tests of the lines that commands print, and of pressure files, written and parsed.
 mod reading;
 mod writing;

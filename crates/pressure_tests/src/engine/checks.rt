@@ -1,4 +1,4 @@
-//! Checks before a test calls the engine.
+//! Range checks that establish the preconditions of the engine's calls.
 
 ghost use Rattle.std.specs.Prelude.{◌≡◌, ℕ, [], All, length, slice_index_or, true};
 ghost use Rattle.psi_spec.specs.Within.{IsTriggerWithin};
@@ -11,16 +11,16 @@ use pressure_spec::{TIMES, Times};
 use psi_base::{Ns, Slot, TriggerSpec};
 use psi_spec::GroupLife;
 
-/// The last time (ns).
+/// The last time (ns) that the engine supports.
 pub const LAST_MOMENT: Ns = 60_000_000_000_000_000;
 
-/// The maximal interrupt time beyond the length of the interval (ns).
+/// How much longer than an interval its interrupt time can be (ns).
 const LONGEST_IRQ: Ns = 1_000_000_000;
 
-/// The index of interrupt time among the times of a processor.
+/// The index of the interrupt time among the times of a processor.
 const IRQ: usize = TIMES - 1;
 
-/// Whether the times of a group are at most the last.
+/// Whether a group's times of creation and removal are at most `LAST_MOMENT`.
 fn is_life(life: &GroupLife) -> bool
     ensures { result ≡ true → IsLifeWithin last_moment life.now }
 {
@@ -31,7 +31,7 @@ fn is_life(life: &GroupLife) -> bool
     life.made <= LAST_MOMENT && goes_early
 }
 
-/// Whether the times of all groups are.
+/// Whether all groups' times of creation and removal are at most `LAST_MOMENT`.
 pub fn are_lives(lives: &[GroupLife]) -> bool
     ensures { result ≡ true → All (λ life. IsLifeWithin last_moment life) lives.now }
 {
@@ -43,7 +43,7 @@ pub fn are_lives(lives: &[GroupLife]) -> bool
     true
 }
 
-/// Whether a trigger is in range, for `slots` groups.
+/// Whether a trigger is in range for a trace with `slots` groups.
 fn is_trigger(trigger: &TriggerSpec, slots: usize) -> bool
     ensures { result ≡ true → IsTriggerWithin last_moment slots trigger.now }
 {
@@ -53,7 +53,7 @@ fn is_trigger(trigger: &TriggerSpec, slots: usize) -> bool
     trigger.at <= LAST_MOMENT && (trigger.slot.0 as usize) < slots && in_range
 }
 
-/// Whether all triggers are in range.
+/// Whether all triggers are in range for a trace with `slots` groups.
 pub fn are_triggers(triggers: &[TriggerSpec], slots: usize) -> bool
     ensures { result ≡ true →
         All (λ trigger. IsTriggerWithin last_moment slots trigger) triggers.now }
@@ -66,8 +66,9 @@ pub fn are_triggers(triggers: &[TriggerSpec], slots: usize) -> bool
     true
 }
 
-/// Whether no time of a processor fell, no state's time grew by more than `most` (ns), interrupt
-/// time grew by at most a second more, and interrupt time is at most `at` (ns).
+/// Checks the growth of one processor's times: no time decreased, no state's time grew by more than
+/// `most` (ns), interrupt time grew by at most a second more, and interrupt time is at most `at`
+/// (ns).
 fn grew_within(most: Ns, at: Ns, before: &Times, now: &Times) -> bool
     ensures { result ≡ true → GrewWithin most at before.now now.now }
 {
@@ -79,7 +80,7 @@ fn grew_within(most: Ns, at: Ns, before: &Times, now: &Times) -> bool
     now[IRQ] - before[IRQ] <= most.saturating_add(LONGEST_IRQ) && now[IRQ] <= at
 }
 
-/// The same for a group on each processor.
+/// Checks the same bounds for the times of one group on each processor.
 fn row_grew_within(most: Ns, at: Ns, before: &[Times], now: &[Times]) -> bool
     requires { length before.now ≡ length now.now }
     ensures { result ≡ true → RowGrewWithin most at before.now now.now }
@@ -92,7 +93,7 @@ fn row_grew_within(most: Ns, at: Ns, before: &[Times], now: &[Times]) -> bool
     true
 }
 
-/// The same for a table of `slots` groups on each processor.
+/// Checks the same bounds for a table of `slots` groups on each processor.
 pub fn table_grew_within(most: Ns, at: Ns, slots: u32, before: &Rows, now: &Rows) -> bool
     requires slots { length before.now ≡ slots }
     requires slots_now { length now.now ≡ slots }

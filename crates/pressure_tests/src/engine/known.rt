@@ -1,9 +1,9 @@
-//! Checks of a machine's results against texts.
+//! Comparisons of a machine's results with expected texts.
 use crate::engine::machine::Machine;
 use pressure_spec::AverageRows;
 use std::process::Abort;
 
-/// Whether the numbers are those of the text.
+/// Whether `text` has exactly these numbers, separated by spaces.
 fn are(numbers: &[u64], text: &str) -> bool {
     let mut words = text.split(' ');
     for number in numbers {
@@ -17,7 +17,7 @@ fn are(numbers: &[u64], text: &str) -> bool {
     words.next().is_none()
 }
 
-/// Checks the totals of the group.
+/// Checks the totals of the group in `slot` against `text`.
 pub fn has_totals(rt: &impl Abort, machine: &Machine, slot: u32, text: &str) {
     let totals = machine.totals(rt, slot);
     let at = machine.at();
@@ -27,7 +27,7 @@ pub fn has_totals(rt: &impl Abort, machine: &Machine, slot: u32, text: &str) {
     );
 }
 
-/// Whether the numbers of all quantities are those of the text.
+/// Whether `text` has exactly these averages: one part per quantity, separated by commas.
 fn are_averages(averages: &AverageRows, text: &str) -> bool {
     let mut parts = text.split(", ");
     for numbers in averages {
@@ -41,7 +41,7 @@ fn are_averages(averages: &AverageRows, text: &str) -> bool {
     parts.next().is_none()
 }
 
-/// Checks the averages of the group.
+/// Checks the averages of the group in `slot` against `text`.
 pub fn has_averages(rt: &impl Abort, machine: &Machine, slot: u32, text: &str) {
     let averages = machine.averages(rt, slot);
     let at = machine.at();
@@ -52,7 +52,7 @@ pub fn has_averages(rt: &impl Abort, machine: &Machine, slot: u32, text: &str) {
     );
 }
 
-/// Whether the numbers are these digits.
+/// Whether the numbers are exactly the digits of `digits`.
 fn are_digits(numbers: &[u32], digits: &str) -> bool {
     for (number, digit) in numbers.iter().zip(digits.bytes()) {
         if *number != u32::from(digit.wrapping_sub(b'0')) {
@@ -62,7 +62,7 @@ fn are_digits(numbers: &[u32], digits: &str) -> bool {
     numbers.len() == digits.len()
 }
 
-/// Checks that the triggers that fired are these digits.
+/// Checks that the numbers of the triggers that fired are the digits of `digits`.
 pub fn have_signalled(rt: &impl Abort, machine: &Machine, digits: &str) {
     let fired = machine.fired();
     let at = machine.at();

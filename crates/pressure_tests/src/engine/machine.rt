@@ -1,4 +1,4 @@
-//! A machine whose times are set by a test.
+//! A simulated machine for the tests: an engine of ticks, whose table of times is set by a test.
 
 use crate::check::holds;
 use crate::engine::checks::{LAST_MOMENT, are_lives, are_triggers, table_grew_within};
@@ -14,7 +14,7 @@ use tick_engine::Engine;
 /// The longest tick (ns).
 const LONGEST_TICK: Ns = 60_000_000_000;
 
-/// An engine, and the times of the last and the next tick.
+/// An engine, the table of times of its last tick, and the table for the next tick.
 #[derive(Drop)]
 pub struct Machine {
     cpus: u32,
@@ -37,7 +37,7 @@ impl Model for Machine {
 }
 
 impl Machine {
-    /// A machine with `cpus` processors, and with these groups and triggers.
+    /// Creates a machine with `cpus` processors, and with these groups and triggers.
     pub fn make(
         rt: &impl Abort,
         alloc: Global,
@@ -61,14 +61,15 @@ impl Machine {
         }
     }
 
-    /// Sets the times (ns) of a group on a processor up to the next tick.
+    /// Sets the times (ns) of a group on a processor, up to the next tick.
     pub fn set(&mut self, rt: &impl Abort, cpu: u32, slot: u32, times: Times) {
         holds(rt, cpu < self.cpus, "such a processor");
         holds(rt, slot < self.slots, "such a group");
         self.next.set(Cpu(cpu), Slot(slot), times);
     }
 
-    /// The next tick, at this time (ns).
+    /// Takes the next tick, at `now` (ns). Checks that the time and the growth of the table are
+    /// legal.
     pub fn tick(&mut self, rt: &impl Abort, now: Ns) {
         let is_soon = now > self.at && now - self.at <= LONGEST_TICK && now <= LAST_MOMENT;
         holds(rt, is_soon, "a moment that can come next");
@@ -90,7 +91,7 @@ impl Machine {
         self.engine.totals(Slot(slot))
     }
 
-    /// The averages of a group, ordered by state, followed by those of interrupt time.
+    /// The averages of a group, ordered by state, followed by the averages of interrupts.
     pub fn averages(&self, rt: &impl Abort, slot: u32) -> AverageRows {
         holds(rt, slot < self.slots, "such a group");
         let averages = self.engine.averages(Slot(slot));
@@ -105,7 +106,7 @@ impl Machine {
         ]
     }
 
-    /// The triggers that fired at the last tick.
+    /// The numbers of the triggers that fired at the last tick.
     pub fn fired(&self) -> &[u32] {
         self.engine.fired()
     }

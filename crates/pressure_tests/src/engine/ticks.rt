@@ -1,5 +1,5 @@
-//! Groups and triggers over ticks. The expected numbers were computed independently of this
-//! program, from the rules of shares, averages and triggers.
+//! Tests of groups and triggers over several ticks. The expected numbers were computed
+//! independently of this program, from the rules of shares, averages and triggers.
 
 use crate::check::is;
 use crate::engine::known::{has_averages, has_totals, have_signalled};
@@ -10,10 +10,11 @@ use psi_spec::GroupLife;
 use std::alloc::Global;
 use std::process::Abort;
 
-/// A second (ns).
+/// One second (ns).
 const SECOND: Ns = 1_000_000_000;
 
-/// A group that is created at `made` and may be removed at `gone` (ns). The engine reads no paths.
+/// A group that is created at `made` (ns) and removed at `gone` (ns), if given. The engine doesn't
+/// read its path.
 fn group(rt: &impl Abort, alloc: Global, made: Ns, gone: Option<Ns>) -> GroupLife {
     GroupLife {
         path: Path::root(alloc).expect(rt, "memory"),
@@ -24,7 +25,7 @@ fn group(rt: &impl Abort, alloc: Global, made: Ns, gone: Option<Ns>) -> GroupLif
     }
 }
 
-/// A trigger on a group, set at a time (ns), with its threshold and its window (us).
+/// A trigger on a group, set at `at` (ns), with its threshold and window (us).
 fn trigger(
     at: Ns,
     slot: u32,
@@ -43,7 +44,7 @@ fn trigger(
     }
 }
 
-/// The growth (ns) of a time in an interval: a pseudo-random part of it.
+/// The growth (ns) of one time in an interval: a pseudo-random part of the interval.
 fn growth(tick: u64, slot: u64, cpu: u64, place: u64, interval: Ns) -> Ns {
     let mixed = tick
         .wrapping_mul(5)
@@ -53,7 +54,7 @@ fn growth(tick: u64, slot: u64, cpu: u64, place: u64, interval: Ns) -> Ns {
     interval.wrapping_mul(mixed % 11) / 10
 }
 
-/// The groups of the first test.
+/// The groups of `groups_that_come_and_go`.
 fn groups(rt: &impl Abort, alloc: Global) -> [GroupLife; 4] {
     [
         group(rt, alloc, 0, None),
@@ -63,7 +64,7 @@ fn groups(rt: &impl Abort, alloc: Global) -> [GroupLife; 4] {
     ]
 }
 
-/// The triggers of the first test.
+/// The triggers of `groups_that_come_and_go`.
 fn triggers() -> [TriggerSpec; 6] {
     let some = Level::SomeStalled;
     let full = Level::FullStalled;
@@ -77,12 +78,12 @@ fn triggers() -> [TriggerSpec; 6] {
     ]
 }
 
-/// The machine of the first test.
+/// The machine of `groups_that_come_and_go`.
 fn large_machine(rt: &impl Abort, alloc: Global) -> Machine {
     Machine::make(rt, alloc, 3, &groups(rt, alloc), &triggers())
 }
 
-/// The time (ns) of a tick; 0 for the start.
+/// The time (ns) of tick `tick`; 0 for the start.
 fn moment(tick: u64) -> Ns {
     match tick {
         0 => 0,
@@ -96,7 +97,7 @@ fn moment(tick: u64) -> Ns {
     }
 }
 
-/// The time (ns) at an index, for a group on a processor up to a tick.
+/// The time (ns) at index `place` of a group on a processor, up to tick `tick`.
 fn time(tick: u64, slot: u32, cpu: u32, place: u64) -> Ns {
     let mut time = 0u64;
     for past in 1..=tick {
@@ -107,7 +108,7 @@ fn time(tick: u64, slot: u32, cpu: u32, place: u64) -> Ns {
     time
 }
 
-/// All times of a group on a processor up to a tick.
+/// All times (ns) of a group on a processor, up to tick `tick`.
 fn times(tick: u64, slot: u32, cpu: u32) -> Times {
     [
         time(tick, slot, cpu, 0),
@@ -121,7 +122,7 @@ fn times(tick: u64, slot: u32, cpu: u32) -> Times {
     ]
 }
 
-/// Grows the times of four groups on three processors, and makes the tick.
+/// Sets the times of four groups on three processors, and takes the tick.
 fn play(rt: &impl Abort, machine: &mut Machine, tick: u64) {
     for place in 0..12u32 {
         let slot = place / 3;
@@ -131,7 +132,7 @@ fn play(rt: &impl Abort, machine: &mut Machine, tick: u64) {
     machine.tick(rt, moment(tick));
 }
 
-/// Checks the totals of the four groups.
+/// Checks the totals of the four groups against `text`, in which `|` separates the groups.
 fn have_totals(rt: &impl Abort, machine: &Machine, text: &str) {
     let mut slot = 0u32;
     for totals in text.split('|') {
@@ -141,7 +142,7 @@ fn have_totals(rt: &impl Abort, machine: &Machine, text: &str) {
     is(rt, slot, 4, "groups of a row");
 }
 
-/// Makes the tick, and checks the triggers and totals of the row.
+/// Takes a tick, and checks the triggers and the totals in the row.
 fn play_row(rt: &impl Abort, machine: &mut Machine, tick: u64, row: &str) {
     let (digits, totals) = row
         .split_once('|')
@@ -151,7 +152,7 @@ fn play_row(rt: &impl Abort, machine: &mut Machine, tick: u64, row: &str) {
     have_totals(rt, machine, totals);
 }
 
-/// For each tick: the triggers that fire, followed by the totals of each group.
+/// For each tick: the numbers of the triggers that fire, followed by the totals of each group.
 const TICKS: &str = "04|\
     611764705 811764705 429411764 241176470 441176470 511764705 329411764|\
     613333333 813333333 353333333 553333333 386666666 586666666 253333333|\
@@ -195,7 +196,7 @@ const AVERAGES: &str =
     77486 16699 3608, 63912 14735 3223, 81155 17990 3908, 49316 11085 2411, 70754 15285 3303, 75985 16172 3486, 80522 18276 3986;\
     92356 19450 4172, 92356 19450 4172, 58387 13127 2844, 85307 18177 3906, 71951 15765 3402, 92356 19450 4172, 73527 15652 3364";
 
-/// Checks the averages of the four groups.
+/// Checks the averages of the four groups against `AVERAGES`.
 fn have_averages(rt: &impl Abort, machine: &Machine) {
     let mut slot = 0u32;
     for row in AVERAGES.split(';') {
@@ -206,10 +207,10 @@ fn have_averages(rt: &impl Abort, machine: &Machine) {
 }
 
 // The machine has three processors and four groups. The second group is removed at the fourth tick,
-// the third is created between the second tick and the third, and the last at the third. Times grow
-// even if a group isn't live, and no total includes that. The second trigger is set exactly at the
-// time of a tick, the third likewise on the group that is created then, the fourth a nanosecond
-// later, and the fifth is on the group that is removed. At some ticks periods were missed.
+// the third group is created between the second and third tick, and the last group at the third
+// tick. Times also grow while a group isn't live; no total includes that growth. The second trigger
+// is set exactly at the time of a tick, the third exactly when its group is created, the fourth a
+// nanosecond later, and the fifth is on the removed group. At some ticks periods were missed.
 #[test]
 fn groups_that_come_and_go(rt: HostRuntime) {
     let mut machine = large_machine(&rt, rt.alloc());
@@ -222,14 +223,14 @@ fn groups_that_come_and_go(rt: HostRuntime) {
     have_averages(&rt, &machine);
 }
 
-/// A machine of one processor and one group.
+/// Creates a machine with one processor and one group.
 fn small_machine(rt: &impl Abort, alloc: Global, triggers: &[TriggerSpec]) -> Machine {
     let lives = [group(rt, alloc, 0, None)];
     Machine::make(rt, alloc, 1, &lives, triggers)
 }
 
-/// Checks a tick at `now` if all time up to it was IO some and full, without memory and CPU waits:
-/// the group's totals and averages, and that no trigger fired.
+/// Takes a tick at `now` (ns) if all time up to it was IO some and full, without memory or CPU
+/// waits. Checks the group's totals and averages, and that no trigger fired.
 fn waits(rt: &impl Abort, machine: &mut Machine, now: Ns, totals: &str, averages: &str) {
     machine.set(rt, 0, 0, [now, now, 0, 0, 0, 0, now, 0]);
     machine.tick(rt, now);
@@ -238,7 +239,7 @@ fn waits(rt: &impl Abort, machine: &mut Machine, now: Ns, totals: &str, averages
     have_signalled(rt, machine, "");
 }
 
-// One processor on which all tasks wait for IO all the time, and ticks of two seconds.
+// All tasks of the only processor wait for IO all the time; ticks are two seconds long.
 #[test]
 fn waits_without_end(rt: HostRuntime) {
     let mut machine = small_machine(&rt, rt.alloc(), &[]);
@@ -250,8 +251,8 @@ fn waits_without_end(rt: HostRuntime) {
     waits(&rt, &mut machine, 4 * SECOND, totals, averages);
 }
 
-/// Checks a tick at `now` for a group that is never idle on one processor, in no other state, with
-/// `irq` ns of interrupts: its only total is `irq`, and it has these averages.
+/// Takes a tick at `now` (ns) of a group that is never idle, in no other state, with `irq` ns of
+/// interrupts. Checks that its only total is `irq`, and its averages.
 fn interrupt(rt: &impl Abort, machine: &mut Machine, now: Ns, irq: Ns, averages: &str) {
     machine.set(rt, 0, 0, [0, 0, 0, 0, 0, 0, now, irq]);
     machine.tick(rt, now);
@@ -259,7 +260,8 @@ fn interrupt(rt: &impl Abort, machine: &mut Machine, now: Ns, irq: Ns, averages:
     has_averages(rt, machine, 0, averages);
 }
 
-/// The same at each time (ns), with the interrupt time (ns) up to it and the averages.
+/// Takes one tick per row, as `interrupt` does: the time (ns), the interrupt time (ns) up to it,
+/// and the averages.
 fn interrupts(rt: &impl Abort, alloc: Global, rows: &[(Ns, Ns, &str)]) {
     let mut machine = small_machine(rt, alloc, &[]);
     for (now, irq, averages) in rows {
@@ -267,8 +269,7 @@ fn interrupts(rt: &impl Abort, alloc: Global, rows: &[(Ns, Ns, &str)]) {
     }
 }
 
-// One processor, on which interrupts took half of the first two seconds, and nothing of the next
-// two.
+// Interrupts take half of the first two seconds on the only processor, and no time in the next two.
 #[test]
 fn interrupts_of_half_a_period(rt: HostRuntime) {
     let half = "0 0 0, 0 0 0, 0 0 0, 0 0 0, 0 0 0, 0 0 0, 18550 3350 700";
@@ -277,7 +278,7 @@ fn interrupts_of_half_a_period(rt: HostRuntime) {
     interrupts(&rt, rt.alloc(), &rows);
 }
 
-// A trace reports interrupts after their end. So a share may be a second longer than its interval,
+// A trace reports an interrupt after its end. So a share may be a second longer than its interval,
 // which is half a second here.
 #[test]
 fn interrupts_known_late(rt: HostRuntime) {
@@ -292,7 +293,8 @@ fn interrupts_known_late(rt: HostRuntime) {
     interrupts(&rt, rt.alloc(), &rows);
 }
 
-/// Thresholds of 10 ms, 20 ms and so on to 2560 ms, in windows of ten seconds.
+/// Creates 256 triggers with thresholds of 10 ms, 20 ms and so on to 2560 ms, in windows of ten
+/// seconds.
 fn many_triggers(rt: &impl Abort, alloc: Global) -> Vec<TriggerSpec> {
     let mut triggers = Vec::new(alloc);
     for i in 0..256u64 {
@@ -303,7 +305,7 @@ fn many_triggers(rt: &impl Abort, alloc: Global) -> Vec<TriggerSpec> {
     triggers
 }
 
-/// Whether the numbers are those from `from` to `to`, excluding `to`.
+/// Whether the numbers are `from` to `to`, excluding `to`.
 fn is_range(numbers: &[u32], from: u32, to: u32) -> bool {
     let mut next = from;
     for number in numbers {
@@ -315,7 +317,7 @@ fn is_range(numbers: &[u32], from: u32, to: u32) -> bool {
     next == to
 }
 
-/// The range of the triggers that are due after this number of seconds: the first one, and the one
+/// The range of the triggers that are due after `second` seconds: the first trigger, and the one
 /// after the last.
 fn owed(second: u64) -> (u32, u32) {
     match second {
@@ -326,7 +328,7 @@ fn owed(second: u64) -> (u32, u32) {
     }
 }
 
-/// Adds a second of stall, and checks that the triggers that are due fire.
+/// Adds a second of stall, and checks that exactly the triggers that are due fire.
 fn stall(rt: &impl Abort, machine: &mut Machine, second: u64) {
     let now = second.wrapping_mul(SECOND);
     let (from, to) = owed(second);
@@ -339,7 +341,7 @@ fn stall(rt: &impl Abort, machine: &mut Machine, second: u64) {
     );
 }
 
-// The total grows by a second a second.
+// The total grows by one second per second.
 #[test]
 fn many_triggers_on_one_group(rt: HostRuntime) {
     let mut machine = small_machine(&rt, rt.alloc(), &many_triggers(&rt, rt.alloc()));

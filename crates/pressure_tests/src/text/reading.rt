@@ -1,4 +1,4 @@
-//! Reading pressure files, with values at their limits.
+//! Tests of parsing pressure files, with values at their limits.
 use crate::check::is;
 use pressure_text::{PressureFile, PressureLine, read_file, read_irq};
 use std::alloc::Global;
@@ -7,7 +7,7 @@ use std::process::Abort;
 /// A `full` line of zeros.
 const FULL: &str = "full avg10=0.00 avg60=0.00 avg300=0.00 total=0\n";
 
-/// Its values.
+/// The values of `FULL`.
 const ZEROS: PressureLine = PressureLine {
     hundredths: [0; 3],
     total_us: 0,
@@ -52,7 +52,7 @@ const WRONG_LINES: [&str; 17] = [
     "some avg10=0.00 avg60=0.00 avg300=0.00 total=0",
 ];
 
-/// Malformed files, whose first line may be valid or missing.
+/// Malformed files; the first line may be valid or missing.
 const WRONG_FILES: [&str; 6] = [
     "some avg10=0.00 avg60=0.00 avg300=0.00 total=0\n",
     "some avg10=0.00 avg60=0.00 avg300=0.00 total=0\nfull avg10=0.00 avg60=0.00 avg300=0.00 total=0",
@@ -62,7 +62,7 @@ const WRONG_FILES: [&str; 6] = [
     "",
 ];
 
-/// Checks what is read from a file with this line and the line of zeros.
+/// Checks the result of parsing a file that consists of `line` and the line `FULL`.
 fn reads(rt: &impl Abort, alloc: Global, line: &str, wanted: Option<PressureFile>) {
     let text = format!(in alloc; "{line}{}", FULL).expect(rt, "memory");
     is(rt, read_file(text.as_bytes()), wanted, text.as_str());
@@ -85,7 +85,7 @@ fn files_at_their_borders(rt: HostRuntime) {
     }
 }
 
-/// Valid files of interrupts, each with its values.
+/// Valid pressure files of interrupts, each with its values.
 const IRQ_FILES: [(&str, PressureLine); 3] = [
     (FULL, ZEROS),
     (
@@ -104,7 +104,7 @@ const IRQ_FILES: [(&str, PressureLine); 3] = [
     ),
 ];
 
-/// Malformed files of interrupts.
+/// Malformed pressure files of interrupts.
 const WRONG_IRQ_FILES: [&str; 10] = [
     "full avg10=100.01 avg60=0.00 avg300=0.00 total=0\n",
     "full avg10=0.00 avg60=0.00 avg300=0.00 total=18446744073709551616\n",

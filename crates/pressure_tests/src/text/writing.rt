@@ -1,4 +1,4 @@
-//! Each line with its exact text.
+//! Tests of writing: each line with its exact text.
 use crate::check::is;
 use fixed_average::Averages;
 use outside::WriteFailed;
@@ -16,7 +16,7 @@ use std::process::Abort;
 /// Two seconds (ns).
 const TICK: u64 = 2_000_000_000;
 
-// The averages of a group that was in all its states, and interrupted, from the start to the first
+// The averages of a group that was in all states, and interrupted, from the start to the first
 // update.
 fn stalled_averages() -> Averages {
     let mut averages = Averages::new(0);
@@ -24,17 +24,17 @@ fn stalled_averages() -> Averages {
     averages
 }
 
-/// An empty sink with a capacity of `room` bytes.
+/// Creates an empty sink with a capacity of `room` bytes.
 fn sink(rt: &impl Abort, alloc: Global, room: usize) -> HonestSink {
     HonestSink::new(alloc, room).expect(rt, "memory")
 }
 
-/// The root group.
+/// The path of the root.
 fn root(rt: &impl Abort, alloc: Global) -> Path {
     Path::root(alloc).expect(rt, "memory")
 }
 
-/// Writes the first four of the lines below.
+/// Writes the first four lines of `LINES`.
 fn write_first_lines(rt: &impl Abort, out: &mut HonestSink, root: &Path) {
     let seven = [1, 2, 3, 4, 5, 6, u64::MAX];
     write_stall(out, Cpu(63), root, seven).expect(rt, "a stall");
@@ -44,7 +44,7 @@ fn write_first_lines(rt: &impl Abort, out: &mut HonestSink, root: &Path) {
     write_live(out, TICK, Cpu(1), 12, [0; 7]).expect(rt, "a live line");
 }
 
-/// Writes the other four.
+/// Writes the other four lines of `LINES`.
 fn write_last_lines(rt: &impl Abort, out: &mut HonestSink, root: &Path) {
     let spec = TriggerSpec {
         at: 5,
@@ -60,7 +60,7 @@ fn write_last_lines(rt: &impl Abort, out: &mut HonestSink, root: &Path) {
     write_end(out, 7, 1, 2, 3).expect(rt, "an end");
 }
 
-/// One line of each form.
+/// One line of each kind.
 const LINES: &[u8] = b"stall cpu=63 / 1 2 3 4 5 6 18446744073709551615
 stall cpu=0 / 1 2 3 4 5 6 2000000000 18446744073709551615
 ok lines=5 events=4 end=2000000000
@@ -83,7 +83,7 @@ fn lines(rt: HostRuntime) {
 /// The totals of a group (ns).
 const TOTALS: Amounts = [1_000, 2_000, 3_999, 4_000, TICK, 999, 5_000];
 
-/// Checks the pressure file of a group with these totals.
+/// Checks the pressure file of a group with the totals `TOTALS`.
 fn is_file(rt: &impl Abort, alloc: Global, res: Res, root: bool, text: &[u8]) {
     let mut out = sink(rt, alloc, 256);
     write_file(&mut out, res, root, TOTALS, &stalled_averages()).expect(rt, "a file");
@@ -110,7 +110,7 @@ full avg10=0.00 avg60=0.00 avg300=0.00 total=0
     is_file(&rt, rt.alloc(), Res::Cpu, true, machine);
 }
 
-/// A report on the root's IO.
+/// Returns a report on IO of the root.
 fn report(rt: &impl Abort, alloc: Global) -> Vec<u8> {
     let root = root(rt, alloc);
     let mut out = sink(rt, alloc, 256);
@@ -143,7 +143,7 @@ fn reports_are_read_again(rt: HostRuntime) {
     is(&rt, read_file(bytes), Some(file), "a report");
 }
 
-/// A report on interrupts, which took half of the first interval.
+/// Returns a report on interrupts, which took half of the first interval.
 fn irq_report(rt: &impl Abort, alloc: Global) -> Vec<u8> {
     let mut averages = Averages::new(0);
     averages.update(TICK, [0, 0, 0, 0, 0, 0, TICK / 2]);
@@ -170,7 +170,7 @@ full avg10=9.05 avg60=1.63 avg300=0.34 total=1000000
     is(&rt, read_irq(bytes), Some(line), "what it shows");
 }
 
-// The third piece of the line fails.
+// The write of the third piece of the line fails.
 #[test]
 fn a_failure_leaves_a_prefix(rt: HostRuntime) {
     let fails = vec![in rt.alloc(); 2].expect(&rt, "memory");
