@@ -1,13 +1,13 @@
-//! Traces that are rejected, and failing calls of the shelf and the sinks.
+//! Tests of traces that are rejected, and of failing calls of the shelf and the sinks.
 
 use crate::runs::{Failing, Host, NO_FAULT, NONE, assert_prints_nothing, assert_run, run_failing};
 use observe_core::ObserveStatus;
 use psi_base::Cause;
 
-/// A trace of two ticks without tasks, so that no processor changes.
+/// A trace with two ticks and no task, so that no processor changes.
 const TWO_TICKS: &str = "psitrace 1 cpus=1\n2500000000 group /a\n4000000000 end\n";
 
-/// The output of two observers of its root, in which nothing changes.
+/// The output of two observers of a group of `TWO_TICKS` that is never live: no samples.
 const PRINTED: &str = "board observer=0 tick=2 events=0 kills=0\n\
     board observer=1 tick=2 events=0 kills=0\n\
     end 4000000000 samples=0\n";
@@ -30,14 +30,14 @@ fn traces_that_are_refused(rt: HostRuntime) {
     let trace = "psitrace 1 cpus=1\n0 fork 1 nope 0\n0 end\n";
     let cause = Cause::BadField(2);
     assert_refused(&rt, "t 1 /", trace, cause, "trace line 2: BadField 2\n");
-    // A trace has at most a million ticks.
+    // A trace can have at most a million ticks.
     let trace = "psitrace 1 cpus=1\n2000000000000001 end\n";
     let cause = Cause::TimeTooLate;
     assert_refused(&rt, "t 8 /", trace, cause, "trace line 2: TimeTooLate\n");
 }
 
-/// Checks a run with this status and note, with some failing calls and one byte a call, and that it
-/// prints a prefix of the output: all of it if the status is `Done`.
+/// Runs two observers with injected failures, one byte per call. Checks the status and note, and
+/// that the first `length` bytes of `PRINTED` are printed.
 fn assert_prefix(rt: &impl Host, failing: Failing, status: ObserveStatus, length: u64, note: &str) {
     let ran = run_failing(rt, "t 2 /a/b", TWO_TICKS, 1, failing);
     let prefix = PRINTED
@@ -67,7 +67,7 @@ fn each_call_fails_in_turn(rt: HostRuntime) {
     }
 }
 
-// A failed write of a note changes no status.
+// A failed write of the note doesn't change the status.
 #[test]
 fn a_note_that_fails(rt: HostRuntime) {
     let failing = Failing {

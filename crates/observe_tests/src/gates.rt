@@ -1,5 +1,5 @@
-//! Observers and the threads of the replay with a gate that blocks each of them until another one
-//! has arrived.
+//! Tests of observers and replay threads that run at the same time: a gate blocks each thread until
+//! another one has arrived.
 
 use crate::runs::{Host, assert_ends, assert_run, line_of, run_gated};
 use observe_core::ObserveStatus;
@@ -8,10 +8,10 @@ use psi_base::Cpu;
 use std::sync::atomic::Ordering::SeqCst;
 use std::sync::atomic::{AtomicBool, AtomicU64};
 
-/// How often a thread checks for another one before it gives up.
+/// How often a thread checks for another thread before it gives up.
 const TURNS: u32 = 200_000_000;
 
-/// A task runs on the one processor, waits for IO for a second, and is ready until the end.
+/// A trace of one processor. Its task runs, waits for IO for a second, and is ready until the end.
 pub const ONE_PROCESSOR: &str = "psitrace 1 cpus=1\n\
     0 fork 1 / 0\n\
     0 switch 0 1 idle\n\
@@ -19,13 +19,13 @@ pub const ONE_PROCESSOR: &str = "psitrace 1 cpus=1\n\
     1500000000 wake 1 0\n\
     2000000000 end\n";
 
-/// The output of one observer that samples it after the third change.
+/// The output of one observer of `ONE_PROCESSOR` that takes its sample after the third change.
 const AFTER_THREE: &str = "sample observer=0 cpu=0 count=3 at=500000000 0 0 0 0 0 0 500000000\n\
     board observer=0 tick=1 events=0 kills=0\n\
     end 2000000000 samples=1\n";
 
-/// A group whose task runs, waits for IO for a second and is ready. The group is removed after the
-/// task has left it, and created again.
+/// A trace with a group whose task runs, waits for IO for a second and is ready. The group is
+/// removed after the task has left it, and created again.
 const COMES_AGAIN: &str = "psitrace 1 cpus=1\n\
     0 group /a\n\
     0 fork 1 /a 0\n\
@@ -37,15 +37,15 @@ const COMES_AGAIN: &str = "psitrace 1 cpus=1\n\
     6500000000 group /a\n\
     8000000000 end\n";
 
-/// The output of one observer whose first sample is after the third change. At the third tick the
-/// group isn't live, and at the fourth it is a new one, in which no time has passed.
+/// The output of one observer of `COMES_AGAIN` whose first sample is after the third change. At the
+/// third tick the group isn't live; at the fourth it is a new group, in which no time has passed.
 const BOTH_LIVES: &str = "sample observer=0 cpu=0 count=3 at=500000000 0 0 0 0 0 0 500000000\n\
     sample observer=0 cpu=0 count=4 at=1500000000 1000000000 1000000000 0 0 0 0 1500000000\n\
     sample observer=0 cpu=0 count=5 at=4500000000 0 0 0 0 0 0 0\n\
     board observer=0 tick=4 events=0 kills=0\n\
     end 8000000000 samples=3\n";
 
-/// Waits until another thread has arrived, and records it if none did.
+/// Waits until another thread has arrived. Sets `is_missed` if none arrives.
 fn wait_for(other: &AtomicBool, is_missed: &AtomicBool) {
     for _ in 0..TURNS {
         if other.load(SeqCst) {
@@ -55,9 +55,8 @@ fn wait_for(other: &AtomicBool, is_missed: &AtomicBool) {
     is_missed.store(true, SeqCst);
 }
 
-/// A gate at which the third change of processor 0 and observer 0's first sample there wait for
-/// each other: the sample is taken once the change is made, and the next change is made once the
-/// sample is taken.
+/// A gate that forces an order on processor 0: observer 0's first sample is taken after the third
+/// change, and the fourth change is made after that sample.
 #[derive(Drop)]
 struct AfterThird {
     is_moved: AtomicBool,
@@ -74,7 +73,7 @@ impl AfterThird {
         }
     }
 
-    /// Whether both arrived in time.
+    /// Whether the change and the sample both happened, and no thread gave up waiting.
     fn is_met(&self) -> bool {
         self.is_moved.load(SeqCst) && self.is_sampled.load(SeqCst) && !self.is_missed.load(SeqCst)
     }
@@ -99,7 +98,7 @@ impl Gate for AfterThird {
     }
 }
 
-/// Checks the output for a trace if a sample is taken after the third change.
+/// Checks the output for a trace if the first sample is taken after the third change.
 fn assert_after_third(rt: &impl Host, line: &str, trace: &str, output: &str) {
     let gate = AfterThird::new();
     let ran = run_gated(rt, line, trace, &gate);
@@ -117,7 +116,7 @@ fn a_group_goes_and_comes_again(rt: HostRuntime) {
     assert_after_third(&rt, "t 1 /a", COMES_AGAIN, BOTH_LIVES);
 }
 
-/// A gate at which observer 0 waits until another one has added its sample to the journal.
+/// A gate at which observer 0 waits until another observer has added its sample to the journal.
 #[derive(Drop)]
 struct OtherFirst {
     is_sampled: AtomicBool,
@@ -156,10 +155,10 @@ fn observers_in_the_order_of_the_journal(rt: HostRuntime) {
     assert_ends(&rt, "t 2 /", &ran, end);
 }
 
-/// The maximal number of observers.
+/// The most observers of a run.
 const OBSERVERS: u64 = 8;
 
-/// A gate at which each observer waits, before its only sample, until all have arrived.
+/// A gate at which each observer waits, before its only sample, until all observers have arrived.
 #[derive(Drop)]
 struct AllMeet {
     come: AtomicU64,

@@ -1,4 +1,4 @@
-//! The calls of a gate: one for each change with its number, and two for each sample.
+//! Tests of the calls of a gate: one for each change, with its number, and two for each sample.
 
 use crate::runs::{Host, Ran, assert_ends, run_gated};
 use outside::Gate;
@@ -6,7 +6,8 @@ use psi_base::{Cpu, read_number};
 use std::sync::atomic::Ordering::SeqCst;
 use std::sync::atomic::{AtomicBool, AtomicU64};
 
-/// Three ticks of two processors; the root is live at each. In the second interval nothing changes.
+/// A trace of two processors and three ticks. The root is live at each tick, and in the second
+/// interval nothing changes.
 const THREE_TICKS: &str = "psitrace 1 cpus=2\n\
     0 fork 1 / 0\n\
     0 fork 2 / 1\n\
@@ -22,16 +23,16 @@ const TICKS: u64 = 3;
 
 const CPUS: u64 = 2;
 
-/// The number of changes of each of its processors.
+/// The number of changes of each processor in `THREE_TICKS`.
 const CHANGES: [u64; 2] = [5, 3];
 
-/// An exclusive upper bound of the number of changes before a sample.
+/// An exclusive upper bound on the number of changes before a sample.
 const ROOM: u64 = 8;
 
 /// The number of observers.
 const OBSERVERS: u64 = 3;
 
-/// `many` counters at 0.
+/// Returns `many` counters that are 0.
 fn counters(rt: &impl Host, many: u64) -> Vec<AtomicU64> {
     let mut counters = Vec::new(rt.alloc());
     for _ in 0..many {
@@ -40,12 +41,12 @@ fn counters(rt: &impl Host, many: u64) -> Vec<AtomicU64> {
     counters
 }
 
-/// The calls of a gate for a processor.
+/// The gate's calls for one processor.
 #[derive(Drop)]
 struct Notice {
-    /// The number of changes.
+    /// The number of calls for a change.
     moved: AtomicU64,
-    /// The number of samples by the number of changes before them.
+    /// The number of samples, by the number of changes that they include.
     after: Vec<AtomicU64>,
 }
 
@@ -61,7 +62,7 @@ impl Notice {
 /// A gate that counts its calls, and records whether a call has an unexpected number.
 #[derive(Drop)]
 struct Counting {
-    /// By processor.
+    /// The calls for each processor.
     known: Vec<Notice>,
     /// The number of calls before a sample, by observer.
     requested: Vec<AtomicU64>,
@@ -78,27 +79,27 @@ impl Counting {
         }
     }
 
-    /// Records whether a call was as expected.
+    /// Records that a call was unexpected, unless `is_right` is true.
     fn note(&self, is_right: Option<bool>) {
         if is_right != Some(true) {
             self.is_wrong.store(true, SeqCst);
         }
     }
 
-    /// Whether a change of a processor is the next one.
+    /// Whether change number `count` of a processor follows the previous one.
     fn is_next_change(&self, cpu: Cpu, count: u64) -> Option<bool> {
         let known = self.known.get(cpu.0 as usize)?;
         let before = known.moved.fetch_add(1, SeqCst);
         Some(before < count && count - before == 1)
     }
 
-    /// Whether this processor is the observer's next one.
+    /// Whether `cpu` is the next processor in the observer's order.
     fn is_next_cpu(&self, cpu: Cpu, observer: u32) -> Option<bool> {
         let before = self.requested.get(observer as usize)?.fetch_add(1, SeqCst);
         Some(before % CPUS == u64::from(cpu.0))
     }
 
-    /// Counts a sample of a processor, after `count` of its changes.
+    /// Counts a sample of a processor that includes `count` changes.
     fn count(&self, cpu: Cpu, count: u64) -> Option<bool> {
         let known = self.known.get(cpu.0 as usize)?;
         known.after.get(count as usize)?.fetch_add(1, SeqCst);
@@ -120,7 +121,7 @@ impl Gate for Counting {
     }
 }
 
-/// The processor and the count in a sample's line. `None` for another line.
+/// Returns the processor and the number of changes in a sample's line. `None` for any other line.
 fn sample_of(line: &[u8]) -> Option<(u64, u64)> {
     let rest = line.strip_prefix(b"sample observer=")?;
     let mut words = rest.split(|byte| *byte == b' ').skip(1);
@@ -129,7 +130,7 @@ fn sample_of(line: &[u8]) -> Option<(u64, u64)> {
     Some((cpu, count))
 }
 
-/// Whether the printed samples of a processor are those that the gate received.
+/// Whether the printed samples of a processor are exactly those that the gate was called for.
 fn are_lines(ran: &Ran, cpu: u64, known: &Notice) -> bool {
     known.after.iter().enumerate().all(|(count, known)| {
         let lines = ran.output.split(|byte| *byte == b'\n');
@@ -141,8 +142,7 @@ fn are_lines(ran: &Ran, cpu: u64, known: &Notice) -> bool {
     })
 }
 
-/// Whether the gate of a run received each change of a processor, and the samples that were
-/// printed.
+/// Whether the gate was called for each change of a processor, and for exactly the printed samples.
 fn is_reported(ran: &Ran, cpu: usize, known: &Notice) -> bool {
     CHANGES.get(cpu) == Some(&known.moved.load(SeqCst)) && are_lines(ran, cpu as u64, known)
 }

@@ -1,17 +1,18 @@
-//! The limit of samples.
+//! Tests of the limit on the number of samples.
 
 use crate::runs::{Host, assert_ends, assert_prints_nothing, run_open};
 use observe_core::ObserveStatus;
 
-/// The maximal number of ticks for eight observers of 50 processors, and one more.
+/// A trace with the most ticks for eight observers of 50 processors, and one with another tick.
 const MOST_TICKS: &str = "psitrace 1 cpus=50\n5000000000000 end\n";
 
 const ONE_TICK_MORE: &str = "psitrace 1 cpus=50\n5002000000000 end\n";
 
-/// Ticks for which two observers of one processor would have two samples more than the limit.
+/// A trace with so many ticks that two observers of one processor would take two samples more than
+/// the limit.
 const TWO_SAMPLES_MORE: &str = "psitrace 1 cpus=1\n1000002000000000 end\n";
 
-/// A hundredth of the maximal number of ticks.
+/// A trace with a hundredth of the ticks of `MOST_TICKS`.
 const SOME_TICKS: &str = "psitrace 1 cpus=50\n50000000000 end\n";
 
 #[test]
@@ -28,7 +29,7 @@ fn assert_too_many(rt: &impl Host, line: &str, trace: &str, samples: u64) {
     assert_prints_nothing(rt, line, trace, status, "too many samples\n");
 }
 
-// It doesn't matter whether the group is ever live.
+// The number of requested samples counts, whether or not the group is ever live.
 #[test]
 fn too_many(rt: HostRuntime) {
     assert_too_many(&rt, "t 8 /", ONE_TICK_MORE, 1_000_400);
@@ -40,7 +41,7 @@ fn too_many(rt: HostRuntime) {
 fn ten_thousand(rt: HostRuntime) {
     let ran = run_open(&rt, "t 8 /", SOME_TICKS);
     assert_ends(&rt, "t 8 /", &ran, "\nend 50000000000 samples=10000\n");
-    // A newline ends each sample, each of the eight states and the last line.
+    // A newline ends each sample, each of the eight board states and the last line.
     let ends = ran.output.iter().filter(|byte| **byte == b'\n').count();
     assert_eq!(rt; ends, 10_009);
 }

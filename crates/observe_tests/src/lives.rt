@@ -1,10 +1,10 @@
-//! Groups that are live at no tick, and traces without ticks.
+//! Tests of groups that are live at no tick, and of traces without ticks.
 
 use crate::runs::assert_prints;
 
 const NO_TICK: &str = "psitrace 1 cpus=1\n0 end\n";
 
-/// A group that is created and removed between two ticks.
+/// A trace with a group that is created and removed between two ticks.
 const BETWEEN_TICKS: &str = "psitrace 1 cpus=2\n\
     2500000000 group /a\n\
     2500000000 fork 1 /a 1\n\
@@ -12,7 +12,8 @@ const BETWEEN_TICKS: &str = "psitrace 1 cpus=2\n\
     3500000000 rmgroup /a\n\
     4100000000 end\n";
 
-/// A task of a group waits for IO for three seconds, and the group's trigger fires at both ticks.
+/// A trace in which a task of a group waits for IO for three seconds, so that the group's trigger
+/// fires at both ticks.
 const SIGNALS: &str = "psitrace 1 cpus=1\n\
     0 group /web\n\
     0 fork 1 /web 0\n\
@@ -43,7 +44,7 @@ fn live_at_no_tick(rt: HostRuntime) {
     assert_prints(&rt, "t 2 /nope", BETWEEN_TICKS, none);
 }
 
-// The states of the board count the signals of all groups.
+// The board's states count the signals of all groups.
 #[test]
 fn signals_up_to_the_last_tick(rt: HostRuntime) {
     let both = "board observer=0 tick=2 events=2 kills=0\nend 5000000000 samples=0\n";

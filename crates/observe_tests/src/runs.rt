@@ -1,4 +1,4 @@
-//! Runs words with one trace in memory, with assertions about a run. A test ends if memory runs
+//! Runs a command line with one trace in memory, and checks the run. A test aborts if memory runs
 //! out.
 
 use observe_core::{ObserveStatus, observe};
@@ -10,7 +10,7 @@ use std::process::Abort;
 use std::sync::Wait;
 use std::thread::Threads;
 
-/// What a test needs: threads that can wait, memory, and a way to abort.
+/// What a test needs from its runtime: threads that can wait, memory, and a way to abort.
 pub trait Host: Threads + Wait + AllocGlobal + Sync + Abort {}
 
 impl<R: Threads + Wait + AllocGlobal + Sync + Abort> Host for R {}
@@ -23,7 +23,7 @@ pub struct Ran {
     pub note: Vec<u8>,
 }
 
-/// Bytes as they are shown in a message.
+/// Returns bytes as text for a message.
 fn shown(bytes: &[u8]) -> &str {
     str::from_utf8(bytes).unwrap_or("no text")
 }
@@ -35,7 +35,8 @@ impl fmt::Display for Ran {
     }
 }
 
-/// Which call of the shelf, the output and the note fails, counted from 0. `NONE` fails none.
+/// The number of the read, of the write and of the note's write that fails, each counted from 0.
+/// `NONE` means that none fails.
 #[derive(Clone, Copy, Debug)]
 pub struct Failing {
     pub read: u64,
@@ -43,7 +44,7 @@ pub struct Failing {
     pub note: u64,
 }
 
-/// A call that isn't made.
+/// The number of a call that no test reaches.
 pub const NONE: u64 = 1_000_000;
 
 /// No call fails.
@@ -56,7 +57,7 @@ pub const NO_FAULT: Failing = Failing {
 /// The capacity (bytes) of each sink.
 const ROOM: usize = 1 << 20;
 
-/// The words of a command line, split at spaces.
+/// Splits a command line into words at spaces.
 fn words_of(rt: &impl Host, line: &str) -> Vec<String> {
     let mut words = Vec::new(rt.alloc());
     for word in line.split(' ') {
@@ -70,25 +71,25 @@ fn text_of(rt: &impl Host, text: &str) -> Text {
     Text::make(rt.alloc(), text.as_bytes()).expect(rt, "memory")
 }
 
-/// The number of the one call that fails.
+/// Makes the list of failing calls, which has one number.
 fn call_of(rt: &impl Host, call: u64) -> Vec<u64> {
     vec![in rt.alloc(); call].expect(rt, "memory")
 }
 
-/// A shelf that returns at most `most` bytes a call; one call fails.
+/// Makes a shelf that returns at most `most` bytes per call, and fails at call `call`.
 fn shelf_of(rt: &impl Host, trace: &str, most: usize, call: u64) -> MemShelf {
     let files = vec![in rt.alloc(); (text_of(rt, "t"), text_of(rt, trace))];
     MemShelf::new(files.expect(rt, "memory"), most.max(1), call_of(rt, call))
 }
 
-/// A sink that accepts at most `most` bytes a call; one call fails.
+/// Makes a sink that accepts at most `most` bytes per call, and fails at call `call`.
 fn sink_of(rt: &impl Host, most: usize, call: u64) -> MemSink {
     let sink = MemSink::new(rt.alloc(), ROOM, most.max(1), call_of(rt, call));
     sink.expect(rt, "memory")
 }
 
-/// Runs a command line with this trace as the file `t`, with some failing calls and a gate that may
-/// block threads. The shelf and both sinks move at most `most` bytes a call.
+/// Runs a command line with this trace as the file `t`, with injected failures and a gate that may
+/// block threads. The shelf and both sinks move at most `most` bytes per call.
 fn run_over(
     rt: &impl Host,
     line: &str,
@@ -122,7 +123,7 @@ pub fn run_gated(rt: &impl Host, line: &str, trace: &str, gate: &impl Gate) -> R
     run_over(rt, line, trace, 65536, NO_FAULT, gate)
 }
 
-/// Runs a command line with this trace and some failing calls.
+/// Runs a command line with this trace and injected failures.
 pub fn run_failing(rt: &impl Host, line: &str, trace: &str, most: usize, failing: Failing) -> Ran {
     run_over(rt, line, trace, most, failing, &OpenGate)
 }
@@ -150,13 +151,13 @@ pub fn assert_run(
     );
 }
 
-/// Checks that a run succeeded, and that its output ends with this.
+/// Checks that a run succeeded, and that its output ends with `end`.
 pub fn assert_ends(rt: &impl Abort, line: &str, ran: &Ran, end: &str) {
     let is_right = ran.status == ObserveStatus::Done && ran.output.ends_with(end.as_bytes());
     assert!(rt; is_right, "{line}, {ran} in place of the end {end:?}");
 }
 
-/// Checks the output of a command line for this trace.
+/// Checks that a command line prints exactly this output for this trace.
 pub fn assert_prints(rt: &impl Host, line: &str, trace: &str, output: &str) {
     let ran = run_open(rt, line, trace);
     assert_run(rt, line, &ran, ObserveStatus::Done, output, "");
@@ -174,7 +175,7 @@ pub fn assert_prints_nothing(
     assert_run(rt, line, &ran, status, "", note);
 }
 
-/// Line number `number`, from 0, without its newline.
+/// Returns line `number` of a text, counted from 0, without its newline.
 pub fn line_of(text: &[u8], number: usize) -> &[u8] {
     text.split(|byte| *byte == b'\n')
         .nth(number)

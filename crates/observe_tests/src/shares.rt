@@ -1,9 +1,10 @@
-//! Each observer takes a sample of each processor at each tick.
+//! Tests that each observer takes a sample of each processor at each tick.
 
 use crate::gates::ONE_PROCESSOR;
 use crate::runs::{Ran, assert_ends, line_of, run_open};
 
-/// The possible lines after the observer's number, by the number of changes of the one processor.
+/// The possible texts after the observer's number in a sample of `ONE_PROCESSOR`, by the number of
+/// changes made.
 const LOOKS: [&str; 5] = [
     " cpu=0 count=0 at=0 0 0 0 0 0 0 0",
     " cpu=0 count=1 at=0 0 0 0 0 0 0 0",
@@ -12,7 +13,7 @@ const LOOKS: [&str; 5] = [
     " cpu=0 count=4 at=1500000000 1000000000 1000000000 0 0 0 0 1500000000",
 ];
 
-/// Two processors with three ticks. All changes are before the first tick.
+/// A trace of two processors with three ticks. All changes are before the first tick.
 const THREE_TICKS: &str = "psitrace 1 cpus=2\n\
     0 fork 1 / 0\n\
     0 switch 0 1 idle\n\
@@ -20,7 +21,8 @@ const THREE_TICKS: &str = "psitrace 1 cpus=2\n\
     1500000000 wake 1 1\n\
     6000000000 end\n";
 
-/// The lines for it at the second and the third tick, after the observer's number.
+/// The texts after the observer's number in the samples of `THREE_TICKS` at the second and third
+/// tick, by processor.
 const SETTLED: [&str; 2] = [
     " cpu=0 count=4 at=1500000000 0 0 0 0 0 0 500000000",
     " cpu=1 count=1 at=1500000000 0 0 0 0 0 0 0",
@@ -29,7 +31,8 @@ const SETTLED: [&str; 2] = [
 /// The number of observers.
 const OBSERVERS: usize = 8;
 
-/// The rest of a line after this observer's number. `None` for another observer's line.
+/// Returns the text after the observer's number in a sample of this observer. `None` for any other
+/// line.
 fn look_of(line: &[u8], observer: u8) -> Option<&[u8]> {
     let rest = line.strip_prefix(b"sample observer=")?;
     let (digit, look) = rest.split_first()?;
@@ -40,7 +43,7 @@ fn look_of(line: &[u8], observer: u8) -> Option<&[u8]> {
     }
 }
 
-/// The number of lines of an output that are an observer's and have one of these texts.
+/// Returns the number of samples of an observer whose text is among `looks`.
 fn looks_among(output: &[u8], observer: u8, looks: &[&str]) -> usize {
     output
         .split(|byte| *byte == b'\n')
@@ -49,7 +52,7 @@ fn looks_among(output: &[u8], observer: u8, looks: &[&str]) -> usize {
         .count()
 }
 
-/// Whether each observer has one line for the one processor, after any number of its changes.
+/// Whether each observer has exactly one sample, after any number of changes.
 fn is_shared(ran: &Ran) -> bool {
     (0..8u8).all(|observer| looks_among(&ran.output, observer, &LOOKS) == 1)
         && line_of(&ran.output, OBSERVERS) == b"board observer=0 tick=1 events=0 kills=0".as_slice()
@@ -62,8 +65,8 @@ fn a_sample_of_each_observer(rt: HostRuntime) {
     assert!(rt; is_shared(&ran), "{ran}");
 }
 
-/// Whether an observer has a line for each processor at each of three ticks, by tick, the last four
-/// after all changes.
+/// Whether an observer has one sample per processor and tick, of three ticks, and the last four
+/// samples include all changes.
 fn is_settled(output: &[u8], observer: u8) -> bool {
     let lines = output.split(|byte| *byte == b'\n');
     let count = lines.filter_map(|line| look_of(line, observer)).count();

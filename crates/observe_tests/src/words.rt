@@ -1,4 +1,4 @@
-//! Words that are no command, and the exit codes of statuses.
+//! Tests of words that aren't a request, and of the exit codes of statuses.
 
 use crate::gates::ONE_PROCESSOR;
 use crate::runs::{Host, assert_prints_nothing};
@@ -45,7 +45,7 @@ fn names_that_are_not_held(rt: HostRuntime) {
     assert_reported(&rt, "- 8 /a", ObserveStatus::NoFile, "no file: -\n");
 }
 
-// An out-of-memory failure, as returned by an allocation that always fails.
+// Returns the error of an allocation that always fails.
 fn short_of_memory(rt: &impl Abort, alloc: Global) -> NoMemory {
     match Vec::<u8>::with_capacity(alloc, usize::MAX) {
         Ok(_) => panic!(rt; "there is room for all bytes that can be named"),
