@@ -1,4 +1,5 @@
-//! Calls with enough memory, the fakes in memory, and tables with values at their limits.
+//! Tests of calls with enough memory, of the fake files and sinks in memory, and of values at their
+//! limits.
 mod buffered;
 mod fakes;
 mod lines;

@@ -1,4 +1,4 @@
-//! Assertions. They are functions because each use of `assert_eq!` is proved again.
+//! Assertions for the tests. They are functions because each use of `assert_eq!` is proved again.
 use std::fmt::Debug;
 use std::process::Abort;
 
@@ -7,7 +7,7 @@ pub fn is<T: Copy + Debug + PartialEq>(rt: &impl Abort, found: T, wanted: T, wha
     assert_eq!(rt; found, wanted, "{what}");
 }
 
-/// The bytes as text, `?` if they aren't UTF-8.
+/// Returns bytes as text, or `?` if they aren't UTF-8.
 pub fn shown(bytes: &[u8]) -> &str {
     str::from_utf8(bytes).unwrap_or("?")
 }

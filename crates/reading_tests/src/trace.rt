@@ -1,4 +1,4 @@
-//! The lines of a trace, read and written.
+//! Tests of the lines of a trace, parsed and written.
 mod events;
 mod headers;
 mod prefixes;

@@ -1,4 +1,5 @@
-//! Command words: those that are a command, with all its fields, and others.
+//! Tests of command words: those that are a command, with all its fields, and those that are
+//! rejected.
 mod rows;
 
 use crate::checks::{is, shown};
@@ -16,7 +17,7 @@ fn name_shown(name: &Option<Text>) -> &str {
     }
 }
 
-// A drop-in file preceded by `+`, if there is one.
+// Returns `+` and the name of a drop-in file, or empty texts if there is none.
 fn over_shown(drop_in: &Option<Text>) -> (&str, &str) {
     match drop_in {
         Some(name) => ("+", shown(name.bytes())),
@@ -50,7 +51,7 @@ fn shape_shown(rt: &impl Abort, alloc: Global, shape: &Shape) -> String {
     shown.expect(rt, "memory")
 }
 
-// A command with all its fields.
+// Formats a command with all its fields.
 fn command_shown(rt: &impl Abort, alloc: Global, command: &Command) -> String {
     let text = match command {
         Command::Stall { trace } => format!(in alloc; "stall {}", shown(trace.bytes())),
@@ -84,7 +85,7 @@ fn command_shown(rt: &impl Abort, alloc: Global, command: &Command) -> String {
     text.expect(rt, "memory")
 }
 
-// The words of a line.
+// Splits a line into words at `|`; `(none)` has no words.
 fn words_of(rt: &impl Abort, alloc: Global, line: &str) -> Vec<String> {
     let mut words = Vec::new(alloc);
     if line != "(none)" {
@@ -96,7 +97,7 @@ fn words_of(rt: &impl Abort, alloc: Global, line: &str) -> Vec<String> {
     words
 }
 
-// The command of a line's words, or why they aren't one.
+// Formats the command that a line's words spell, or the error if they don't spell a command.
 fn answer(rt: &impl Abort, alloc: Global, line: &str) -> String {
     let words = words_of(rt, alloc, line);
     match read_words(alloc, words.as_slice()) {
@@ -106,7 +107,7 @@ fn answer(rt: &impl Abort, alloc: Global, line: &str) -> String {
     }
 }
 
-// Checks the answer for the words of a line.
+// Checks the result for the words of a line.
 fn answers(rt: &impl Abort, alloc: Global, line: &str, wanted: &str) {
     let answer = answer(rt, alloc, line);
     is(rt, answer.as_str(), wanted, line);

@@ -1,4 +1,4 @@
-//! A buffered sink, with inner sinks that accept few bytes a call or fail.
+//! Tests of a buffered sink, with inner sinks that accept few bytes per call or fail.
 ghost use Rattle.std.specs.Prelude.{◌≡◌, ◌++◌, ◌<◌, decimal, []};
 ghost use Rattle.outside.specs.Outside.{HasCause};
 ghost use Rattle.outside.specs.Calls.{PutsAll};
@@ -26,12 +26,12 @@ fn put_buffered<K: Sink>(
     buffered.flush()
 }
 
-// The result of a write through a buffer: the answer, and the number of bytes and calls at the
-// sink.
+// The result of a write through a buffer: the returned value, and the numbers of bytes and calls
+// that reached the inner sink.
 type Taken = (Result<(), WriteFailed>, usize, u64);
 
-// Writes bytes and the number 12 through a buffer to a sink that accepts at most `most` bytes a
-// call, and fails at one call.
+// Writes bytes and the number 12 through a buffer to a sink that accepts at most `most` bytes per
+// call and fails at one call; checks the result.
 fn goes_through(
     rt: &impl Abort,
     alloc: Global,

@@ -1,4 +1,4 @@
-//! The shelves and sinks in memory: the answer and the counts of each call.
+//! Tests of the shelves and sinks in memory: the result and the counts of each call.
 ghost use Rattle.std.specs.Prelude.{◌<◌};
 
 use crate::checks::is;
@@ -8,15 +8,15 @@ use psi_base::{Cpu, Text};
 use std::alloc::Global;
 use std::process::Abort;
 
-/// One file, `f`.
+/// Makes the list of files of a shelf with one file, `f`.
 pub fn one_file(rt: &impl Abort, alloc: Global, bytes: &[u8]) -> Vec<(Text, Text)> {
     let name = Text::make(alloc, b"f").expect(rt, "memory");
     let text = Text::make(alloc, bytes).expect(rt, "memory");
     vec![in alloc; (name, text)].expect(rt, "memory")
 }
 
-/// The file and position of each call, its answer, and the numbers of calls, faults and absent
-/// files after it.
+/// For each read: the file and position, the result, and the numbers of calls, faults and absent
+/// files after the read.
 const READS: [(&str, u64, Result<usize, ShelfFault>, u64, u64, u64); 6] = [
     ("f", 0, Ok(2), 1, 0, 0),
     ("f", 0, Err(ShelfFault::Failed), 2, 1, 0),
@@ -26,8 +26,8 @@ const READS: [(&str, u64, Result<usize, ShelfFault>, u64, u64, u64); 6] = [
     ("f", 99, Ok(0), 6, 1, 1),
 ];
 
-// A shelf with the bytes `abcde`, which returns at most two of them a call and fails at the second
-// call.
+// Makes a shelf with the bytes `abcde`, which returns at most two bytes per call and fails at the
+// second call.
 fn failing_shelf(rt: &impl Abort, alloc: Global) -> MemShelf {
     let fails = vec![in alloc; 1].expect(rt, "memory");
     MemShelf::new(one_file(rt, alloc, b"abcde"), 2, fails)
@@ -56,8 +56,8 @@ fn honest_shelf_misses_only_names(rt: HostRuntime) {
     is(&rt, shelf.absent, 1, "absent files");
 }
 
-// A sink with a capacity of nine bytes, which accepts at most `most` a call and fails at the second
-// call.
+// Makes a sink with a capacity of nine bytes, which accepts at most `most` bytes per call and fails
+// at the second call.
 fn failing_sink(rt: &impl Abort, alloc: Global, most: usize) -> MemSink
     requires { 0 < most }
 {

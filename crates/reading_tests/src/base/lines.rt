@@ -1,4 +1,4 @@
-//! Lines from shelves that split them anywhere, and that fail.
+//! Tests of reading lines from shelves that split them anywhere, and that fail.
 ghost use Rattle.std.specs.Prelude.{◌+◌, ◌<◌, ◌≤◌, ◌^◌};
 
 use crate::base::fakes::one_file;
@@ -8,7 +8,8 @@ use psi_lines::{LineFault, Lines};
 use std::alloc::Global;
 use std::process::Abort;
 
-// A shelf with the file `f`, which returns at most `most` bytes a call and fails at one call.
+// Makes a shelf with the file `f`, which returns at most `most` bytes per call and fails at call
+// `fails`.
 fn shelf_of(rt: &impl Abort, alloc: Global, bytes: &str, most: usize, fails: u64) -> MemShelf
     requires { 0 < most }
 {
@@ -16,14 +17,14 @@ fn shelf_of(rt: &impl Abort, alloc: Global, bytes: &str, most: usize, fails: u64
     MemShelf::new(one_file(rt, alloc, bytes.as_bytes()), most, fails)
 }
 
-// A reader of the lines of a file.
+// Creates a reader of the lines of a file.
 fn lines_of(rt: &impl Abort, alloc: Global, name: &str) -> Lines
     ensures { result.number ≤ 1 }
 {
     Lines::new(alloc, name).expect(rt, "memory")
 }
 
-// An answer as a line: the number and the bytes, or the end, or the fault.
+// Formats a result as a line: the number and the bytes, or the end, or the fault.
 fn known(
     rt: &impl Abort,
     alloc: Global,
@@ -38,7 +39,7 @@ fn known(
     line.expect(rt, "memory")
 }
 
-// The next line, owned.
+// Reads the next line as an owned line, and formats it.
 fn next_own(rt: &impl Abort, alloc: Global, lines: &mut Lines, shelf: &mut MemShelf) -> String
     requires { lines.old.number < 2 ^ 32 }
     ensures { lines.new.number ≤ lines.old.number + 1 }
@@ -50,7 +51,7 @@ fn next_own(rt: &impl Abort, alloc: Global, lines: &mut Lines, shelf: &mut MemSh
     }
 }
 
-// The next line, borrowed.
+// Reads the next line as a borrowed line, and formats it.
 fn next_lent(rt: &impl Abort, alloc: Global, lines: &mut Lines, shelf: &mut MemShelf) -> String
     requires { lines.old.number < 2 ^ 32 }
     ensures { lines.new.number ≤ lines.old.number + 1 }
@@ -59,7 +60,7 @@ fn next_lent(rt: &impl Abort, alloc: Global, lines: &mut Lines, shelf: &mut MemS
     known(rt, alloc, number, lines.next_bytes(shelf))
 }
 
-// The answers of `calls` calls, one line each.
+// Formats the results of `calls` calls, one line each.
 fn answers(
     rt: &impl Abort,
     alloc: Global,
@@ -81,8 +82,8 @@ fn answers(
     text
 }
 
-// Checks the answers of `calls` calls with a shelf that returns at most `most` bytes a call, both
-// with owned and with borrowed lines.
+// Checks the results of `calls` calls, with owned and with borrowed lines. The shelf returns at
+// most `most` bytes per call.
 fn agrees_by(rt: &impl Abort, alloc: Global, bytes: &str, most: usize, calls: u32, wanted: &str)
     requires { 0 < most }
 {
@@ -93,14 +94,14 @@ fn agrees_by(rt: &impl Abort, alloc: Global, bytes: &str, most: usize, calls: u3
     }
 }
 
-// Checks that three ways to split the bytes give the same answers.
+// Checks that the results are the same with reads of 1, 7 and 65,536 bytes.
 fn agrees(rt: &impl Abort, alloc: Global, bytes: &str, calls: u32, wanted: &str) {
     agrees_by(rt, alloc, bytes, 1, calls, wanted);
     agrees_by(rt, alloc, bytes, 7, calls, wanted);
     agrees_by(rt, alloc, bytes, 65536, calls, wanted);
 }
 
-/// Bytes, the number of calls, and their answers.
+/// Bytes, a number of calls, and the results of these calls.
 const LINES: [(&str, u32, &str); 5] = [
     ("", 2, "end\nend\n"),
     ("\n", 2, "1:\nend\n"),
@@ -116,7 +117,7 @@ fn lines_are_the_same_in_all_pieces(rt: HostRuntime) {
     }
 }
 
-// A line of `length` bytes, with a text before it and one after it.
+// Makes a text with a line of `length` bytes, preceded by `before` and followed by `suffix`.
 fn long_line(rt: &impl Abort, alloc: Global, before: &str, length: usize, suffix: &str) -> String {
     let line = "a".repeat(alloc, length).expect(rt, "memory");
     format!(in alloc; "{before}{line}{suffix}").expect(rt, "memory")
@@ -141,7 +142,7 @@ fn lines_have_no_513_bytes(rt: HostRuntime) {
     }
 }
 
-// Checks the answers of four calls if a read fails, with two bytes a call.
+// Checks the results of four calls with reads of two bytes, one of which fails.
 fn fails_once(rt: &impl Abort, alloc: Global, fails: u64, wanted: &str) {
     for lends in &[false, true] {
         let mut shelf = shelf_of(rt, alloc, "abc\nde\n", 2, fails);
@@ -169,8 +170,8 @@ fn absent_names_have_no_lines(rt: HostRuntime) {
     }
 }
 
-// Asks twice whether the lines are at their end after one line. The second read fails. The first
-// question reads once, and the next one only if no byte is buffered.
+// Checks three calls of `is_at_end` after one line: the first fails because the second read does,
+// the next reads once, and the last reads again only if no byte is buffered.
 fn end_after_line(rt: &impl Abort, alloc: Global, bytes: &str, is_end: bool, calls: u64) {
     let mut shelf = shelf_of(rt, alloc, bytes, 3, 1);
     let mut lines = lines_of(rt, alloc, "f");

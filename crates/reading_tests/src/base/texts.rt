@@ -1,10 +1,10 @@
-//! Numbers, paths and parts at their limits.
+//! Tests of parsing numbers and paths at their limits.
 use crate::checks::is;
 use psi_base::{Parts, Path, Text, read_number};
 use std::alloc::Global;
 use std::process::Abort;
 
-/// Texts, each with its number, if it is one.
+/// Texts, each with the number that it spells, `None` if it isn't a number.
 const NUMBERS: [(&str, Option<u64>); 11] = [
     ("0", Some(0)),
     ("7", Some(7)),
@@ -26,7 +26,7 @@ fn numbers(rt: HostRuntime) {
     }
 }
 
-// Checks that the text is read unchanged as a path, or isn't a path.
+// Checks that a text is parsed unchanged as a path, or rejected if it isn't one.
 fn reads_path(rt: &impl Abort, alloc: Global, text: &str, is_path: bool) {
     let path = Path::read(alloc, text.as_bytes()).expect(rt, "memory");
     let kept = match &path {
@@ -36,7 +36,7 @@ fn reads_path(rt: &impl Abort, alloc: Global, text: &str, is_path: bool) {
     is(rt, kept, is_path.then_some(text.as_bytes()), text);
 }
 
-/// Texts, and whether they are a path.
+/// Texts, and whether they are valid paths.
 const PATHS: [(&str, bool); 17] = [
     ("/", true),
     ("/a", true),
@@ -70,7 +70,7 @@ fn root_is_a_path(rt: HostRuntime) {
     is(&rt, root.bytes(), b"/".as_slice(), "the root");
 }
 
-// Checks whether `count` components in a row are a path.
+// Checks whether `count` copies of `component` are a valid path.
 fn repeats(rt: &impl Abort, alloc: Global, component: &str, count: usize, is_path: bool) {
     let text = component.repeat(alloc, count).expect(rt, "memory");
     reads_path(rt, alloc, text.as_str(), is_path);

@@ -1,5 +1,5 @@
-//! Event lines: which are read and written again (a round trip), and which are rejected with which
-//! cause.
+//! Tests of event lines: which are parsed and written again unchanged (a round trip), and which are
+//! rejected with which cause.
 ghost use Rattle.psi_spec.specs.Header.{IsVersion};
 
 use crate::checks::is;
@@ -8,7 +8,7 @@ use psi_trace::{read_event, write_event};
 use std::alloc::Global;
 use std::process::Abort;
 
-/// Reads a line of a trace of this version, and appends the written event.
+/// Parses a line of a trace of this version, and appends the written event.
 fn rewrite(rt: &impl Abort, alloc: Global, version: u32, line: &str, written: &mut Vec<u8>)
     requires { IsVersion version }
 {
@@ -16,7 +16,7 @@ fn rewrite(rt: &impl Abort, alloc: Global, version: u32, line: &str, written: &m
     write_event(&event, written).expect(rt, "memory");
 }
 
-/// Checks that each line of a trace of this version is read, and written again unchanged.
+/// Checks that each line of a trace of this version is parsed, and written again unchanged.
 fn rewrites(rt: &impl Abort, alloc: Global, version: u32, lines: &[&str])
     requires { IsVersion version }
 {
@@ -44,7 +44,7 @@ fn refuses(rt: &impl Abort, alloc: Global, version: u32, rows: &[(&str, Cause)])
     }
 }
 
-/// Lines of both versions.
+/// Valid lines of both versions.
 const LINES: [&str; 31] = [
     "0 end",
     "18446744073709551615 end",
@@ -85,7 +85,7 @@ fn writes_what_it_reads(rt: HostRuntime) {
     rewrites(&rt, rt.alloc(), 2, &LINES);
 }
 
-/// Lines of interrupts and of accounting that is switched.
+/// Valid lines of version 2 only: interrupts, and switching of accounting.
 const SECOND: [&str; 6] = [
     "5 irq 0 0",
     "5 irq 63 1000000000",
@@ -113,7 +113,7 @@ fn appends_to_what_is_there(rt: HostRuntime) {
     );
 }
 
-/// Lines of accounting that is switched.
+/// Malformed lines that switch accounting, each with its cause.
 const ACCOUNTS: [(&str, Cause); 12] = [
     ("x pressure /a off", Cause::BadTime),
     ("5 Pressure /a off", Cause::BadVerb),
@@ -129,7 +129,7 @@ const ACCOUNTS: [(&str, Cause); 12] = [
     ("5 pressure /a on off", Cause::BadField(3)),
 ];
 
-/// Lines of interrupts.
+/// Malformed lines of interrupts, each with its cause.
 const INTERRUPTS: [(&str, Cause); 12] = [
     ("x irq 0 1", Cause::BadTime),
     ("5 Irq 0 1", Cause::BadVerb),
@@ -145,7 +145,7 @@ const INTERRUPTS: [(&str, Cause); 12] = [
     ("5 irq 0 1 1", Cause::BadField(3)),
 ];
 
-/// Lines without a time or a verb, or with words after a verb that takes none.
+/// Malformed lines: without a time or a verb, or with words after a verb that takes none.
 const TIMES_AND_VERBS: [(&str, Cause); 24] = [
     ("", Cause::BadTime),
     (" ", Cause::BadTime),
@@ -173,7 +173,7 @@ const TIMES_AND_VERBS: [(&str, Cause); 24] = [
     ("5 end x", Cause::BadField(1)),
 ];
 
-/// Lines of tasks.
+/// Malformed lines of tasks, each with its cause.
 const TASKS: [(&str, Cause); 41] = [
     ("5 wake", Cause::BadField(1)),
     ("5 wake ", Cause::BadField(1)),
@@ -218,7 +218,7 @@ const TASKS: [(&str, Cause); 41] = [
     ("5 move 1 / /", Cause::BadField(3)),
 ];
 
-/// Lines of groups, of the host and of triggers.
+/// Malformed lines of groups, of the host and of triggers, each with its cause.
 const GROUPS: [(&str, Cause); 36] = [
     ("5 group", Cause::BadField(1)),
     ("5 group a", Cause::BadField(1)),

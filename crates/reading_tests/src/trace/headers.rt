@@ -1,4 +1,4 @@
-//! Header lines: their versions and numbers of processors, and malformed ones.
+//! Tests of header lines: versions, numbers of processors, and malformed headers.
 use crate::checks::is;
 use psi_base::Cause;
 use psi_trace::{Header, read_header};

@@ -1,4 +1,5 @@
-//! Lines that are played in place, before others.
+//! Tests of lines that are played in place, while further lines follow, in comparison with the
+//! general reader.
 use crate::checks::is;
 use psi_base::{Cpu, Ns, Pid};
 use psi_trace::{read_event, take_prefix};
@@ -6,10 +7,10 @@ use std::alloc::Global;
 use std::process::Abort;
 use task_table::Table;
 
-/// Task 1 sleeps, 2 runs on processor 0, and 3 is ready on 1.
+/// Lines after which task 1 sleeps, task 2 runs on processor 0, and task 3 is ready on processor 1.
 const FIRST: &str = "0 fork 1 / 0;0 fork 2 / 0;0 fork 3 / 1;0 switch 0 1 idle;1 switch 0 2 sleep";
 
-/// Plays a line through the general reader, and returns whether it is accepted.
+/// Plays a line through the general reader. Returns whether it is accepted.
 fn is_taken(alloc: Global, table: &mut Table, line: &str) -> bool {
     match read_event(alloc, 1, line.as_bytes()) {
         Ok(event) => table.play(&event).is_ok(),
@@ -17,7 +18,7 @@ fn is_taken(alloc: Global, table: &mut Table, line: &str) -> bool {
     }
 }
 
-/// A table after the first lines.
+/// Returns a table after the lines `FIRST`.
 fn started(rt: &impl Abort, alloc: Global) -> Table {
     let mut table = Table::new(alloc, 2, Ns::MAX).expect(rt, "memory");
     for line in FIRST.split(';') {
@@ -26,7 +27,7 @@ fn started(rt: &impl Abort, alloc: Global) -> Table {
     table
 }
 
-/// Whether the tables have the same tasks.
+/// Whether two tables have the same numbers of lines, last times, tasks and running tasks.
 fn are_same(one: &Table, other: &Table) -> bool {
     one.lines() == other.lines()
         && one.last() == other.last()
@@ -34,7 +35,7 @@ fn are_same(one: &Table, other: &Table) -> bool {
         && (0..2).all(|cpu| one.running(Cpu(cpu)) == other.running(Cpu(cpu)))
 }
 
-/// Whether no prefix of a line is played, however long, since its newline is missing.
+/// Whether no prefix of a line is played: a line without its newline is incomplete.
 fn leaves_prefixes(table: &mut Table, line: &[u8]) -> bool {
     let mut leaves = true;
     for held in 0..=line.len() {
@@ -43,15 +44,16 @@ fn leaves_prefixes(table: &mut Table, line: &[u8]) -> bool {
     leaves
 }
 
-/// Plays the line before another, and returns its length and whether it is accepted.
+/// Plays a line in place, with another line after it. Returns the number of bytes played, and
+/// whether the line is accepted.
 fn prefix(rt: &impl Abort, alloc: Global, table: &mut Table, line: &str) -> (usize, bool) {
     let bytes = format!(in alloc; "{line}\n5 end\n").expect(rt, "memory");
     let played = take_prefix(bytes.as_bytes(), table).expect(rt, line);
     (played.count, played.answer.is_ok())
 }
 
-/// Checks that the line is played before another as by the general reader, and that no prefix of it
-/// is.
+/// Checks that a line is played in place exactly as by the general reader, and that no prefix of
+/// the line is played.
 fn plays_as_read(rt: &impl Abort, alloc: Global, line: &str) {
     let mut table = started(rt, alloc);
     let leaves = leaves_prefixes(&mut table, line.as_bytes());
@@ -94,7 +96,7 @@ fn takes_whole_lines_as_any_line_is_read(rt: HostRuntime) {
     }
 }
 
-/// Bytes that don't begin with such a line.
+/// Bytes that don't begin with a line that is played in place.
 const OTHERS: [&str; 25] = [
     "",
     "\n5 wake 1 0\n",

@@ -81,7 +81,7 @@ replay|X|--rules|R|--drop-in|D => replay X R+D 2000 5 10 64 none 1
 replay|--drop-in=D|X|--rules=R => replay X R+D 2000 5 10 64 none 1
 replay|X|--rules|R|--drop-in|R|--tick-ms|5 => replay X R+R 5 5 10 64 none 1";
 
-/// Words that are no command. The first row has no words.
+/// Words that don't spell a command. The first row has no words.
 pub const REFUSED: &str = "(none)
 
 |X
