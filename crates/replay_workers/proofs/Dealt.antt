@@ -1,4 +1,5 @@
--- The lanes of processors, as they are dealt to workers, and what going over ticks makes of them.
+-- Proofs about the lanes of processors: how they are dealt to workers, and how advancing by ticks
+-- changes them.
 use Rattle.std.proofs.Common.{◌≡◌, ℕ, zero, suc, ◌+◌, ◌*◌, ◌/◌, ◌%◌, ◌^◌, ◌<◌, ◌≤◌, List, [], ◌∷◌, drop, length, get_or, refl, sym, ap, ◌∙◌, subst, arith, ◌⊎◌, ⊎_elim, inl, inr}
 use Rattle.std.specs.Prelude.{Bool, None, Some, is_some, map, max, min, slice_get, true}
 use Rattle.std.specs.List.{All, range_with_len}
@@ -25,7 +26,7 @@ place_is cpu n =
     let both = mod-add-div' cpu n in
     omega (arith, both)
 
--- the lane at a place is that of a processor
+-- the lane at index `k` of a worker's batch belongs to processor k * workers + worker
 pub lane_of_place : (batches : List (List LaneView)) (worker k : ℕ) → worker < length batches → lane_of batches (k * length batches + worker) ≡ lane_at (batch_at batches worker) k
 lane_of_place batches worker k below =
     ap (λ w. lane_at (batch_at batches w) ((k * length batches + worker) / length batches)) (mod-mul-add k (length batches) worker below)
@@ -50,7 +51,7 @@ pub lane_there : (plans : PlansView) (batches : List (List LaneView)) (ticks : T
 lane_there plans batches ticks out room cpu is below =
     (is.each (cpu % length batches) (mod-lt cpu is.some)).all (cpu / length batches) (subst (λ c. c < length plans.plans) (sym (place_is cpu (length batches))) below)
 
--- it is the processor's
+-- the lane that is found for a processor belongs to that processor
 pub lane_is : (plans : PlansView) (batches : List (List LaneView)) (ticks : Ticks) (out room cpu : ℕ) → AreLanes plans batches ticks out room → cpu < length plans.plans → IsLaneOf plans ticks room cpu (lane_of batches cpu)
 lane_is plans batches ticks out room cpu is below =
     subst (λ c. IsLaneOf plans ticks room c (lane_of batches cpu)) (place_is cpu (length batches))
@@ -61,20 +62,20 @@ pub batch_found : (batches : List (List LaneView)) (workers cpu : ℕ) (batch : 
 batch_found batches workers cpu batch many some there =
     there ∙ ap (λ n. get_or batches (cpu % n) batch) many ∙ get_or_default batches (cpu % length batches) batch [] (mod-lt cpu some)
 
--- and its lane
+-- the lane found for a processor is the lane at its place
 pub lane_found : (batches : List (List LaneView)) (workers cpu : ℕ) (batch : List LaneView) (lane : LaneView) → workers ≡ length batches → batch ≡ batch_at batches (cpu % length batches) → cpu / length batches < length (batch_at batches (cpu % length batches))
     → lane ≡ get_or batch (cpu / workers) lane → lane ≡ lane_of batches cpu
 lane_found batches workers cpu batch lane many same below there =
     there ∙ ap (λ n. get_or batch (cpu / n) lane) many ∙ ap (λ xs. get_or xs (cpu / length batches) lane) same ∙ get_or_default (batch_at batches (cpu % length batches)) (cpu / length batches) lane no_lane below
 
--- so the lane at a processor's place exists
+-- the place of a processor's lane is within its batch
 pub place_inside : (plans : PlansView) (batches : List (List LaneView)) (ticks : Ticks) (out room cpu workers : ℕ) (batch lanes : List LaneView) → AreLanes plans batches ticks out room → cpu < length plans.plans → workers ≡ length batches
     → batch ≡ get_or batches (cpu % workers) batch → lanes ≡ batch → cpu / workers < length lanes
 place_inside plans batches ticks out room cpu workers batch lanes is below many there same =
     let found = same ∙ batch_found batches workers cpu batch many is.some there in
     subst (λ n. cpu / n < length lanes) (sym many) (subst (λ (xs : List LaneView). cpu / length batches < length xs) (sym found) (lane_there plans batches ticks out room cpu is below))
 
--- and it is the processor's
+-- the lane at a processor's place belongs to that processor
 pub lane_at_places : (plans : PlansView) (batches : List (List LaneView)) (ticks : Ticks) (out room cpu workers : ℕ) (batch lanes : List LaneView) (lane : LaneView) → AreLanes plans batches ticks out room → cpu < length plans.plans → workers ≡ length batches
     → batch ≡ get_or batches (cpu % workers) batch → lanes ≡ batch → lane ≡ get_or lanes (cpu / workers) lane → lane ≡ lane_of batches cpu
 lane_at_places plans batches ticks out room cpu workers batch lanes lane is below many there same here =
@@ -93,7 +94,7 @@ clocks_are batches cpus cpu below = get_or-map-range_with_len (λ cpu. (lane_of 
 pub rows_are : (batches : List (List LaneView)) (cpus cpu : ℕ) → cpu < cpus → row_at (rows_of batches cpus) cpu ≡ (lane_of batches cpu).row
 rows_are batches cpus cpu below = get_or-map-range_with_len (λ cpu. (lane_of batches cpu).row) 0 cpus cpu cpu None below (omega arith)
 
--- lanes that are in the same rows have the same list of them
+-- if all lanes are in the same rows as before, the list of rows is the same
 rows_same : (old new : List (List LaneView)) (from n : ℕ) → ((cpu : ℕ) → from ≤ cpu → cpu < from + n → (lane_of new cpu).row ≡ (lane_of old cpu).row)
     → map (λ cpu. (lane_of new cpu).row) (range_with_len from n) ≡ map (λ cpu. (lane_of old cpu).row) (range_with_len from n)
 rows_same old new from zero same = refl
@@ -117,7 +118,7 @@ on_plans plans batches ticks out room is =
       slots = λ cpu below. (lane_is plans batches ticks out room cpu is (omega (arith, below, many))).slots;
     }
 
--- ---- before a fork
+-- ---- before the workers advance
 
 batch_may_go : (plans : PlansView) (batches : List (List LaneView)) (old ticks : Ticks) (out room : ℕ) → AreLanes plans batches old out room → ticks.count ≤ room → AreNotPast plans (clocks_of batches (length plans.plans)) ticks.first
     → (worker : ℕ) → worker < length batches → MayAllGo ticks (batch_at batches worker)
@@ -134,13 +135,14 @@ batch_may_go plans batches old ticks out room is within not_past worker below = 
       not_past = subst (λ (plan : PlanView). lane.on.made ≤ changes_up_to plan ticks.first) (sym own.plan) (subst (λ (on : OnPlan). on.made ≤ changes_up_to (plan_at plans cpu) ticks.first) here made);
     }
 
--- each lane of a crew can advance by ticks, if no clock is ahead of the first
+-- each lane of a crew can advance by ticks, if no processor has made a change later than the first
+-- tick
 pub may_go : (plans : PlansView) (batches : List (List LaneView)) (old ticks : Ticks) (out room : ℕ) → AreLanes plans batches old out room → ticks.count ≤ room → AreNotPast plans (clocks_of batches (length plans.plans)) ticks.first
     → All (MayAllGo ticks) batches
 may_go plans batches old ticks out room is within not_past = λ worker d below.
     subst (MayAllGo ticks) (get_or_default batches worker [] d below) (batch_may_go plans batches old ticks out room is within not_past worker below)
 
--- ---- after it
+-- ---- after the workers advanced
 
 lane_gone : (plans : PlansView) (before ticks : Ticks) (room cpu : ℕ) (old new : LaneView) → IsLaneOf plans before room cpu old → HasGone ticks old new → IsLaneOf plans ticks room cpu new
 lane_gone plans before ticks room cpu old new is gone = record {
@@ -161,7 +163,7 @@ batch_gone plans before ticks room workers worker old new is gone = record {
       lane_gone plans before ticks room (k * workers + worker) (lane_at old k) (lane_at new k) (is.each k inside) (gone.each k inside);
 }
 
--- a crew is still a crew after its batches advanced by ticks
+-- the lanes of a crew are still valid after its batches advanced by ticks
 pub crew_gone : (plans : PlansView) (old new : List (List LaneView)) (before ticks : Ticks) (out room : ℕ) → AreLanes plans old before out room → ticks.count ≤ room → HaveAllGone ticks old new → AreLanes plans new ticks 0 room
 crew_gone plans old new before ticks out room is within gone = record {
   some = subst (λ n. 0 < n) (sym gone.many) is.some;
@@ -175,18 +177,18 @@ crew_gone plans old new before ticks out room is within gone = record {
       (batch_gone plans before ticks room (length old) worker (batch_at old worker) (batch_at new worker) (is.each worker inside) (gone.each worker inside));
 }
 
--- so went the lane of each processor
+-- the lane of each processor advanced by the ticks
 pub gone_there : (plans : PlansView) (old new : List (List LaneView)) (before ticks : Ticks) (out room cpu : ℕ) → AreLanes plans old before out room → HaveAllGone ticks old new → cpu < length plans.plans → HasGone ticks (lane_of old cpu) (lane_of new cpu)
 gone_there plans old new before ticks out room cpu is gone below =
     let there = lane_there plans old before out room cpu is below in
     let at_old = (gone.each (cpu % length old) (mod-lt cpu is.some)).each (cpu / length old) there in
     subst (λ n. HasGone ticks (lane_of old cpu) (lane_at (batch_at new (cpu % n)) (cpu / n))) (sym gone.many) at_old
 
--- the clocks stay in their rows
+-- advancing leaves the clocks in their rows
 pub rows_stay : (plans : PlansView) (old new : List (List LaneView)) (before ticks : Ticks) (out room : ℕ) → AreLanes plans old before out room → HaveAllGone ticks old new → rows_of new (length plans.plans) ≡ rows_of old (length plans.plans)
 rows_stay plans old new before ticks out room is gone = rows_same old new 0 (length plans.plans) (λ cpu low high. (gone_there plans old new before ticks out room cpu is gone (omega (arith, high))).row)
 
--- and all clocks are at the last tick
+-- all clocks have made exactly the changes up to the last tick
 pub gone_at : (plans : PlansView) (old new : List (List LaneView)) (before ticks : Ticks) (out room : ℕ) → AreLanes plans old before out room → ticks.count ≤ room → HaveAllGone ticks old new → AreAt plans (clocks_of new (length plans.plans)) (last_of ticks)
 gone_at plans old new before ticks out room is within gone =
     let cpus = length plans.plans in
@@ -224,7 +226,7 @@ some_inside : (moments : List ℕ) (at : ℕ) → slice_get moments 0 ≡ Some a
 some_inside [] at is = absurd (let no : ⊥ = cc in no)
 some_inside (moment ∷ moments) at is = omega arith
 
--- the first ready moment is that of the first tick whose table wasn't returned yet
+-- the first ready time is the time of the first tick whose table wasn't returned
 pub first_ready : (ticks : Ticks) (out at : ℕ) → slice_get (drop out (moments_of ticks)) 0 ≡ Some at → (out < ticks.count) × (at ≡ moment_in ticks out)
 first_ready ticks out at is =
     let all = moments_of ticks in
@@ -233,7 +235,7 @@ first_ready ticks out at is =
     let left : out < ticks.count = omega (arith, some, many, length-drop out all) in
     (left, sym (get_or_from_slice_get (drop out all) 0 at 0 is) ∙ get_or-drop out all 0 0 ∙ get_or-map-range_with_len (moment_in ticks) 0 ticks.count (out + 0) out 0 (omega (arith, left)) (omega arith))
 
--- one less is ready then
+-- returning a table removes the first ready time
 pub ready_less : {X : Type 0} (out : ℕ) (xs : List X) → drop (out + 1) xs ≡ drop 1 (drop out xs)
 ready_less zero xs = refl
 ready_less (suc out) [] = drop-nil (suc out + 1) ∙ sym (ap (drop 1) (drop-nil (suc out)) ∙ drop-nil 1)
@@ -248,7 +250,7 @@ crew_less plans batches ticks out room requested watchers old same =
     ap (λ ready. let crew : CrewView = record (crew_of plans batches ticks out room requested watchers) { ready = ready } in crew) (ready_less out (moments_of ticks))
     ∙ ap (λ (view : CrewView). let crew : CrewView = record view { ready = drop 1 view.ready } in crew) same
 
--- a crew is still a crew after it returned one more table
+-- the lanes of a crew are still valid after it returned one more table
 pub handed_out : (plans : PlansView) (batches : List (List LaneView)) (ticks : Ticks) (out room : ℕ) → AreLanes plans batches ticks out room → out < ticks.count → AreLanes plans batches ticks (out + 1) room
 handed_out plans batches ticks out room is left = record {
   some = is.some;
@@ -261,7 +263,7 @@ handed_out plans batches ticks out room is left = record {
 
 -- ---- a new crew
 
--- the batches of new workers are a crew
+-- the batches of new workers are the lanes of a crew
 pub crew_new : (plans : PlansView) (batches : List (List LaneView)) (in_rows : Bool) (workers room : ℕ) → AreNewBatches plans room in_rows workers batches → 0 < workers → 1 ≤ room → room < 2 ^ 32 → AreLanes plans batches no_ticks 0 room
 crew_new plans batches in_rows workers room new some roomy countable = record {
   some = subst (λ n. 0 < n) (sym new.many) some;
@@ -272,7 +274,7 @@ crew_new plans batches in_rows workers room new some roomy countable = record {
   each = λ worker below. subst (λ n. IsBatchOf plans no_ticks room n worker (batch_at batches worker)) (sym new.many) (new.each worker (omega (arith, below, new.many))).batch;
 }
 
--- none of its clocks made a change
+-- the clocks of a new crew have made no change
 pub clocks_new : (plans : PlansView) (batches : List (List LaneView)) (in_rows : Bool) (workers room : ℕ) → AreNewBatches plans room in_rows workers batches → 0 < workers → 1 ≤ room → room < 2 ^ 32 → (cpu : ℕ) → cpu < length plans.plans → (clocks_at (clocks_of batches (length plans.plans)) cpu).made ≡ 0
 clocks_new plans batches in_rows workers room new some roomy countable cpu below =
     let is = crew_new plans batches in_rows workers room new some roomy countable in
@@ -280,7 +282,7 @@ clocks_new plans batches in_rows workers room new some roomy countable cpu below
     let mine : cpu % length batches < workers = omega (arith, mod-lt cpu is.some, new.many) in
     ap (λ (on : OnPlan). on.made) (clocks_are batches (length plans.plans) cpu below) ∙ (new.each (cpu % length batches) mine).fresh (cpu / length batches) there
 
--- each of them is in a row if `in_rows`, and plain otherwise
+-- the clocks of a new crew are in rows if `in_rows`, and plain otherwise
 pub rows_new : (plans : PlansView) (batches : List (List LaneView)) (in_rows : Bool) (workers room : ℕ) → AreNewBatches plans room in_rows workers batches → 0 < workers → 1 ≤ room → room < 2 ^ 32 → (cpu : ℕ) → cpu < length plans.plans → is_some (lane_of batches cpu).row ≡ in_rows
 rows_new plans batches in_rows workers room new some roomy countable cpu below =
     let is = crew_new plans batches in_rows workers room new some roomy countable in
@@ -288,12 +290,12 @@ rows_new plans batches in_rows workers room new some roomy countable cpu below =
     let mine : cpu % length batches < workers = omega (arith, mod-lt cpu is.some, new.many) in
     (new.each (cpu % length batches) mine).rows (cpu / length batches) there
 
--- so the rows of a crew whose clocks are to be in rows are there
+-- if `in_rows`, all clocks of a new crew are in rows
 pub all_in_rows : (plans : PlansView) (batches : List (List LaneView)) (in_rows : Bool) (workers room : ℕ) → AreNewBatches plans room in_rows workers batches → 0 < workers → 1 ≤ room → room < 2 ^ 32 → in_rows ≡ true → AreInRows plans (rows_of batches (length plans.plans))
 all_in_rows plans batches in_rows workers room new some roomy countable wanted cpu below =
     ap is_some (rows_are batches (length plans.plans) cpu below) ∙ rows_new plans batches in_rows workers room new some roomy countable cpu below ∙ wanted
 
--- a new lane of a processor is one of the crew's
+-- a new lane of a processor belongs to that processor of the crew
 pub new_lane : (plans : PlansView) (room cpu number : ℕ) (lane : LaneView) → number ≡ cpu → number < length plans.plans → lane.cpu ≡ number → lane.on ≡ record { plan = plan_at plans number; made = 0 } → length lane.kept ≡ room * length plans.lives → IsPlan lane.on.plan
     → length lane.on.plan.parents ≡ length plans.lives → IsLaneOf plans no_ticks room cpu lane
 new_lane plans room cpu number lane same below own on size whole slots =

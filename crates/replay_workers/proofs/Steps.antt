@@ -1,4 +1,4 @@
--- One more change, processor or group.
+-- Proofs of single loop steps: one more change, one more processor or one more group.
 use Rattle.std.proofs.Common.{◌≡◌, ℕ, ◌+◌, ◌*◌, ◌<◌, ◌≤◌, List, [], ◌∷◌, ◌++◌, length, get_or, set, sym, ap, ◌∙◌, subst, arith, ◌⊎◌, ⊎_elim, inl, inr}
 use Rattle.std.proofs.Math.Nat.{mul-le-mul_right}
 use Rattle.std.proofs.lemmas.List.{get_or_append_left, get_or_push, get_or-set_same, get_or-set_other, length-append, length-set}
@@ -10,8 +10,8 @@ use Rattle.replay_workers.specs.declared.ticks.Ticks.{Ticks}
 use Rattle.replay_workers.specs.Crew.{moment_in, times_by}
 use Rattle.replay_workers.specs.Lanes.{FillsRow, KeepsTick, KeepsTicks, kept_at}
 
--- if P holds for each element of a list at its index, and for one more, it holds for each of the
--- longer list
+-- if `P` holds for each element of a list at its index, and for `x` at the next index, then `P`
+-- holds for each element of the list with `x` appended
 pub each_more : {X : Type 0} → (P : ℕ → X → Type 0) (xs : List X) (x d : X) → ((k : ℕ) → k < length xs → P k (get_or xs k d)) → P (length xs) x → (k : ℕ) → k < length (xs ++ x ∷ []) → P k (get_or (xs ++ x ∷ []) k d)
 each_more P xs x d before here k below =
     let many = length-append xs (x ∷ []) in
@@ -21,7 +21,8 @@ each_more P xs x d before here k below =
     (λ new. subst (P k) (sym (get_or_push xs x d k (sym new))) (subst (λ n. P n x) (sym new) here))
     case
 
--- what holds of each before a place and of what is put there, next to how it was
+-- after one more element was replaced, the relation `R` holds between old and new elements up to
+-- and including that place
 pub each_changed : {X : Type 0} → (R : ℕ → X → X → Type 0) (start now : List X) (place : ℕ) (x d : X) → place < length now → ((k : ℕ) → k < place → R k (get_or start k d) (get_or now k d)) → R place (get_or start place d) x
     → (k : ℕ) → k < place + 1 → R k (get_or start k d) (get_or (set now place x) k d)
 each_changed R start now place x d inside before here k below =
@@ -31,19 +32,19 @@ each_changed R start now place x d inside before here k below =
     (λ new. subst (λ n. R n (get_or start n d) (get_or (set now place x) n d)) (sym new) (subst (R place (get_or start place d)) (sym (get_or-set_same now place x d inside)) here))
     case
 
--- elements after the place are unchanged
+-- the elements after the replaced one are unchanged
 pub left_changed : {X : Type 0} → (start now : List X) (place : ℕ) (x d : X) → ((k : ℕ) → place ≤ k → get_or now k d ≡ get_or start k d) → (k : ℕ) → place + 1 ≤ k → get_or (set now place x) k d ≡ get_or start k d
 left_changed start now place x d left k not_past = get_or-set_other now place k x d (λ same. omega (arith, same, not_past)) ∙ left k (omega (arith, not_past))
 
 -- ---- ticks
 
--- no tick comes before an earlier one
+-- the times of ticks never decrease
 pub moments_rise : (ticks : Ticks) (j k : ℕ) → j ≤ k → moment_in ticks j ≤ moment_in ticks k
 moments_rise ticks j k before =
     let more : j * ticks.length ≤ k * ticks.length = mul-le-mul_right ticks.length before in
     omega (arith, more)
 
--- the places of a tick end where those of the next begin, at the latest
+-- the entries of tick `j` end at or before the end of the entries of `n` ticks
 pub places_end : (j n slots : ℕ) → j < n → j * slots + slots ≤ n * slots
 places_end j n slots below =
     let next : j + 1 ≤ n = omega (arith, below) in
@@ -62,7 +63,7 @@ keeps_more old new plan ticks j at before tick moment = λ k slot early below.
     (λ now. ap (λ n. kept_at new (length plan.parents) n slot) now ∙ tick.here slot below ∙ ap (times_by plan slot) (moment ∙ ap (moment_in ticks) (sym now)))
     case
 
--- ---- one group more
+-- ---- one more group
 
 -- entries in which the times of the first `slot` groups are stored for a tick
 pub record KeptTo (old new : List (List ℕ)) (slots j slot : ℕ) (plan : PlanView) (at : ℕ) : Type 0 where
@@ -87,9 +88,9 @@ kept_more old now slots j slot plan at place times is below room there value =
       before = λ other early. get_or-set_other now place other times [] (λ same. omega (arith, same, there, early)) ∙ is.before other early;
     }
 
--- ---- one processor more of a row
+-- ---- one more processor of a row
 
--- the place of a group among those that are kept is counted in 64 bits
+-- the index of a stored time fits into 64 bits
 pub place_fits : (tick slots slot : ℕ) → tick < 4294967296 → slots < 4294967296 → slot < slots → tick * slots + slot < 18446744073709551616
 place_fits tick slots slot early few below =
     let most : tick * slots ≤ 4294967295 * slots = mul-le-mul_right slots (let last : tick ≤ 4294967295 = omega (arith, early) in last) in

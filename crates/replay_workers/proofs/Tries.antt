@@ -1,4 +1,4 @@
--- Lists of samples that grow at their end.
+-- Proofs about the samples and tries of a reader, as they are appended to lists.
 use Rattle.std.proofs.Common.{◌≡◌, ℕ, ◌+◌, ◌-◌, ◌<◌, ◌≤◌, List, [], ◌∷◌, ◌++◌, length, get_or, refl, sym, ap, ◌∙◌, subst, inl, inr, ⊎_elim, arith, append_assoc}
 use Rattle.std.specs.List.{All}
 use Rattle.std.proofs.lemmas.List.{append-nil, map-append}
@@ -21,19 +21,19 @@ rises_next : (low last number : ℕ) (numbers : List ℕ) → Rises low numbers 
 rises_next low last number [] rises later = (omega (arith, rises, later), refl)
 rises_next low last number (one ∷ more) rises later = (rises.0, rises_next one last number more rises.1 later)
 
--- they lie within two numbers
+-- rising numbers lie within their bounds
 pub rises_within : (low last : ℕ) (numbers : List ℕ) → Rises low numbers last → RiseWithin low numbers last
 rises_within low last [] rises = omega (arith, rises)
 rises_within low last (one ∷ more) rises = (rises.0, rises_within one last more rises.1)
 
--- and within wider ones
+-- rising numbers lie within wider bounds, too
 pub rise_wider : (low high higher : ℕ) (numbers : List ℕ) → high ≤ higher → RiseWithin low numbers high → RiseWithin low numbers higher
 rise_wider low high higher [] above rise = omega (arith, above, rise)
 rise_wider low high higher (one ∷ more) above rise = (rise.0, rise_wider one high higher more above rise.1)
 
 -- ---- tries
 
--- more tries that met a change change nothing
+-- further tries that met a change don't change the samples
 tried_more : (counts : List ℕ) (last : ℕ) (got : List ℕ) (met more : ℕ) → Tried counts last got met → Tried counts last got (met + more)
 tried_more [] last got met more tried = tried
 tried_more (count ∷ counts) last got met more tried =
@@ -71,11 +71,11 @@ is_tried_next counts low last count start before after rises all one = (
   tried_next counts low last count all.0 one.0 all.1 one.1 rises all.4 one.4,
 )
 
--- a reader without tries takes no sample
+-- a reader that makes no try takes no sample
 pub none_tried : (low : ℕ) (reader : ReaderView) → IsTried [] low reader reader
 none_tried low reader = ([], 0, sym (append-nil reader.got), omega arith, refl)
 
--- the tries since then are the same for a reader that made none before
+-- tries count from the same totals, whether they are compared with `old` or with `before`
 pub tried_since : (counts : List ℕ) (low : ℕ) (old before after : ReaderView) → before.got ≡ old.got → before.met ≡ old.met → IsTried counts low before after → IsTried counts low old after
 tried_since counts low old before after got met tried = (
   tried.0,
