@@ -1,4 +1,4 @@
--- What holds of the kills of a tick: they are few, and each is of a group that there is.
+-- Proofs that the kills of a tick are few, and that each victim is an existing group.
 use Rattle.std.proofs.Common.{◌≡◌, ℕ, zero, suc, ◌+◌, ◌-◌, ◌*◌, ◌≤◌, ◌<◌, ◌^◌, List, [], ◌∷◌, length, sym, subst, arith, Bool, true, false, get_or}
 use Rattle.std.specs.Prelude.{All, Option, None, Some, if◌then◌else◌, map, nat_le}
 use Rattle.std.proofs.lemmas.List.Elements.{All-append, All-contains, All-contains_itself, All-filter, All-map, All-nil}
@@ -33,7 +33,7 @@ use Rattle.plan_laws.proofs.PlanStates.{legal_after}
 use Rattle.std.proofs.Math.Nat.{le-div_iff_mul-le}
 use Rattle.kill_spec.proofs.Foremost.{by_test}
 
--- ---- how many
+-- ---- the number of kills
 
 and_then_short : (goes_on : Bool) (kill : Option Kill) (rest : List Kill) → length (and_then goes_on kill rest) ≤ length rest + 1
 and_then_short goes_on None rest = omega arith
@@ -52,7 +52,7 @@ if_short : (b : Bool) (xs : List Kill) (most : ℕ) → length xs ≤ most → l
 if_short true xs most short = short
 if_short false xs most short = omega arith
 
--- so no ruleset kills more than 16 groups at a reading
+-- a ruleset kills at most 16 groups at a reading
 rule_short : (lives : List GroupLife) (number : ℕ) (rule : Rule) (now : Reading) (past : List Reading) (earlier : List (List Kill)) → FitsRule rule → length (kills_at lives number rule now past earlier) ≤ 16
 rule_short lives number rule now past earlier fits =
     let short = chain_short lives number 0 rule.actions now past in
@@ -98,7 +98,7 @@ ticks_million plans trace timing n planned within =
     absurd (let no : ⊥ = omega (arith, here, early, planned.some) in no))
     (λ few. grind (arith, few))
 
--- so kills can be counted
+-- the number of kills fits into 64 bits
 pub kills_fit : (plans : PlansView) (trace : Trace) (timing : Timing) (rules : List Rule) (i so_far : ℕ) → IsPlanned plans trace timing → FitsRules rules → i < tick_count trace timing → so_far ≡ kills_until trace timing rules i
     → so_far + length (kills_in trace timing rules (i + 1)) < 2 ^ 64
 kills_fit plans trace timing rules i so_far planned fits left is =
@@ -107,17 +107,17 @@ kills_fit plans trace timing rules i so_far planned fits left is =
     let ticks = ticks_million plans trace timing (i + 1) planned (omega (arith, left)) in
     omega (arith, all, few, ticks, is)
 
--- ---- whom
+-- ---- the victims
 
--- a kill's slot is below n
+-- the slot of a kill's victim is below `n`
 abbrev IsOf : ℕ → Kill → Type 0
 IsOf n kill = kill.victim.0 < n
 
--- the slot of a group that was read is below n
+-- the slot of a group of a reading is below `n`
 abbrev IsBelow : ℕ → GroupReading → Type 0
 IsBelow n group = group.slot.0 < n
 
--- each kill of a ruleset is of a group that was read
+-- each victim of a ruleset is a group of the reading
 rule_below : (lives : List GroupLife) (n number : ℕ) (rule : Rule) (now : Reading) (past : List Reading) → All (IsBelow n) now.groups → All (IsOf n) (kills_at lives number rule now past (kills_of lives number rule past))
 rule_below lives n number rule now past read = λ k d below.
     let found = kills_at lives number rule now past (kills_of lives number rule past) in
@@ -132,13 +132,13 @@ rules_below lives n number (rule ∷ rules) now past read =
     All-append (IsOf n) (kills_at lives number rule now past (kills_of lives number rule past)) (kills_from lives (number + 1) rules now past)
     (rule_below lives n number rule now past read) (rules_below lives n (number + 1) rules now past read)
 
--- the slots of groups in order are those of an order of all slots
+-- the slots of pairs are below `n` if the list of their slots is
 pairs_below : (n : ℕ) (pairs : List (List ℕ × ℕ)) → All (λ slot. slot < n) (map (λ (pair : List ℕ × ℕ). pair.1) pairs) → All (λ (pair : List ℕ × ℕ). pair.1 < n) pairs
 pairs_below n pairs all = λ k d below.
     let slot : List ℕ × ℕ → ℕ = λ (pair : List ℕ × ℕ). pair.1 in
     subst (λ s. s < n) (get_or-map slot pairs k d 0 below) (all k 0 (omega (arith, below, length-map pairs slot)))
 
--- each group that is read at a tick is one of those of the trace
+-- each group that is read at a tick is an existing group of the trace
 read_below : (plans : PlansView) (trace : Trace) (timing : Timing) (order : List ℕ) (i : ℕ) → IsPlanned plans trace timing → IsPathOrder (lives_of trace) order
     → All (IsBelow (length (lives_of trace))) (reading_at trace.cpus trace.events timing.length i).groups
 unfolding reading_at
@@ -155,7 +155,7 @@ if_below : (b : Bool) (n : ℕ) (xs : List Kill) → All (IsOf n) xs → All (Is
 if_below true n xs all = all
 if_below false n xs all = All-nil (IsOf n)
 
--- so each kill of a tick is of an existing group
+-- each victim of a tick is an existing group
 pub kills_below : (plans : PlansView) (trace : Trace) (timing : Timing) (rules : List Rule) (order : List Slot) (i : ℕ) → IsPlanned plans trace timing → IsPathOrder plans.lives (numbers_of order)
     → All (λ (kill : Kill). kill.victim.0 < length plans.lives) (kills_in trace timing rules i)
 unfolding kills

@@ -1,4 +1,4 @@
--- Texts that are written in pieces.
+-- Proofs about texts that are written in pieces.
 use Rattle.std.proofs.Common.{◌≡◌, ℕ, List, [], ◌++◌, ap}
 use Rattle.std.specs.Prelude.{Option, Result, Ok, Err}
 use Rattle.std.specs.Io.KnownBytes.{Appends}
@@ -17,7 +17,8 @@ prefix_then old mid new xs ys first prefix =
     let all : xs ++ (ys ++ []) ≡ xs ++ ys = ap (λ zs. xs ++ zs) (append-nil ys) in
     rw (← all) (AppendsPrefix-then old mid new xs ys [] first prefix)
 
--- a text is appended to another in whole, or as a prefix of both
+-- if `xs` was appended and then `ys` or a prefix of it, then all of `xs ++ ys` or a prefix of it
+-- was appended
 pub puts_then : {T E : Type 0} → (old mid new : Option (List ℕ)) (result : Result T E) (xs ys : List ℕ) → Appends old mid xs → PutsAll mid new result ys → PutsAll old new result (xs ++ ys)
 puts_then old mid new (Ok value) xs ys first put = Appends-then old mid new xs ys first put
 puts_then old mid new (Err fault) xs ys first put = prefix_then old mid new xs ys first put

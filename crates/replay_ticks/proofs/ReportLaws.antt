@@ -1,4 +1,4 @@
--- The lines of signals and reports, in order.
+-- Proofs about the lines of signals, kills and reports, one after another.
 use Rattle.std.proofs.Common.{◌≡◌, ◌<◌, ℕ, ◌+◌, List, [], ◌∷◌, ◌++◌, length, take, drop, get_or, sym, ap, ◌∙◌}
 use Rattle.std.specs.Prelude.{slice_get}
 use Rattle.std.specs.List.{flat_map}
@@ -22,13 +22,15 @@ use Rattle.group_tree.specs.Tree.{numbers_of}
 
 -- ---- one piece after another
 
--- the pieces of slots before one, and of that one
+-- the texts of the slots up to and including slot `i` are the texts of the slots before it, and its
+-- own text
 pub numbers_more : (f : ℕ → List ℕ) (slots : List Slot) (i : ℕ) (d : Slot) → i < length slots → flat_map f (numbers_of (take (i + 1) slots)) ≡ flat_map f (numbers_of (take i slots)) ++ f (get_or slots i d).0
 numbers_more f slots i d inside =
     flat_map-map f (λ (slot : Slot). slot.0) (take (i + 1) slots) ∙ taken_more (λ (slot : Slot). f slot.0) slots i d inside
     ∙ ap (λ t. t ++ f (get_or slots i d).0) (sym (flat_map-map f (λ (slot : Slot). slot.0) (take i slots)))
 
--- the pieces of the slots before one, of that slot, and of those after it
+-- the texts of all slots are the texts of the slots before slot `i`, its own text, and the texts
+-- after it
 pub numbers_at : (f : ℕ → List ℕ) (slots : List Slot) (i : ℕ) (d : Slot) → i < length slots
     → flat_map f (numbers_of slots) ≡ flat_map f (numbers_of (take i slots)) ++ (f (get_or slots i d).0 ++ flat_map (λ (slot : Slot). f slot.0) (drop (i + 1) slots))
 numbers_at f slots i d inside =
@@ -50,7 +52,7 @@ kill_is lives kill e room = ap (kill_line kill.at kill.rule kill.action) (get_or
 
 -- ---- reports
 
--- a text for each resource
+-- a text for each resource: IO, memory, CPU
 pub by_resource : (f : Res → List ℕ) → flat_map f resources ≡ f Io ++ (f Memory ++ f CpuRes)
 by_resource f =
     flat_map-cons f Io (Memory ∷ CpuRes ∷ []) ∙ ap (λ t. f Io ++ t) (flat_map-cons f Memory (CpuRes ∷ []) ∙ ap (λ t. f Memory ++ t) (flat_map-cons f CpuRes [] ∙ append-nil (f CpuRes)))
