@@ -1,4 +1,4 @@
--- A judge from tick to tick.
+-- Proofs about a judge from tick to tick.
 use Rattle.std.proofs.Common.{◌≡◌, ℕ, zero, suc, ◌+◌, ◌-◌, ◌*◌, ◌<◌, List, [], ◌∷◌, map}
 use Rattle.std.proofs.Common.{refl, sym, ap, subst, ◌∙◌, arith, Bool, true, false}
 use Rattle.std.specs.Prelude.{◌/◌, nat_lt, None, Some, if◌then◌else◌}
@@ -35,7 +35,7 @@ tick_later length (suc tick) some =
 abbrev all_at : Trace → Timing → List ℕ → List Reading
 all_at trace timing numbers = map (reading_at trace.cpus trace.events timing.length) numbers
 
--- the readings after the next tick, if it is known whether it is an evaluation
+-- the readings after the next tick, given whether that tick is an evaluation
 one_more : (trace : Trace) (timing : Timing) (i : ℕ) (b : Bool) →
     is_evaluation timing.interval timing.length (suc i) ≡ b →
     readings_of trace timing (suc i)
@@ -67,7 +67,7 @@ one_reading_more trace timing i due =
 
 -- ---- kills
 
--- the kills at a tick, if it is an evaluation
+-- the kills at a tick, given whether that tick is an evaluation
 abbrev kills_where : Trace → Timing → List Rule → ℕ → Bool → List Kill
 kills_where trace timing rules i test =
     if test
@@ -95,7 +95,7 @@ kills_at_reading trace timing rules i due =
 
 -- ---- one tick
 
--- a judge knows which ticks are evaluations
+-- a judge computes correctly which ticks are evaluations
 pub same_schedule : (judge : JudgeView) (plans : PlansView) (engine : EngineView)
     (order : List Slot) (trace : Trace) (timing : Timing) (rules : List Rule) (i at length : ℕ) →
     IsToJudge judge plans engine order trace timing rules i at length →
@@ -104,7 +104,7 @@ same_schedule judge plans engine order trace timing rules i at length is =
     ap (λ interval. is_evaluation interval length (i + 1)) is.judged.interval
     ∙ ap (λ length. is_evaluation timing.interval length (i + 1)) is.length_is
 
--- its time is the tick's
+-- the time that the judge gets is the time of the tick
 pub moment_is : (judge : JudgeView) (plans : PlansView) (engine : EngineView)
     (order : List Slot) (trace : Trace) (timing : Timing) (rules : List Rule) (i at length : ℕ) →
     IsToJudge judge plans engine order trace timing rules i at length →
@@ -112,7 +112,7 @@ pub moment_is : (judge : JudgeView) (plans : PlansView) (engine : EngineView)
 moment_is judge plans engine order trace timing rules i at length is =
     is.at_is ∙ ap (λ length. tick_moment length (i + 1)) (sym is.length_is)
 
--- its evaluator can take the reading of the next tick
+-- the preconditions for an evaluation at the next tick
 pub to_evaluate : (judge : JudgeView) (evaluator : EvaluatorView) (plans : PlansView)
     (engine : EngineView) (order : List Slot) (trace : Trace) (timing : Timing) (rules : List Rule)
     (i at length : ℕ) →
@@ -133,11 +133,11 @@ shows_none : (judge : JudgeView) → judge.evaluator ≡ None → judge_kills ju
 shows_none judge none =
     ap (λ e. if judge.evaluated then known_last e else []) none ∙ none_either judge.evaluated
 
--- neither has a judge that evaluated no rules
+-- a judge that evaluated no rules at the last tick has no kills
 shows_no_old : (judge : JudgeView) → judge.evaluated ≡ false → judge_kills judge ≡ []
 shows_no_old judge none = ap (λ b. if b then known_last judge.evaluator else []) none
 
--- a judge that keeps no evaluator decides the same at all ticks: there are no rules
+-- without an evaluator there are no rules, so the judge has decided at any number of ticks
 pub judged_none : (judge : JudgeView) (trace : Trace) (timing : Timing) (rules : List Rule)
     (i number : ℕ) → judge.evaluator ≡ None →
     HasJudged judge trace timing rules i → HasJudged judge trace timing rules number
@@ -153,7 +153,7 @@ judged_none judge trace timing rules i number none is =
       kills = shows_none judge none ∙ sym unkilled;
     }
 
--- at a tick without an evaluation a judge changes only in that it has no kills
+-- a tick without an evaluation leaves the judge unchanged, except that it has no kills
 pub judged_same : (old new : JudgeView) (trace : Trace) (timing : Timing) (rules : List Rule)
     (i : ℕ) →
     new.interval ≡ old.interval → new.evaluator ≡ old.evaluator → new.evaluated ≡ false →
@@ -169,7 +169,7 @@ judged_same old new trace timing rules i interval kept evaluated none is =
       kills = shows_no_old new evaluated ∙ sym (no_kills_between trace timing rules (i + 1) none);
     }
 
--- at an evaluation its evaluator has one more reading, and the judge has the kills at it
+-- after an evaluation the evaluator has taken one more reading, and the judge has the kills at it
 pub judged_next : (old new : JudgeView) (evaluator : EvaluatorView) (trace : Trace) (timing : Timing)
     (rules : List Rule) (i : ℕ) →
     new.interval ≡ old.interval → new.evaluator ≡ Some evaluator → new.evaluated ≡ true →
@@ -191,11 +191,11 @@ judged_next old new evaluator trace timing rules i interval kept on due read is 
 
 -- ---- between evaluations
 
--- a judge that keeps no evaluator rests at each tick
+-- a judge without an evaluator is unchanged at each tick, and has no kills
 pub rests_none : (judge : JudgeView) → judge.evaluator ≡ None → Rests judge judge
 rests_none judge none = record { evaluator = refl; kills = shows_none judge none }
 
--- a judge that evaluated no rules rests
+-- a tick without an evaluation leaves the evaluator unchanged, and there are no kills
 pub rests : (old new : JudgeView) →
     new.evaluator ≡ old.evaluator → new.evaluated ≡ false → Rests old new
 rests old new same none = record { evaluator = same; kills = shows_no_old new none }
@@ -209,7 +209,7 @@ nothing_read : (trace : Trace) (timing : Timing) → readings_of trace timing 0 
 unfolding readings_until
 nothing_read trace timing = refl
 
--- a judge that is new has decided at no tick
+-- a new judge has decided at no tick
 pub judged_first : (judge : JudgeView) (trace : Trace) (timing : Timing) (rules : List Rule) →
     judge.interval ≡ timing.interval → judge.evaluated ≡ false →
     HasReadAll judge.evaluator trace rules [] → HasJudged judge trace timing rules 0

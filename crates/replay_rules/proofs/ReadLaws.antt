@@ -1,4 +1,4 @@
--- One evaluation: the reading taken is the reading of the trace at its tick.
+-- Proofs about one evaluation: the reading that is taken is the reading of the trace at the tick.
 use Rattle.std.proofs.Common.{◌≡◌, ℕ, zero, suc, ◌+◌, ◌<◌, List, [], ◌∷◌, length, map, refl, sym}
 use Rattle.std.proofs.Common.{ap, subst, ◌∙◌, arith, Bool, true, false}
 use Rattle.std.specs.Prelude.{take, All, Option, None, Some, if◌then◌else◌}
@@ -42,7 +42,7 @@ use Rattle.replay_rules.specs.Judged.{EvaluatorView, HasRead, IsToEvaluate, read
 
 -- ---- slots of an order
 
--- the first numbers are below how many they are
+-- each number of the range from 0 to n is below n
 range_below : (n : ℕ) → All (λ k. k < n) (range_with_len 0 n)
 range_below n = λ k d below.
     let inside : k < n = omega (arith, below, length-range_with_len 0 n) in
@@ -62,7 +62,7 @@ slots_below n slots all = λ k d below.
     subst (λ s. s < n) (get_or-map number slots k d 0 below)
     (all k 0 (omega (arith, below, length-map slots number)))
 
--- the same for slots
+-- an order of all slots by path has only existing slots, as values of type `Slot`
 pub order_made : (lives : List GroupLife) (slots : List Slot) →
     IsPathOrder lives (numbers_of slots) →
     All (λ (slot : Slot). slot.0 < length lives) slots
@@ -80,7 +80,7 @@ averages_are : (engine : EngineView) (trace : Trace) (timing : Timing) (i slot :
 averages_are engine trace timing i slot ticked room =
     ap (λ (g : Group). g.averages) (ticked.groups slot room)
 
--- so there are averages for each pressure quantity
+-- the engine has averages for each pressure quantity
 pub has_rows : (engine : EngineView) (trace : Trace) (timing : Timing) (i slot : ℕ) →
     HasTicked engine trace timing i → slot < length engine.groups → HasRows engine slot
 has_rows engine trace timing i slot ticked room =
@@ -91,7 +91,7 @@ has_rows engine trace timing i slot ticked room =
 
 -- ---- groups
 
--- a group with these averages, sample of its memory, preference and mark of tasks
+-- a group with these averages, memory sample, preference and flag for tasks
 abbrev group_with : ℕ → List (List ℕ) → MemorySample → Preference → Bool → GroupReading
 group_with slot averages memory preference populated = record {
   slot = record { 0 = slot };
@@ -103,13 +103,13 @@ group_with slot averages memory preference populated = record {
   populated = populated;
 }
 
--- the reading of the group in a slot at a tick, according to the trace
+-- the reading of a group at a tick, by the trace
 abbrev group_known : Trace → Timing → ℕ → ℕ → GroupReading
 group_known trace timing i slot =
     group_seen (up_to trace.events (tick_moment timing.length i))
     (averages_at trace.cpus trace.events timing.length i slot) slot
 
--- an engine and a watch at a tick give the same reading
+-- an engine and a watch after a tick give the same reading of a group as the trace
 group_is : (engine : EngineView) (watch : SideView) (trace : Trace) (timing : Timing) (i slot : ℕ) →
     HasTicked engine trace timing i →
     HasFollowed trace.events (Some (tick_moment timing.length i)) watch →
@@ -128,7 +128,7 @@ group_is engine watch trace timing i slot ticked watching room =
     (preference_of slot (up_to trace.events (tick_moment timing.length i))) b)
     (watching.populated slot room)
 
--- for groups in existing slots both are equal
+-- two functions that agree on existing slots give the same list for them
 groups_are : (f g : ℕ → GroupReading) (n : ℕ) → ((slot : ℕ) → slot < n → f slot ≡ g slot) →
     (lives : List GroupLife) (slots : List ℕ) → All (λ slot. slot < n) slots →
     map f slots ≡ map (λ (group : List ℕ × ℕ). g group.1) (map (with_path lives) slots)
@@ -141,7 +141,7 @@ groups_are f g n same lives (slot ∷ slots) below =
 
 -- ---- the reading
 
--- the reading of an order of all slots by path is that of the trace
+-- the reading of an order of all slots by path is the reading of the trace
 pub reading_is : (engine : EngineView) (watch : SideView) (plans : PlansView) (order : List ℕ)
     (trace : Trace) (timing : Timing) (i : ℕ) →
     IsPlanned plans trace timing → HasTicked engine trace timing i →
@@ -169,7 +169,7 @@ reading_is engine watch plans order trace timing i planned ticked watching by_pa
 
 -- ---- times
 
--- the last of the evaluations among the first ticks is before each time after these
+-- the last evaluation among the first `i` ticks is before each later time
 pub last_before : (trace : Trace) (timing : Timing) (i at : ℕ) → tick_moment timing.length i < at →
     IsAfter (newest_moment (readings_of trace timing i)) at
 unfolding readings_until reading_at
@@ -189,7 +189,7 @@ not_after : (last : Option ℕ) (at : ℕ) → IsAfter last at → IsNotAfter la
 not_after None at is = tt
 not_after (Some before) at is = omega (arith, is)
 
--- so a tick is after the evaluations among the previous ticks
+-- a tick is later than the evaluations among the previous ticks
 pub suffix : (plans : PlansView) (trace : Trace) (timing : Timing) (i : ℕ) →
     IsPlanned plans trace timing →
     IsAfter (newest_moment (readings_of trace timing i)) (tick_moment timing.length (i + 1))
@@ -203,8 +203,8 @@ last_is : (cpus : ℕ) (events : List Event) (length i : ℕ) (past : List Readi
 unfolding reading_at
 last_is cpus events length i past = refl
 
--- An evaluator that took the readings of the evaluations among the first ticks has taken one more
--- if its watch and its killer have, and its reading is that of the engine and the watch.
+-- An evaluator has taken one more reading if its watch and its killer have, and its reading is the
+-- one from the engine and the watch.
 pub read_next : (old new : EvaluatorView) (plans : PlansView) (engine : EngineView)
     (order : List Slot) (trace : Trace) (timing : Timing) (rules : List Rule) (i at : ℕ) →
     IsToEvaluate old plans engine order trace timing rules i at →

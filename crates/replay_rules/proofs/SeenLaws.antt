@@ -1,4 +1,4 @@
--- The readings of groups in an order of slots.
+-- Proofs about the readings of groups in an order of slots.
 use Rattle.std.proofs.Common.{◌≡◌, ℕ, ◌+◌, ◌<◌, List, [], ◌∷◌, ◌++◌, length, map, take, drop}
 use Rattle.std.proofs.Common.{get_or, refl, sym, ap, subst, ◌∙◌, arith, Bool, true, false, cond, T}
 use Rattle.std.specs.Prelude.{◌&&◌}
@@ -54,7 +54,7 @@ second_holds : (a b : Bool) → T (a && b) → T b
 second_holds true b is = is
 second_holds false b is = absurd is
 
--- the keys of a map strictly ascend
+-- the keys of a map ascend strictly
 pub keys_ascend : (pairs : List (List ℕ × ℕ)) → T (is_sorted (slice_cmp nat_cmp) pairs) →
     Ascend (map (λ (pair : List ℕ × ℕ). pair.0) pairs)
 keys_ascend [] is = tt
@@ -91,13 +91,13 @@ live_ascend limits events legal order is at =
     subst Ascend same (keys_ascend pairs
     (in_order_sorted (live_from 0 (after (up_to events at)).groups)))
 
--- a prefix of ascending paths
+-- a prefix of ascending paths ascends
 ascend_prefix : (paths suffix : List (List ℕ)) → Ascend (paths ++ suffix) → Ascend paths
 ascend_prefix [] suffix is = tt
 ascend_prefix (first ∷ []) suffix is = tt
 ascend_prefix (first ∷ second ∷ paths) suffix is = (is.0, ascend_prefix (second ∷ paths) suffix is.1)
 
--- ---- one slot more
+-- ---- one more slot
 
 numbers_more : (order : List Slot) (i : ℕ) (d : Slot) → i < length order →
     numbers_of (take (i + 1) order) ≡ numbers_of (take i order) ++ (get_or order i d).0 ∷ []
@@ -129,7 +129,7 @@ pub live_is : (lives : List GroupLife) (at slot : ℕ) (d : GroupLife) (b : Bool
 live_is lives at slot d b room is =
     ap (λ (life : GroupLife). is_live_at life at) (get_or_default lives slot root d room) ∙ is
 
--- a live slot more is a group more
+-- one more live slot adds one group to the reading
 pub groups_more : (engine : EngineView) (watch : SideView) (lives : List GroupLife) (at : ℕ)
     (order : List Slot) (i : ℕ) (d : Slot) → i < length order →
     is_live_slot lives at (get_or order i d).0 ≡ true
@@ -144,7 +144,7 @@ groups_more engine watch lives at order i d inside live =
     ∙ map-append (group_by engine watch) (slots_live_at lives at (numbers_of (take i order)))
     ((get_or order i d).0 ∷ [])
 
--- a slot more that isn't live is none
+-- one more slot that isn't live adds no group
 pub groups_same : (engine : EngineView) (watch : SideView) (lives : List GroupLife) (at : ℕ)
     (order : List Slot) (i : ℕ) (d : Slot) → i < length order →
     is_live_slot lives at (get_or order i d).0 ≡ false
@@ -163,7 +163,7 @@ paths_by engine watch lives [] = refl
 paths_by engine watch lives (slot ∷ slots) =
     ap (λ rest. path_at lives slot ∷ rest) (paths_by engine watch lives slots)
 
--- the paths of the groups of the first slots ascend if those of all do
+-- the paths of the groups of the first slots ascend if the paths of all groups do
 pub groups_ascend : (engine : EngineView) (watch : SideView) (lives : List GroupLife) (at : ℕ)
     (order : List Slot) (i : ℕ) → Ascend
     (map (path_at lives) (slots_live_at lives at (numbers_of order)))
