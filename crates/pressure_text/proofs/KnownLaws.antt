@@ -1,4 +1,4 @@
--- The contents of a pressure file are parsed, and what is parsed is its contents.
+-- Proofs that a pressure file parses exactly as its contents.
 use Rattle.std.proofs.Common.{◌≡◌, ℕ, zero, suc, ◌/◌, ◌%◌, ◌^◌, ◌<◌, ◌≤◌, List, [], ◌∷◌, ◌++◌}
 use Rattle.std.proofs.Common.{refl, sym, ap, ◌∙◌, arith, append_assoc, Bool, true, false, length}
 use Rattle.std.proofs.Common.{get_or, ◌↔◌}
@@ -32,7 +32,7 @@ line short middle long total = record { hundredths = short ∷ middle ∷ long �
 
 -- ---- a line
 
--- a line in its pieces, with the bytes after it
+-- a line as its pieces, followed by the remaining bytes
 line_parts : (level : Level) (short middle long total : ℕ) (rest : List ℕ) →
     known_line level (short ∷ middle ∷ long ∷ []) total ++ rest ≡
     level_word level ++ (codes " avg10=" ++ (hundredths_text short ++ (codes " avg60=" ++ (hundredths_text middle ++ (codes " avg300=" ++ (hundredths_text long ++ (codes " total=" ++ (decimal total ++ (codes "\n" ++ rest)))))))))
@@ -62,7 +62,7 @@ line_again level short middle long total rest first second third fits =
       after_again (codes "\n") rest,
     ) refl
 
--- what was read of a line
+-- the bytes begin with the line of `level` that was parsed, and `rest` remains
 pub record LineRead (level : Level) (bytes : List ℕ) (found : PressureLine) (rest : List ℕ) : Type 0 where
   pub can : CanShow found.hundredths found.total_us
   pub spelled : bytes ≡ known_line level found.hundredths found.total_us ++ rest
@@ -132,13 +132,13 @@ three_of (a ∷ b ∷ []) three = absurd (omega arith)
 three_of (a ∷ b ∷ c ∷ []) three = refl
 three_of (a ∷ b ∷ c ∷ d ∷ xs) three = absurd (omega arith)
 
--- a line with these averages, and the rest
+-- the result of parsing a line with these averages and this total
 made : List ℕ → ℕ → List ℕ → Option (PressureLine × List ℕ)
 made averages total rest =
     let numbers : PressureLine = record { hundredths = averages; total_us = total } in
     Some (numbers, rest)
 
--- a line that a file can contain is parsed
+-- a line with numbers in range parses as these numbers
 known_again : (level : Level) (found : PressureLine) (rest : List ℕ) → IsTellable found →
     line_at level (spelled_line level found ++ rest) ≡ Some (found, rest)
 unfolding made
@@ -219,7 +219,7 @@ irq_is bytes line is =
       spelled = read.spelled ∙ ap (λ xs. only ++ xs) end.0 ∙ append-nil only;
     }
 
--- and so is a file of one line
+-- a pressure file of one line is parsed if and only if the bytes spell it
 pub irq_time_by : (bytes : List ℕ) (line : PressureLine) → (irq_at bytes ≡ Some line) ↔ ShowsIrq bytes line
 irq_time_by bytes line = (irq_is bytes line, irq_again bytes line)
 
@@ -248,7 +248,7 @@ in_most average most = omega arith
 abbrev Fit : List ℕ → ℕ → Type 0
 Fit averages total = ((k : ℕ) → k < 3 → get_or averages k 0 ≤ 204800) × (total < 2 ^ 64)
 
--- the contents of such a line are in range
+-- the numbers of such a line are in the range that can be printed
 can_show : (averages : List ℕ) (total : ℕ) → Fit averages total → IsTellable (numbers_known averages total)
 can_show averages total fit =
     let most : (k : ℕ) → k < 3 → in_hundredths (get_or averages k 0) ≤ 10000 =
@@ -279,7 +279,7 @@ fit_of : (totals : List ℕ) (averages : List (List ℕ)) (i : ℕ) → All (λ 
     All (λ row. IsRow row) averages → Fit (get_or averages i []) (get_or totals i 0)
 fit_of totals averages i fit rows = (λ k below. row_most averages i k rows below, total_fits totals i fit)
 
--- the line on all tasks, zeros or not
+-- the `full` line: zeros for CPU at the root, otherwise the given numbers
 abbrev full_of : Bool → List ℕ → ℕ → PressureLine
 full_of zeros averages total = if zeros then numbers_known [] 0 else numbers_known averages total
 
@@ -324,7 +324,7 @@ irq_reads_again averages total fits row = record {
 
 -- ---- the results of a call that parses as defined
 
--- the call found what the bytes spell
+-- the result is the value that the bytes spell, and only that
 abbrev pub IsExact : {A : Type 0} → Option A → (A → Type 0) → Type 0
 IsExact {A} result IsText = (read : A) → (result ≡ Some read) ↔ IsText read
 
@@ -338,7 +338,7 @@ none_known : {A : Type 0} (IsText : A → Type 0) (result : Option A) → IsExac
 none_known IsText None exact none read known = let found = (exact read).1 known in absurd cc
 none_known IsText (Some other) exact none read known = absurd cc
 
--- it found nothing if and only if they spell nothing
+-- the result is `None` if and only if the bytes spell no value
 read_none : {A : Type 0} (IsText : A → Type 0) (result : Option A) → IsExact result IsText →
     IsNone result ↔ ((read : A) → ¬ IsText read)
 read_none IsText result exact = (none_known IsText result exact, none_of IsText result exact)
