@@ -1,4 +1,4 @@
--- Laws of a trace without the tasks of a group.
+-- Proofs of the laws of a trace without the tasks of a group.
 use Rattle.std.proofs.Common.{◌≡◌, ℕ, ◌+◌, ◌^◌, ◌≤◌, ◌<◌, List, [], ◌∷◌, ◌++◌, refl, ap, ◌∙◌, sym, subst, arith, true, false, length}
 use Rattle.std.specs.Prelude.{if◌then◌else◌, nat_lt}
 use Rattle.std.proofs.lemmas.Bool.Decides.{nat_tests}
@@ -15,7 +15,7 @@ use Rattle.whatif_trace.proofs.Resting.{Begins}
 use Rattle.whatif_trace.proofs.Spelling.{exits_fit, fit_prefix, fit_join, fit_rest, numbers_first, numbers_from, rest_fits}
 use Rattle.whatif_trace.proofs.Together.{Holds, IsCut, cut_at, cut_world, dead_of, end_at, ended_at_end, exits_of, holds, legal_without, part_goes, rest_of, room_of, three_parts}
 
--- ---- it is accepted
+-- ---- the trace without the tasks is accepted
 
 none_last : (prefix : List Event) (last : Event) → [] ≡ prefix ++ last ∷ [] → ⊥
 none_last [] last is = cc is
@@ -25,11 +25,11 @@ some_event : (rest : List Event) (at : ℕ) → EndsLast rest → Begins (at + 1
 some_event [] at ends begins fit = absurd (none_last ends.0 (end_at ends.1) ends.2)
 some_event (event ∷ rest) at ends begins fit = let early = fit.0.at in omega (arith, early, begins)
 
--- the first event after a time may be spelled, so a nanosecond after that time may be too
+-- the nanosecond after the cut fits into 64 bits, because the time of the next event does
 pub early_enough : (limits : Limits) (events : List Event) (at : ℕ) → IsCut limits events at → AllFit events → at + 1 < 2 ^ 64
 early_enough limits events at cut fit = some_event (suffix events at) at cut.ends cut.begins (fit_rest (up_to events at) (suffix events at) (subst AllFit cut.whole fit))
 
--- before the end
+-- the law for a cut before the end of the trace
 accepted_before : (limits : Limits) (events : List Event) (at victim : ℕ) → limits.cpus ≤ most_cpus → IsAccepted limits events → length (without events at victim) ≤ 4000000 → at < (after events).last → IsAccepted limits (without events at victim)
 accepted_before limits events at victim cpus accepted few before =
     let cut = cut_at limits events at accepted.legal accepted.ends before in
@@ -62,7 +62,7 @@ without_is_accepted limits events at victim cpus accepted few =
       | false ↦ λ off. subst (IsAccepted limits) (sym (same_at_end events at victim off)) accepted
     ] refl
 
--- ---- its worlds
+-- ---- the worlds of the trace without the tasks
 
 held : (limits : Limits) (events : List Event) (at victim : ℕ) → IsAccepted limits events → at < (after events).last → length (without events at victim) ≤ 4000000 → Holds limits events at victim
 held limits events at victim accepted before few = holds limits events at victim (cut_at limits events at accepted.legal accepted.ends before) (subst (λ es. length es ≤ 4000000) (three_parts events at victim before) few)

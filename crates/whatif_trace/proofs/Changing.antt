@@ -1,4 +1,4 @@
--- Tasks without the dead ones, as one of them or another changes.
+-- Proofs about the map of tasks without the dead ones, when a task changes.
 use Rattle.std.proofs.Common.{◌≡◌, ℕ, List, [], ◌∷◌, refl, ap, ◌∙◌, sym, arith, cond, Bool, true, false, Option, None, Some, ◌==◌, ⊎_elim}
 use Rattle.std.specs.Prelude.{◌&&◌, ◌||◌, filter, not}
 use Rattle.std.proofs.lemmas.Bool.Decides.{eqb_tells, nat_tests}
@@ -10,9 +10,9 @@ use Rattle.whatif_spec.specs.Without.{is_alive, is_pid_among, if_alive}
 use Rattle.whatif_trace.specs.Rest.{kept}
 use Rattle.whatif_trace.proofs.Fewer.{AreWithout, found_dead, found_kept}
 
--- ---- one task in its place, or none
+-- ---- a task is replaced or removed
 
--- that of a number which isn't dead, in both
+-- replacing a live task in both maps gives the same look-up in both
 placed_found : (dead : List ℕ) (tasks fewer : Tasks) (k : ℕ) (x : Option Task) (pid : ℕ) → AreWithout dead tasks fewer → is_pid_among dead k ≡ false → ((pid == k) ≡ true) × (pid ≡ k) → cond (pid == k) x (task_of fewer pid) ≡ kept dead pid (cond (pid == k) x (task_of tasks pid))
 placed_found dead tasks fewer k x pid are alive same = rw (same.0, ap (is_pid_among dead) same.1 ∙ alive) refl
 
@@ -25,7 +25,7 @@ placed_alive dead tasks fewer k x are alive pid =
     ∙ ⊎_elim (λ same. placed_found dead tasks fewer k x pid are alive same) (λ other. placed_other dead tasks fewer k x x pid are other.0) (eqb_tells pid k)
     ∙ ap (kept dead pid) (sym (task_placed tasks k x pid))
 
--- that of a dead one, which isn't among the fewer
+-- replacing a dead task changes only the map of all tasks
 placed_gone : (dead : List ℕ) (tasks fewer : Tasks) (k : ℕ) (x : Option Task) (pid : ℕ) → AreWithout dead tasks fewer → is_pid_among dead k ≡ true → ((pid == k) ≡ true) × (pid ≡ k) → task_of fewer pid ≡ kept dead pid (cond (pid == k) x (task_of tasks pid))
 placed_gone dead tasks fewer k x pid are gone same =
     ap (task_of fewer) same.1 ∙ found_dead dead tasks fewer are k gone ∙ rw (ap (is_pid_among dead) same.1 ∙ gone) refl
@@ -38,7 +38,7 @@ placed_dead dead tasks fewer k x are gone pid =
     ⊎_elim (λ same. placed_gone dead tasks fewer k x pid are gone same) (λ other. placed_still dead tasks fewer k x pid are other.0) (eqb_tells pid k)
     ∙ ap (kept dead pid) (sym (task_placed tasks k x pid))
 
--- ---- a change of the task with a number
+-- ---- a change of the task with a pid
 
 put_is : (tasks : Tasks) (k : ℕ) (f : Task → Task) (o : Option Task) → (dead : List ℕ) (fewer : Tasks) → AreWithout dead tasks fewer → is_pid_among dead k ≡ false → AreWithout dead (change_to tasks k f o) (change_to fewer k f o)
 put_is tasks k f None dead fewer are alive = are
@@ -64,17 +64,17 @@ not_false : (b : Bool) → not b ≡ false → b ≡ true
 not_false true h = refl
 not_false false h = absurd (let no : ⊥ = cc h in no)
 
--- a task that isn't dead starts in both
+-- if the next task isn't dead, it starts in both maps
 pub start_alive : (dead : List ℕ) (tasks fewer : Tasks) (next : Option Pid) → AreWithout dead tasks fewer → is_alive dead next ≡ true → AreWithout dead (start next tasks) (start next fewer)
 start_alive dead tasks fewer None are alive = are
 start_alive dead tasks fewer (Some pid) are alive = change_alive dead tasks fewer pid.0 _ are (not_true (is_pid_among dead pid.0) alive)
 
--- a dead one, or none, starts in one alone
+-- if the next task is dead, or there is none, it starts only in the map of all tasks
 pub start_dead : (dead : List ℕ) (tasks fewer : Tasks) (next : Option Pid) → AreWithout dead tasks fewer → is_alive dead next ≡ false → AreWithout dead (start next tasks) fewer
 start_dead dead tasks fewer None are gone = are
 start_dead dead tasks fewer (Some pid) are gone = change_dead dead tasks fewer pid.0 _ are (not_false (is_pid_among dead pid.0) gone)
 
--- so both start a task only if it isn't dead
+-- starting the next task only if it isn't dead preserves the relation of the maps
 pub start_kept : (dead : List ℕ) (tasks fewer : Tasks) (next : Option Pid) → AreWithout dead tasks fewer → AreWithout dead (start next tasks) (start (if_alive dead next) fewer)
 start_kept dead tasks fewer next are =
     elim (is_alive dead next) as (λ b. is_alive dead next ≡ b → AreWithout dead (start next tasks) (start (cond b next None) fewer)) [
@@ -82,9 +82,9 @@ start_kept dead tasks fewer next are =
       | false ↦ λ gone. start_dead dead tasks fewer next are gone
     ] refl
 
--- ---- one dead number less
+-- ---- one dead pid less
 
--- the numbers without one
+-- the set of dead pids without one pid
 pub among_less : (dead : List ℕ) (k pid : ℕ) → is_pid_among (filter (λ other. not (other == k)) dead) pid ≡ (is_pid_among dead pid && not (pid == k))
 among_less [] k pid = refl
 among_less (first ∷ dead) k pid =
@@ -105,14 +105,14 @@ none_there dead tasks fewer k pid are gone same =
     let is : pid ≡ k = grind (arith, nat_tests) in
     ap (task_of fewer) is ∙ found_dead dead tasks fewer are k gone
 
--- a dead task exits: its number may be given again
+-- if a dead task exits, its pid is no longer among the dead and may be reused
 pub exits_dead : (dead : List ℕ) (tasks fewer : Tasks) (k : ℕ) → AreWithout dead tasks fewer → is_pid_among dead k ≡ true → AreWithout (filter (λ other. not (other == k)) dead) (placed tasks k None) fewer
 exits_dead dead tasks fewer k are gone pid =
     less_is dead tasks fewer k pid are (is_pid_among dead pid) (pid == k) refl refl (none_there dead tasks fewer k pid are gone)
     ∙ ap (λ b. cond b None (cond (pid == k) None (task_of tasks pid))) (sym (among_less dead k pid))
     ∙ ap (kept (filter (λ other. not (other == k)) dead) pid) (sym (task_placed tasks k None pid))
 
--- a task that isn't dead exits: the dead tasks stay the same
+-- if a task that isn't dead exits, the set of dead pids is unchanged
 same_among : (b c : Bool) → (b ≡ true → c ≡ false) → (b && not c) ≡ b
 same_among true c off = rw (off refl) refl
 same_among false c off = refl

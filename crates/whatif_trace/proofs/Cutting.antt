@@ -1,4 +1,4 @@
--- A trace is split at a time, and its parts are joined again.
+-- Proofs that a trace is split at a time, and that its parts make up the trace.
 use Rattle.std.proofs.Common.{◌≡◌, ℕ, zero, suc, ◌+◌, ◌-◌, ◌≤◌, ◌<◌, List, [], ◌∷◌, ◌++◌, refl, ap, ◌∙◌, sym, arith, cond, Bool, true, false, Option, None, Some, length, drop, take}
 use Rattle.std.specs.Prelude.{is_some, nat_le, nat_lt, replicate, slice_get}
 use Rattle.std.specs.List.{AllByRecursion}
@@ -90,7 +90,7 @@ is_there [] n room = absurd (no_room n (omega (arith, room)))
 is_there (x ∷ events) zero room = refl
 is_there (x ∷ events) (suc n) room = is_there events n (omega (arith, room))
 
--- a time is before that of an event, if there is one
+-- a time is before the event's time, if there is an event
 abbrev pub is_before : ℕ → Option Event → Bool
 is_before at None = false
 is_before at (Some event) = nat_lt at event.at

@@ -1,4 +1,4 @@
--- The exits of tasks that are killed.
+-- Proofs about the exits of tasks that are killed.
 use Rattle.std.proofs.Common.{◌≡◌, ℕ, ◌+◌, ◌<◌, List, [], ◌∷◌, ◌++◌, refl, ap, ◌∙◌, sym, subst, arith, cond, Bool, true, false, Option, None, Some, ◌==◌, length, ⊎_elim}
 use Rattle.std.specs.Prelude.{◌&&◌, ◌||◌, IfSome, if◌then◌else◌, nat_le, not}
 use Rattle.std.proofs.lemmas.Bool.Decides.{eqb_tells, nat_tests}
@@ -28,12 +28,12 @@ use Rattle.whatif_trace.proofs.Doing.{Does, IsReady, does_none, does_one, does_t
 use Rattle.whatif_trace.proofs.Leaving.{IsNext, comes_in, leaves, preempted, put_aside, runner_is, running, started}
 use Rattle.whatif_trace.proofs.Resting.{legal_join}
 
--- a task exits by these acts: none is found under its pid afterwards, and the others are as before
+-- a task exits by these acts: afterwards no task has its pid, and all other tasks are as before
 pub record Exited (limits : Limits) (at room : ℕ) (v : World) (pid : ℕ) (acts : List Act) : Type 0 where
   pub does : Does limits at room v acts
   pub tasks : (k : ℕ) → task_of (after_from v (events_at at acts)).tasks k ≡ cond (k == pid) None (task_of v.tasks k)
 
--- ---- a ready one
+-- ---- a ready task
 
 mode_is : (mode : Mode) → is_running mode ≡ true → mode ≡ Running
 mode_is Running is = refl
@@ -68,7 +68,7 @@ all_back tasks cpu pid task o runs k =
 apart_too : (a b : ℕ) → (a == b) ≡ false → (b == a) ≡ false
 apart_too a b off = grind (arith, nat_tests)
 
--- a task that was switched out is ready there
+-- a task that was switched out is ready on its processor
 ready_next : (v u : Tasks) (cpu pid : ℕ) (task : Task) (o : Option (ℕ × Task)) → running_on v cpu ≡ o → is_some_and (task_of v pid) (is_ready_on cpu) ≡ true
     → ((k : ℕ) → task_of u k ≡ cond (k == pid) (Some task) (put_aside o k (task_of v k))) → IsNext u cpu (pid_part o)
 ready_next v u cpu pid task None runs ready are = tt
@@ -153,7 +153,7 @@ from_sleep limits at room v pid task o ready there is sleeps still runs =
       tasks = λ k. turn.tasks k ∙ ap (λ ts. cond (k == pid.0) None (task_of ts k)) tasks ∙ twice_gone v.tasks pid.0 k woken;
     }
 
--- ---- whatever it does
+-- ---- a task in any mode
 
 abbrev acts_by : Mode → Pid → Task → Option (ℕ × Task) → List Act
 acts_by mode pid task o =
@@ -187,7 +187,7 @@ by_found limits at room v pid (Some task) is ready =
 pub exit_goes : (limits : Limits) (at room : ℕ) (v : World) (pid : ℕ) → IsReady limits at (room + length (exit_of v pid (task_of v.tasks pid))) v → Exited limits at room v pid (exit_of v pid (task_of v.tasks pid))
 exit_goes limits at room v pid ready = by_found limits at room v pid (task_of v.tasks pid) refl ready
 
--- ---- all of them
+-- ---- the exits of all killed tasks
 
 pub record ExitsGo (limits : Limits) (at room : ℕ) (v : World) (pids : List ℕ) : Type 0 where
   pub legal : AreLegal limits v (exits_from at v pids)

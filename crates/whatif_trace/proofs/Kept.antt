@@ -1,19 +1,19 @@
--- The stored events, part by part.
+-- Proofs about the list of stored events, part by part.
 use Rattle.std.proofs.Common.{◌≡◌, ℕ, List, [], ◌++◌, ap, ◌∙◌, sym, append_assoc}
 use Rattle.std.proofs.lemmas.List.{append-nil, map-append}
 use Rattle.psi_base.specs.declared.event.Act.{Act}
 use Rattle.psi_base.specs.declared.event.Event.{Event}
 use Rattle.psi_spec.specs.World.{events_at}
 
--- nothing is stored
+-- storing no event leaves the list unchanged
 pub none_kept : (old : List Event) → old ≡ old ++ []
 none_kept old = sym (append-nil old)
 
--- a part is stored, and the rest is still to be stored after it
+-- after a part is stored, the rest is stored after it
 pub part_kept : (old new part rest : List Event) → new ≡ old ++ part → new ++ rest ≡ old ++ (part ++ rest)
 part_kept old new part rest is = ap (λ es. es ++ rest) is ∙ append_assoc old part rest
 
--- acts at one time, and those after them
+-- two lists of acts at one time are stored one after the other
 pub acts_kept : (old mid new : List Event) (at : ℕ) (xs ys : List Act) → mid ≡ old ++ events_at at xs → new ≡ mid ++ events_at at ys → new ≡ old ++ events_at at (xs ++ ys)
 acts_kept old mid new at xs ys first then =
     then ∙ ap (λ es. es ++ events_at at ys) first ∙ append_assoc old (events_at at xs) (events_at at ys) ∙ ap (λ es. old ++ es) (sym (map-append _ xs ys))

@@ -1,4 +1,4 @@
--- A switch without the dead tasks.
+-- Proofs about a switch without the dead tasks.
 use Rattle.std.proofs.Common.{◌≡◌, ℕ, List, [], ◌∷◌, refl, ap, ◌∙◌, sym, subst, cond, Bool, true, false, Option, None, Some, ◌==◌, ⊎_elim}
 use Rattle.std.specs.Prelude.{◌&&◌, IfSome, filter, is_some, not, nat_le, if◌then◌else◌}
 use Rattle.std.proofs.lemmas.Bool.Decides.{eqb_tells}
@@ -34,12 +34,12 @@ ready_some : (o : Option Task) (cpu : ℕ) → is_some_and o (is_ready_on cpu) �
 ready_some None cpu ready = absurd (let no : ⊥ = cc ready in no)
 ready_some (Some task) cpu ready = refl
 
--- a task that is ready on an existing processor may run next, and so may none
+-- a task that is ready on an existing processor can run next, and so can no task
 pub next_may : (cpus cpu : ℕ) (next : Option Pid) (task : Option Task) → nat_le cpus cpu ≡ false → IfSome next (λ _. is_some_and task (is_ready_on cpu) ≡ true) → next_cause cpus cpu next task ≡ None
 next_may cpus cpu None task there ready = rw there refl
 next_may cpus cpu (Some pid) task there ready = rw (ready_some task cpu ready, there, ready) refl
 
--- the next task without the dead ones is ready as it is in the trace
+-- a next task that isn't dead is ready in both maps
 ready_kept : (dead : List ℕ) (tasks fewer : Tasks) (cpu : ℕ) (next : Option Pid) → AreWithout dead tasks fewer → is_alive dead next ≡ true → IfSome next (λ _. is_some_and (next_task tasks next) (is_ready_on cpu) ≡ true) → IfSome next (λ _. is_some_and (next_task fewer next) (is_ready_on cpu) ≡ true)
 ready_kept dead tasks fewer cpu None are alive ready = tt
 ready_kept dead tasks fewer cpu (Some pid) are alive ready = ap (λ o. is_some_and o (is_ready_on cpu)) (found_kept dead tasks fewer are pid.0 (not_true (is_pid_among dead pid.0) alive)) ∙ ready
@@ -70,7 +70,7 @@ record IsSwitch (limits : Limits) (dead : List ℕ) (w v : World) (at : ℕ) (cp
   runs : running_on w.tasks cpu.0 ≡ running
   kept : running_on v.tasks cpu.0 ≡ if_kept dead running
 
--- the tasks after it in the trace
+-- the tasks after the switch in the original trace
 tasks_are : (w : World) (cpu : Cpu) (next : Option Pid) (how : How) (running : Option (ℕ × Task)) (dead : List ℕ) (fewer : Tasks) → running_on w.tasks cpu.0 ≡ running → AreWithout dead (start next (leave how w.tasks running)) fewer → AreWithout dead (start next (leave how w.tasks (running_on w.tasks cpu.0))) fewer
 tasks_are w cpu next how running dead fewer runs are = subst (λ o. AreWithout dead (start next (leave how w.tasks o)) fewer) (sym runs) are
 
@@ -90,7 +90,7 @@ stays : (limits : Limits) (dead later : List ℕ) (w v : World) (at : ℕ) (cpu 
 stays limits dead later w v at cpu next how running so are =
     left_out limits dead later w v at (act.Switch cpu next how) so.is (of_switch at cpu next how) (tasks_are w cpu next how running later v.tasks so.runs are)
 
--- if no task that isn't dead is switched out: the result without the dead tasks
+-- the remaining switch if no task that isn't dead is switched out
 none_leaves : (limits : Limits) (dead later : List ℕ) (w v : World) (at : ℕ) (cpu : Cpu) (next : Option Pid) (how : How) (running : Option (ℕ × Task)) → IsSwitch limits dead w v at cpu next how running → if_kept dead running ≡ None
     → AreWithout later (leave how w.tasks running) v.tasks → is_alive later next ≡ is_alive dead next
     → Goes limits later w v at (act.Switch cpu next how) (if is_alive dead next then act.Switch cpu next Idle ∷ [] else [])
@@ -100,7 +100,7 @@ none_leaves limits dead later w v at cpu next how running so none are same =
       | false ↦ λ gone. stays limits dead later w v at cpu next how running so (start_dead later (leave how w.tasks running) v.tasks next are (same ∙ gone))
     ] refl
 
--- ---- none ran
+-- ---- no task ran
 
 idled : (dead : List ℕ) (how : How) → is_wrong how None ≡ false → dead_by how dead None ≡ dead
 idled dead Exit right = absurd (let no : ⊥ = cc right in no)
@@ -139,7 +139,7 @@ one_leaves limits dead w v at cpu next how e so alive =
     (tasks_are w cpu next how (Some e) (dead_by how dead (Some e)) (start (if_alive dead next) (leave how v.tasks (Some e))) so.runs
     (by_exit dead (start next (leave how w.tasks (Some e))) (start (if_alive dead next) (leave how v.tasks (Some e))) how e alive tasks)))
 
--- ---- a dead one ran
+-- ---- a dead task ran
 
 led_dead : (dead : List ℕ) (tasks fewer : Tasks) (how : How) (e : ℕ × Task) → AreWithout dead tasks fewer → is_pid_among dead e.0 ≡ true → AreWithout (dead_by how dead (Some e)) (leave how tasks (Some e)) fewer
 led_dead dead tasks fewer Exit e are gone = exits_dead dead tasks fewer e.0 are gone
@@ -180,7 +180,7 @@ dead_leaves limits dead w v at cpu next how e so gone =
     none_leaves limits dead (dead_by how dead (Some e)) w v at cpu next how (Some e) so (ap (λ b. cond b None (Some e)) gone)
     (led_dead dead w.tasks v.tasks how e so.is.tasks gone) (alive_by dead w.tasks cpu.0 next how e so.ready so.runs)
 
--- ---- whoever ran
+-- ---- any task ran
 
 some_ran : (limits : Limits) (dead : List ℕ) (w v : World) (at : ℕ) (cpu : Cpu) (next : Option Pid) (how : How) (e : ℕ × Task) → IsSwitch limits dead w v at cpu next how (Some e)
     → Goes limits (dead_by how dead (Some e)) w v at (act.Switch cpu next how) (switch_without dead cpu (pid_part (Some e)) next how)

@@ -1,4 +1,4 @@
--- The prefix, the exits and the rest together.
+-- Proofs about the whole remaining trace: the prefix, the exits and the later events.
 use Rattle.std.proofs.Common.{◌≡◌, ℕ, ◌+◌, ◌-◌, ◌≤◌, ◌<◌, List, [], ◌∷◌, ◌++◌, refl, ap, ◌∙◌, sym, subst, arith, append_assoc, Bool, true, false, length}
 use Rattle.std.specs.Prelude.{◌||◌, if◌then◌else◌, nat_lt}
 use Rattle.std.proofs.lemmas.Bool.Decides.{nat_tests}
@@ -23,18 +23,18 @@ use Rattle.whatif_trace.proofs.Doing.{IsReady}
 use Rattle.whatif_trace.proofs.Exiting.{ExitsGo, exits_go}
 use Rattle.whatif_trace.proofs.Whole.{legal_rest, members_live, parted, rest_both}
 
--- the end
+-- the `end` event
 abbrev pub end_at : ℕ → Event
 end_at at = record { at = at; act = act.End }
 
--- the end is always left
+-- the `end` event always remains
 one_left : (dead : List ℕ) (w : World) (prefix : List Event) (at : ℕ) → 1 ≤ length (rest_without dead w (prefix ++ end_at at ∷ []))
 one_left dead w prefix at =
     let parts = ap length (rest_both dead w prefix (end_at at ∷ [])) in
     let many = length-append (rest_without dead w prefix) (end_at at ∷ []) in
     omega (arith, parts, many)
 
--- one more event before a rest that goes
+-- one more event before later events that are legal
 one_more : (limits : Limits) (dead : List ℕ) (w v : World) (event : Event) (events : List Event) → IsWithout dead w v → IsLegalWorld limits w → AreLive dead w.tasks → AreLegal limits w (event ∷ events) → v.last ≤ event.at → v.lines < 4000000
     → (IsWithout (dead_after dead w event.act) (after_event w event) (after_from v (events_at event.at (act_without dead w event.act))) → Begins (after_from v (events_at event.at (act_without dead w event.act))).last events
     → RestGoes limits (dead_after dead w event.act) (after_event w event) (after_from v (events_at event.at (act_without dead w event.act))) events)
@@ -56,7 +56,7 @@ one_more limits dead w v event events is world live legal begins few others =
       later = subst (λ x. IsWithout (dead_later_on later next events) (after_from next events) x) (sym (after_from-append v prefix (rest_without later next events))) rest.later;
     }
 
--- the rest to the end
+-- the later events up to the end are legal
 pub whole_goes : (limits : Limits) (dead : List ℕ) (w v : World) (prefix : List Event) (at : ℕ) → IsWithout dead w v → IsLegalWorld limits w → AreLive dead w.tasks → AreLegal limits w (prefix ++ end_at at ∷ []) → Begins v.last (prefix ++ end_at at ∷ [])
     → v.lines + length (rest_without dead w (prefix ++ end_at at ∷ [])) ≤ 4000000 → RestGoes limits dead w v (prefix ++ end_at at ∷ [])
 whole_goes limits dead w v [] at is world live legal begins few =
@@ -86,7 +86,7 @@ going_on limits w at (event ∷ rest) legal begins low high =
     let early = (in_time limits w event legal.0).early in
     (open_of_legal limits w event legal.0, omega (arith, early, begins))
 
--- facts about a trace that is split at a time before its end
+-- facts about a trace that is cut at a time before its end
 pub record IsCut (limits : Limits) (events : List Event) (at : ℕ) : Type 0 where
   pub legal : AreLegal limits first_world (up_to events at)
   pub whole : events ≡ up_to events at ++ suffix events at
@@ -122,7 +122,7 @@ cut_at limits events at legal ends before =
       ends = last_end limits (after prefix) rest going.0 second (ap (λ (w : World). w.ended) (sym joined) ∙ ended_at_end events ends);
     }
 
--- ---- its three parts
+-- ---- the three parts
 
 -- the parts of the trace without the tasks of a group
 abbrev pub cut_world : List Event → ℕ → World
@@ -213,7 +213,7 @@ begins_prefix : (last : ℕ) (prefix rest : List Event) → Begins last (prefix 
 begins_prefix last [] rest begins = tt
 begins_prefix last (event ∷ prefix) rest begins = begins
 
--- the worlds after a proper prefix of it
+-- the worlds after a proper prefix of the later events
 pub part_goes : (limits : Limits) (events : List Event) (at victim : ℕ) → IsCut limits events at → Holds limits events at victim → (some : List Event) (event : Event) (more : List Event) → suffix events at ≡ some ++ event ∷ more
     → RestGoes limits (dead_of events at victim) (cut_world events at) (after_from (cut_world events at) (exits_of events at victim)) some
 part_goes limits events at victim cut held some event more is =
@@ -229,7 +229,7 @@ part_goes limits events at victim cut held some event more is =
     (begins_prefix v.last some (event ∷ more) (subst (Begins v.last) is (begins_later v.last (at + 1) (suffix events at) held.exits.ready.forward cut.begins)))
     (omega (arith, few, left, parts, many))
 
--- it is legal
+-- the remaining trace is legal
 pub legal_without : (limits : Limits) (events : List Event) (at victim : ℕ) → IsCut limits events at → Holds limits events at victim → AreLegal limits first_world (up_to events at ++ exits_of events at victim ++ rest_of events at victim)
 legal_without limits events at victim cut holds =
     subst (AreLegal limits first_world) (sym (append_assoc (up_to events at) (exits_of events at victim) (rest_of events at victim)))
