@@ -1,5 +1,5 @@
--- The parts that a trace without the tasks of a group shares with the original: the events up to
--- the time, the groups, the triggers and the end.
+-- Proofs about the parts that a trace without the tasks of a group shares with the original: the
+-- events up to the cut, the groups, the triggers and the end.
 use Rattle.std.proofs.Common.{◌≡◌, ℕ, ◌+◌, ◌≤◌, ◌<◌, List, [], ◌∷◌, ◌++◌, refl, ap, ◌∙◌, sym, subst, arith, append_assoc, cond, Bool, true, false, Option, None, Some, length}
 use Rattle.std.specs.Prelude.{if◌then◌else◌, nat_le, nat_lt, not}
 use Rattle.std.proofs.lemmas.Bool.Decides.{nat_tests}
@@ -37,7 +37,8 @@ up_to_both (x ∷ xs) ys at =
 still_early : (n at later : ℕ) → at ≤ later → nat_le n later ≡ false → nat_le n at ≡ false
 still_early n at later low off = grind (arith, nat_tests)
 
--- those up to an earlier one among them
+-- selecting the events up to a time, and then up to an earlier time, selects those up to the
+-- earlier time
 pub up_to_twice : (events : List Event) (at later : ℕ) → at ≤ later → up_to (up_to events later) at ≡ up_to events at
 up_to_twice [] at later low = refl
 up_to_twice (event ∷ events) at later low =
@@ -47,7 +48,7 @@ up_to_twice (event ∷ events) at later low =
       | false ↦ λ off. rest ∙ sym (ap (λ b. cond b (event ∷ up_to events at) (up_to events at)) (still_early event.at at later low off))
     ] refl
 
--- events that are all later
+-- all these events are later than a time
 abbrev AreLater : ℕ → List Event → Type 0
 AreLater at [] = Unit {0}
 AreLater at (event ∷ events) = (nat_le event.at at ≡ false) × AreLater at events
@@ -112,7 +113,7 @@ same_up_to limits events at victim now cut low =
 
 -- ---- triggers
 
--- acts that set no trigger
+-- none of these acts sets a trigger
 abbrev SetNone : List Act → Type 0
 SetNone [] = Unit {0}
 SetNone (what ∷ acts) = ((at : ℕ) (groups : List GroupLife) → trigger_by at groups what ≡ []) × ((at : ℕ) (groups : List GroupLife) → groups_after at groups what ≡ groups) × SetNone acts
@@ -170,7 +171,7 @@ exits_groups at v (pid ∷ pids) =
     ap (λ (w : World). w.groups) (after_from-append v (events_at at acts) (exits_from at (after_from v (events_at at acts)) pids))
     ∙ exits_groups at (after_from v (events_at at acts)) pids ∙ same_groups v at acts (none_found v pid (task_of v.tasks pid))
 
--- the remaining acts set the same triggers and change groups in the same way
+-- the remaining acts set the same triggers and change groups in the same way as the original act
 record ShowsSame (dead : List ℕ) (w v : World) (at : ℕ) (what : Act) (acts : List Act) : Type 0 where
   known : values_from shows v (events_at at acts) ≡ trigger_by at w.groups what
   groups : (after_from v (events_at at acts)).groups ≡ groups_after at w.groups what
@@ -258,7 +259,7 @@ same_last limits events at victim cut =
     ∙ ends_at (dead_of events at victim) (cut_world events at) (after (prefix ++ exits)) (suffix events at) cut.ends
     ∙ sym (ap (λ es. (after es).last) cut.whole ∙ ap (λ (x : World). x.last) (after_from-append first_world prefix (suffix events at)) ∙ ap (λ es. (after_from (cut_world events at) es).last) cut.ends.2 ∙ last_moment_of (cut_world events at) cut.ends.0 (end_at cut.ends.1))
 
--- ---- together
+-- ---- all shared parts together
 
 pub record IsSame (events other : List Event) (at : ℕ) : Type 0 where
   pub early : (now : ℕ) → now ≤ at → up_to other now ≡ up_to events now

@@ -1,4 +1,4 @@
--- Kills taken out of a trace, round by round.
+-- Proofs that the victims of kills are removed from a trace round by round.
 use Rattle.std.proofs.Common.{◌≡◌, ⊎_elim, ℕ, ◌+◌, ◌<◌, ◌≤◌, suc, List, [], ◌∷◌, ◌++◌, length, nat_lt, refl, ap, ◌∙◌, subst, arith, None, Some, Bool, true, false, if◌then◌else◌}
 use Rattle.std.specs.Prelude.{Result, Ok, Err, slice_get}
 use Rattle.psi_base.specs.declared.event.Cause.{Cause}
@@ -27,7 +27,7 @@ use Rattle.whatif_rounds.specs.Rounds.{AreLastPlans, ArePlansOf, IsOutgrown, IsT
 
 -- ---- the plans of an accepted trace
 
--- each of some legal events is legal after the previous ones
+-- each event of legal events is legal after the previous ones
 legal_there : (limits : Limits) (w : World) (prefix : List Event) (event : Event) (suffix : List Event) → AreLegal limits w (prefix ++ event ∷ suffix) → cause_of limits (after_from w prefix) event ≡ None
 legal_there limits w [] event suffix legal = legal.0
 legal_there limits w (first ∷ prefix) event suffix legal = legal_there limits (after_event w first) prefix event suffix legal.1
@@ -54,7 +54,7 @@ are_plans plans options trace may is represents = record {
   due = omega (arith, may.interval);
 }
 
--- an accepted trace isn't too large
+-- an accepted trace has at most `most_events` events
 few_events : (limits : Limits) (events : List Event) → IsAccepted limits events → length events ≤ most_events
 few_events limits events accepted =
     let world = legal_after limits events accepted.legal in
@@ -62,11 +62,11 @@ few_events limits events accepted =
 
 -- ---- one round
 
--- events, or how many there are, by whether these are too many
+-- the events, or their number if they are too many
 abbrev bounded_if : Bool → List Event → Result (List Event) TooLarge
 bounded_if b events = if b then Err (record { events = length events }) else Ok events
 
--- and a trace
+-- the trace, or the number of its events if they are too many
 abbrev trace_if : Bool → Trace → Result Trace ℕ
 trace_if b trace = if b then Err (length trace.events) else Ok trace
 
@@ -82,11 +82,11 @@ large_if true trace events large is =
     ap (λ (l : TooLarge). let lost : Result Trace ℕ = Err l.events in lost) same
 large_if false trace events large is = absurd (let no : ⊥ = cc is in no)
 
--- the remaining events, if they aren't too many
+-- if the remaining events are few enough, both checks pass
 kept_bounds : (trace : Trace) (events left : List Event) → bounded events ≡ Ok left → bounded_trace (record trace { events = events }) ≡ Ok (record trace { events = left })
 kept_bounds trace events left is = kept_if (nat_lt most_events (length events)) trace events left is
 
--- and if they are
+-- if the remaining events are too many, both checks fail with their number
 large_bounds : (trace : Trace) (events : List Event) (large : TooLarge) → bounded events ≡ Err large → bounded_trace (record trace { events = events }) ≡ Err large.events
 large_bounds trace events large is = large_if (nat_lt most_events (length events)) trace events large is
 
@@ -95,7 +95,7 @@ pub record HasLeft (options : Options) (rules : List Rule) (trace : Trace) (coun
   pub so_far : after_rounds trace (timing_of options) rules count ≡ Ok (record trace { events = events })
   pub accepted : IsAccepted (limits_of (of_ms options.tick_ms) trace.cpus) events
 
--- none has left all
+-- after 0 rounds all events remain
 pub none_taken : (options : Options) (rules : List Rule) (trace : Trace) → IsTraceAt options trace → HasLeft options rules trace 0 trace.events
 unfolding after_rounds
 none_taken options rules trace is = record { so_far = refl; accepted = is.accepted }
@@ -108,7 +108,7 @@ round_by options rules trace count events kill so found =
     one_round trace (record trace { events = events }) (timing_of options) rules count so.so_far
     ∙ ap (λ k. bounded_trace (without_kill (record trace { events = events }) k)) found
 
--- after one more round, the events without those of the kill's victim remain
+-- after one more round, the events without the tasks of the kill's victim remain
 pub one_taken : (options : Options) (rules : List Rule) (trace : Trace) (count : ℕ) (events left : List Event) (kill : Kill) → HasLeft options rules trace count events
     → slice_get (all_kills (record trace { events = events }) (timing_of options) rules) count ≡ Some kill
     → bounded (without events kill.at kill.victim.0) ≡ Ok left → IsAccepted (limits_of (of_ms options.tick_ms) trace.cpus) left
@@ -120,7 +120,7 @@ one_taken options rules trace count events left kill so found is accepted =
       accepted = accepted;
     }
 
--- or it has left too much
+-- the round left too many events, so the rounds end with their number
 pub too_large : (options : Options) (rules : List Rule) (trace : Trace) (count : ℕ) (events : List Event) (kill : Kill) (large : TooLarge) → count < most_rounds → HasLeft options rules trace count events
     → slice_get (all_kills (record trace { events = events }) (timing_of options) rules) count ≡ Some kill
     → bounded (without events kill.at kill.victim.0) ≡ Err large
@@ -129,7 +129,7 @@ too_large options rules trace count events kill large low so found is =
     last_outgrown trace (timing_of options) rules (suc count) large.events (omega (arith, low))
     (round_by options rules trace count events kill so found ∙ large_bounds trace (without events kill.at kill.victim.0) large is)
 
--- out of memory states nothing
+-- the two kinds of failure of a round; nothing is stated about an out-of-memory failure
 pub outgrown_at : (options : Options) (rules : List Rule) (trace : Trace) (count : ℕ) (events : List Event) (kill : Kill) (found : Fault TooLarge) → count < most_rounds → HasLeft options rules trace count events
     → slice_get (all_kills (record trace { events = events }) (timing_of options) rules) count ≡ Some kill
     → FaultOf found (bounded (without events kill.at kill.victim.0)) → IsOutgrown options rules trace found
@@ -138,7 +138,7 @@ outgrown_at options rules trace count events kill (fault.NoMemory _) low so has 
 
 -- ---- the last round
 
--- if a round finds no kill, its plans are the last
+-- if a round finds no kill, its plans are the plans of the last trace
 pub last_here : (options : Options) (rules : List Rule) (trace : Trace) (count : ℕ) (events : List Event) (plans : PlansView) → count ≤ most_rounds → HasLeft options rules trace count events
     → slice_get (all_kills (record trace { events = events }) (timing_of options) rules) count ≡ None → ArePlansOf plans options (record trace { events = events })
     → AreLastPlans options rules trace plans
@@ -149,7 +149,7 @@ last_here options rules trace count events plans low so none are = (
   are,
 )
 
--- the same after the last possible round
+-- after the last possible round, the plans of the remaining trace are the plans of the last trace
 pub last_at_end : (options : Options) (rules : List Rule) (trace : Trace) (count : ℕ) (events : List Event) (plans : PlansView) → MayReplay options → IsTraceAt options trace → count ≡ most_rounds → HasLeft options rules trace count events
     → Represent plans trace.cpus events → AreLastPlans options rules trace plans
 last_at_end options rules trace count events plans may is all so represents = (

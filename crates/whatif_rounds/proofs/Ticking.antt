@@ -1,4 +1,4 @@
--- Up to the time of a kill each tick prints the same without the tasks of its victim.
+-- Proofs that each tick up to a kill prints the same lines without the tasks of the victim.
 use Rattle.std.proofs.Common.{◌≡◌, ℕ, zero, suc, ◌+◌, ◌-◌, ◌/◌, ◌≤◌, ◌<◌, List, [], ◌∷◌, refl, ap, ◌∙◌, arith, cond, true, false, length, map}
 use Rattle.std.specs.Prelude.{if◌then◌else◌, take}
 use Rattle.std.specs.List.{flat_map, range_with_len}
@@ -24,18 +24,18 @@ use Rattle.whatif_rounds.proofs.Same.{IsSame, is_same}
 
 -- ---- times
 
--- an earlier tick isn't later
+-- the times of ticks never decrease
 pub tick_before : (length j i : ℕ) → j ≤ i → tick_moment length j ≤ tick_moment length i
 tick_before length j i low = mul-le-mul_right length low
 
--- what is the same at each number of a range
+-- two functions that agree on a range give the same list
 map_same : {A : Type 0} (f g : ℕ → A) (from n : ℕ) → ((i : ℕ) → i < from + n → f i ≡ g i) → map f (range_with_len from n) ≡ map g (range_with_len from n)
 map_same f g from zero same = refl
 map_same f g from (suc n) same = rw (same from (omega arith), map_same f g (from + 1) n (λ i high. same i (omega (arith, high)))) refl
 
 -- ---- ticks
 
--- a tick, from the events up to its moment and all groups
+-- a tick, from the events up to its time and all groups
 abbrev tick_by : ℕ → List Event → List GroupLife → ℕ → Tick
 tick_by cpus prefix groups at = record {
   at = at;
