@@ -1,4 +1,4 @@
--- The reports of a tick by one order of all slots.
+-- Proofs about the reports of a tick in a fixed order of all slots.
 use Rattle.std.proofs.Common.{◌≡◌, ℕ, List, [], ◌∷◌, ◌++◌, map, refl, ap, ◌∙◌, Bool, true, false, cond}
 use Rattle.std.specs.Prelude.{filter, if◌then◌else◌}
 use Rattle.std.specs.List.{flat_map}
@@ -10,7 +10,8 @@ use Rattle.plan_laws.proofs.MomentsOrder.{order_shows_live}
 use Rattle.run_spec.specs.Replay.{group_report, lives_of}
 use Rattle.run_laws.specs.Reports.{ReportsByOrder, average_state_at, slot_report, totals_at}
 
--- pieces of those that pass a test, or no piece of the others
+-- joining the texts of the elements that pass a test is joining texts that are empty for all other
+-- elements
 pieces_where : {X Y : Type 0} → (test : X → Bool) (g : X → Y) (f : Y → List ℕ) (h : X → List ℕ) (xs : List X)
     → ((x : X) → test x ≡ true → h x ≡ f (g x)) → ((x : X) → test x ≡ false → h x ≡ []) → flat_map f (map g (filter test xs)) ≡ flat_map h xs
 pieces_where test g f h [] here none = refl

@@ -1,4 +1,4 @@
--- The ticks of legal events follow one another.
+-- Proofs that each tick of legal events is a valid successor of the previous tick.
 use Rattle.std.proofs.Common.{◌≡◌, ℕ, zero, suc, ◌+◌, ◌-◌, ◌<◌, ◌≤◌, ◌==◌, List, [], ◌∷◌, ◌++◌, length, refl, sym, ap, ◌∙◌, subst, arith, ◌⊎◌, ⊎_elim, replicate}
 use Rattle.std.specs.Prelude.{if◌then◌else◌, slice_index, slice_index_or}
 use Rattle.std.proofs.lemmas.List.{get_or-replicate, get_or_past}
@@ -18,12 +18,12 @@ use Rattle.plan_laws.proofs.MomentsStall.{stall_grows, stall_is_within}
 use Rattle.run_laws.specs.Ticking.{TicksFollow, before_ticks}
 use Rattle.run_laws.proofs.OneMore.{ticks_more}
 
--- what holds of two times at a place
+-- a relation between two times at the same index
 abbrev pub Relation : Type 1
 Relation = ℕ → ℕ → ℕ → Type 0
 
--- two lists of times are related at each place, if the state times and the interrupt times are, and
--- zeros at places outside
+-- two lists of times are related at each index, if the times of each state and the interrupt times
+-- are, and zeros are at any index beyond
 places : (R : Relation) (f g : State → ℕ) (x y : ℕ) → ((place : ℕ) → R place 0 0) → ((place : ℕ) (state : State) → R place (f state) (g state)) → R irq_place x y
     → (place : ℕ) → R place (slice_index (times_with f x) place) (slice_index (times_with g y) place)
 places R f g x y none each irq zero = each 0 IoSome
@@ -36,7 +36,7 @@ places R f g x y none each irq (suc (suc (suc (suc (suc (suc zero)))))) = each 6
 places R f g x y none each irq (suc (suc (suc (suc (suc (suc (suc zero))))))) = irq
 places R f g x y none each irq (suc (suc (suc (suc (suc (suc (suc (suc n)))))))) = none _
 
--- the numbers of the groups that events ever make
+-- the number of groups that the events create
 abbrev slots_in : List Event → ℕ
 slots_in events = length (after events).groups
 
@@ -57,8 +57,7 @@ times_past : (cpus cpu slot : ℕ) (events : List Event) (at : ℕ) → cpus ≤
 times_past cpus cpu slot events at past =
     get_or_past (row_until cpus slot events at) cpu [] (let many = length-map-range_with_len (λ c. times_until c slot events at) 0 cpus in omega (arith, many, past))
 
--- times at two points are related at each place of the tables, if stall times and interrupt times
--- are
+-- two tables are related at each index, if the stall times and the interrupt times are
 tables : (R : Relation) (cpus : ℕ) (events : List Event) (at later : ℕ) → ((place : ℕ) → R place 0 0)
     → ((place : ℕ) (state : State) (cpu slot : ℕ) → R place (stall state cpu slot (up_to events at) at) (stall state cpu slot (up_to events later) later))
     → ((cpu slot : ℕ) → R irq_place (irq_time cpu slot (up_to events at)) (irq_time cpu slot (up_to events later)))
@@ -75,7 +74,7 @@ tables R cpus events at later none each irq slot cpu place =
     (λ slot_past. rw (row_past cpus events at slot slot_past, row_past cpus events later slot slot_past) (none place))
     (within_or_past slot (slots_in events))
 
--- no time in any state, and none of interrupts
+-- the times when no state has held and no interrupt has been reported
 abbrev no_times : List ℕ
 no_times = times_with (λ state. 0) 0
 
@@ -100,19 +99,19 @@ no_time cpus slots slot cpu place =
     (λ slot_past. rw (get_or_past (replicate slots (no_row cpus)) slot [] (all_past cpus slots slot slot_past)) refl)
     (within_or_past slot slots)
 
--- the last of some ticks and one more is that one
+-- the last tick of a list with one more tick appended is that tick
 last-push : (before : Tick) (ticks : List Tick) (tick : Tick) → last_tick before (ticks ++ tick ∷ []) ≡ tick
 last-push before [] tick = refl
 last-push before (first ∷ ticks) tick = last-push first ticks tick
 
--- no total up to a time is longer than the time from 0
+-- each total up to a time is at most that time
 within_moment : (limits : Limits) (cpus : ℕ) (events : List Event) → AreLegal limits first_world events → limits.cpus ≤ most_cpus
     → (at slot cpu place : ℕ) → time_in (table_until cpus events at) slot cpu place ≤ at
 within_moment limits cpus events legal few at =
     tables (λ place x y. y ≤ at) cpus events at at (λ place. omega arith) (λ place state cpu slot. stall_is_within limits events legal state cpu slot at)
     (λ cpu slot. irq_is_within limits events legal few cpu slot at)
 
--- the first tick follows time 0
+-- the first tick is a valid successor of the state at time 0
 first_follows : (limits : Limits) (cpus : ℕ) (events : List Event) (length : ℕ) → AreLegal limits first_world events → limits.cpus ≤ most_cpus
     → 0 < length → length ≤ longest_tick → tick_moment length 1 ≤ last_moment → IsNextTick (before_ticks cpus events) (tick_of cpus events length 1)
 first_follows limits cpus events length legal few some short early =
@@ -129,14 +128,14 @@ first_follows limits cpus events length legal few some short early =
       irq_early = λ slot cpu. most slot cpu irq_place;
     }
 
--- by how much more (ns) than the time in between a time may grow
+-- by how much (ns) the growth of a time may exceed the interval
 abbrev slack : ℕ → ℕ
 slack place = if place == irq_place then longest_irq else 0
 
 no_slack : (place : ℕ) → place < irq_place → slack place ≡ 0
 no_slack place below = grind arith
 
--- a later tick follows the previous one
+-- each later tick is a valid successor of the previous tick
 later_follows : (limits : Limits) (cpus : ℕ) (events : List Event) (length i : ℕ) → AreLegal limits first_world events → limits.cpus ≤ most_cpus
     → 0 < length → length ≤ longest_tick → tick_moment length (i + 1) ≤ last_moment → IsNextTick (tick_of cpus events length i) (tick_of cpus events length (i + 1))
 later_follows limits cpus events length i legal few some short early =

@@ -1,4 +1,4 @@
--- The slot of a path at a time, from the lives of all groups.
+-- Proofs about the slot of a path at a time, from the lives of all groups.
 use Rattle.std.proofs.Common.{◌≡◌, ℕ, suc, ◌+◌, List, [], ◌∷◌, refl, ap, ◌∙◌, Bool, cond, Option, None, Some, length, map, take}
 use Rattle.std.specs.Prelude.{◌&&◌, slice_get}
 use Rattle.std.specs.Str.{bytes_eq}
@@ -9,11 +9,11 @@ use Rattle.psi_spec.specs.Groups.{is_live_at}
 use Rattle.plan_laws.proofs.MomentsLives.{groups_keep_slots, lives_show_live}
 use Rattle.run_laws.specs.Live.{SlotByLives, live_slot}
 
--- the lives of all groups determine which groups of some are live at a time
+-- the lives of all groups determine which of some groups are live at a time
 abbrev ShowsLives : List GroupLife → List GroupLife → ℕ → Type 0
 ShowsLives some all at = (slot : ℕ) → is_some_and (slice_get some slot) is_live ≡ is_some_and (slice_get all slot) (λ life. is_live_at life at)
 
--- the paths of some groups are the first of those of all
+-- the paths of some groups are the first paths of all groups
 abbrev HasPaths : List GroupLife → List GroupLife → Type 0
 HasPaths some all = map (λ (life : GroupLife). life.path) some ≡ take (length some) (map (λ (life : GroupLife). life.path) all)
 
@@ -24,7 +24,7 @@ none_live slot (life ∷ all) path at shows =
     ap (λ b. cond (b && bytes_eq life.path path) (Some slot) None) (shows 0)
     ∙ ap (λ o. cond (is_live_at life at && bytes_eq life.path path) (Some slot) o) (none_live (slot + 1) all path at (λ k. shows (suc k)))
 
--- a group that is live whenever another is, and has its path, is found in its place
+-- two groups that are live at the same times and have the same path are found at the same slot
 slot_here : (slot : ℕ) (path : List ℕ) (b c : Bool) (one other : List ℕ) (o p : Option ℕ) → b ≡ c → one ≡ other → o ≡ p
     → cond (b && bytes_eq one path) (Some slot) o ≡ cond (c && bytes_eq other path) (Some slot) p
 slot_here slot path b c one other o p live named rest = cc (live, named, rest)

@@ -1,4 +1,4 @@
--- Texts with live lines, tick by tick.
+-- Proofs about texts with live lines, tick by tick.
 use Rattle.std.proofs.Common.{◌≡◌, ℕ, zero, suc, ◌+◌, ◌-◌, ◌*◌, ◌≤◌, ◌<◌, List, [], ◌++◌, replicate, refl, sym, ap, ◌∙◌, subst, append_assoc, arith, true, false, cond, Option, None, Some, ◌⊎◌, ⊎_elim}
 use Rattle.std.specs.Prelude.{nat_le}
 use Rattle.std.proofs.Math.Nat.{mul-le-mul_right}
@@ -18,9 +18,9 @@ use Rattle.run_spec.specs.Replay.{Beside, IsReplayText, Timing, last_line, repla
 use Rattle.run_laws.specs.Live.{AreTickTexts, NoTextAtFirst, OneTextMore, OneTextUnwatched, TextsGoOn, WholeText}
 use Rattle.run_laws.proofs.OneMore.{text_more}
 
--- ---- texts with one live text or another
+-- ---- texts with different live lines
 
--- the data besides a trace
+-- these live lines and rules, as the data that a text needs in addition to a trace
 abbrev beside_by : (ℕ → List ℕ) → List Rule → Beside
 beside_by live rules = record { live = live; rules = rules }
 
@@ -29,7 +29,7 @@ tick_same : (trace : Trace) (timing : Timing) (rules : List Rule) (old new : ℕ
 unfolding tick_text
 tick_same trace timing rules old new i same = rw same refl
 
--- so have ticks
+-- ticks with the same live lines have the same text
 ticks_same : (trace : Trace) (timing : Timing) (rules : List Rule) (old new : ℕ → List ℕ) (count : ℕ) → ((i : ℕ) → 1 ≤ i → i ≤ count → old i ≡ new i)
     → ticks_text trace timing (beside_by old rules) count ≡ ticks_text trace timing (beside_by new rules) count
 ticks_same trace timing rules old new zero same = refl
@@ -41,9 +41,9 @@ ticks_same trace timing rules old new (suc count) same =
     let joined = text_more trace timing (beside_by new rules) count in
     subst (λ n. ticks_text trace timing (beside_by old rules) n ≡ ticks_text trace timing (beside_by new rules) n) next (cc (before, here, split, joined))
 
--- ---- one tick more
+-- ---- one more tick
 
--- live lines of the first n ticks, and others from then on
+-- the live lines of the first ticks, and other live lines from then on
 abbrev lives_with : (ℕ → List ℕ) → ℕ → List ℕ → ℕ → List ℕ
 lives_with live i line j = cond (nat_le j i) (live j) line
 
@@ -90,7 +90,7 @@ one_text_unwatched trace timing rules text none is =
 
 -- ---- changes of a processor up to a tick
 
--- the number of changes of a processor up to a later time isn't smaller
+-- the number of a processor's changes up to a later time isn't smaller
 pub count_more : (limits : Limits) (trace : Trace) → AreLegal limits first_world trace.events → (cpu at later : ℕ) → at ≤ later → count_at cpu trace.events at ≤ count_at cpu trace.events later
 count_more limits trace legal cpu at later forward =
     let few = (counts_by_plan limits trace.events legal cpu at).0 in
@@ -98,21 +98,21 @@ count_more limits trace legal cpu at later forward =
     let counts = changes_more (plan_of cpu trace.events) at later forward in
     omega (arith, few, more, counts)
 
--- nor up to the next tick
+-- the number of a processor's changes up to the next tick isn't smaller
 until_more : (limits : Limits) (trace : Trace) → AreLegal limits first_world trace.events → (tick cpu i : ℕ) → changes_until trace tick cpu i ≤ changes_until trace tick cpu (suc i)
 until_more limits trace legal tick cpu zero = omega arith
 until_more limits trace legal tick cpu (suc i) =
     let forward : suc i * tick ≤ suc (suc i) * tick = mul-le-mul_right tick (omega arith) in
     count_more limits trace legal cpu (tick_moment tick (suc i)) (tick_moment tick (suc (suc i))) forward
 
--- ---- live lines that a tick may have
+-- ---- existence of live lines
 
--- one number over and over rises from no more to itself
+-- a constant number rises from a lower bound to itself
 rise_same : (low high count : ℕ) → low ≤ high → RiseWithin low (replicate count high) high
 rise_same low high zero within = within
 rise_same low high (suc count) within = (within, rise_same high high count (omega arith))
 
--- samples after all changes up to a tick
+-- samples after all changes up to a tick have valid numbers of changes
 counts_at_end : (limits : Limits) (trace : Trace) → AreLegal limits first_world trace.events → (tick i requested cpu : ℕ) → 1 ≤ i → AreCounts trace tick i cpu requested (replicate requested (changes_until trace tick cpu i))
 counts_at_end limits trace legal tick zero requested cpu low = absurd (omega (arith, low))
 counts_at_end limits trace legal tick (suc i) requested cpu low =
@@ -123,14 +123,14 @@ counts_at_end limits trace legal tick (suc i) requested cpu low =
       rise = rise_same (changes_until trace tick cpu (suc i - 1)) (changes_until trace tick cpu (suc i)) requested (subst (λ n. changes_until trace tick cpu n ≤ changes_until trace tick cpu (suc i)) (sym before) more);
     }
 
--- so there are live lines of a slot
+-- there are valid live lines of a slot
 some_lines : (limits : Limits) (trace : Trace) → AreLegal limits first_world trace.events → (tick i requested : ℕ) → 1 ≤ i → (slot : Option ℕ) → (live : List ℕ) × IsLiveOf trace tick i requested slot live
 some_lines limits trace legal tick i requested low None = ([], refl)
 some_lines limits trace legal tick i requested low (Some slot) =
     let counts : ℕ → List ℕ = λ cpu. replicate requested (changes_until trace tick cpu i) in
     (live_lines trace slot (tick_moment tick i) counts, (counts, λ cpu _. counts_at_end limits trace legal tick i requested cpu low, refl))
 
--- and for a tick
+-- there are valid live lines of a tick
 some_live : (limits : Limits) (trace : Trace) → AreLegal limits first_world trace.events → (tick : ℕ) (watch : Option LiveWatch) (i : ℕ) → 1 ≤ i → (live : List ℕ) × IsLiveText trace tick watch i live
 some_live limits trace legal tick None i low = ([], refl)
 some_live limits trace legal tick (Some watch) i low = some_lines limits trace legal tick i watch.count low (live_slot_at trace.events watch.path (tick_moment tick i))

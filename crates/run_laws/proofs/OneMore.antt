@@ -1,4 +1,4 @@
--- One tick more.
+-- Proofs about one more tick.
 use Rattle.std.proofs.Common.{◌≡◌, ℕ, zero, suc, ◌+◌, [], ◌∷◌, ◌++◌, length, map, refl, ap, ◌∙◌, arith}
 use Rattle.std.specs.Prelude.{sum_by}
 use Rattle.std.specs.List.{flat_map, range_with_len}
@@ -9,7 +9,7 @@ use Rattle.pressure_spec.specs.Ticks.{tick_of, ticks_of}
 use Rattle.run_spec.specs.Replay.{fired_in, kills_in, tick_text}
 use Rattle.run_laws.specs.Ticking.{KillsMore, SignalsMore, TextMore, TicksMore}
 
--- numbers in two parts
+-- a range splits into two ranges
 pub range_parts : (a m k : ℕ) → range_with_len a (m + k) ≡ range_with_len a m ++ range_with_len (a + m) k
 range_parts a zero k =
     let same : a + 0 ≡ a = omega arith in
@@ -20,7 +20,7 @@ range_parts a (suc m) k =
     let more : suc m + k ≡ suc (m + k) = omega arith in
     rw (next, more) (ap (λ ns. a ∷ ns) (range_parts (a + 1) m k))
 
--- one number more
+-- a range with one more number
 pub range_more : (a n : ℕ) → range_with_len a (n + 1) ≡ range_with_len a n ++ (a + n) ∷ []
 range_more a n = range_parts a n 1
 
