@@ -1,4 +1,5 @@
--- The result of reading the next line as borrowed bytes.
+-- The result of reading the next line as borrowed bytes ([`Lines::next_bytes`]), stated with the
+-- definitions for an owned line.
 use Rattle.std.specs.Prelude.{◌≡◌, ℕ, ◌+◌, ◌≤◌, List, [], OnErr, Option, None, Some, Result, Ok, Err}
 use Rattle.std.specs.Borrow.{Bor}
 use Rattle.outside.specs.Outside.{content_of, IsAbsent, Files}
@@ -7,14 +8,15 @@ use Rattle.psi_lines.specs.Next.{NextOf, ReadsOn, furthest, number_after}
 use Rattle.psi_lines.specs.declared.lines.Line.{Line}
 use Rattle.psi_lines.specs.declared.lines.LineFault.{LineFault}
 
--- the result with a line in place of the borrowed bytes
+-- `result` with the owned line number `number` in place of the borrowed bytes
 abbrev pub lent_line : ℕ → Result (Option (Bor (List ℕ))) LineFault → Result (Option Line) LineFault
 lent_line number (Ok (Some bytes)) = Ok (Some (record { number = number; bytes = bytes.now }))
 lent_line number (Ok None) = Ok None
 lent_line number (Err fault) = Err fault
 
--- the reader after the borrow ends, with all properties that reading an owned line has; the numbers
--- are the bytes that the shelf had returned before, and has returned now
+-- The reader after the borrow ends: it has every property that holds after an owned line is read.
+-- `bytes_read` and `read_now` are the bytes that the shelf had returned before the call and after
+-- it.
 pub record LendsLine (files : Option Files) (bytes_read read_now : ℕ) (old new : Reader)
     (result : Result (Option (Bor (List ℕ))) LineFault) : Type 0 where
   pub name : new.name ≡ old.name

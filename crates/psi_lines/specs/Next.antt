@@ -1,4 +1,5 @@
--- The result of reading the next line.
+-- The result of reading the next line: the line or the fault, and what it says about the file's
+-- bytes and the reads.
 use Rattle.std.specs.Prelude.{◌≡◌, ℕ, ◌+◌, ◌-◌, ◌*◌, List, [], ◌++◌, drop, take, length, ◌<◌, ◌≤◌, ◌⊎◌, slice_index, Option, None, Some, Result, Ok, Err, IsErrOf, Bool, true, false, ⊤}
 use Rattle.outside.specs.Outside.{ShelfCounts, HasCauses}
 use Rattle.psi_lines.specs.Lines.{Reader, HasNoNewline, left, BeginsWithLine, IsTooLong, IsCut}
@@ -10,7 +11,8 @@ use Rattle.psi_lines.specs.declared.lines.Line.{Line}
 use Rattle.psi_lines.specs.declared.lines.LineFault.{LineFault}
 use Rattle.psi_lines.specs.declared.lines.LineFault.TheVariants.{TooLong, Cut, NoFile, ReadFault, NoMemory}
 
--- the result if the bytes of the file are known; a read fails only if no complete line is buffered
+-- The relation between a reader before and after reading the next line, and the result, for a file
+-- with these bytes. A read fails only if no complete line is buffered.
 abbrev pub NextOf : List ℕ → Reader → Reader → Result (Option Line) LineFault → Type 0
 NextOf bytes old new (Ok (Some line)) = BeginsWithLine (left old bytes) line.bytes (left new bytes) × (line.number ≡ old.number)
 NextOf bytes old new (Ok None) = (left old bytes ≡ []) × (left new bytes ≡ [])
@@ -20,23 +22,24 @@ NextOf bytes old new (Err NoFile) = left new bytes ≡ left old bytes
 NextOf bytes old new (Err ReadFault) = (left new bytes ≡ left old bytes) × HasNoNewline new.buffered (length new.buffered)
 NextOf bytes old new (Err (NoMemory _)) = left new bytes ≡ left old bytes
 
--- the number of the next line: one more after a line
+-- the number of the next line after this result: one more if a line was returned
 abbrev pub number_after : ℕ → Result (Option Line) LineFault → ℕ
 number_after number (Ok (Some line)) = number + 1
 number_after number (Ok None) = number
 number_after number (Err fault) = number
 
--- a read leaves the remaining bytes unchanged, and returns 0 bytes only at the end
+-- A read of `n` bytes at offset `at` leaves the remaining bytes of the file unchanged; `n` is 0
+-- only at the end of the file. `old` and `new` are the buffered bytes before and after the read.
 pub record FillsBytes (bytes : List ℕ) (at : ℕ) (old new : List ℕ) (n : ℕ) : Type 0 where
   pub left : new ++ drop (at + n) bytes ≡ old ++ drop at bytes
   pub end : n ≡ 0 → drop at bytes ≡ []
 
--- a shelf's fault as a line's fault
+-- the reader's fault for a fault of the shelf
 abbrev pub read_fault : ShelfFault → LineFault
 read_fault shelf.NoFile = NoFile
 read_fault shelf.Failed = ReadFault
 
--- how far a file was read, given the place reached and this fault
+-- the progress of reading the file after this fault, if the next read would be at offset `at`
 abbrev pub progress_by_fault : ℕ → LineFault → Progress
 progress_by_fault at (TooLong number) = Next at
 progress_by_fault at (Cut number) = Over None
@@ -44,29 +47,32 @@ progress_by_fault at NoFile = Over (Some shelf.NoFile)
 progress_by_fault at ReadFault = Over (Some shelf.Failed)
 progress_by_fault at (NoMemory _) = Next at
 
--- how far it was read by one read from a place
+-- the progress of reading the file after one read at offset `at`
 abbrev pub progress_by_read : ℕ → Result ℕ LineFault → Progress
 progress_by_read at (Ok n) = after_read at (Ok n)
 progress_by_read at (Err fault) = progress_by_fault at fault
 
--- how far it was read, given the place reached and the result for a line
+-- the progress of reading the file after a call that returns a line, if the next read would be at
+-- offset `at`
 abbrev pub progress_by_line : {T : Type 0} → ℕ → Result (Option T) LineFault → Progress
 progress_by_line at (Ok (Some line)) = Next at
 progress_by_line at (Ok None) = Over None
 progress_by_line at (Err fault) = progress_by_fault at fault
 
--- how far it was read, given the place reached and the result of looking for the end
+-- the progress of reading the file after a test for its end, if the next read would be at offset
+-- `at`
 abbrev pub progress_by_end : ℕ → Result Bool LineFault → Progress
 progress_by_end at (Ok true) = Over None
 progress_by_end at (Ok false) = Next at
 progress_by_end at (Err fault) = progress_by_fault at fault
 
--- A shelf counted exactly this fault of reading: a failed read, or a missing name.
+-- The shelf's counts of failed reads and missing files grew exactly for the fault that `result`
+-- reports.
 abbrev pub CausesFault : {T : Type 0} → ShelfCounts → ShelfCounts → Result T LineFault → Type 0
 CausesFault before now result =
     HasCauses before now (IsErrOf result ReadFault) (IsErrOf result NoFile)
 
--- a read's only faults are a missing file and a failed read
+-- the only faults of a single read are `NoFile` and `ReadFault`
 abbrev pub IsReadFault : {T : Type 0} → Result T LineFault → Type 0
 IsReadFault (Ok value) = ⊤
 IsReadFault (Err (TooLong number)) = ⊥
@@ -75,7 +81,7 @@ IsReadFault (Err NoFile) = ⊤
 IsReadFault (Err ReadFault) = ⊤
 IsReadFault (Err (NoMemory _)) = ⊥
 
--- the result for a missing file: that, a failed read, or out of memory
+-- the possible results for a missing file: `NoFile`, `ReadFault` or `NoMemory`
 abbrev pub IsMissing : {T : Type 0} → Result T LineFault → Type 0
 IsMissing (Ok value) = ⊥
 IsMissing (Err (TooLong number)) = ⊥
@@ -84,17 +90,19 @@ IsMissing (Err NoFile) = ⊤
 IsMissing (Err ReadFault) = ⊤
 IsMissing (Err (NoMemory _)) = ⊤
 
--- reads advanced by as many bytes as they returned, and appended them to the buffered bytes
+-- The reads appended bytes to the buffered bytes, and advanced the offset by as many bytes. The
+-- arguments are the buffered bytes and the offset, before and after.
 pub record ReadsOn (buffered : List ℕ) (at : ℕ) (held_now : List ℕ) (at_now : ℕ) : Type 0 where
   pub prefix : take (length buffered) held_now ≡ buffered
   pub place : at_now + length buffered ≡ at + length held_now
 
--- the furthest place of a reader at the line with this number: the lines before it have at most 513
--- bytes each, including their newlines, and at most 66,048 bytes are buffered after them
+-- The greatest offset (bytes) of a reader whose next line has this number: each earlier line has at
+-- most 513 bytes with its newline, and at most 66,048 bytes are buffered.
 abbrev pub furthest : ℕ → ℕ
 furthest number = 513 * (number - 1) + 66048
 
--- what the buffered bytes begin with: the length of the line with this number, or why there is none
+-- The result of looking for line `number` at the start of the buffered bytes: its length (bytes),
+-- `None` if nothing is buffered, or why there is no line.
 abbrev pub FindsLine : ℕ → List ℕ → Result (Option ℕ) LineFault → Type 0
 FindsLine number buffered (Ok (Some count)) = (count < length buffered) × (count ≤ 512) × (slice_index buffered count ≡ 10)
     × HasNoNewline buffered count
@@ -106,13 +114,13 @@ FindsLine number buffered (Err NoFile) = ⊤
 FindsLine number buffered (Err ReadFault) = HasNoNewline buffered (length buffered)
 FindsLine number buffered (Err (NoMemory _)) = ⊥
 
--- The buffered bytes determine the next line without a read: they contain a newline, or more bytes
--- than a line and its newline can have.
+-- The buffered bytes determine the next line without a read: they contain a newline, or at least
+-- 513 bytes.
 abbrev pub ShowsLine : List ℕ → Type 0
 ShowsLine buffered = (513 ≤ length buffered) ⊎ (i : ℕ) × (i < length buffered) × (slice_index buffered i ≡ 10)
 
--- if there is no line, or the line is cut off, the input is read to its end; nothing is said about
--- other results
+-- If the result is `None` or `Cut`, the input was read to its end. Other results say nothing about
+-- the end.
 abbrev pub EndsAt : List ℕ → ℕ → Result (Option ℕ) LineFault → Type 0
 EndsAt bytes at (Ok (Some count)) = ⊤
 EndsAt bytes at (Ok None) = drop at bytes ≡ []
@@ -122,7 +130,7 @@ EndsAt bytes at (Err NoFile) = ⊤
 EndsAt bytes at (Err ReadFault) = ⊤
 EndsAt bytes at (Err (NoMemory _)) = ⊤
 
--- a line, and a line's fault, have the number of the next line, even if the files are unknown
+-- a line or a fault has the number of the next line, even if the content of the file isn't known
 abbrev pub IsNumbered : ℕ → Result (Option Line) LineFault → Type 0
 IsNumbered number (Ok (Some line)) = line.number ≡ number
 IsNumbered number (Ok None) = ⊤
@@ -132,7 +140,7 @@ IsNumbered number (Err NoFile) = ⊤
 IsNumbered number (Err ReadFault) = ⊤
 IsNumbered number (Err (NoMemory _)) = ⊤
 
--- a line has at most 512 bytes, even if the files are unknown
+-- a line has at most 512 bytes, even if the content of the file isn't known
 abbrev pub IsShortLine : Result (Option Line) LineFault → Type 0
 IsShortLine (Ok (Some line)) = length line.bytes ≤ 512
 IsShortLine (Ok None) = ⊤

@@ -1,4 +1,6 @@
-//! A buffer of bytes that were read and not returned yet.
+//! A buffer of fixed capacity for the bytes that a reader of lines has read and not returned yet.
+//!
+//! It doesn't look for newlines: `lines` does.
 ghost use Rattle.std.specs.Prelude.{◌≡◌, ◌+◌, ◌-◌, ◌<◌, ◌≤◌, ◌⊎◌, [], ℕ, List, length, drop, take, IfOk, OnErr, IsErrOf, Some, None};
 ghost use Rattle.outside.specs.Outside.{content_of, IsAbsent, counts_of, count_read};
 ghost use Rattle.outside.specs.Reads.{ReadsFrom};
@@ -11,14 +13,15 @@ use psi_base::NoMemory;
 use std::alloc::Global;
 use std::marker::Model;
 
-/// The longest line with its newline, in bytes: fewer are buffered whenever a read is needed.
+/// The greatest length of a line with its newline (bytes). A read is needed only if fewer bytes are
+/// buffered.
 pub(crate) const LINE: usize = 513;
 
-/// The capacity of a buffer in bytes: a line that is begun, and at least 65,536 bytes after it for
-/// a read.
+/// The capacity of a buffer (bytes): an incomplete line, and at least 65,536 bytes after it for a
+/// read.
 pub(crate) const ROOM: usize = 66048;
 
-// Moves the bytes from `start` to `end` to the start of the buffer.
+// Moves the bytes from index `start` to index `end` to the start of the buffer.
 fn move_to_front(bytes: &mut [u8], start: usize, end: usize)
     requires order { start ≤ end }
     requires inside { end ≤ length bytes.old }
@@ -29,9 +32,9 @@ fn move_to_front(bytes: &mut [u8], start: usize, end: usize)
     }
 }
 
-/// Bytes that were read and not returned yet, which contracts see as a list. They are in one piece
-/// of memory that never grows, from `start` to `end`, and are moved to its start only when a read
-/// is needed.
+/// The bytes that were read and not returned yet. Contracts see them as a list. They are
+/// `bytes[start..end]`; the allocation never grows, and the bytes are moved to its start only when
+/// a read is needed.
 #[derive(Drop)]
 pub(crate) struct Buffer {
     bytes: Vec<u8>,
@@ -55,7 +58,7 @@ impl Buffer {
     ghost use Rattle.std.specs.Io.BufRead.{Rests};
     ghost use Rattle.psi_lines.specs.contracts.buffer.Buffer.{the_row};
 
-    /// An empty buffer. Allocates everything at the start.
+    /// Returns an empty buffer. Allocates its whole capacity.
     pub(crate) fn new(alloc: Global) -> Result<Buffer, NoMemory>
         ensures { IfOk result (λ b. b ≡ []) }
     {
@@ -66,7 +69,7 @@ impl Buffer {
         })
     }
 
-    /// The buffered bytes.
+    /// Returns the buffered bytes.
     #[inline(always)]
     pub(crate) fn buffered(&self) -> &[u8]
         ensures buffered { result.now ≡ self.now }
@@ -75,7 +78,8 @@ impl Buffer {
         &self.bytes[self.start..self.end]
     }
 
-    /// Returns the first bytes, and discards the byte after them.
+    /// Removes and returns the first `count` bytes, and removes the byte after them (the newline).
+    /// Precondition: more than `count` bytes are buffered.
     #[inline(always)]
     pub(crate) fn take_line(&mut self, count: usize) -> &[u8]
         requires { count < length self.old }
@@ -88,8 +92,8 @@ impl Buffer {
         &self.bytes[start..start + count]
     }
 
-    /// Reads once, from the place `at` (in bytes). Returning 0 means the end. A fault leaves the
-    /// buffer unchanged.
+    /// Reads once from the shelf, at offset `at` (bytes), and appends the bytes. Returns the number
+    /// of bytes read; 0 means the end of the file. A fault leaves the buffer unchanged.
     pub(crate) fn read_more<S: Shelf>(
         &mut self,
         shelf: &mut S,

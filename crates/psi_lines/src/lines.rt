@@ -1,4 +1,6 @@
-//! The lines of a file, however the shelf's reads split them.
+//! A reader of the lines of a file, however the shelf's reads split them.
+//!
+//! It only splits the file's bytes at newlines; it gives the lines no meaning.
 ghost use Rattle.std.specs.Prelude.{◌≡◌, ◌≢◌, ◌+◌, ◌-◌, ◌*◌, ◌<◌, ◌≤◌, ◌^◌, ◌↔◌, [], ◌++◌, ℕ, List, length, drop, IfOk, OnErr, IsErrOf, IsTrue, MatchOption, slice_index, Ok, Some, None, false};
 ghost use Rattle.psi_base.specs.Memory.{no_memory};
 ghost use Rattle.outside.specs.Outside.{content_of, IsAbsent, counts_of};
@@ -14,16 +16,16 @@ use psi_base::{NoMemory, Text};
 use std::alloc::Global;
 use std::marker::Model;
 
-/// A line.
+/// A line of a file.
 #[derive(Drop)]
 pub struct Line {
-    /// Its number, from 1.
+    /// The number of the line, from 1.
     pub number: u32,
-    /// Its bytes without the newline, at most 512.
+    /// The bytes of the line without its newline, at most 512.
     pub bytes: Text,
 }
 
-/// Why a call returns no line.
+/// Why a call returns no result.
 #[derive(Clone, Copy, Debug, PartialEq, Eq)]
 pub enum LineFault {
     /// The line with this number has more than 512 bytes before its newline.
@@ -63,12 +65,12 @@ impl From<ShelfFault> for LineFault {
     }
 }
 
-/// A reader of a file's lines, at the start of a line. Contracts see it as a `Reader`: the name,
-/// the number of the next line, the buffered bytes (read, and not returned yet), and the place
-/// after these.
+/// A reader of a file's lines, at the start of a line. Contracts see it as a `Reader`: the file's
+/// name, the number of the next line, the buffered bytes (read and not returned yet), and the
+/// offset of the next read.
 ///
-/// A fault leaves it at the start of the same line, with all buffered bytes; a further call goes on
-/// from there.
+/// After a fault the reader is still at the start of the same line and has all its buffered bytes,
+/// so a further call continues there.
 #[derive(Drop)]
 pub struct Lines {
     alloc: Global,
@@ -91,7 +93,8 @@ impl Model for Lines {
         × (l.at + 513 ≤ 513 * l.number + length l.buffered) × (length l.buffered ≤ 66048) };
 }
 
-// The place of the first newline among the bytes that a line and its newline can have.
+// Returns the index of the first newline among the first 513 bytes, which is the most that a line
+// with its newline can have.
 fn newline_in(buffered: &[u8]) -> Option<usize>
     ensures { MatchOption result ((k : ℕ) → k < length buffered.now → k < LINE
         → slice_index buffered.now k ≢ 10) (λ i. (i < length buffered.now) × (i < LINE)
@@ -100,8 +103,8 @@ fn newline_in(buffered: &[u8]) -> Option<usize>
     memchr(b'\n', &buffered[..buffered.len().min(LINE)])
 }
 
-// Reads until the buffered bytes begin with a complete line, the one with this number: returns its
-// length without the newline. None at the end of the input.
+// Reads until the buffered bytes begin with a complete line. Returns its length (bytes) without the
+// newline, or `None` at the end of the input. `number` is the number of the line, for the faults.
 fn find_line<S: Shelf>(
     shelf: &mut S,
     name: &str,
@@ -158,8 +161,8 @@ impl Lines {
     ghost use Rattle.psi_lines.specs.Lent.{LendsLine, lent_line};
     ghost use Rattle.psi_lines.specs.contracts.lines.Lines.{the_row};
 
-    /// A reader at the first byte of the file, before line 1. Nothing is read yet. Allocates
-    /// everything at the start.
+    /// Returns a reader at the first byte of the file, before line 1. Allocates the whole buffer,
+    /// and reads nothing.
     pub fn new(alloc: Global, name: &str) -> Result<Lines, NoMemory>
         ensures { IfOk result (λ l.
             l ≡ record { name = name.now; number = 1; buffered = []; at = 0 }) }
@@ -173,7 +176,7 @@ impl Lines {
         })
     }
 
-    // As [`find_line`], for the line with the reader's number: the reader doesn't advance.
+    // Calls [`find_line`] for the next line. Doesn't advance to the line after it.
     #[inline(always)]
     fn find<S: Shelf>(&mut self, shelf: &mut S) -> Result<Option<usize>, LineFault>
         requires { self.old.number < 2 ^ 32 }
@@ -209,17 +212,16 @@ impl Lines {
         )
     }
 
-    /// Returns the bytes up to the next newline, without it, and advances past the newline. None
-    /// exactly at the end of the input, after the last line.
+    /// Returns the next line, without its newline, and advances past the newline. Returns `None` at
+    /// the end of the input, if no bytes follow the last newline.
     ///
-    /// It reads at most a full buffer beyond the lines that were returned, each with its newline.
+    /// It reads at most one full buffer beyond the lines that were returned. If the buffered bytes
+    /// already determine the line, it doesn't read.
     ///
-    /// If the buffered bytes determine the line, it doesn't read: then neither a failing shelf nor
-    /// a slow one matters.
-    ///
-    /// `TooLong` exactly if there are 513 bytes without a newline, `Cut` exactly if the input ends
-    /// inside a line of at most 512 bytes. `NoFile` and `ReadFault` only if the shelf counted an
-    /// absent name or a fault in this call, and `ReadFault` only if no complete line is buffered.
+    /// `TooLong` exactly if the next 513 bytes contain no newline; `Cut` exactly if the input ends
+    /// inside a line of at most 512 bytes. `NoFile` and `ReadFault` only if the shelf counted a
+    /// missing file or a failed read in this call, and `ReadFault` only if no complete line is
+    /// buffered.
     ///
     /// The programs of this repository don't call it.
     pub fn next<S: Shelf>(&mut self, shelf: &mut S) -> Result<Option<Line>, LineFault>
@@ -256,7 +258,7 @@ impl Lines {
         Ok(Some(Line { number, bytes }))
     }
 
-    /// As [`Lines::next`], but borrows the bytes from the buffer, until the next call. Does not
+    /// Like [`Lines::next`], but lends the bytes from the buffer, until the next call. Doesn't
     /// allocate, so it never returns `NoMemory`.
     pub fn next_bytes<S: Shelf>(&mut self, shelf: &mut S) -> Result<Option<&[u8]>, LineFault>
         requires { self.old.number < 2 ^ 32 }
@@ -284,7 +286,7 @@ impl Lines {
         Ok(Some(self.buffered.take_line(count)))
     }
 
-    /// The number of the next line, from 1.
+    /// Returns the number of the next line, from 1.
     #[inline(always)]
     pub fn number(&self) -> u32
         requires { self.now.number < 2 ^ 32 }
@@ -293,7 +295,7 @@ impl Lines {
         self.number as u32
     }
 
-    /// The buffered bytes, which were read and not returned yet. Does not read.
+    /// Returns the buffered bytes, which were read and not returned yet. Doesn't read.
     #[inline(always)]
     pub fn buffered(&self) -> &[u8]
         ensures { result.now ≡ self.now.buffered }
@@ -301,8 +303,8 @@ impl Lines {
         self.buffered.buffered()
     }
 
-    /// Advances past the first line of the buffered bytes, which has this many bytes before its
-    /// newline. Does not read; the caller has seen the line in [`Lines::held`].
+    /// Advances past the first buffered line. Doesn't read. Precondition: the buffered bytes
+    /// ([`Lines::buffered`]) begin with a line of `count` bytes and its newline.
     #[inline(always)]
     pub fn pass(&mut self, count: usize)
         requires number { self.old.number < 2 ^ 32 }
@@ -320,8 +322,8 @@ impl Lines {
         self.buffered.take_line(count);
     }
 
-    /// Whether nothing is left after the lines that were returned. If bytes are buffered, it
-    /// doesn't read; otherwise it reads exactly once. No byte is removed.
+    /// Returns whether the file has no bytes after the lines that were returned. Reads once if
+    /// nothing is buffered, and not at all otherwise. Consumes no bytes.
     pub fn is_at_end<S: Shelf>(&mut self, shelf: &mut S) -> Result<bool, LineFault>
         ensures unchanged { S.holds shelf.new ≡ S.holds shelf.old }
         ensures same { (self.new.name ≡ self.old.name) × (self.new.number ≡ self.old.number) }
