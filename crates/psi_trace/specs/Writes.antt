@@ -1,14 +1,14 @@
--- The words of a line after its time.
+-- The words of an event line after its time, as they are written.
 use Rattle.std.specs.Prelude.{ℕ, List, [], ◌∷◌, ◌++◌, Bool, true, false}
 use Rattle.psi_base.specs.declared.event.Act.{Act}
 use Rattle.psi_base.specs.declared.event.Act.TheVariants as act
 
--- words with a space before each
+-- the words, with a space before each
 abbrev pub spaced : List (List ℕ) → List ℕ
 spaced [] = []
 spaced (text ∷ words) = 32 ∷ text ++ spaced words
 
--- an act has few words and no path
+-- the act has few words and no path, so its line fits in a `ShortLine`
 abbrev pub is_short : Act → Bool
 is_short (act.Wake pid cpu) = true
 is_short (act.Switch cpu next how) = true

@@ -1,4 +1,7 @@
-//! The fields of an event line: each is the next part of the line, parsed as a value of its kind.
+//! Parses the fields of an event line. Each function takes the next word of the line, and parses it
+//! as a value of one kind.
+//!
+//! The functions don't know the verb of the line: `read` calls the right ones for each verb.
 ghost use Rattle.std.specs.Prelude.{◌≡◌, ◌^◌, ◌≢◌, [], ◌∷◌, nat_lt, true, false, MatchResult};
 ghost use Rattle.psi_base.specs.declared.event.Cause.TheVariants as cause;
 ghost use Rattle.psi_spec.specs.Fields as kind;
@@ -9,13 +12,13 @@ ghost use Rattle.psi_trace.specs.Taking.{TakesAny, TakesWords};
 use psi_base::{Cause, Cpu, Fault, How, Level, Parts, Path, Pid, Preference, Res, read_number};
 use std::alloc::Global;
 
-/// The unread parts of a line.
+/// The words of a line that aren't parsed yet.
 pub type Words<'a> = Parts<'a, b' '>;
 
-/// The largest size (bytes) or quantity of a `mem` or `host` line.
+/// The greatest value of a size (bytes) or quantity in a `mem` or `host` line.
 const LARGEST_AMOUNT: u64 = 1 << 60;
 
-// The next part, or an error for the field with this number.
+// Takes the next word. Fails with `BadField(index)` if none is left.
 fn next_word<'a>(words: &mut Words<'a>, index: u8) -> Result<&'a [u8], Cause>
     ensures { MatchResult result (λ text. words.old ≡ text.now ∷ words.new)
         (λ e. (e ≡ cause.BadField index) × (words.old ≡ [])) }
@@ -23,7 +26,7 @@ fn next_word<'a>(words: &mut Words<'a>, index: u8) -> Result<&'a [u8], Cause>
     words.next_part().ok_or(Cause::BadField(index))
 }
 
-// A number below 2^32, or `None`.
+// Parses a number below 2^32. `None` if `word` isn't one.
 fn small_number(word: &[u8]) -> Option<u32>
     ensures { result ≡ number_in (λ n. nat_lt n (2 ^ 32)) word.now }
 {
@@ -87,35 +90,35 @@ fn account_in(word: &[u8]) -> Option<bool>
     }
 }
 
-/// Parses the field with this number as a task.
+/// Parses field number `index` as a task (pid).
 pub fn pid_field(words: &mut Words, index: u8) -> Result<Pid, Cause>
     ensures { TakesWords result words.new (field index kind.pid words.old) }
 {
     pid_in(next_word(words, index)?).ok_or(Cause::BadField(index))
 }
 
-/// Parses the field with this number as the next task, or `None` for 0.
+/// Parses field number `index` as the next task: a pid, or 0 for no task (`None`).
 pub fn next_field(words: &mut Words, index: u8) -> Result<Option<Pid>, Cause>
     ensures { TakesWords result words.new (field index kind.next words.old) }
 {
     next_in(next_word(words, index)?).ok_or(Cause::BadField(index))
 }
 
-/// Parses the field with this number as a processor.
+/// Parses field number `index` as a processor.
 pub fn cpu_field(words: &mut Words, index: u8) -> Result<Cpu, Cause>
     ensures { TakesWords result words.new (field index kind.cpu words.old) }
 {
     cpu_in(next_word(words, index)?).ok_or(Cause::BadField(index))
 }
 
-/// Parses the field with this number as a size or quantity of at most 2^60.
+/// Parses field number `index` as a size or quantity of at most 2^60.
 pub fn amount_field(words: &mut Words, index: u8) -> Result<u64, Cause>
     ensures { TakesWords result words.new (field index kind.amount words.old) }
 {
     amount_in(next_word(words, index)?).ok_or(Cause::BadField(index))
 }
 
-/// Parses the field with this number as any 64-bit number.
+/// Parses field number `index` as any 64-bit number.
 #[tactic(auto, unfolding(psi_spec::specs::Fields::value_of))]
 pub fn number_field(words: &mut Words, index: u8) -> Result<u64, Cause>
     ensures { TakesWords result words.new (field index kind.number words.old) }
@@ -123,7 +126,7 @@ pub fn number_field(words: &mut Words, index: u8) -> Result<u64, Cause>
     read_number(next_word(words, index)?).ok_or(Cause::BadField(index))
 }
 
-/// Parses the field with this number as a way to leave a processor.
+/// Parses field number `index` as the way in which a task leaves its processor.
 #[tactic(auto, unfolding(psi_spec::specs::Fields::value_of))]
 pub fn how_field(words: &mut Words, index: u8) -> Result<How, Cause>
     ensures { TakesWords result words.new (field index kind.how words.old) }
@@ -131,7 +134,7 @@ pub fn how_field(words: &mut Words, index: u8) -> Result<How, Cause>
     How::of(next_word(words, index)?).ok_or(Cause::BadField(index))
 }
 
-/// Parses the field with this number as a group's preference.
+/// Parses field number `index` as a group's kill preference.
 #[tactic(auto, unfolding(psi_spec::specs::Fields::value_of))]
 pub fn preference_field(words: &mut Words, index: u8) -> Result<Preference, Cause>
     ensures { TakesWords result words.new (field index kind.preference words.old) }
@@ -139,7 +142,7 @@ pub fn preference_field(words: &mut Words, index: u8) -> Result<Preference, Caus
     Preference::of(next_word(words, index)?).ok_or(Cause::BadField(index))
 }
 
-/// Parses the field with this number as a resource.
+/// Parses field number `index` as a resource.
 #[tactic(auto, unfolding(psi_spec::specs::Fields::value_of))]
 pub fn resource_field(words: &mut Words, index: u8) -> Result<Res, Cause>
     ensures { TakesWords result words.new (field index kind.resource words.old) }
@@ -147,7 +150,7 @@ pub fn resource_field(words: &mut Words, index: u8) -> Result<Res, Cause>
     Res::of(next_word(words, index)?).ok_or(Cause::BadField(index))
 }
 
-/// Parses the field with this number as `some` or `full`.
+/// Parses field number `index` as `some` or `full`.
 #[tactic(auto, unfolding(psi_spec::specs::Fields::value_of))]
 pub fn level_field(words: &mut Words, index: u8) -> Result<Level, Cause>
     ensures { TakesWords result words.new (field index kind.level words.old) }
@@ -155,14 +158,14 @@ pub fn level_field(words: &mut Words, index: u8) -> Result<Level, Cause>
     Level::of(next_word(words, index)?).ok_or(Cause::BadField(index))
 }
 
-/// Parses the field with this number as `on` or `off`.
+/// Parses field number `index` as `on` or `off`.
 pub fn account_field(words: &mut Words, index: u8) -> Result<bool, Cause>
     ensures { TakesWords result words.new (field index kind.account words.old) }
 {
     account_in(next_word(words, index)?).ok_or(Cause::BadField(index))
 }
 
-/// Parses the field with this number as a group's path. Allocates the path's bytes.
+/// Parses field number `index` as a group's path. Allocates the path's bytes.
 #[tactic(auto, unfolding(psi_spec::specs::Fields::value_of))]
 pub fn path_field(alloc: Global, words: &mut Words, index: u8) -> Result<Path, Fault<Cause>>
     ensures { TakesAny result words.new (field index kind.path words.old) }
@@ -174,7 +177,7 @@ pub fn path_field(alloc: Global, words: &mut Words, index: u8) -> Result<Path, F
     }
 }
 
-/// Checks that no part remains; a further part would be the field with this number.
+/// Checks that no word is left. Fails with `BadField(index)` if one is.
 pub fn end_of(words: &mut Words, index: u8) -> Result<(), Cause>
     ensures { MatchResult result (λ _. words.old ≡ [])
         (λ e. (e ≡ cause.BadField index) × (words.old ≢ [])) }

@@ -1,4 +1,6 @@
-//! The header of a trace.
+//! Parses the header of a trace, which is its first line.
+//!
+//! Headers are written in `write`.
 ghost use Rattle.std.specs.Prelude.{◌≡◌, ◌≢◌, ℕ, ◌≤◌, ◌++◌, None, Some, IfSome, MatchOption, MatchResult, option_map};
 ghost use Rattle.psi_base.specs.declared.event.Cause.TheVariants as cause;
 ghost use Rattle.psi_spec.specs.Grammar.{header, header_of, versions};
@@ -16,7 +18,8 @@ pub struct Header {
     pub cpus: u32,
 }
 
-// The version of a header, and the bytes from its number of processors on.
+// Returns the version of a header, and the bytes that spell the number of processors. `None` if the
+// line doesn't begin like a header of version 1 or 2.
 fn version_in(line: &[u8]) -> Option<(u32, &[u8])>
     ensures { MatchOption result
         ((version n : ℕ) → IsVersion version → line.now ≢ header version n)
@@ -47,8 +50,8 @@ fn header_in(line: &[u8]) -> Option<Header>
     })
 }
 
-/// Parses a header line without its newline. `BadHeader` if the line isn't a header of version 1 or
-/// 2.
+/// Parses a header line without its newline. Fails with `BadHeader` if the line isn't a header of
+/// version 1 or 2 with 1 to 64 processors.
 pub fn read_header(line: &[u8]) -> Result<Header, Cause>
     ensures spelled { MatchResult result
         (λ head. IsVersion head.version × (1 ≤ head.cpus) × (head.cpus ≤ 64)

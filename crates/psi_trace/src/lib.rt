@@ -1,11 +1,11 @@
 //! The lines of a trace: parses and writes headers and events.
 //!
-//! Lines are passed without their newline. The parts of a line are separated by single spaces,
-//! numbers are decimal without leading zeros, and each event has one spelling: an event that is
-//! parsed and written again has the same bytes. [`take_prefix`] plays the event of a frequent line
-//! if the bytes begin with the whole line and its newline.
+//! Lines are passed without their newline. The words of a line are separated by single spaces,
+//! numbers are decimal without leading zeros, and each event has exactly one spelling: parsing a
+//! line and writing its event gives the same bytes. [`take_prefix`] parses a frequent line at the
+//! start of buffered bytes, and plays its event.
 //!
-//! It doesn't decide whether an event is legal (task_table does), and doesn't read files.
+//! This crate doesn't decide whether an event is legal (task_table does), and doesn't read files.
 #![tactic(auto)]
 
 mod field;

@@ -1,20 +1,21 @@
-//! A line, written from its end to its start.
+//! A buffer of fixed size for one line, which is written from its end to its start.
+//!
+//! It knows no words of a trace: `write` and `word` put them into the line.
 ghost use Rattle.std.specs.Prelude.{◌≡◌, ◌+◌, ◌≤◌, ◌++◌, [], decimal, length};
 
 use std::marker::Model;
 
-/// A line with a capacity of `ROOM` bytes; contracts see the bytes written so far. It is written
-/// from its end to its start, so that the digits of each number are put in their final place at
-/// once.
+/// A line of at most `ROOM` bytes; contracts see the bytes that are written. The line is written
+/// from its end to its start, so that the digits of a number are put directly in their final place.
 #[derive(Drop)]
 pub(crate) struct LineBuffer<const ROOM: usize> {
     bytes: [u8; ROOM],
-    /// The index of its first byte.
+    /// The index of the first byte that is written.
     start: usize,
 }
 
-/// A header, or the line of an event with few words and no path: at most time, verb, processor,
-/// task and how it leaves.
+/// A header, or the line of an event with few words and no path. The longest is a `switch`: time,
+/// verb, processor, task and how the previous task leaves.
 pub(crate) type ShortLine = LineBuffer<80>;
 
 /// The line of any other event. The longest is the memory sample of a group with a path of 255
@@ -32,7 +33,7 @@ impl<const ROOM: usize> Model for LineBuffer<ROOM> {
 }
 
 impl<const ROOM: usize> LineBuffer<ROOM> {
-    /// An empty line.
+    /// Returns an empty line.
     #[inline(always)]
     pub(crate) fn new() -> LineBuffer<ROOM>
         ensures { result ≡ [] }
@@ -43,7 +44,7 @@ impl<const ROOM: usize> LineBuffer<ROOM> {
         }
     }
 
-    /// The bytes written so far.
+    /// Returns the bytes that are written.
     #[inline(always)]
     pub(crate) fn bytes(&self) -> &[u8]
         ensures { result.now ≡ self.now }
@@ -52,7 +53,7 @@ impl<const ROOM: usize> LineBuffer<ROOM> {
         &all[self.start..]
     }
 
-    /// Prepends a text. There must be room for it.
+    /// Prepends bytes. Precondition: there is room for them.
     #[inline(always)]
     pub(crate) fn text(&mut self, text: &[u8])
         requires { length text.now + length self.old ≤ ROOM }
@@ -66,7 +67,7 @@ impl<const ROOM: usize> LineBuffer<ROOM> {
         self.start = start;
     }
 
-    /// Prepends a number in decimal digits. There must be room for it.
+    /// Prepends a number in decimal digits. Precondition: there is room for 20 bytes.
     #[inline(always)]
     pub(crate) fn number(&mut self, number: u64)
         requires { 20 + length self.old ≤ ROOM }

@@ -1,9 +1,9 @@
-//! The most frequent lines of a trace, parsed in place and played: tasks that wake, are switched,
-//! stall or migrate.
+//! Parses the most frequent lines of a trace in place, and plays their events: `switch`, `wake`,
+//! `stall`, `unstall` and `migrate`.
 //!
-//! Each line is parsed in one pass from the left, up to its newline. The answer is `None` if the
-//! bytes don't begin with such a line, and says nothing else about them: `read_event` parses any
-//! line, and reports what is wrong with it.
+//! Each line is parsed in one pass from the left, up to its newline. The result is `None` if the
+//! bytes don't begin with such a line, and says nothing about why: `read_event` parses any line,
+//! and reports what is wrong with it.
 ghost use Rattle.std.specs.Prelude.{◌≡◌, ◌+◌, ◌<◌, ◌≤◌, ◌^◌, ◌∷◌, ◌++◌, ◌↔◌, IfNone, IfSome, IsTrue, codes, decimal, false, length};
 ghost use Rattle.psi_spec.specs.Fields.{how_word, next_word, IsPid};
 ghost use Rattle.psi_spec.specs.Refusal.{is_exit};
@@ -12,19 +12,20 @@ ghost use Rattle.psi_trace.specs.Prefix.{AreDigits, AreFour, BeginsWithTaskAct, 
 use psi_base::{Cause, Cpu, Fault, How, Ns, Pid};
 use trace_player::{Player, TaskAct};
 
-/// Any number of this many digits fits in 64 bits.
+/// The greatest number of digits that is parsed: every number of 19 digits fits in 64 bits.
 const MOST_DIGITS: usize = 19;
 
-/// A line as a prefix of bytes, whose event was passed to a player.
+/// A line at the start of buffered bytes. Its event was passed to a player.
 #[derive(Clone, Copy)]
 pub struct PlayedLine {
-    /// The number of bytes before its newline.
+    /// The number of bytes of the line before its newline.
     pub count: usize,
     /// The player's answer.
     pub answer: Result<(), Fault<Cause>>,
 }
 
-// The number that four digits write from a place on, or `None` if a byte isn't a digit.
+// Returns the number that the four digits from index `place` write, or `None` if one of the four
+// bytes isn't a digit.
 #[inline(always)]
 fn four_at(bytes: &[u8], place: usize) -> Option<u64>
     requires { place + 4 ≤ length bytes.now }
@@ -34,7 +35,7 @@ fn four_at(bytes: &[u8], place: usize) -> Option<u64>
     let second = bytes[place + 1];
     let third = bytes[place + 2];
     let fourth = bytes[place + 3];
-    // Tested together: one branch, while `&&` would make four.
+    // The tests are combined with `&`, which needs one branch; `&&` would need four.
     if !(is_digit(first) & is_digit(second) & is_digit(third) & is_digit(fourth)) {
         return None;
     }
@@ -50,7 +51,7 @@ fn is_digit(byte: u8) -> bool
     (b'0' <= byte) & (byte <= b'9')
 }
 
-// The value of a digit.
+// Returns the value of a digit.
 #[inline(always)]
 fn value_of(byte: u8) -> u64
     requires low { 48 ≤ byte }
@@ -60,7 +61,7 @@ fn value_of(byte: u8) -> u64
     u64::from(byte - b'0')
 }
 
-// The value of a byte, if it is a digit.
+// Returns the value of a digit, or `None` for any other byte.
 #[inline(always)]
 fn digit(byte: u8) -> Option<u64>
     ensures { IfSome result (IsDigit byte) }
@@ -71,7 +72,8 @@ fn digit(byte: u8) -> Option<u64>
     Some(value_of(byte))
 }
 
-// The value and the count of leading digits, read in groups of four while four follow, at most 16.
+// Reads leading digits in groups of four, as long as four digits follow, up to 16 digits. Returns
+// their value and their count.
 #[inline(always)]
 fn fours_before(bytes: &[u8]) -> (u64, usize)
     ensures are { AreDigits bytes.now result.0 result.1 }
@@ -91,8 +93,8 @@ fn fours_before(bytes: &[u8]) -> (u64, usize)
     (number, count)
 }
 
-// Continues a number: `written` is the value of the first `place` digits. Returns the value and the
-// count of all leading digits, at most 19.
+// Continues to read a number whose first `place` digits have the value `written`. Returns the value
+// and the count of all leading digits, at most 19.
 #[inline(always)]
 fn continue_digits(bytes: &[u8], written: u64, place: usize) -> (u64, usize)
     requires are { AreDigits bytes.now written place }
@@ -113,8 +115,8 @@ fn continue_digits(bytes: &[u8], written: u64, place: usize) -> (u64, usize)
     (number, count)
 }
 
-// Returns the number and the bytes after `end`, if `end` follows the `count` digits and they have
-// no leading zero.
+// Returns `number` and the bytes after `end`, if the byte `end` follows the `count` digits and they
+// have no leading zero. `None` otherwise.
 #[inline(always)]
 fn ended_by(bytes: &[u8], number: u64, count: usize, end: u8) -> Option<(u64, &[u8])>
     requires { AreDigits bytes.now number count }
@@ -129,8 +131,8 @@ fn ended_by(bytes: &[u8], number: u64, count: usize, end: u8) -> Option<(u64, &[
     Some((number, &bytes[count + 1..]))
 }
 
-// The number at the start of the bytes and the bytes after `end`, if `end` follows the number.
-// `None` if the number has more than 19 digits.
+// Returns the number at the start of the bytes, and the bytes after `end`. `None` if the byte `end`
+// doesn't follow the number, or the number has more than 19 digits.
 #[inline(always)]
 fn number_before(bytes: &[u8], end: u8) -> Option<(u64, &[u8])>
     ensures { IfSome result (λ found. bytes.now ≡ decimal found.0 ++ end ∷ found.1.now) }
@@ -139,8 +141,8 @@ fn number_before(bytes: &[u8], end: u8) -> Option<(u64, &[u8])>
     ended_by(bytes, number, count, end)
 }
 
-// Like `number_before`, for a time (ns): most times have many digits, so they are read in groups of
-// four.
+// Like `number_before` with a space as `end`, for a time (ns). Most times have many digits, so they
+// are read in groups of four.
 #[inline(always)]
 fn time_before(bytes: &[u8]) -> Option<(Ns, &[u8])>
     ensures { IfSome result (λ found. bytes.now ≡ decimal found.0 ++ 32 ∷ found.1.now) }
@@ -161,7 +163,7 @@ fn small_before(bytes: &[u8], end: u8) -> Option<(u32, &[u8])>
     }
 }
 
-// Like `number_before`, for a task.
+// Like `number_before`, for a task (a pid from 1).
 #[inline(always)]
 fn pid_before(bytes: &[u8], end: u8) -> Option<(Pid, &[u8])>
     ensures { IfSome result (λ found. IsPid found.0
@@ -183,7 +185,7 @@ fn cpu_before(bytes: &[u8], end: u8) -> Option<(Cpu, &[u8])>
     Some((Cpu(number), rest))
 }
 
-// Like `number_before`, for the next task, or none.
+// Like `number_before`, for the next task: 0 means no task.
 #[inline(always)]
 fn next_before(bytes: &[u8], end: u8) -> Option<(Option<Pid>, &[u8])>
     ensures { IfSome result (λ found. IfSome found.0 IsPid
@@ -196,8 +198,8 @@ fn next_before(bytes: &[u8], end: u8) -> Option<(Option<Pid>, &[u8])>
     Some((Some(Pid(number)), rest))
 }
 
-// How the running task leaves its processor, except by exit, if that ends the line, and the bytes
-// after the newline.
+// Returns how the running task leaves its processor, and the bytes after the newline, if the bytes
+// are one of the words except `exit`, followed by a newline. `None` otherwise.
 #[inline(always)]
 fn how_before_newline(bytes: &[u8]) -> Option<(How, &[u8])>
     ensures word { IfSome result (λ found. bytes.now ≡ how_word found.0 ++ 10 ∷ found.1.now) }
@@ -218,8 +220,9 @@ fn how_before_newline(bytes: &[u8]) -> Option<(How, &[u8])>
     None
 }
 
-// The task act of each verb, if the bytes begin with its fields and a newline, and the bytes after
-// that.
+// This function and the next four parse the fields of one verb. Each returns the task act (a
+// frequent event that concerns a task) and the bytes after the newline, or `None` if the bytes
+// don't begin with the verb's fields and a newline.
 
 #[inline(always)]
 fn switch_in(fields: &[u8]) -> Option<(TaskAct, &[u8])>
@@ -270,7 +273,8 @@ fn migrate_in(fields: &[u8]) -> Option<(TaskAct, &[u8])>
     Some((TaskAct::Migrate { pid, cpu }, rest))
 }
 
-// The task act whose verb and fields the bytes begin with, and the bytes after its newline.
+// Returns the task act whose verb and fields the bytes begin with, and the bytes after its newline.
+// `None` if there is none.
 #[inline(always)]
 fn task_act_in(bytes: &[u8]) -> Option<(TaskAct, &[u8])>
     ensures { IfSome result (λ found. BeginsWithTaskAct bytes.now found.0 found.1.now) }
@@ -293,9 +297,10 @@ fn task_act_in(bytes: &[u8]) -> Option<(TaskAct, &[u8])>
     None
 }
 
-/// Plays the event of the line that the bytes begin with, if it is a `switch` without an `exit`, a
-/// `wake`, `stall`, `unstall` or `migrate`: the same event that [`read_event`](crate::read_event)
-/// returns. Otherwise, and for some such lines too, returns `None` and plays nothing.
+/// Plays the event of the line at the start of `bytes`, if it is a `wake`, `stall`, `unstall`,
+/// `migrate`, or a `switch` that isn't an exit: the same event that
+/// [`read_event`](crate::read_event) returns. For any other line, and for a few of these lines
+/// (times of 20 digits), returns `None` and plays nothing.
 // All verbs share one call of the player, so that its code is inlined once.
 #[inline(always)]
 pub fn take_prefix<P: Player>(bytes: &[u8], player: &mut P) -> Option<PlayedLine>

@@ -1,4 +1,6 @@
-//! Parses lines to events.
+//! Parses an event line of a trace.
+//!
+//! It doesn't check whether the event is legal after the earlier events.
 ghost use Rattle.std.specs.Prelude.{◌≡◌, ◌≢◌, IfOk, Err, drop, true};
 ghost use Rattle.psi_base.specs.Path.{parts_at};
 ghost use Rattle.psi_base.specs.declared.event.Cause.{Cause};
@@ -18,9 +20,10 @@ use crate::field::{
 use psi_base::{Act, Cause, Event, Fault, Ns, Parts, read_number};
 use std::alloc::Global;
 
-// The event at a time (ns) of each verb, from its fields. Each function builds the whole result, so
-// that nothing is copied on the way out. These functions are inlined: a call would clear the memory
-// of its result for every line, whichever verb the line has.
+// The functions from here to `end_of_trace` each parse the fields of one verb, and return its event
+// at time `at` (ns). Each builds the whole result in place, so that nothing is copied. They are
+// inlined, because a call would clear the memory of its result for every line, whichever verb the
+// line has.
 
 #[tactic(auto, unfolding(psi_spec::specs::Grammar::act_from))]
 #[inline(always)]
@@ -239,9 +242,9 @@ fn end_of_trace(at: Ns, mut words: Words) -> Result<Event, Fault<Cause>>
     Ok(Event { at, act })
 }
 
-// The event at a time (ns) from the verb, which is the next part, and its fields, in a trace of a
-// version. The most frequent verbs come first. There are three functions, since at each verb the
-// proof goes over all tests before it.
+// Parses the verb, which is the next word, and its fields, and returns the event at time `at` (ns).
+// The most frequent verbs are tested first. The tests are split over three functions, because the
+// proof of each test goes over all tests before it in the function.
 #[tactic(auto, unfolding(psi_spec::specs::Grammar::act_at, psi_spec::specs::Grammar::verb_of))]
 fn event_at(alloc: Global, version: u32, at: Ns, mut words: Words) -> Result<Event, Fault<Cause>>
     ensures exact { Gives result (dated at (act_at (verbs_of (version_of version)) words.entry)) }
@@ -266,7 +269,8 @@ fn event_at(alloc: Global, version: u32, at: Ns, mut words: Words) -> Result<Eve
     }
 }
 
-// The same if the verb isn't one of a version's first five. Inlined like the functions above.
+// Like `event_at`, for a verb that isn't one of the first five. Inlined like the functions of the
+// verbs.
 #[tactic(auto, unfolding(psi_spec::specs::Grammar::verb_of))]
 #[inline(always)]
 fn rarer_event_at(
@@ -296,7 +300,8 @@ fn rarer_event_at(
     }
 }
 
-// The same if the verb isn't one of the first ten.
+// Like `event_at`, for a verb that isn't one of the first ten. Inlined like the functions of the
+// verbs.
 #[tactic(auto, unfolding(psi_spec::specs::Grammar::verb_of))]
 #[inline(always)]
 fn rarest_event_at(
@@ -328,7 +333,7 @@ fn rarest_event_at(
     }
 }
 
-// The event of a line in a trace of a version: its time, followed by its act.
+// Parses a line of a trace of this version: a time (ns), followed by an act (what the event does).
 #[tactic(auto, unfolding(psi_spec::specs::Grammar::event_of, psi_spec::specs::Grammar::event_at))]
 fn event_in(alloc: Global, version: u32, line: &[u8]) -> Result<Event, Fault<Cause>>
     ensures exact { Gives result (event_of (verbs_of (version_of version)) line.now) }
@@ -345,7 +350,7 @@ fn event_in(alloc: Global, version: u32, line: &[u8]) -> Result<Event, Fault<Cau
     event_at(alloc, version, at, words)
 }
 
-/// The event that a line without its newline spells in a trace of version 1 or 2. Fails with the
+/// Parses the line of an event, without its newline, in a trace of version 1 or 2. Fails with the
 /// first cause from the left: `BadTime`, `BadVerb`, or `BadField` with the number of the leftmost
 /// field that is missing, malformed or surplus. Only a path is allocated, so `NoMemory` is possible
 /// only for a verb with a path among its fields.

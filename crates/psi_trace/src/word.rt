@@ -1,4 +1,6 @@
-//! Writes the words of an event's fields into its line.
+//! Writes single fields of an event into its line.
+//!
+//! A line is written from its end to its start, so each function prepends.
 ghost use Rattle.std.specs.Prelude.{◌≡◌, ◌≤◌, ◌+◌, ◌++◌, ◌∷◌, [], decimal, length};
 ghost use Rattle.psi_spec.specs.Fields as fields;
 ghost use Rattle.psi_trace.specs.Writes.{spaced};
@@ -40,7 +42,7 @@ pub(crate) fn put_word<const ROOM: usize>(line: &mut LineBuffer<ROOM>, word: &st
     line.text(b" ");
 }
 
-/// Prepends a space and the word for accounting that is on or off.
+/// Prepends a space, and `on` or `off` for a group's accounting.
 pub(crate) fn put_account(line: &mut LongLine, on: bool)
     requires { length line.old ≤ 63 }
     ensures bytes { line.new ≡ 32 ∷ fields.account_word on ++ line.old }

@@ -1,4 +1,7 @@
-//! Writes headers and events as lines.
+//! Writes headers and events as lines of a trace.
+//!
+//! Each line is built on the stack, and then appended to a buffer; nothing is written to a file
+//! here.
 ghost use Rattle.std.specs.Prelude.{◌≡◌, ◌≤◌, ◌<◌, ◌+◌, ◌++◌, ◌∷◌, [], true, false, OnOk, OnErr, codes, decimal, length};
 ghost use Rattle.std.specs.Prelude.{vec_capacity, vec_len};
 ghost use Rattle.psi_spec.specs.Fields as fields;
@@ -10,7 +13,7 @@ use crate::line::{LongLine, ShortLine};
 use crate::word::{put_account, put_number, put_numbers, put_word};
 use psi_base::{Act, Cpu, Event, How, Level, NoMemory, Path, Pid, Preference, Res};
 
-/// Whether an act has few words and no path.
+/// Returns whether the act has few words and no path, so that its line fits in a `ShortLine`.
 fn is_short(act: &Act) -> bool
     ensures { result ≡ is_short act.now }
 {
@@ -26,7 +29,8 @@ fn is_short(act: &Act) -> bool
     )
 }
 
-/// Writes the words of a short act into an empty line, each after a space.
+/// Writes the words of a short act into an empty line, each after a space. Precondition:
+/// `is_short(act)`.
 #[tactic(auto, using(crate::proofs::InPieces::lines))]
 fn put_short_act(line: &mut ShortLine, act: &Act)
     requires short { is_short act.now ≡ true }
@@ -46,7 +50,8 @@ fn put_short_act(line: &mut ShortLine, act: &Act)
     }
 }
 
-/// Writes the words of a long act into an empty line, each after a space.
+/// Writes the words of any other act into an empty line, each after a space. Precondition: not
+/// `is_short(act)`.
 #[tactic(auto, using(crate::proofs::InPieces::lines))]
 fn put_long_act(line: &mut LongLine, act: &Act)
     requires long { is_short act.now ≡ false }
@@ -83,7 +88,7 @@ fn put_long_act(line: &mut LongLine, act: &Act)
     }
 }
 
-/// Prepends a verb between spaces, followed by a group.
+/// Prepends a verb, passed with a space before and after it, and a group's path.
 #[tactic(auto, using(crate::proofs::InPieces::lines))]
 fn put_group(line: &mut LongLine, verb: &[u8], path: &Path)
     requires room { length line.old ≤ 63 }
@@ -223,7 +228,7 @@ fn put_irq(line: &mut ShortLine, cpu: Cpu, ns: u64)
     line.text(b" irq ");
 }
 
-/// Prepends a verb between spaces, followed by a task.
+/// Prepends a verb, passed with a space before and after it, and a task.
 #[inline(always)]
 #[tactic(auto, using(crate::proofs::InPieces::lines))]
 fn put_task(line: &mut ShortLine, verb: &[u8], pid: Pid)
@@ -236,7 +241,7 @@ fn put_task(line: &mut ShortLine, verb: &[u8], pid: Pid)
     line.text(verb);
 }
 
-/// Prepends a verb between spaces, followed by a task and a processor.
+/// Prepends a verb, passed with a space before and after it, a task, and a processor.
 #[inline(always)]
 #[tactic(auto, using(crate::proofs::InPieces::lines))]
 fn put_task_on(line: &mut ShortLine, verb: &[u8], pid: Pid, cpu: Cpu)
@@ -251,7 +256,7 @@ fn put_task_on(line: &mut ShortLine, verb: &[u8], pid: Pid, cpu: Cpu)
     put_task(line, verb, pid);
 }
 
-/// Writes the one spelling of an event with a short act into an empty line.
+/// Writes an event with a short act into an empty line. Precondition: `is_short(&event.act)`.
 #[tactic(auto, using(crate::proofs::InPieces::lines))]
 fn put_short(line: &mut ShortLine, event: &Event)
     requires short { is_short event.now.act ≡ true }
@@ -262,7 +267,7 @@ fn put_short(line: &mut ShortLine, event: &Event)
     line.number(event.at);
 }
 
-/// Writes the one spelling of an event with a long act into an empty line.
+/// Writes an event with any other act into an empty line. Precondition: not `is_short(&event.act)`.
 #[tactic(auto, using(crate::proofs::InPieces::lines))]
 fn put_long(line: &mut LongLine, event: &Event)
     requires long { is_short event.now.act ≡ false }
@@ -273,7 +278,7 @@ fn put_long(line: &mut LongLine, event: &Event)
     line.number(event.at);
 }
 
-/// Writes the header for `cpus` processors into an empty line.
+/// Writes the header of version 1 for `cpus` processors into an empty line.
 #[tactic(auto, using(crate::proofs::InPieces::lines))]
 fn put_header(line: &mut ShortLine, cpus: u32)
     requires { line.old ≡ [] }
@@ -283,8 +288,8 @@ fn put_header(line: &mut ShortLine, cpus: u32)
     line.text(b"psitrace 1 cpus=");
 }
 
-/// Appends bytes to a buffer. If it is out of memory, the buffer is unchanged and its capacity was
-/// too small for them.
+/// Appends bytes to a buffer. After `NoMemory` the buffer is unchanged, and its capacity was too
+/// small for the bytes.
 fn append(bytes: &[u8], to: &mut Vec<u8>) -> Result<(), NoMemory>
     ensures written { OnOk result (to.new.items ≡ to.old.items ++ bytes.now) }
     ensures unchanged { OnErr result (to.new.items ≡ to.old.items) }
@@ -295,8 +300,8 @@ fn append(bytes: &[u8], to: &mut Vec<u8>) -> Result<(), NoMemory>
     Ok(())
 }
 
-/// Appends the one spelling of an event with a long act. Not inlined, since a function with a long
-/// line on its stack clears it.
+/// Appends the line of an event whose act isn't short. Not inlined, because a function with a
+/// `LongLine` on its stack clears it at each call.
 #[inline(never)]
 fn write_long(event: &Event, to: &mut Vec<u8>) -> Result<(), NoMemory>
     requires { is_short event.now.act ≡ false }
@@ -311,8 +316,8 @@ fn write_long(event: &Event, to: &mut Vec<u8>) -> Result<(), NoMemory>
     append(line.bytes(), to)
 }
 
-/// Appends the header for `cpus` processors, without a newline, to a buffer. If it is out of
-/// memory, the buffer is unchanged and its capacity was too small for the header.
+/// Appends the header of version 1 for `cpus` processors, without a newline, to a buffer. After
+/// `NoMemory` the buffer is unchanged, and its capacity was too small for the header.
 pub fn write_header(cpus: u32, to: &mut Vec<u8>) -> Result<(), NoMemory>
     ensures written { OnOk result (to.new.items ≡ to.old.items ++ header 1 cpus) }
     ensures unchanged { OnErr result (to.new.items ≡ to.old.items) }
@@ -325,10 +330,9 @@ pub fn write_header(cpus: u32, to: &mut Vec<u8>) -> Result<(), NoMemory>
     append(line.bytes(), to)
 }
 
-/// Appends the one spelling of an event, without a newline, to a buffer. If it is out of memory,
-/// the buffer is unchanged and its capacity was too small for the line. The event's values must be
-/// in the ranges of a trace: times below 2^64 ns, tasks from 1, sizes and quantities of at most
-/// 2^60.
+/// Appends the line of an event, without a newline, to a buffer. After `NoMemory` the buffer is
+/// unchanged, and its capacity was too small for the line. Precondition: the event's values are in
+/// the ranges of a trace (times below 2^64 ns, pids from 1, sizes and quantities of at most 2^60).
 pub fn write_event(event: &Event, to: &mut Vec<u8>) -> Result<(), NoMemory>
     requires { Fits event.now }
     ensures written { OnOk result (to.new.items ≡ to.old.items ++ spelling event.now) }
