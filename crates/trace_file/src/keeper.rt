@@ -1,22 +1,23 @@
 //! A player that stores the events of a trace.
+//!
+//! It is for callers that need the events themselves, such as the removal of kills from a trace.
 use psi_base::{Cause, Event, Fault, NoMemory, Ns};
 use std::alloc::Global;
 use task_table::Table;
 use trace_player::{Player, TaskAct};
 use whatif_trace::copy_event;
 
-/// Plays a trace on the table of tasks, and stores its events.
+/// Plays a trace on a table of tasks, and stores the events.
 #[derive(Drop)]
 pub struct Keeper {
     /// The number of processors of the trace.
     pub cpus: u32,
-    /// The events that were played.
+    /// The events that were played, in order.
     pub events: Vec<Event>,
     table: Table,
     alloc: Global,
 }
 
-/// Used to remove kills from a trace, which needs its events.
 impl Player for Keeper {
     ghost use Rattle.trace_file.specs.Reads.{HasKept};
 

@@ -1,4 +1,6 @@
-//! Reads a trace into plans.
+//! Reads a trace into plans, which list the changes of each processor.
+//!
+//! The clocks that run on the plans are in other crates.
 ghost use Rattle.std.specs.Prelude.{◌≡◌, ◌+◌, ◌≤◌, None, IsErrOf, MatchResult};
 ghost use Rattle.outside.specs.Outside.{IsAbsent, counts_of, content_of};
 ghost use Rattle.outside.specs.Reads.{ReadsFile};
@@ -11,8 +13,8 @@ use proc_plan::{Planner, Plans};
 use psi_base::Ns;
 use std::alloc::Global;
 
-/// Reads a trace of any version, and splits it by processor. Returns the number of its version, and
-/// its plans. No event is later than a million ticks (`tick` in ns).
+/// Reads a trace of any version, and splits it by processor. Returns the number of the trace's
+/// version, and its plans. An event later than a million ticks (`tick` in ns) is rejected.
 pub fn read_plans<S: Shelf>(
     alloc: Global,
     name: &str,

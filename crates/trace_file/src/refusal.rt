@@ -1,4 +1,6 @@
-//! Messages for rejected lines of a trace.
+//! Writes the message for a rejected line of a trace.
+//!
+//! It doesn't decide why a line is rejected.
 ghost use Rattle.std.specs.Prelude.{◌≡◌};
 ghost use Rattle.outside.specs.Outside.{HasCause};
 ghost use Rattle.outside.specs.Calls.{PutsAll};
@@ -46,7 +48,7 @@ fn cause_name(cause: Cause) -> &'static [u8]
     }
 }
 
-// The number of the field that a cause names, if any.
+// Returns the number of the field in a `BadField`, or `None` for any other cause.
 fn field_of(cause: Cause) -> Option<u8>
     ensures { result ≡ field_number cause }
 {
@@ -56,8 +58,8 @@ fn field_of(cause: Cause) -> Option<u8>
     }
 }
 
-/// Writes the message for the rejected line of a trace: its number, from 1, and the cause. Does not
-/// allocate.
+/// Writes the message for a rejected line of a trace: the line's number, from 1, and the cause.
+/// Doesn't allocate.
 pub fn put_refusal<N: Sink>(note: &mut N, line: u32, cause: Cause) -> Result<(), WriteFailed>
     ensures bytes { PutsAll (N.has note.old) (N.has note.new) result (refusal_text line cause) }
     ensures cause { HasCause (N.faults note.old) (N.faults note.new) result }

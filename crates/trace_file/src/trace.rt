@@ -1,4 +1,6 @@
-//! Reads and plays traces from a shelf.
+//! Reads traces from a shelf, and plays their events on a player.
+//!
+//! Each line is read, parsed and played before the next is read.
 ghost use Rattle.std.specs.Prelude.{◌≡◌, ◌+◌, ◌*◌, ◌<◌, ◌≤◌, ◌^◌, ℕ, List, [], IfOk, IsErrOf, Some, None, Ok, MatchResult, false, length};
 ghost use Rattle.outside.specs.Outside.{content_of, IsAbsent, counts_of};
 ghost use Rattle.outside.specs.Reads.{ReadsFile};
@@ -19,10 +21,10 @@ use psi_trace::{Header, read_event, read_header, take_prefix};
 use std::alloc::Global;
 use trace_player::Player;
 
-/// Why there is no trace.
+/// Why a trace can't be read.
 #[derive(Clone, Copy, Debug, PartialEq, Eq)]
 pub enum TraceFault {
-    /// One of its lines was rejected.
+    /// A line of the trace was rejected.
     Refused(Refusal),
     /// The shelf has no file with this name.
     NoFile,
@@ -58,8 +60,8 @@ fn fault_at(line: u32, fault: Fault<Cause>) -> TraceFault
     }
 }
 
-// Why there is no trace if a line isn't read. If the input ends inside the line, the line is
-// rejected with the cause `cut`.
+// Returns the fault of the trace if a line can't be read. If the input ends inside the line, the
+// line is rejected with the cause `cut`.
 fn trace_fault(fault: LineFault, cut: Cause) -> TraceFault
     ensures { result ≡ trace_fault cut fault }
 {
@@ -72,7 +74,7 @@ fn trace_fault(fault: LineFault, cut: Cause) -> TraceFault
     }
 }
 
-// Plays a parsed line: an event is played in place, and a fault is returned.
+// Plays the event of a parsed line, or returns the fault of the line.
 fn take_read<P: Player>(
     player: &mut P,
     read: &Result<Event, Fault<Cause>>,
@@ -86,8 +88,8 @@ fn take_read<P: Player>(
     }
 }
 
-// Plays a line of at most 512 bytes of a trace of a version, if the trace hasn't ended. Its event
-// is played in place, to avoid a copy.
+// Parses and plays a line. The event isn't moved before it is played, to avoid a copy.
+// Precondition: the line has at most 512 bytes. The contract says nothing if the trace has ended.
 fn take_line<P: Player>(
     alloc: Global,
     version: u32,
@@ -102,8 +104,8 @@ fn take_line<P: Player>(
     take_read(player, &read_event(alloc, version, line))
 }
 
-// Reads and plays the next event line of a trace of a version, of any kind, if the trace hasn't
-// ended.
+// Reads and plays the next event line, of any verb. The contract says nothing about the events if
+// the trace has ended.
 fn next_event<S: Shelf, P: Player>(
     alloc: Global,
     version: u32,
@@ -139,9 +141,8 @@ fn next_event<S: Shelf, P: Player>(
     }
 }
 
-// Plays the next event line, if the trace hasn't ended. If the line is complete in the buffer and
-// of the most frequent kinds, it is played from there; otherwise it is read from the shelf like any
-// line.
+// Plays the next event line. If the line is completely buffered and has one of the most frequent
+// verbs, it is parsed in the buffer; otherwise it is read by `next_event`.
 #[inline(always)]
 fn play_next<S: Shelf, P: Player>(
     alloc: Global,
@@ -178,7 +179,7 @@ fn play_next<S: Shelf, P: Player>(
     }
 }
 
-// Checks that nothing follows the `end` line, with at most one read.
+// Checks that no bytes follow the `end` line. Reads at most once.
 fn close<S: Shelf>(lines: &mut Lines, shelf: &mut S) -> Result<(), TraceFault>
     requires number { lines.old.number < 2 ^ 32 }
     ensures unchanged { S.holds shelf.new ≡ S.holds shelf.old }
@@ -204,8 +205,8 @@ fn close<S: Shelf>(lines: &mut Lines, shelf: &mut S) -> Result<(), TraceFault>
     }
 }
 
-// Reads and plays the event lines of a trace with this header. It ends, because a player takes at
-// most 4,000,000 events.
+// Reads and plays the event lines after the header `head`, up to the `end` line. The loop ends
+// because a player takes at most 4,000,000 events.
 fn play_events<S: Shelf, P: Player>(
     alloc: Global,
     lines: &mut Lines,
@@ -273,7 +274,7 @@ fn read_head<S: Shelf>(lines: &mut Lines, shelf: &mut S, tick: Ns) -> Result<Hea
 }
 
 /// Reads a trace, and plays its events on a new player. Returns the number of the trace's version,
-/// and the player. No event is later than a million ticks (`tick` in ns).
+/// and the player. An event later than a million ticks (`tick` in ns) is rejected.
 pub fn play_trace<S: Shelf, P: Player + Drop>(
     alloc: Global,
     name: &str,
