@@ -1,4 +1,6 @@
--- The invariant during the generation of a trace, and the law of generated traces.
+-- The invariant while a trace is generated, and the laws of generated traces. The definition of a
+-- generated trace is in run_spec; a *shape* is its seed and its numbers of processors, groups and
+-- events.
 use Rattle.std.specs.Prelude.{◌≡◌, ℕ, ◌+◌, ◌*◌, ◌≤◌, ◌<◌, List, [], ◌∷◌, length, map}
 use Rattle.std.specs.List.{range_with_len}
 use Rattle.psi_base.specs.declared.event.Event.{Event}
@@ -12,7 +14,7 @@ use Rattle.run_spec.specs.Generated.{at_start, gen_text, generated, made_group, 
 use Rattle.kill_spec.specs.Detectors.{of_seconds}
 use Rattle.run_spec.specs.LegalCommand.{IsShape}
 
--- the number of events that create the groups and tasks
+-- the number of events that create the groups and tasks of a shape
 abbrev pub first_count : Shape → ℕ
 first_count shape = shape.groups + task_count shape
 
@@ -20,25 +22,25 @@ first_count shape = shape.groups + task_count shape
 abbrev pub event_count : Shape → ℕ
 event_count shape = first_count shape + shape.events + 1
 
--- the limits of a generated trace: its processors, and the times that the default tick of 2 s
--- allows
+-- the limits of a generated trace: its number of processors, and the latest time for the default
+-- tick of 2 s
 abbrev pub limits_in : Shape → Limits
 limits_in shape = limits_of (of_seconds 2) shape.cpus
 
--- the events that create the groups of a shape with numbers below this one
+-- the events that create the groups with numbers below `number`
 abbrev pub made_groups : Shape → ℕ → List Event
 made_groups shape number = map (λ i. at_start (made_group i)) (range_with_len 0 number)
 
--- ---- while a trace is generated
+-- ---- the invariant while a trace is generated
 
--- each task of a shape is live, and each live task is on a processor of the shape
+-- every task of the shape is live, and every live task is on a processor of the shape
 pub record AreLive (shape : Shape) (tasks : Tasks) : Type 0 where
   pub live : (pid : ℕ) → 1 ≤ pid → pid ≤ task_count shape → IsSome (task_of tasks pid)
   pub within : (pid : ℕ) → IfSome (task_of tasks pid) (λ task. task.cpu.0 < shape.cpus)
 
--- The world of a shape after its groups and tasks were created and `count` more events: all tasks
--- are live, each event was a line, the last time is at most 2 ms for each of the `count` events,
--- and none was the end.
+-- The invariant of the world `w` after the groups and tasks of a shape were created and `count`
+-- more events were played: all tasks are live, the world has counted all events, the last time is
+-- at most 2 ms times `count`, and the trace hasn't ended.
 pub record IsGenerating (shape : Shape) (count : ℕ) (w : World) : Type 0 where
   pub tasks : AreLive shape w.tasks
   pub lines : w.lines ≡ first_count shape + count
@@ -47,13 +49,13 @@ pub record IsGenerating (shape : Shape) (count : ℕ) (w : World) : Type 0 where
 
 -- ---- laws
 
--- Each generated text is that of the generated trace, which has the first version and is accepted
--- at the default tick.
+-- Each generated text is the text of the generated trace, which has version 1 and is accepted at
+-- the default tick.
 abbrev pub GeneratedIsTrace : Type 0
 GeneratedIsTrace = (shape : Shape) → IsShape shape
     → IsTrace (accepts_with (One ∷ []) (of_seconds 2)) (gen_text shape) (generated shape)
 
--- A generated trace has an event for each group and each task, the requested number of further
--- events, and the end.
+-- A generated trace has one event for each group and each task, then the requested number of
+-- further events, and the end.
 abbrev pub GeneratedCount : Type 0
 GeneratedCount = (shape : Shape) → length (generated shape).events ≡ event_count shape

@@ -1,11 +1,13 @@
-//! Pseudo-random numbers, equal for equal seeds.
+//! Pseudo-random numbers: equal seeds give equal numbers.
+//!
+//! They are for test traces only, and not for security.
 ghost use Rattle.std.specs.Prelude.{◌≡◌, ℕ, ◌<◌};
 ghost use Rattle.run_spec.specs.Generated.{random_event, next_state};
 
 use std::marker::Model;
 
-/// The state of the generator; its model is a number. A linear congruential generator of 64 bits,
-/// with the constants of Knuth's MMIX.
+/// The state of a linear congruential generator of 64 bits, with the constants of Knuth's MMIX.
+/// Contracts see the state as a number.
 #[derive(Drop)]
 pub(crate) struct Draws {
     state: u64,
@@ -18,14 +20,14 @@ impl Model for Draws {
 }
 
 impl Draws {
-    /// Random numbers that begin at this state.
+    /// Returns a generator with the state `seed`.
     pub(crate) fn new(seed: u64) -> Draws
         ensures { result ≡ seed }
     {
         Draws { state: seed }
     }
 
-    /// The next number below `bound`.
+    /// Returns the next random number below `bound`, which must be positive.
     pub(crate) fn draw(&mut self, bound: u32) -> u32
         requires { 0 < bound }
         ensures state { self.new ≡ next_state self.old }

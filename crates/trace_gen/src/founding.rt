@@ -1,4 +1,6 @@
-//! The events that create groups and tasks.
+//! The events at the start of a generated trace: they create its groups and tasks.
+//!
+//! The random events after them are in `generator`.
 ghost use Rattle.std.specs.Prelude.{◌≡◌, ◌≤◌, ◌<◌, ◌++◌, ◌∷◌, [], None, IfOk, OnOk, map};
 ghost use Rattle.std.specs.List.{range_with_len};
 ghost use Rattle.psi_spec.specs.Refusal.{cause_of};
@@ -14,10 +16,10 @@ use std::alloc::Global;
 use std::collections::VecDeque;
 use task_table::Table;
 
-/// The number of tasks for each processor.
+/// The number of tasks per processor.
 pub(crate) const TASKS_EACH: u32 = 4;
 
-/// The path of a group, by its number from 0.
+/// Returns the path of the group with number `number` (from 0).
 #[tactic(auto, using(crate::proofs::Naming::numbered_is_path))]
 fn numbered_path(alloc: Global, number: u32) -> Result<Path, NoMemory>
     ensures { IfOk result (λ path. path ≡ numbered_path number) }
@@ -31,7 +33,7 @@ fn numbered_path(alloc: Global, number: u32) -> Result<Path, NoMemory>
     }
 }
 
-/// The path of a task's group.
+/// Returns the path of the group in which a task is created.
 fn home_of(alloc: Global, shape: Shape, pid: u32) -> Result<Path, NoMemory>
     requires { 1 ≤ pid }
     ensures { IfOk result (λ path. path ≡ home_of shape pid) }
@@ -43,7 +45,7 @@ fn home_of(alloc: Global, shape: Shape, pid: u32) -> Result<Path, NoMemory>
     }
 }
 
-/// The event that creates a group.
+/// Returns the event that creates the group with number `number` (from 0).
 fn made_group(alloc: Global, number: u32) -> Result<Event, NoMemory>
     ensures { IfOk result (λ event. event ≡ at_start (made_group number)) }
 {
@@ -54,7 +56,7 @@ fn made_group(alloc: Global, number: u32) -> Result<Event, NoMemory>
     })
 }
 
-/// The event that creates a task.
+/// Returns the event that creates the task `pid`.
 fn made_task(alloc: Global, shape: Shape, pid: u32) -> Result<Event, NoMemory>
     requires { 1 ≤ pid }
     ensures { IfOk result (λ event. event ≡ at_start (made_task shape pid)) }
@@ -70,8 +72,8 @@ fn made_task(alloc: Global, shape: Shape, pid: u32) -> Result<Event, NoMemory>
     })
 }
 
-/// Plays a legal event in a table whose world is that after the previous ones, and appends it to
-/// these.
+/// Plays an event, and appends it to `events`. Precondition: the table's world is the one after
+/// `events`, and the event is legal in it.
 #[tactic(auto, using(crate::proofs::Drawing::one_after))]
 fn play(events: &mut VecDeque<Event>, table: &mut Table, event: Event) -> Result<(), NoMemory>
     requires world { table.old.world ≡ after events.old.items }
@@ -89,7 +91,8 @@ fn play(events: &mut VecDeque<Event>, table: &mut Table, event: Event) -> Result
     Ok(())
 }
 
-/// Creates all groups of a shape, before any other event.
+/// Plays and appends the creations of all groups of a shape. Precondition: no other event was
+/// played.
 fn make_groups(
     alloc: Global,
     shape: Shape,
@@ -110,7 +113,8 @@ fn make_groups(
     Ok(())
 }
 
-/// Creates all tasks of a shape, after its groups.
+/// Plays and appends the creations of all tasks of a shape. Precondition: exactly its groups were
+/// created.
 fn make_tasks(
     alloc: Global,
     shape: Shape,
@@ -132,8 +136,8 @@ fn make_tasks(
     Ok(())
 }
 
-/// The events that create all groups and tasks of a shape, in the order in which they are played in
-/// a new table.
+/// Returns the events that create all groups and tasks of a shape, in order, and plays them in a
+/// new table.
 pub(crate) fn found(
     alloc: Global,
     shape: Shape,

@@ -1,4 +1,6 @@
-//! The events of a generated trace, one by one.
+//! Generates the events of a trace, one by one.
+//!
+//! It doesn't write them: `text` does.
 ghost use Rattle.std.specs.Prelude.{◌≡◌, ◌<◌, ◌≤◌, ◌^◌, IfOk, MatchOption, [], ◌∷◌};
 ghost use Rattle.run_spec.specs.Generated.{random_events, generated, next_random, next_event, next_of, running_act};
 ghost use Rattle.run_spec.specs.Generated.{random_event, next_state, stall_turn, started, way_of, woken};
@@ -15,19 +17,19 @@ use std::collections::VecDeque;
 use std::marker::Model;
 use task_table::Table;
 
-/// An upper bound (ns) of the time between two events; the time is below it.
+/// The time between two random events (ns) is below this bound.
 const LONGEST_WAIT: u32 = 2_000_000;
 
-/// The events of a generated trace. Its model is the list of those that remain.
+/// Generates the events of a trace. Contracts see the list of the events that remain.
 #[derive(Drop)]
 pub struct Generator {
     shape: Shape,
     /// The remaining events that create groups and tasks.
     first: VecDeque<Event>,
-    /// The world after all events that were returned, and those in `first`.
+    /// The table of tasks after all events that were returned, and the events in `first`.
     table: Table,
     draws: Draws,
-    /// The number of events that remain after those in `first`, without the end.
+    /// The number of random events that remain after the events in `first`.
     left: u32,
     /// Whether the end was returned.
     ended: bool,
@@ -50,8 +52,8 @@ impl Model for Generator {
 }
 
 impl Generator {
-    /// All events of a shape, whose seed, processors, groups and number of events are in range.
-    /// Allocates everything up front.
+    /// Returns a generator of all events of a shape. Precondition: the numbers of the shape are in
+    /// range. Allocates all its memory.
     pub fn make(alloc: Global, shape: Shape) -> Result<Generator, NoMemory>
         requires { IsShape shape }
         ensures { IfOk result (λ g. g ≡ (generated shape).events) }
@@ -68,7 +70,7 @@ impl Generator {
         })
     }
 
-    /// The next event, or `None` after the end. Does not allocate.
+    /// Returns the next event, or `None` after the end. Doesn't allocate.
     pub fn next(&mut self) -> Option<Event>
         ensures { MatchOption result ((self.old ≡ []) × (self.new ≡ []))
             (λ event. self.old ≡ event ∷ self.new) }
@@ -90,7 +92,7 @@ impl Generator {
     }
 }
 
-/// Removes the first event.
+/// Removes and returns the first event, or returns `None` if the list is empty.
 fn next_first(events: &mut VecDeque<Event>) -> Option<Event>
     ensures { MatchOption result ((events.old.items ≡ []) × (events.new.items ≡ []))
         (λ event. events.old.items ≡ event ∷ events.new.items) }
@@ -98,7 +100,8 @@ fn next_first(events: &mut VecDeque<Event>) -> Option<Event>
     events.pop_front()
 }
 
-/// Plays the next event, with `left` to go. It is legal. Does not allocate.
+/// Returns and plays the next random event, which is always legal. Counts down `left`, the number
+/// of random events that remain. Doesn't allocate.
 fn play_next(shape: Shape, table: &mut Table, draws: &mut Draws, left: &mut u32) -> Event
     requires some { 0 < left.old }
     requires so { IsGenerator shape table.old left.old }
@@ -116,7 +119,7 @@ fn play_next(shape: Shape, table: &mut Table, draws: &mut Draws, left: &mut u32)
     }
 }
 
-/// The next event in a world.
+/// Returns the next random event in the world of the table.
 #[tactic(auto, unfolding(run_spec::specs::Generated::next_random))]
 fn next_event(shape: Shape, table: &Table, draws: &mut Draws) -> Event
     requires shaped { IsShape shape }
@@ -133,7 +136,7 @@ fn next_event(shape: Shape, table: &Table, draws: &mut Draws) -> Event
     Event { at, act }
 }
 
-/// What a task does next.
+/// Returns a random act for task `pid`: what its event does. `task` is the state of the task.
 fn act_of(shape: Shape, table: &Table, draws: &mut Draws, pid: Pid, task: Task) -> Act
     requires { IsShape shape }
     ensures { random_act result draws.new
@@ -146,7 +149,7 @@ fn act_of(shape: Shape, table: &Table, draws: &mut Draws, pid: Pid, task: Task) 
     }
 }
 
-/// A blocked task is woken on any processor.
+/// Returns an act that wakes a blocked task on a random processor.
 fn woken(shape: Shape, draws: &mut Draws, pid: Pid) -> Act
     requires { IsShape shape }
     ensures { random_act result draws.new ≡ woken shape draws.old pid.0 }
@@ -157,7 +160,8 @@ fn woken(shape: Shape, draws: &mut Draws, pid: Pid) -> Act
     }
 }
 
-/// A ready task runs next on its processor. If that is idle no further number is drawn.
+/// Returns a switch to a ready task on its processor. If the processor is idle, no random number is
+/// drawn.
 #[tactic(auto, using(crate::proofs::Drawing::some_part))]
 fn started(table: &Table, draws: &mut Draws, pid: Pid, task: Task) -> Act
     ensures { random_act result draws.new
@@ -174,7 +178,7 @@ fn started(table: &Table, draws: &mut Draws, pid: Pid, task: Task) -> Act
     }
 }
 
-/// How the running task is switched out, by a number below 4.
+/// Returns how the running task leaves, for a random number below 4.
 fn way_of(number: u32) -> How
     ensures { result ≡ way_of number }
 {
@@ -185,7 +189,8 @@ fn way_of(number: u32) -> How
     }
 }
 
-/// A running task sleeps or waits for IO, or its memory stall begins or ends.
+/// Returns a random act of a running task: it sleeps, waits for IO, or begins or ends a memory
+/// stall.
 fn running_act(draws: &mut Draws, pid: Pid, task: Task) -> Act
     ensures { (draws.new ≡ next_state draws.old)
         × (result ≡ running_act pid.0 task (random_event (next_state draws.old) 4)) }
@@ -194,7 +199,8 @@ fn running_act(draws: &mut Draws, pid: Pid, task: Task) -> Act
     leaving(number, pid, task)
 }
 
-/// The same, by a number below 4.
+/// Returns the act of a running task for a random number below 4: it sleeps, waits for IO, or
+/// begins or ends a memory stall.
 fn leaving(number: u32, pid: Pid, task: Task) -> Act
     ensures { result ≡ running_act pid.0 task number }
 {
@@ -210,7 +216,7 @@ fn leaving(number: u32, pid: Pid, task: Task) -> Act
     }
 }
 
-/// Ends a task's memory stall if it is in one, and begins one otherwise.
+/// Returns an act that ends the task's memory stall if it is in one, and begins one otherwise.
 fn stall_turn(pid: Pid, task: Task) -> Act
     ensures { result ≡ stall_turn pid.0 task }
 {

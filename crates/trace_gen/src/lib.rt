@@ -4,8 +4,8 @@
 //! [`law_generated`] states that the text is accepted. [`put_header`] and [`put_event`] write one
 //! line of a trace without allocating.
 //!
-//! The definition of a generated trace is in run_spec. It models no real machine: the events are
-//! random legal ones.
+//! The definition of a generated trace is in run_spec. The events are random but legal; they model
+//! no real machine.
 #![tactic(auto)]
 
 mod draws;

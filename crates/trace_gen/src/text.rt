@@ -1,4 +1,6 @@
-//! The text of a generated trace.
+//! Writes the text of a generated trace to a sink.
+//!
+//! It also writes single lines of other traces, without allocating.
 ghost use Rattle.std.specs.Prelude.{◌≡◌, ◌≤◌, ◌++◌, ◌∷◌, [], vec_capacity};
 ghost use Rattle.outside.specs.Outside.{HasCause, SameInner};
 ghost use Rattle.outside.specs.Calls.{PutsAll};
@@ -15,11 +17,11 @@ use psi_trace::{write_event, write_header};
 use run_spec::Shape;
 use std::alloc::Global;
 
-/// The maximal length (bytes) of an event's line, with its newline.
+/// The greatest length of an event's line with its newline (bytes).
 const ROOM: usize = 513;
 
-/// Sets the line to the header for `cpus` processors. Does not allocate, since the capacity
-/// suffices.
+/// Replaces the content of `line` by the header line for `cpus` processors. Doesn't allocate,
+/// because the capacity of `line` suffices.
 #[tactic(auto, using(psi_trace::proofs::Headers::header_short))]
 fn make_header(cpus: u32, line: &mut Vec<u8>)
     requires { 513 ≤ vec_capacity line.old }
@@ -33,7 +35,8 @@ fn make_header(cpus: u32, line: &mut Vec<u8>)
     }
 }
 
-/// Sets the line to that of an event. Does not allocate, since the capacity suffices for each.
+/// Replaces the content of `line` by the line of an event. Doesn't allocate, because the capacity
+/// of `line` suffices.
 #[tactic(auto, using(crate::proofs::Sending::line_short))]
 fn make_line(event: &Event, line: &mut Vec<u8>)
     requires fits { Fits event.now }
@@ -48,8 +51,8 @@ fn make_line(event: &Event, line: &mut Vec<u8>)
     }
 }
 
-/// Writes the header line for `cpus` processors. Does not allocate, since the capacity of `line`
-/// suffices.
+/// Writes the header line for `cpus` processors. `line` is a work buffer. Doesn't allocate, because
+/// its capacity suffices.
 pub fn put_header<K: Sink>(cpus: u32, line: &mut Vec<u8>, out: &mut K) -> Result<(), WriteFailed>
     requires room { 513 ≤ vec_capacity line.old }
     ensures room { 513 ≤ vec_capacity line.new }
@@ -61,7 +64,8 @@ pub fn put_header<K: Sink>(cpus: u32, line: &mut Vec<u8>, out: &mut K) -> Result
     put_all(out, line)
 }
 
-/// Writes the line of an event. Does not allocate, since the capacity of `line` suffices.
+/// Writes the line of an event. `line` is a work buffer. Doesn't allocate, because its capacity
+/// suffices.
 pub fn put_event<K: Sink>(event: &Event, line: &mut Vec<u8>, out: &mut K) -> Result<(), WriteFailed>
     requires fits { Fits event.now }
     requires room { 513 ≤ vec_capacity line.old }
@@ -75,7 +79,7 @@ pub fn put_event<K: Sink>(event: &Event, line: &mut Vec<u8>, out: &mut K) -> Res
     put_all(out, line)
 }
 
-/// Writes the line of an event, and drops the event.
+/// Writes the line of an event, and drops the event. `line` is a work buffer.
 fn put_owned<K: Sink>(event: Event, line: &mut Vec<u8>, out: &mut K) -> Result<(), WriteFailed>
     requires fits { Fits event }
     requires room { 513 ≤ vec_capacity line.old }
@@ -87,7 +91,7 @@ fn put_owned<K: Sink>(event: Event, line: &mut Vec<u8>, out: &mut K) -> Result<(
     put_event(&event, line, out)
 }
 
-/// Writes the lines of a generator's remaining events.
+/// Writes the lines of a generator's remaining events. `line` is a work buffer.
 fn put_events<K: Sink>(
     generator: &mut Generator,
     line: &mut Vec<u8>,
@@ -105,7 +109,8 @@ fn put_events<K: Sink>(
     Ok(())
 }
 
-/// Writes the header for `cpus` processors, and the lines of a generator's remaining events.
+/// Writes the header line for `cpus` processors, and the lines of a generator's remaining events.
+/// `line` is a work buffer.
 #[tactic(auto, using(outside::proofs::Grows::chain))]
 fn put_trace<K: Sink>(
     cpus: u32,
@@ -127,7 +132,7 @@ fn put_trace<K: Sink>(
 /// Writes the text of the trace that is generated from these numbers: any seed, 1 to 64 processors,
 /// at most 1,000 groups and 3,900,000 events. Each line takes at least one write.
 ///
-/// `Refused` if a write failed: then a prefix of the text was written. `NoMemory` is returned
+/// Returns `Refused` if a write failed: a prefix of the text was written. Returns `NoMemory` only
 /// before anything is written.
 pub fn generate<K: Sink>(
     alloc: Global,
