@@ -1,4 +1,4 @@
--- The results of the code's searches in bytes.
+-- The results of the code's searches in bytes, for the parts of a line.
 use Rattle.std.specs.Prelude.{◌≡◌, ℕ, ◌+◌, ◌≤◌, List, Bool, ◌==◌, Option, Some, option_map, length, take, drop}
 use Rattle.std.specs.Borrow.{Bor}
 use Rattle.ftrace_import.specs.declared.marked.ShortMark.{ShortMark}
@@ -6,19 +6,19 @@ use Rattle.import_spec.specs.Marked.{Mark, Marked, begins_marked, mark_of}
 use Rattle.import_spec.specs.Places.{first_place, last_place}
 use Rattle.import_spec.specs.Tails.{digit_count, is_bracketed}
 
--- a byte is this one
+-- `other` equals `byte`
 abbrev pub is_at : ℕ → ℕ → Bool
 is_at byte other = other == byte
 
--- the borrowed bytes, or None
+-- the borrowed bytes as a list, or `None`
 abbrev pub shown : Option (Bor (List ℕ)) → Option (List ℕ)
 shown part = option_map (λ (bytes : Bor (List ℕ)). bytes.now) part
 
--- a mark by its kind and its size in bytes
+-- a mark (the text that shows the kind of a line) as its kind and its size (bytes)
 abbrev pub mark_parts : Mark → ShortMark
 mark_parts mark = record { kind = mark.kind; size = length mark.text }
 
--- the last number in brackets begins at `start` and has `count` digits
+-- the last number in brackets has `count` digits, and its first digit is at index `start`
 pub record IsLastBracket (bytes : List ℕ) (start count : ℕ) : Type 0 where
   pub at : ℕ
   pub suffix : start ≡ at + 1
@@ -26,12 +26,12 @@ pub record IsLastBracket (bytes : List ℕ) (start count : ℕ) : Type 0 where
   pub digits : count ≡ digit_count (drop start bytes)
   pub inside : start + count ≤ length bytes
 
--- the leftmost mark of a line begins at `at`, and has this kind and size
+-- the leftmost mark of a line begins at index `at`, and has the kind and size of `short`
 pub record IsFirstMark (line : List ℕ) (at : ℕ) (short : ShortMark) : Type 0 where
   pub first : first_place begins_marked line ≡ Some at
   pub mark : option_map mark_parts (mark_of (drop at line)) ≡ Some short
   pub inside : at + short.size ≤ length line
 
--- the parts of a line before and after a mark
+-- the parts of a line before and after the mark at index `at`
 abbrev pub parted : List ℕ → ℕ → ShortMark → Marked
 parted line at short = record { kind = short.kind; head = take at line; tail = drop (at + short.size) line }

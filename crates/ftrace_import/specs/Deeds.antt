@@ -1,4 +1,5 @@
--- The stored acts of an import, and the events that they represent.
+-- The stored acts of an import (*deeds*), and the events that they represent. An act is what an
+-- event does.
 use Rattle.std.specs.Prelude.{◌≡◌, ℕ, List, ◌++◌, map, OnOk, Result}
 use Rattle.psi_base.specs.declared.event.Act.{Act}
 use Rattle.psi_base.specs.declared.event.Act.TheVariants as act
@@ -16,18 +17,19 @@ act_by (Wake pid cpu) = act.Wake pid cpu
 act_by (Switch cpu next how) = act.Switch cpu next how
 act_by (Migrate pid cpu) = act.Migrate pid cpu
 
--- the event that a stored one represents
+-- the event that a stored deed represents
 abbrev pub event_by : Kept → Event
 event_by kept = record { at = kept.at; act = act_by kept.deed }
 
--- the events that stored ones represent
+-- the events that a list of stored deeds represents
 abbrev pub events_by : List Kept → List Event
 events_by kept = map event_by kept
 
--- the acts of stored events
+-- the acts that a list of stored deeds represents
 abbrev pub acts_in : List Kept → List Act
 acts_in kept = map (λ (one : Kept). act_by one.deed) kept
 
--- acts at a time (ns) were appended to the stored ones, unless memory ran out
+-- events at time `at` (ns) with these acts were appended to the stored events, unless memory ran
+-- out
 abbrev pub Adds : {T E : Type 0} → List Kept → List Kept → Result T E → ℕ → List Act → Type 0
 Adds old new result at acts = OnOk result (events_by new ≡ events_by old ++ events_at at acts)

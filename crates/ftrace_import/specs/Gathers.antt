@@ -1,4 +1,5 @@
--- The results of collecting the events of a text.
+-- The results of collecting the events of an ftrace text. A `Gathering` is the state of an import:
+-- the stored events, the table of tasks after them, and the times of the marked lines.
 use Rattle.std.specs.Prelude.{◌≡◌, ℕ, ◌+◌, ◌-◌, ◌≤◌, List, [], ◌∷◌, ◌++◌, length, take, Bool, true, false, Option, None, Some, OnOk, IsErrOf, Result, Ok, Err, ⊤}
 use Rattle.outside.specs.Outside.{HasCauses, ShelfCounts}
 use Rattle.outside.specs.Reads.{ReadCall, ReadsFile, ReadsFrom}
@@ -26,19 +27,21 @@ use Rattle.ftrace_import.specs.Stands.{Ends, IsUnderWay, Run, limits}
 
 -- ---- line by line
 
--- how far an import has come
+-- the progress of an import: the time of the first marked line, the trace time of the last one, and
+-- the world after the stored events
 abbrev pub reached_in : Gathering → Reached
 reached_in g = record { first = g.first; moment = g.moment; world = g.table.world }
 
--- The invariant after each line: the table has the limits of the import, and its world is the one
--- after the stored events. These events can be spelled and are legal.
+-- The invariant of an import between lines: the table has the limits of the import, and its world
+-- is the one after the stored events, which can be spelled and are legal.
 pub record IsGathered (g : Gathering) : Type 0 where
   pub limits_are : g.table.limits ≡ limits g.cpus
   pub under : IsUnderWay g.cpus (reached_in g)
   pub run : Run g.cpus first_world (events_by g.kept.items)
   pub after_them : g.table.world ≡ after_from first_world (events_by g.kept.items)
 
--- the result of a line was stored after the events before it
+-- The events of a line, which isn't rejected, were appended to the stored events; `new` is the
+-- state after the line, and satisfies the invariant.
 pub record HasTaken (line_events : Result LineEvents ImportCause) (old new : Gathering) : Type 0 where
   pub suffix : LineEvents
   pub is : line_events ≡ Ok suffix
@@ -47,27 +50,29 @@ pub record HasTaken (line_events : Result LineEvents ImportCause) (old new : Gat
   pub cpus : new.cpus ≡ old.cpus
   pub so : IsGathered new
 
--- what taking a line does: the result of the line was stored, or the cause against the line is
--- returned
+-- The result of taking a line: its events were stored, or the cause of rejection is returned.
+-- `line_events` is the definition's result for the line.
 abbrev pub TakesLine : Result LineEvents ImportCause → Gathering → Gathering → Result (Unit {0}) (Fault ImportCause) → Type 0
 TakesLine line_events old new (Ok done) = HasTaken line_events old new
 TakesLine line_events old new (Err (fault.Refused why)) = line_events ≡ Err why
 TakesLine line_events old new (Err (fault.NoMemory _)) = ⊤
 
--- ---- the lines of a file
+-- ---- reading the lines of a file
 
--- the events of the rest of the text, from the line with this number
+-- the events of the remaining bytes, or their rejection; `number` is the number of the first
+-- remaining line
 abbrev pub rest_from : ℕ → Reached → ℕ → List ℕ → Result (List Event) Refused
 rest_from cpus reached number bytes = import_from cpus reached number (parts_at 10 bytes)
 
--- a refusal is the definition's; other clauses concern the other faults
+-- a rejection is the one in the definition's result `read`; nothing is said here about the other
+-- faults
 abbrev pub RefusalOf : ImportFault → Result (List Event) Refused → Type 0
 RefusalOf (import.Refused number why) read = read ≡ Err (import_refused number why)
 RefusalOf import.NoFile read = ⊤
 RefusalOf import.ReadFault read = ⊤
 RefusalOf (import.NoMemory _) read = ⊤
 
--- the fault of a line with this number
+-- the fault of the import for the fault of line `number`
 abbrev pub IsLineFault : ℕ → Fault ImportCause → ImportFault → Type 0
 IsLineFault number (fault.Refused why) result = result ≡ import.Refused number why
 IsLineFault number (fault.NoMemory none) result = result ≡ import.NoMemory none
@@ -80,7 +85,9 @@ import_fault lines.NoFile = import.NoFile
 import_fault lines.ReadFault = import.ReadFault
 import_fault (lines.NoMemory none) = import.NoMemory none
 
--- a line was taken: its events come before those of the rest
+-- A line was taken. If the bytes are known, the import of the remaining bytes gives the line's
+-- events, followed by the import of the bytes after the line. `before` and `suffix` give the
+-- remaining bytes before and after the call.
 pub record LineTaken (number : ℕ) (old new : Gathering) (before suffix : List ℕ → List ℕ) (known : Option (List ℕ)) : Type 0 where
   pub so : IsGathered new
   pub cpus : new.cpus ≡ old.cpus
@@ -89,7 +96,7 @@ pub record LineTaken (number : ℕ) (old new : Gathering) (before suffix : List 
   pub read : (bytes : List ℕ) → known ≡ Some bytes → rest_from old.cpus (reached_in old) number (before bytes)
       ≡ events_followed events (rest_from old.cpus (reached_in new) (number + 1) (suffix bytes))
 
--- the result of the next line: it was taken, or there is none, or a fault
+-- the result of taking the next line: it was taken, there is no further line, or there is a fault
 abbrev pub NextGives : ℕ → Gathering → Gathering → (List ℕ → List ℕ) → (List ℕ → List ℕ) → Option (List ℕ) → Result Bool ImportFault
     → Type 0
 NextGives number old new before suffix known (Ok true) = LineTaken number old new before suffix known
@@ -99,29 +106,32 @@ NextGives number old new before suffix known (Ok false) =
 NextGives number old new before suffix known (Err fault) =
     (bytes : List ℕ) → known ≡ Some bytes → RefusalOf fault (rest_from old.cpus (reached_in old) number (before bytes))
 
--- a shelf counted this fault of an import and nothing else: a failed read, or an absent name
+-- the shelf's counts of failed reads and missing files grew exactly for the fault that `result`
+-- reports
 abbrev pub CausesImportFault : {A : Type 0} → ShelfCounts → ShelfCounts → Result A ImportFault → Type 0
 CausesImportFault before now result = HasCauses before now (IsErrOf result import.ReadFault) (IsErrOf result import.NoFile)
 
--- the fault of a shelf that caused a fault of an import, or None
+-- the shelf's fault that a fault of the import reports, or `None`
 abbrev pub shelf_fault : ImportFault → Option ShelfFault
 shelf_fault (import.Refused number why) = None
 shelf_fault import.NoFile = Some shelf.NoFile
 shelf_fault import.ReadFault = Some shelf.Failed
 shelf_fault (import.NoMemory _) = None
 
--- the fault of a shelf that caused an answer, or None
+-- the shelf's fault that a result reports, or `None`
 abbrev pub shelf_fault_in : {A : Type 0} → Result A ImportFault → Option ShelfFault
 shelf_fault_in (Ok x) = None
 shelf_fault_in (Err found) = shelf_fault found
 
--- A log grew by the reads for a line, from one place to another, or up to the end or a fault.
+-- The log of reads grew by the reads for one line: from offset `at` to offset `place` (bytes), or
+-- up to the end of the file or a fault.
 abbrev pub LineInOrder : List ℕ → ℕ → ℕ → List ReadCall → List ReadCall → Result Bool ImportFault → Type 0
 LineInOrder name at place before now (Ok true) = ReadsFrom name (Next at) before now (Next place)
 LineInOrder name at place before now (Ok false) = ReadsFile name at before now None
 LineInOrder name at place before now (Err found) = ReadsFile name at before now (shelf_fault found)
 
--- what reading the next line does to the reader and to the shelf, whatever the line contains
+-- The effect of reading the next line on the reader and the shelf, whatever the line contains.
+-- `bytes_read` and `read_now` are the bytes that the shelf had returned before and after.
 pub record ReadsLine {A : Type 0} (known : Option (List ℕ)) (old new : Reader) (counts counts_now : ShelfCounts) (bytes_read read_now : ℕ)
     (result : Result A ImportFault) : Type 0 where
   pub name : new.name ≡ old.name
@@ -131,16 +141,17 @@ pub record ReadsLine {A : Type 0} (known : Option (List ℕ)) (old new : Reader)
   pub counted : read_now + old.at ≡ bytes_read + new.at
   pub place : new.at ≤ furthest old.number
 
--- What reading the next line does to the number of remaining lines. If a read failed, no line was
--- taken and the buffer contains no complete line. A rejected line is the next one.
+-- The effect of reading the next line on the number of remaining lines. If a read failed, no line
+-- was consumed and no complete line is buffered. A rejected line is the line with the reader's
+-- number.
 pub record KeepsLines {A : Type 0} (known : Option (List ℕ)) (old new : Reader) (result : Result A ImportFault) : Type 0 where
   pub lines : (bytes : List ℕ) → known ≡ Some bytes → new.number + line_count (left new bytes) ≡ old.number + line_count (left old bytes)
   pub failed : IsErrOf result import.ReadFault → (new.number ≡ old.number)
       × ((bytes : List ℕ) → known ≡ Some bytes → HasNoNewline new.buffered (length new.buffered))
   pub refused : (number : ℕ) (why : ImportCause) → IsErrOf result (import.Refused number why) → number ≡ old.number
 
--- Reading a text stops at the first rejected line: no more is read than the buffer holds after the
--- lines before it, and a read fails only if that line isn't complete in the bytes read.
+-- Reading a text stops at the first rejected line: the reads go at most a full buffer beyond the
+-- lines before it. A read fails only if the bytes that were read don't contain that whole line.
 abbrev pub StopsAtRefusal : {A : Type 0} → (List ℕ → Result (List Event) Refused) → Option (List ℕ) → ℕ → ℕ → Result A ImportFault → Type 0
 StopsAtRefusal read known bytes_read read_now (Ok x) = ⊤
 StopsAtRefusal read known bytes_read read_now (Err (import.Refused number why)) = read_now ≤ bytes_read + furthest number
@@ -150,7 +161,7 @@ StopsAtRefusal read known bytes_read read_now (Err import.ReadFault) =
     → line_count (take (read_now - bytes_read) bytes) ≤ refusal.line
 StopsAtRefusal read known bytes_read read_now (Err (import.NoMemory _)) = ⊤
 
--- the answer depends on no bytes
+-- the result says nothing about the file's bytes: it is `NoFile`, `ReadFault` or `NoMemory`
 abbrev pub ShowsNothing : {A : Type 0} → Result A ImportFault → Type 0
 ShowsNothing (Ok x) = ⊥
 ShowsNothing (Err (import.Refused number why)) = ⊥
@@ -160,11 +171,11 @@ ShowsNothing (Err (import.NoMemory _)) = ⊤
 
 -- ---- a whole text
 
--- the events of an import, with the end
+-- all events of an import, including the end
 abbrev pub whole_events : Gathering → List Event
 whole_events g = events_by g.kept.items ++ end_at (reached_in g) ∷ []
 
--- the result of taking all lines
+-- the result of taking all lines of a file, from the first
 abbrev pub LinesGive : ℕ → Gathering → (List ℕ → List ℕ) → Option (List ℕ) → Result (Unit {0}) ImportFault → Type 0
 LinesGive cpus new before known (Ok done) =
     IsGathered new × (new.cpus ≡ cpus) × ((bytes : List ℕ) → known ≡ Some bytes
@@ -172,12 +183,13 @@ LinesGive cpus new before known (Ok done) =
 LinesGive cpus new before known (Err fault) =
     (bytes : List ℕ) → known ≡ Some bytes → RefusalOf fault (rest_from cpus unreached 1 (before bytes))
 
--- the maximum number of bytes read: the furthest place of a reader at the maximum number of lines
+-- the greatest number of bytes that an import reads: the greatest offset of a reader after
+-- 16,000,000 lines
 abbrev pub most_of_text : ℕ
 most_of_text = furthest 16000001
 
--- all lines of a file were taken: their events and the end are accepted, and if the file's bytes
--- are known, they are the events of those bytes
+-- All lines of a file were taken, and their events with the end form a legal trace. If the file's
+-- bytes are known, they are the events that the definition gives for these bytes.
 pub record AllTaken (cpus : ℕ) (g : Gathering) (known : Option (List ℕ)) : Type 0 where
   pub so : IsGathered g
   pub cpus_are : g.cpus ≡ cpus

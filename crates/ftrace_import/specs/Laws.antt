@@ -1,4 +1,5 @@
--- Laws of imports.
+-- Laws of imports: the output is an accepted trace, and every line of the text has its effect in
+-- it.
 use Rattle.std.specs.Prelude.{◌≡◌, ◌≢◌, ℕ, List, [], ◌∷◌, ◌++◌, true, Option, None, Some, option_map, Result, Ok, Err}
 use Rattle.psi_base.specs.declared.event.Cpu.{Cpu}
 use Rattle.psi_base.specs.declared.event.Event.{Event}
@@ -19,25 +20,27 @@ use Rattle.import_spec.specs.Marked.{read_line}
 use Rattle.import_spec.specs.Events.{LineEvents, Reached, default_tick, events_of_line, unreached}
 use Rattle.import_spec.specs.Import.{import_of, import_trace}
 
--- If the first version is accepted, each imported text is accepted at the default tick, as the
--- trace of its events.
+-- The trace of each imported text is accepted at the default tick by every program that accepts
+-- version 1.
 abbrev pub ImportedIsTrace : Type 0
 ImportedIsTrace =
     (cpus : ℕ) (bytes : List ℕ) (events : List Event) (versions : List Version) → IsCpuCount cpus → import_of cpus bytes ≡ Ok events
     → IsAmong One versions
     → IsTrace (accepts_with versions default_tick) (text_of (import_trace cpus events)) (import_trace cpus events)
 
--- how far an import has come after a line and later ones, or None if the line is rejected
+-- the progress of an import after a line and the lines after it, or `None` if one of them is
+-- rejected
 abbrev pub after_events : Result LineEvents ImportCause → (Reached → Option Reached) → Option Reached
 after_events (Err why) next = None
 after_events (Ok line_events) next = next line_events.reached
 
--- how far an import has come after complete lines, or None if one of them is rejected
+-- the progress of an import after complete lines, or `None` if one of them is rejected
 abbrev pub reached_by : ℕ → Reached → List (List ℕ) → Option Reached
 reached_by cpus reached [] = Some reached
 reached_by cpus reached (line ∷ lines) = after_events (events_of_line cpus reached line) (λ suffix. reached_by cpus suffix lines)
 
--- a line has this result after other lines that aren't rejected, and reports this
+-- the line is marked and reports `sighting` (a time and an event of the kernel), and its result
+-- after the earlier lines, none of which is rejected, is `line_events`
 pub record GivesAfter (cpus : ℕ) (lines : List (List ℕ)) (line : List ℕ) (sighting : Sighting) (line_events : LineEvents) : Type 0 where
   pub counted : IsCpuCount cpus
   pub reached : Reached
@@ -45,7 +48,7 @@ pub record GivesAfter (cpus : ℕ) (lines : List (List ℕ)) (line : List ℕ) (
   pub shows : read_line line ≡ Ok (Some sighting)
   pub gives : events_of_line cpus reached line ≡ Ok line_events
 
--- the number of the running task of a processor, or None
+-- the task that runs on processor `cpu`, or `None`
 abbrev pub runner : Tasks → ℕ → Option Pid
 runner tasks cpu = option_map (λ (e : ℕ × Task). let pid : Pid = record { 0 = e.0 } in pid) (running_on tasks cpu)
 
@@ -63,10 +66,10 @@ WakeupWakes = (cpus : ℕ) (lines : List (List ℕ)) (line : List ℕ) (at : ℕ
     → GivesAfter cpus lines line (record { at = at; seen = seen.Wakeup pid cpu }) line_events
     → is_some_and (task_of line_events.reached.world.tasks pid.0) (λ task. is_active task.mode) ≡ true
 
--- A complete line after these lines, in a text that isn't rejected, has its own part of the written
--- events: the events before them lead to the world that the earlier lines reach, and together with
--- them to the world after the line. So the laws of a line's world hold for the world after a prefix
--- of the written events.
+-- A complete line, after `lines`, has a part of its own in the written events: the events before
+-- this part lead to the world before the line, and these events with the part lead to the world
+-- after it. So the laws about the world after a line hold for the world after a prefix of the
+-- written events.
 pub record IsWritten (cpus : ℕ) (lines : List (List ℕ)) (line : List ℕ) (events : List Event) : Type 0 where
   pub prefix : List Event
   pub suffix : List Event
@@ -78,7 +81,8 @@ pub record IsWritten (cpus : ℕ) (lines : List (List ℕ)) (line : List ℕ) (e
   pub there : reached.world ≡ after prefix
   pub world : line_events.reached.world ≡ after (prefix ++ line_events.events)
 
--- This holds for each line of a text that isn't rejected: each part of it before a newline.
+-- Every complete line of a text that isn't rejected has its own part of the written events, as
+-- `IsWritten` says.
 abbrev pub LinesAreWritten : Type 0
 LinesAreWritten = (cpus : ℕ) (bytes : List ℕ) (events : List Event) (lines more : List (List ℕ)) (line : List ℕ)
     → import_of cpus bytes ≡ Ok events → parts_at 10 bytes ≡ lines ++ line ∷ more → more ≢ []

@@ -1,4 +1,7 @@
-//! The acts of a line in a compact form, stored until all lines are read.
+//! The acts of a line in a compact form, stored until all lines are read. An act is what an event
+//! does; a *deed* is its compact form.
+//!
+//! The deeds of a line are those that import_spec defines; they aren't played here.
 ghost use Rattle.std.specs.Prelude.{◌≡◌, ◌∷◌, [], IfOk};
 ghost use Rattle.import_spec.specs.Events.{acts_of, migration_acts, next_acts, runs_there, switch_acts, turn_acts, wakeup_acts};
 ghost use Rattle.std.specs.Prelude.{None};
@@ -10,41 +13,41 @@ use psi_spec::{Mode, Task};
 use std::alloc::Global;
 use task_table::Table;
 
-/// An act of an import. All tasks are in the root group, so no path is stored.
+/// An act of an import. No path is stored, because all tasks are in the root group.
 #[derive(Clone, Copy)]
 pub(crate) enum Deed {
-    /// A task is created.
+    /// A task is created, ready on processor `cpu`.
     Fork {
         pid: Pid,
         cpu: Cpu,
     },
-    /// A task wakes.
+    /// A blocked task wakes on processor `cpu`.
     Wake {
         pid: Pid,
         cpu: Cpu,
     },
-    /// The next task runs.
+    /// The running task of processor `cpu` leaves, and the next task, if any, runs.
     Switch {
         cpu: Cpu,
         next: Option<Pid>,
         how: How,
     },
-    /// A task moves to a processor.
+    /// A task moves to processor `cpu`.
     Migrate {
         pid: Pid,
         cpu: Cpu,
     },
 }
 
-/// An event of an import, in a third of the size of an [`Event`].
+/// A stored event of an import. It has a third of the size of an [`Event`].
 #[derive(Clone, Copy)]
 pub(crate) struct Kept {
-    /// Its time (ns).
+    /// The time of the event (ns).
     pub(crate) at: Ns,
     pub(crate) deed: Deed,
 }
 
-/// The event that a stored one represents.
+/// Returns the event that a stored deed represents.
 pub(crate) fn event_of(alloc: Global, kept: Kept) -> Result<Event, NoMemory>
     ensures { IfOk result (λ event. event ≡ event_by kept) }
 {
@@ -60,7 +63,7 @@ pub(crate) fn event_of(alloc: Global, kept: Kept) -> Result<Event, NoMemory>
     Ok(Event { at: kept.at, act })
 }
 
-/// Appends one deed.
+/// Appends one deed at time `at` (ns).
 #[tactic(auto, using(crate::proofs::Keeping::one_kept))]
 fn keep(kept: &mut Vec<Kept>, at: Ns, deed: Deed) -> Result<(), NoMemory>
     ensures { Adds kept.old.items kept.new.items result at (act_by deed ∷ []) }
@@ -69,7 +72,7 @@ fn keep(kept: &mut Vec<Kept>, at: Ns, deed: Deed) -> Result<(), NoMemory>
     Ok(())
 }
 
-/// Appends no deed.
+/// Appends nothing: the case without deeds.
 #[tactic(auto, using(crate::proofs::Keeping::none_kept))]
 fn keep_none(kept: &mut Vec<Kept>, at: Ns) -> Result<(), NoMemory>
     ensures { Adds kept.old.items kept.new.items result at [] }
@@ -79,7 +82,7 @@ fn keep_none(kept: &mut Vec<Kept>, at: Ns) -> Result<(), NoMemory>
     Ok(())
 }
 
-/// Appends the deeds of a wakeup.
+/// Appends the deeds of a wakeup. `task` is the task before the wakeup, if it exists.
 fn keep_wakeup(
     kept: &mut Vec<Kept>,
     at: Ns,
@@ -98,7 +101,7 @@ fn keep_wakeup(
     }
 }
 
-/// Appends the deeds of a migration.
+/// Appends the deeds of a migration. `task` is the task before the migration, if it exists.
 fn keep_migration(
     kept: &mut Vec<Kept>,
     at: Ns,
@@ -116,7 +119,8 @@ fn keep_migration(
     }
 }
 
-/// Preempts the running task of a processor, and moves it to another processor.
+/// Appends two deeds: the running task of processor `from` is preempted, and is moved to processor
+/// `cpu`.
 #[tactic(auto, using(crate::proofs::Keeping::two_kept))]
 fn keep_pulled(kept: &mut Vec<Kept>, at: Ns, pid: Pid, cpu: Cpu, from: Cpu) -> Result<(), NoMemory>
     ensures { Adds kept.old.items kept.new.items result at
@@ -134,7 +138,8 @@ fn keep_pulled(kept: &mut Vec<Kept>, at: Ns, pid: Pid, cpu: Cpu, from: Cpu) -> R
     keep(kept, at, Deed::Migrate { pid, cpu })
 }
 
-/// Brings the next task, if any, to the processor on which it is to run.
+/// Appends the deeds that bring the task `next`, if any, to the processor `cpu` on which it is to
+/// run.
 fn keep_next(
     table: &Table,
     kept: &mut Vec<Kept>,
@@ -159,7 +164,7 @@ fn keep_next(
     }
 }
 
-/// Whether a task is named and is running on a processor.
+/// Returns whether `pid` is a task that runs on processor `cpu`.
 fn runs_there(table: &Table, cpu: Cpu, pid: Option<Pid>) -> bool
     ensures { result ≡ runs_there table.now.world.tasks cpu pid }
 {
@@ -172,7 +177,7 @@ fn runs_there(table: &Table, cpu: Cpu, pid: Option<Pid>) -> bool
     }
 }
 
-/// The running task of a processor leaves, and the next one starts.
+/// Appends the deeds after which the running task of `cpu` has left and `next` runs.
 #[tactic(auto, using(crate::proofs::Keeping::some_part))]
 fn keep_turn(
     table: &Table,
@@ -235,7 +240,7 @@ fn keep_switch(
     keep_turn(table, kept, at, cpu, previous, next, how)
 }
 
-/// Appends the deeds of a line at a time (ns), in the world of the table.
+/// Appends the deeds of a line's content at time `at` (ns), in the world of the table.
 pub(crate) fn keep_seen(
     table: &Table,
     kept: &mut Vec<Kept>,

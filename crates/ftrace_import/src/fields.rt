@@ -1,5 +1,7 @@
-//! The parts of a marked line: numbers, the time and the processor of its head, and the fields of
-//! its tail.
+//! Parses the parts of a marked line: the time and the processor in its head (before the mark), and
+//! the fields of its tail (after the mark).
+//!
+//! The mark itself is found in `marked`.
 ghost use Rattle.std.specs.Prelude.{◌≡◌, ◌+◌, ◌-◌, ◌^◌, ◌<◌, ◌≤◌, IfSome, IsNone, Some, None, length, drop, if◌then◌else◌};
 ghost use Rattle.import_spec.specs.Places.{last_place};
 ghost use Rattle.import_spec.specs.Tails.{cpu_in, digit_count, field_in, how_in, is_bracketed, short_number, pid_in, time_in, time_of};
@@ -8,10 +10,11 @@ ghost use Rattle.ftrace_import.specs.Bytes.{IsLastBracket};
 use crate::places::{after_last, count_before, count_digits};
 use psi_base::{How, Ns, Pid, read_digits};
 
-/// A second in ns.
+/// A second (ns).
 const SECOND: Ns = 1_000_000_000;
 
-/// The number that 1 to `most` digits write, or `None`.
+/// Returns the number that 1 to `most` digits write. `None` if there are more or fewer bytes, or
+/// one isn't a digit.
 fn number_in(digits: &[u8], most: usize) -> Option<u64>
     ensures value { result ≡ short_number most digits.now }
     ensures below { IfSome result (λ number. number < 10 ^ most) }
@@ -23,7 +26,8 @@ fn number_in(digits: &[u8], most: usize) -> Option<u64>
     read_digits(digits)
 }
 
-/// The unit (ns) of a fraction of a second with `missing` fewer digits than nine.
+/// Returns the unit (ns) of the last digit of a fraction of a second that has `missing` digits
+/// fewer than nine.
 fn unit(missing: usize) -> Ns
     requires { missing ≤ 8 }
     ensures unit { result ≡ 10 ^ missing }
@@ -43,7 +47,8 @@ fn unit(missing: usize) -> Ns
     }
 }
 
-/// The time (ns) of a word: seconds, a point and a fraction of at most nine digits.
+/// Parses a time: seconds, a point, and a fraction of 1 to 9 digits. Returns it in ns, or `None` if
+/// the word isn't a time.
 #[tactic(auto, unfolding(import_spec::specs::Tails::time_of))]
 fn time_of(word: &[u8]) -> Option<Ns>
     ensures { result ≡ time_of word.now }
@@ -55,7 +60,7 @@ fn time_of(word: &[u8]) -> Option<Ns>
     Some(seconds * SECOND + fraction * unit(9 - digits.len()))
 }
 
-/// The bytes after the byte at a place; empty if the bytes end there.
+/// Returns the bytes after index `at`, or no bytes if `at` is the length.
 fn suffix(bytes: &[u8], at: usize) -> &[u8]
     requires { at ≤ length bytes.now }
     ensures { result.now ≡ drop (at + 1) bytes.now }
@@ -67,7 +72,7 @@ fn suffix(bytes: &[u8], at: usize) -> &[u8]
     }
 }
 
-/// The time (ns) in a head.
+/// Parses the time (ns) in a head, which is its last word.
 #[tactic(auto, unfolding(import_spec::specs::Tails::time_in))]
 pub(crate) fn time_in(head: &[u8]) -> Option<Ns>
     ensures { result ≡ time_in head.now }
@@ -76,7 +81,8 @@ pub(crate) fn time_in(head: &[u8]) -> Option<Ns>
     time_of(word)
 }
 
-/// The number of digits in brackets at the start of the bytes, at least one, or `None`.
+/// Returns the number of digits if the bytes begin with a number in brackets, or `None`.
+/// Precondition: there is a byte.
 #[inline(always)]
 #[tactic(auto, unfolding(import_spec::specs::Tails::is_bracketed))]
 fn digits_in_brackets(bytes: &[u8]) -> Option<usize>
@@ -97,15 +103,15 @@ fn digits_in_brackets(bytes: &[u8]) -> Option<usize>
     }
 }
 
-/// Digits in brackets.
+/// The place of a number in brackets.
 #[derive(Clone, Copy)]
 struct Bracketed {
-    /// The place of the first digit.
+    /// The index of its first digit.
     start: usize,
     count: usize,
 }
 
-/// The last number in brackets.
+/// Returns the place of the last number in brackets, or `None`.
 fn last_in_brackets(bytes: &[u8]) -> Option<Bracketed>
     ensures none { IsNone result → last_place is_bracketed bytes.now ≡ None }
     ensures some { IfSome result (λ found. IsLastBracket bytes.now found.start found.count) }
@@ -123,7 +129,7 @@ fn last_in_brackets(bytes: &[u8]) -> Option<Bracketed>
     None
 }
 
-/// The processor in a head.
+/// Parses the processor in a head: the last number in brackets, of at most three digits.
 #[tactic(auto, unfolding(import_spec::specs::Tails::cpu_in))]
 pub(crate) fn cpu_in(head: &[u8]) -> Option<u32>
     ensures { result ≡ cpu_in head.now }
@@ -133,7 +139,8 @@ pub(crate) fn cpu_in(head: &[u8]) -> Option<u32>
     Some(cpu as u32)
 }
 
-/// The number of a field.
+/// Parses the field after the last `key` in a tail or a part of it: a number below 2^32, up to the
+/// next space.
 #[tactic(auto, unfolding(import_spec::specs::Tails::field_in))]
 pub(crate) fn field_in(part: &[u8], key: &[u8]) -> Option<u32>
     requires some { 0 < length key.now }
@@ -148,14 +155,15 @@ pub(crate) fn field_in(part: &[u8], key: &[u8]) -> Option<u32>
     }
 }
 
-/// The task with a number, or `None` for 0.
+/// Returns the task with this pid, or `None` for 0.
 pub(crate) fn pid_in(number: u32) -> Option<Pid>
     ensures { result ≡ pid_in number }
 {
     if number == 0 { None } else { Some(Pid(number)) }
 }
 
-/// How a task leaves, according to its state.
+/// Returns how a task leaves its processor, according to the first letter of its state. `None` if
+/// the state is empty.
 #[tactic(auto, unfolding(import_spec::specs::Tails::how_in))]
 pub(crate) fn how_in(state: &[u8]) -> Option<How>
     ensures { result ≡ how_in state.now }

@@ -1,4 +1,6 @@
 //! An iterator that lends the events of an import.
+//!
+//! It needs no allocation for each event, unlike `import`, which returns them as a vector.
 ghost use Rattle.std.specs.Prelude.{◌≡◌, ◌+◌, ◌≤◌, ℕ, List, false, IfOk, IsErrOf, MatchResult, Some, None, Ok};
 ghost use Rattle.outside.specs.Outside.{content_of, IsAbsent, counts_of};
 ghost use Rattle.outside.specs.Reads.{ReadsFile};
@@ -20,17 +22,18 @@ use std::alloc::Global;
 use std::marker::Model;
 
 /// The events of an import, including the end, lent one by one. Contracts see the current event and
-/// the list of the remaining ones. Each event is lent until the next call, so none is allocated.
+/// the list of the remaining events. Each event is valid until the next call, and none is
+/// allocated.
 #[derive(Drop)]
 pub struct Imported {
     gathering: Gathering,
-    /// The number of events lent so far.
+    /// The number of events that were lent.
     at: usize,
-    /// The current event is `making`, not `other`.
+    /// Whether the current event is `making` (true) or `other` (false).
     makes: bool,
-    /// The event that is lent if a task is created: its path is always the root's.
+    /// The current event if it creates a task: its path is always the root's.
     making: Event,
-    /// The event that is lent otherwise.
+    /// The current event if it creates no task.
     other: Event,
 }
 
@@ -44,7 +47,7 @@ impl Model for Imported {
     ghost invariant = { λ i. IsLending i.gathering i.at i.making };
 }
 
-/// Replaces the time (ns) and the task of an event that creates a task in the root group.
+/// Sets the time (ns), task and processor of an event that creates a task in the root group.
 fn make_anew(making: &mut Event, at: Ns, pid: Pid, cpu: Cpu)
     requires { IsMade making.old.act }
     ensures moment { making.new.at ≡ at }
@@ -64,7 +67,7 @@ fn make_anew(making: &mut Event, at: Ns, pid: Pid, cpu: Cpu)
     }
 }
 
-/// Replaces the other event. Always returns false, which selects it.
+/// Replaces `other`. Returns false, which selects it as the current event.
 fn show_other(other: &mut Event, at: Ns, act: Act) -> bool
     ensures event { other.new ≡ record { at = at; act = act } }
     ensures result { result ≡ false }
@@ -73,8 +76,8 @@ fn show_other(other: &mut Event, at: Ns, act: Act) -> bool
     false
 }
 
-/// Writes the stored event into one of two events: `making` if it creates a task, otherwise
-/// `other`. Returns whether it is `making`.
+/// Sets one of two events to the stored event: `making` if it creates a task, and `other` if not.
+/// Returns whether it is `making`.
 fn notify(kept: Kept, making: &mut Event, other: &mut Event) -> bool
     requires { IsMade making.old.act }
     ensures known { shown result making.new other.new ≡ event_by kept }
@@ -94,7 +97,7 @@ fn notify(kept: Kept, making: &mut Event, other: &mut Event) -> bool
 }
 
 impl Imported {
-    /// The collected events, including the end, before the first is lent.
+    /// Returns the collected events, including the end, before the first is lent.
     fn make(alloc: Global, gathering: Gathering) -> Result<Imported, NoMemory>
         ensures { IfOk result (λ events. events.left ≡ whole_events gathering) }
     {
@@ -119,7 +122,7 @@ impl Imported {
         })
     }
 
-    /// Advances to the next event. Returns false after the end. Does not allocate.
+    /// Advances to the next event. Returns false after the end. Doesn't allocate.
     pub fn advance(&mut self) -> bool
         ensures { GoesOn self.old self.new result }
     {
@@ -138,7 +141,7 @@ impl Imported {
         true
     }
 
-    /// The current event.
+    /// Returns the current event. It means nothing before the first [`Imported::advance`].
     pub fn event(&self) -> &Event
         ensures { result.now ≡ self.now.event }
     {
@@ -150,8 +153,9 @@ impl Imported {
     }
 }
 
-/// Imports a file's ftrace text, and lends its events one by one. Fails with `Refused` at the first
-/// rejected line, with its first cause. Allocates about 24 bytes for each event.
+/// Imports a file's ftrace text, and returns its events, to be lent one by one. Fails with
+/// `Refused` at the first rejected line, with its first cause. Allocates about 24 bytes for each
+/// event.
 pub fn read_import<S: Shelf>(
     alloc: Global,
     shelf: &mut S,

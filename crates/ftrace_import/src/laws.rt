@@ -1,14 +1,16 @@
-//! The laws of imports. The functions have empty bodies: their contracts are the laws.
+//! The laws of imports.
+//!
+//! The functions have empty bodies: their contracts are the laws.
 ghost use Rattle.ftrace_import.specs.Laws.{ImportedIsTrace, LinesAreWritten, SwitchRunsNext, WakeupWakes};
 
-/// If the first version is accepted, each imported text is accepted at the default tick, as the
-/// trace of its events.
+/// The trace of each imported text is accepted at the default tick by every program that accepts
+/// version 1.
 pub fn law_imported()
     ensures { ImportedIsTrace }
 {}
 
-/// Each line of a text that isn't rejected has its own part of the written events, and the world
-/// after the line is the one after these events and all earlier ones.
+/// Every complete line of a text that isn't rejected has its own part of the written events. The
+/// world after the line is the world after this part and all earlier events.
 pub fn law_written()
     ensures { LinesAreWritten }
 {}

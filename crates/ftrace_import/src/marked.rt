@@ -1,4 +1,8 @@
-//! Which lines are marked, and their contents.
+//! Finds the mark of a line (the text that shows its kind, such as `: sched_switch: `), and parses
+//! the content of marked lines.
+//!
+//! The head of a line is the part before the mark, the tail is the part after it. What a line means
+//! for the tasks is in `deeds`.
 ghost use Rattle.std.specs.Prelude.{◌≡◌, ◌≤◌, IfSome, IsNone, None, length, option_map};
 ghost use Rattle.import_spec.specs.Places.{first_place};
 ghost use Rattle.import_spec.specs.Marked.{begins_marked, if_formed, mark_of, migration_in, read_line, seen_in, sighting_of, switch_in, wakeup_in};
@@ -10,12 +14,12 @@ use import_spec::{ImportCause, LineKind, Seen, Sighting};
 use memchr::memchr;
 use psi_base::Cpu;
 
-/// A mark by its kind and size, without its text.
+/// A mark without its text.
 #[derive(Clone, Copy)]
 struct ShortMark {
     /// The kind of line that it marks.
     kind: LineKind,
-    /// The number of its bytes.
+    /// The length of its text (bytes).
     size: usize,
 }
 
@@ -25,7 +29,7 @@ fn mark(kind: LineKind, size: usize) -> ShortMark
     ShortMark { kind, size }
 }
 
-/// The mark that the bytes begin with, or `None`.
+/// Returns the mark at the start of the bytes, or `None`.
 #[tactic(auto, unfolding(import_spec::specs::Marked::mark_of))]
 fn mark_of(bytes: &[u8]) -> Option<ShortMark>
     ensures mark { result ≡ option_map mark_parts (mark_of bytes.now) }
@@ -44,14 +48,15 @@ fn mark_of(bytes: &[u8]) -> Option<ShortMark>
     }
 }
 
-/// The mark of a line, and its place.
+/// A mark in a line, and its index.
 #[derive(Clone, Copy)]
 struct Found {
     at: usize,
     mark: ShortMark,
 }
 
-/// The leftmost mark of a line. Every mark begins with a colon.
+/// Finds the leftmost mark of a line, or returns `None`. The search looks for colons, because every
+/// mark begins with one.
 fn first_mark(line: &[u8]) -> Option<Found>
     ensures none { IsNone result → first_place begins_marked line.now ≡ None }
     ensures some { IfSome result (λ found. IsFirstMark line.now found.at found.mark) }
@@ -67,7 +72,7 @@ fn first_mark(line: &[u8]) -> Option<Found>
     None
 }
 
-/// The switch on a processor that a tail reports.
+/// Parses the tail of a switch on processor `cpu`. `None` if the tail is malformed.
 #[tactic(auto, unfolding(import_spec::specs::Marked::switch_in))]
 fn switch_in(cpu: u32, tail: &[u8]) -> Option<Seen>
     ensures { result ≡ switch_in cpu tail.now }
@@ -86,7 +91,7 @@ fn switch_in(cpu: u32, tail: &[u8]) -> Option<Seen>
     })
 }
 
-/// The wakeup that a tail reports.
+/// Parses the tail of a wakeup. `None` if the tail is malformed.
 #[tactic(auto, unfolding(import_spec::specs::Marked::wakeup_in))]
 fn wakeup_in(tail: &[u8]) -> Option<Seen>
     ensures { result ≡ wakeup_in tail.now }
@@ -100,7 +105,7 @@ fn wakeup_in(tail: &[u8]) -> Option<Seen>
     })
 }
 
-/// The migration that a tail reports.
+/// Parses the tail of a migration. `None` if the tail is malformed.
 #[tactic(auto, unfolding(import_spec::specs::Marked::migration_in))]
 fn migration_in(tail: &[u8]) -> Option<Seen>
     ensures { result ≡ migration_in tail.now }
@@ -114,7 +119,7 @@ fn migration_in(tail: &[u8]) -> Option<Seen>
     })
 }
 
-/// The contents of a tail, for a line of this kind on this processor.
+/// Parses the tail of a line of this kind on processor `cpu`. `None` if the tail is malformed.
 fn seen_in(kind: LineKind, cpu: u32, tail: &[u8]) -> Option<Seen>
     ensures { result ≡ seen_in kind cpu tail.now }
 {
@@ -125,7 +130,8 @@ fn seen_in(kind: LineKind, cpu: u32, tail: &[u8]) -> Option<Seen>
     }
 }
 
-/// The time and the contents of a marked line.
+/// Parses the time and the content of a marked line, from its head and tail. `None` if the line is
+/// malformed.
 #[tactic(auto, unfolding(import_spec::specs::Marked::sighting_of))]
 fn sighting_of(kind: LineKind, head: &[u8], tail: &[u8]) -> Option<Sighting>
     ensures { result ≡ sighting_of (record { kind = kind; head = head.now; tail = tail.now }) }
@@ -136,7 +142,7 @@ fn sighting_of(kind: LineKind, head: &[u8], tail: &[u8]) -> Option<Sighting>
     Some(Sighting { at, seen })
 }
 
-/// The time and the contents of a line with this mark, or the cause against it.
+/// Parses a line with this mark. Fails with `BadLine` if the line is malformed.
 fn read_marked(line: &[u8], found: Found) -> Result<Option<Sighting>, ImportCause>
     requires { IsFirstMark line.now found.at found.mark }
     ensures { result ≡ if_formed (sighting_of (parted line.now found.at found.mark)) }
@@ -148,8 +154,8 @@ fn read_marked(line: &[u8], found: Found) -> Result<Option<Sighting>, ImportCaus
     }
 }
 
-/// The time and the contents of a line; `None` if it isn't marked. `BadLine` if it is marked but
-/// malformed.
+/// Parses a line: its time and content. Returns `None` if the line isn't marked, and `BadLine` if
+/// it is marked but malformed.
 pub(crate) fn read_line(line: &[u8]) -> Result<Option<Sighting>, ImportCause>
     ensures { result ≡ read_line line.now }
 {

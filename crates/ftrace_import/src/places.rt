@@ -1,4 +1,6 @@
 //! Searches in bytes.
+//!
+//! The functions know nothing about the format of a line.
 ghost use Rattle.std.specs.Prelude.{◌≡◌, ◌+◌, ◌<◌, ◌≤◌, IfSome, length};
 ghost use Rattle.std.specs.List.{position_or_len, prefix_len};
 ghost use Rattle.std.specs.Char.{is_ascii_digit};
@@ -7,7 +9,8 @@ ghost use Rattle.ftrace_import.specs.Bytes.{is_at, shown};
 
 use memchr::memrchr;
 
-/// The last place of a non-empty text.
+/// Returns the index of the last occurrence of `text` in `bytes`, or `None`. Precondition: `text`
+/// isn't empty.
 #[inline(always)]
 pub(crate) fn last_text(bytes: &[u8], text: &[u8]) -> Option<usize>
     requires some { 0 < length text.now }
@@ -24,7 +27,8 @@ pub(crate) fn last_text(bytes: &[u8], text: &[u8]) -> Option<usize>
     None
 }
 
-/// The bytes after the last place of a text.
+/// Returns the bytes after the last occurrence of `text`, or `None` if it doesn't occur.
+/// Precondition: `text` isn't empty.
 #[inline(always)]
 pub(crate) fn after_last<'a>(bytes: &'a [u8], text: &[u8]) -> Option<&'a [u8]>
     requires some { 0 < length text.now }
@@ -36,7 +40,8 @@ pub(crate) fn after_last<'a>(bytes: &'a [u8], text: &[u8]) -> Option<&'a [u8]>
     }
 }
 
-/// The number of bytes before the first one with this value; all if there is none.
+/// Returns the number of bytes before the first byte with value `byte`, or the number of all bytes
+/// if there is none.
 #[inline(always)]
 #[tactic(auto, using(crate::proofs::Bytes::runs))]
 pub(crate) fn count_before(bytes: &[u8], byte: u8) -> usize
@@ -53,7 +58,7 @@ pub(crate) fn count_before(bytes: &[u8], byte: u8) -> usize
     count
 }
 
-/// The number of leading digits.
+/// Returns the number of leading digits.
 #[inline(always)]
 #[tactic(auto, using(crate::proofs::Bytes::runs))]
 pub(crate) fn count_digits(bytes: &[u8]) -> usize

@@ -1,4 +1,6 @@
-//! Collects the events of a text, line by line.
+//! Collects the events of an ftrace text, line by line.
+//!
+//! The lines are read from a file in `text`.
 ghost use Rattle.std.specs.Prelude.{◌≡◌, ◌-◌, ◌≤◌, [], IfOk, OnOk, None, drop, is_some, length, max, unwrap_or};
 ghost use Rattle.psi_spec.specs.Names.{names};
 ghost use Rattle.psi_spec.specs.Refusal.{AreLegal, cause_of};
@@ -16,23 +18,24 @@ use psi_base::{Cpu, Fault, LATEST, MOST_EVENTS, NoMemory, Ns};
 use std::alloc::Global;
 use task_table::Table;
 
-/// The state of an import after the lines so far.
+/// The state of an import after some lines of the text.
 #[derive(Drop)]
 pub struct Gathering {
     alloc: Global,
     /// The number of processors.
     pub(crate) cpus: u32,
-    /// The world after all stored events.
+    /// The table of tasks after all stored events.
     table: Table,
-    /// The events, without the end.
+    /// The stored events, without the end.
     pub(crate) kept: Vec<Kept>,
     /// The time (ns) of the first marked line, if any.
     first: Option<Ns>,
-    /// The trace time (ns) of the last marked line.
+    /// The trace time (ns) of the last marked line: its time since the first marked line, but never
+    /// less than the trace time of an earlier line.
     pub(crate) moment: Ns,
 }
 
-/// An import before the first line.
+/// Returns the state of an import before the first line.
 pub(crate) fn start(alloc: Global, cpus: u32) -> Result<Gathering, NoMemory>
     requires { IsCpuCount cpus }
     ensures so { IfOk result (λ g. IsGathered g) }
@@ -49,7 +52,7 @@ pub(crate) fn start(alloc: Global, cpus: u32) -> Result<Gathering, NoMemory>
     })
 }
 
-/// Whether a deed creates a task.
+/// Returns whether a deed creates a task.
 fn makes(deed: Deed) -> bool
     ensures { result ≡ is_some (names (act_by deed)).new_task }
 {
@@ -59,7 +62,7 @@ fn makes(deed: Deed) -> bool
     }
 }
 
-/// Whether one of the deeds creates a task.
+/// Returns whether at least one of the deeds creates a task.
 fn make_task(kept: &[Kept]) -> bool
     ensures { result ≡ make_task (acts_in kept.now) }
 {
@@ -73,7 +76,9 @@ fn make_task(kept: &[Kept]) -> bool
     false
 }
 
-/// The first cause against a line with these deeds at a trace time (ns), in the world of the table.
+/// Returns the first cause of rejection of a line with the deeds `kept` at trace time `moment`
+/// (ns), in the world of the table. `cpu` is the processor that the line requires. `None` if the
+/// line is accepted.
 fn acts_cause(table: &Table, cpus: u32, moment: Ns, cpu: Cpu, kept: &[Kept]) -> Option<ImportCause>
     ensures { result ≡ acts_cause cpus table.now.world moment cpu (acts_in kept.now) }
 {
@@ -104,7 +109,7 @@ fn play_one(alloc: Global, table: &mut Table, kept: Kept) -> Result<(), NoMemory
     }
 }
 
-/// Plays events that are legal in their turn.
+/// Plays the events that the deeds represent. Precondition: they are legal in their order.
 fn play_all(alloc: Global, table: &mut Table, kept: &[Kept]) -> Result<(), NoMemory>
     requires { AreLegal table.old.limits table.old.world (events_by kept.now) }
     ensures limits { OnOk result (table.new.limits ≡ table.old.limits) }
@@ -119,7 +124,8 @@ fn play_all(alloc: Global, table: &mut Table, kept: &[Kept]) -> Result<(), NoMem
     Ok(())
 }
 
-/// The processor that must exist.
+/// Returns the processor that a line requires: the processor of a switch, or the target of a wakeup
+/// or migration.
 fn needed_cpu(seen: Seen) -> Cpu
     ensures { result ≡ needed_cpu seen }
 {
@@ -128,7 +134,7 @@ fn needed_cpu(seen: Seen) -> Cpu
     }
 }
 
-/// The first time (ns) if there is one, and otherwise `at`.
+/// Returns `first` if it has a value, and `at` otherwise (both in ns).
 fn time_or(first: Option<Ns>, at: Ns) -> Ns
     ensures { result ≡ unwrap_or first at }
 {
@@ -138,15 +144,15 @@ fn time_or(first: Option<Ns>, at: Ns) -> Ns
     }
 }
 
-/// The trace time (ns) of a line at `at`, if the first marked line was at `first` and the trace
-/// time of the last was `moment`.
+/// Returns the trace time (ns) of a line: its time `at` less the time `first` of the first marked
+/// line, but at least `moment`, the trace time of the last marked line.
 fn moment_of(first: Ns, moment: Ns, at: Ns) -> Ns
     ensures { result ≡ max moment (at - first) }
 {
     moment.max(at.saturating_sub(first))
 }
 
-/// The stored events from a place on.
+/// Returns the stored events from index `before`.
 fn kept_from(kept: &Vec<Kept>, before: usize) -> &[Kept]
     requires { before ≤ length kept.now.items }
     ensures { result.now ≡ drop before kept.now.items }
@@ -154,7 +160,7 @@ fn kept_from(kept: &Vec<Kept>, before: usize) -> &[Kept]
     &kept[before..]
 }
 
-/// Takes the contents of a line: stores its events, and plays them.
+/// Stores and plays the events of a line with this content.
 fn take_sighting(g: &mut Gathering, sighting: Sighting) -> Result<(), Fault<ImportCause>>
     requires so { IsGathered g.old }
     requires seen { IsSeen sighting.seen }
@@ -176,8 +182,8 @@ fn take_sighting(g: &mut Gathering, sighting: Sighting) -> Result<(), Fault<Impo
     Ok(())
 }
 
-/// Takes a line: stores its events, if it is marked. If it is rejected, the import isn't used
-/// again.
+/// Stores and plays the events of a line, if it is marked. After a rejection the import must not be
+/// used again.
 pub(crate) fn take_line(g: &mut Gathering, line: &[u8]) -> Result<(), Fault<ImportCause>>
     requires { IsGathered g.old }
     ensures { TakesLine (events_of_line g.old.cpus (reached_in g.old) line.now) g.old g.new result }

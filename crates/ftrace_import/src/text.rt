@@ -1,4 +1,6 @@
-//! The import of a file.
+//! Imports an ftrace text from a file on a shelf (the trait for input files).
+//!
+//! The lines are parsed in `marked`, and their events are collected in `taking`.
 ghost use Rattle.std.specs.Prelude.{◌≡◌, ◌+◌, ◌≤◌, ℕ, List, [], IfOk, IsErrOf, MatchResult, Some, None, Ok, true, false};
 ghost use Rattle.outside.specs.Outside.{content_of, IsAbsent, counts_of};
 ghost use Rattle.outside.specs.Reads.{ReadsFile};
@@ -18,15 +20,15 @@ use psi_base::{Act, Event, Fault, NoMemory};
 use psi_lines::{LineFault, Lines};
 use std::alloc::Global;
 
-/// The maximum number of lines; nothing may follow them.
+/// The greatest number of lines; a text with more is rejected.
 const MOST_LINES: u32 = 16_000_000;
 
 /// Why an import fails.
 #[derive(Clone, Copy, Debug, PartialEq, Eq)]
 pub enum ImportFault {
-    /// A line is rejected: its number, from 1, and the first cause against it.
+    /// A line is rejected, for the first cause that applies. Lines are numbered from 1.
     Refused { line: u32, cause: ImportCause },
-    /// The shelf has no such name.
+    /// The shelf has no file with this name.
     NoFile,
     /// A read failed.
     ReadFault,
@@ -54,7 +56,7 @@ fn fault_at(line: u32, fault: Fault<ImportCause>) -> ImportFault
     }
 }
 
-/// The fault of an import if a line can't be read.
+/// Returns the fault of an import if a line can't be read.
 fn import_fault(fault: LineFault) -> ImportFault
     ensures { result ≡ import_fault fault }
 {
@@ -73,7 +75,8 @@ fn import_fault(fault: LineFault) -> ImportFault
     }
 }
 
-/// Checks that nothing follows the maximum number of lines.
+/// Checks that no bytes follow after the greatest number of lines. Fails with `TooManyLines` if
+/// some do.
 fn look_after<S: Shelf>(
     g: &Gathering,
     lines: &mut Lines,
@@ -106,7 +109,7 @@ fn look_after<S: Shelf>(
     }
 }
 
-/// Takes the next line. Returns false if there is none.
+/// Reads and takes the next line. Returns false if there is none.
 fn take_next<S: Shelf>(
     g: &mut Gathering,
     lines: &mut Lines,
@@ -140,7 +143,8 @@ fn take_next<S: Shelf>(
     }
 }
 
-/// Takes the next line, or checks that nothing follows the maximum number of lines.
+/// Reads and takes the next line, or checks that no bytes follow after the greatest number of
+/// lines. Returns false at the end of the file.
 fn next_step<S: Shelf>(
     g: &mut Gathering,
     lines: &mut Lines,
@@ -171,7 +175,7 @@ fn next_step<S: Shelf>(
     }
 }
 
-/// Takes all lines of a file. There are at most 16,000,001 steps, so this ends.
+/// Reads and takes all lines of a file. The loop ends after at most 16,000,001 steps.
 fn take_lines<S: Shelf>(
     g: &mut Gathering,
     lines: &mut Lines,
@@ -206,11 +210,11 @@ fn take_lines<S: Shelf>(
     }
 }
 
-/// Reads a file's ftrace text and stores its events, for a machine with 1 to 64 processors. It
-/// reads at most 16,000,001 lines.
+/// Reads a file's ftrace text and collects its events, for a machine with 1 to 64 processors. Reads
+/// at most 16,000,000 lines, and checks that none follows.
 ///
-/// `NoFile` or `ReadFault` are returned only if the shelf counted an absent name or a fault in this
-/// call.
+/// `NoFile` and `ReadFault` are returned only if the shelf counted a missing file or a failed read
+/// in this call.
 pub fn gather<S: Shelf>(
     alloc: Global,
     shelf: &mut S,
@@ -239,10 +243,11 @@ pub fn gather<S: Shelf>(
     }
 }
 
-/// Imports a file's ftrace text: its events, including the end. Fails with `Refused` at the first
-/// rejected line, with its first cause.
+/// Imports a file's ftrace text, and returns its events, including the end. Fails with `Refused` at
+/// the first rejected line, with its first cause.
 ///
-/// The program writes its output from the result of [`gather`], which needs a third of the memory.
+/// The programs of this repository don't call it: they call [`read_import`](crate::read_import),
+/// which lends the same events one by one, and needs a third of the memory.
 pub fn import<S: Shelf>(
     alloc: Global,
     shelf: &mut S,
@@ -271,7 +276,7 @@ pub fn import<S: Shelf>(
     Ok(events)
 }
 
-/// All events of an import, including the end.
+/// Returns all events of an import, including the end.
 fn all_events(alloc: Global, g: &Gathering) -> Result<Vec<Event>, NoMemory>
     ensures { IfOk result (λ events. events.items ≡ whole_events g.now) }
 {
