@@ -1,7 +1,7 @@
 //! Command lines: parses the words after the program's name into a command, with one simple `clap`
 //! command for each.
 //!
-//! It checks ranges and defaults, and opens no files.
+//! It checks ranges and fills in defaults, but opens no files.
 #![tactic(auto)]
 
 mod parsed;

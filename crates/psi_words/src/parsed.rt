@@ -1,4 +1,6 @@
-//! Command lines as `clap` parses them: options of one value, and a positional.
+//! Parses words with `clap`: options with one value each, and a positional argument.
+//!
+//! The meaning of the options is in `tables`.
 ghost use Rattle.std.specs.Prelude.{◌≡◌, IfOk, map, false, [], string_bytes, option_copied};
 ghost use Rattle.std.specs.Str.{bytes_eq};
 ghost use Rattle.clap.specs.Words.{app_of, rule_of};
@@ -14,10 +16,10 @@ use psi_base::Fault;
 use std::alloc::{AllocError, Global};
 use std::marker::Model;
 
-/// The id of the positional, which no option has as its name.
+/// The id of the positional argument. No option has this name.
 const POSITIONAL: &str = "TRACE";
 
-// `--name` with one value.
+// Returns the `clap` argument for an option `--name` with one value.
 fn option<'a>(alloc: Global, name: &'a str) -> Arg<'a>
     ensures rule { rule_of result ≡ option_rule name.entry.now }
     ensures local { result.global ≡ false }
@@ -25,7 +27,7 @@ fn option<'a>(alloc: Global, name: &'a str) -> Arg<'a>
     Arg::new(alloc, name).long(name)
 }
 
-// The positional word.
+// Returns the `clap` argument for the positional argument.
 fn positional<'a>(alloc: Global) -> Arg<'a>
     ensures rule { rule_of result ≡ positional_rule }
     ensures local { result.global ≡ false }
@@ -33,7 +35,7 @@ fn positional<'a>(alloc: Global) -> Arg<'a>
     Arg::new(alloc, POSITIONAL)
 }
 
-// A clap command without arguments and without help.
+// Returns a `clap` command without arguments and without a help option.
 fn empty<'a>(alloc: Global) -> Command<'a>
     ensures { app_of result ≡ record { top = plain_shape []; subs = [] } }
 {
@@ -42,7 +44,7 @@ fn empty<'a>(alloc: Global) -> Command<'a>
         .disable_help_flag(true)
 }
 
-// A clap command with options that have these names, and a positional.
+// Returns a `clap` command with options of these names, and a positional argument.
 fn command<'a>(alloc: Global, names: &[&'a str]) -> Result<Command<'a>, AllocError>
     ensures { IfOk result (λ command. app_of command ≡ plain_app (names_in names.now)) }
 {
@@ -53,7 +55,7 @@ fn command<'a>(alloc: Global, names: &[&'a str]) -> Result<Command<'a>, AllocErr
     command.arg(positional(alloc))
 }
 
-/// Parsed words: options with their values, and a positional.
+/// Parsed words: the options with their values, and the positional argument if there is one.
 #[derive(Drop)]
 pub(crate) struct Parsed<'a> {
     found: ArgMatches<'a>,
@@ -72,7 +74,7 @@ impl<'a> Model for Parsed<'a> {
 }
 
 impl<'a> Parsed<'a> {
-    /// Parses words, given the names of the options.
+    /// Parses words. `names` are the names of the allowed options.
     pub(crate) fn read(
         alloc: Global,
         names: &[&'a str],
@@ -95,7 +97,7 @@ impl<'a> Parsed<'a> {
         }
     }
 
-    /// The value of the option with this name.
+    /// Returns the value of the option `name`, or `None` if it isn't given.
     pub(crate) fn value(&self, name: &str) -> Option<&'a str>
         requires { bytes_eq name.now positional_id ≡ false }
         ensures { option_copied result ≡ option_value name.now self.now }
@@ -103,7 +105,7 @@ impl<'a> Parsed<'a> {
         self.found.get_str(name)
     }
 
-    /// The positional.
+    /// Returns the positional argument, or `None` if it isn't given.
     pub(crate) fn positional(&self) -> Option<&'a str>
         ensures { option_copied result ≡ self.now.positional }
     {

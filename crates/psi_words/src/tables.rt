@@ -1,4 +1,7 @@
-//! One table for each command: its options and their meaning.
+//! The arguments of each command: its options, their ranges and defaults, and the command that they
+//! form.
+//!
+//! Single values are parsed in `values`.
 ghost use Rattle.std.specs.Prelude.{map, string_bytes, IfOk, IfSome, IsUtf8};
 ghost use Rattle.psi_words.specs.Reads.{Finds, HasTextNames, ReadsWord};
 ghost use Rattle.run_spec.specs.Words as spec;
@@ -10,7 +13,8 @@ use psi_base::{Fault, Text};
 use run_spec::{Command, Options, Shape};
 use std::alloc::Global;
 
-// The name of the trace file.
+// Returns the name of the trace file, which is the positional argument. Fails if it is missing or
+// empty.
 fn trace(alloc: Global, parsed: &Parsed) -> Result<Text, Fault<BadWords>>
     ensures exact { ReadsWord result (spec.trace_option parsed.now) }
     ensures text { IfOk result IsUtf8 }
@@ -21,21 +25,21 @@ fn trace(alloc: Global, parsed: &Parsed) -> Result<Text, Fault<BadWords>>
     }
 }
 
-// The tick length in ms.
+// Returns the length of a tick in ms: 1 to 60,000, by default 2,000.
 fn tick_ms(parsed: &Parsed) -> Result<u32, BadWords>
     ensures { Finds result (spec.tick_option parsed.now) }
 {
     number_or(2_000, 1, 60_000, parsed.value("tick-ms"))
 }
 
-// The number of worker threads.
+// Returns the number of worker threads: 1 to 64, by default 64.
 fn workers(parsed: &Parsed) -> Result<u32, BadWords>
     ensures { Finds result (spec.workers_option parsed.now) }
 {
     number_or(64, 1, 64, parsed.value("workers"))
 }
 
-// The options of `replay` and `whatif`.
+// Returns the options of `replay` and `whatif`.
 #[tactic(auto, unfolding(run_spec::specs::Words::options_of))]
 fn options(alloc: Global, parsed: &Parsed) -> Result<Options, Fault<BadWords>>
     ensures exact { ReadsWord result (spec.options_of parsed.now) }
@@ -62,7 +66,8 @@ fn options(alloc: Global, parsed: &Parsed) -> Result<Options, Fault<BadWords>>
     })
 }
 
-// The shape of a generated trace.
+// Returns the shape of a generated trace: its seed and its numbers of processors, groups and
+// events. Fails if there is a positional argument or an option is missing.
 #[tactic(auto, unfolding(run_spec::specs::Words::shape_of))]
 fn shape(parsed: &Parsed) -> Result<Shape, BadWords>
     ensures { Finds result (spec.shape_of parsed.now) }

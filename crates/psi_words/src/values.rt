@@ -1,4 +1,6 @@
-//! The values of options: numbers in their ranges, and names.
+//! Parses the values of options: numbers in their ranges, file names, and paths.
+//!
+//! Which option has which range and default is in `tables`.
 ghost use Rattle.std.specs.Prelude.{◌≤◌, IfOk, IfSome, IsUtf8, option_copied};
 ghost use Rattle.psi_words.specs.Reads.{Finds, ReadsWord};
 ghost use Rattle.run_spec.specs.Words as spec;
@@ -7,7 +9,7 @@ use crate::words::BadWords;
 use psi_base::{Fault, Path, Text, read_number};
 use std::alloc::Global;
 
-/// The number that a text spells, if it is from `least` to `most`.
+/// Parses a number from `least` to `most`.
 pub(crate) fn number_within(least: u64, most: u64, text: &str) -> Result<u64, BadWords>
     ensures exact { Finds result (spec.number_within least most text.now) }
     ensures most { IfOk result (λ number. number ≤ most) }
@@ -18,7 +20,7 @@ pub(crate) fn number_within(least: u64, most: u64, text: &str) -> Result<u64, Ba
     }
 }
 
-/// The number of a required option, from `least` to `most`.
+/// Parses the number of a required option, from `least` to `most`. Fails if the option isn't given.
 pub(crate) fn needed(least: u64, most: u64, parsed: Option<&str>) -> Result<u64, BadWords>
     ensures exact { Finds result (spec.needed least most (option_copied parsed.entry)) }
     ensures most { IfOk result (λ number. number ≤ most) }
@@ -29,7 +31,8 @@ pub(crate) fn needed(least: u64, most: u64, parsed: Option<&str>) -> Result<u64,
     }
 }
 
-/// The number of an optional option, from `least` to `most`, or its default.
+/// Parses the number of an optional option, from `least` to `most`. Returns `default` if the option
+/// isn't given.
 pub(crate) fn number_or(
     default: u32,
     least: u32,
@@ -47,7 +50,8 @@ pub(crate) fn number_or(
     }
 }
 
-/// The name of a rules file or drop-in file, or none; it can't be standard input.
+/// Returns the name of a rules file or drop-in file, or `None` if the option isn't given. Fails for
+/// an empty name, and for `-`, because these files can't be standard input.
 pub(crate) fn rules(alloc: Global, parsed: Option<&str>) -> Result<Option<Text>, Fault<BadWords>>
     ensures exact { ReadsWord result (spec.rules_option (option_copied parsed.entry)) }
     ensures text { IfOk result (λ name. IfSome name IsUtf8) }
@@ -63,7 +67,8 @@ pub(crate) fn rules(alloc: Global, parsed: Option<&str>) -> Result<Option<Text>,
     }
 }
 
-/// The name of the drop-in file, or none; it requires a rules file.
+/// Returns the name of the drop-in file, or `None` if the option isn't given. Fails if it is given
+/// without a rules file.
 pub(crate) fn drop_in(
     alloc: Global,
     rules_named: &Option<Text>,
@@ -79,7 +84,7 @@ pub(crate) fn drop_in(
     rules(alloc, parsed)
 }
 
-/// The path of a group, or none.
+/// Parses the path of a group. Returns `None` if the option isn't given.
 pub(crate) fn live(alloc: Global, parsed: Option<&str>) -> Result<Option<Path>, Fault<BadWords>>
     ensures { ReadsWord result (spec.live_option (option_copied parsed.entry)) }
 {

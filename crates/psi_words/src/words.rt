@@ -1,4 +1,7 @@
-//! The command of a command line.
+//! Parses a whole command line: the first word names the command, and selects the table of its
+//! arguments.
+//!
+//! The tables are in `tables`.
 ghost use Rattle.std.specs.Prelude.{IfOk, map, string_bytes, ◌∷◌};
 ghost use Rattle.psi_words.specs.Reads.{HasTextNames, ReadsWord};
 ghost use Rattle.run_spec.specs.Words.{command_of};
@@ -12,7 +15,7 @@ use psi_base::Fault;
 use run_spec::Command;
 use std::alloc::Global;
 
-/// The words are not a valid command.
+/// The words aren't a valid command line.
 #[derive(Clone, Copy, Debug, PartialEq, Eq)]
 pub struct BadWords;
 
@@ -27,7 +30,7 @@ impl From<BadWords> for Fault<BadWords> {
     }
 }
 
-// The command with this name and the words after it.
+// Parses a command: `first` is its name, and `words` are the words after the name.
 #[tactic(auto, unfolding(run_spec::specs::Words::command_of))]
 fn read_named(alloc: Global, first: &str, words: &[String]) -> Result<Command, Fault<BadWords>>
     ensures exact { ReadsWord result (command_of (first.now ∷ map string_bytes words.now)) }
@@ -55,7 +58,8 @@ fn read_named(alloc: Global, first: &str, words: &[String]) -> Result<Command, F
     }
 }
 
-/// Parses the words of a command line, without the program's name, into a command.
+/// Parses the words of a command line, without the program's name, into a command. Fails with
+/// `BadWords` if they aren't a valid command line.
 #[tactic(auto, unfolding(run_spec::specs::Words::command_of))]
 pub fn read_words(alloc: Global, words: &[String]) -> Result<Command, Fault<BadWords>>
     ensures exact { ReadsWord result (command_of (map string_bytes words.now)) }
