@@ -1,4 +1,4 @@
--- Laws of matching and of parsing patterns.
+-- Laws of matching paths, and of parsing patterns.
 use Rattle.std.specs.Prelude.{◌≡◌, ◌↔◌, ◌≢◌, ◌⊎◌, ℕ, List, [], ◌∷◌, length, true, All, codes, Ok}
 use Rattle.std.specs.List.{join_with_byte, zip}
 use Rattle.psi_base.specs.Path.{is_path}
@@ -7,11 +7,12 @@ use Rattle.path_match.specs.Answers.{ArePatterns, Matches, MatchesComponent, Mat
 
 -- ---- matching
 
--- The Boolean test agrees with the relation: some pattern matches.
+-- The Boolean test `is_match` agrees with the relation: it is true exactly if at least one pattern
+-- matches.
 abbrev pub TestShows : Type 0
 TestShows = (patterns : List Pattern) (path : List ℕ) → (is_match patterns path ≡ true) ↔ MatchesSome patterns path
 
--- The root's pattern matches only the root.
+-- The pattern `/` matches only the root.
 abbrev pub RootAlone : Type 0
 RootAlone = (path : List ℕ) → Matches [] path ↔ (path ≡ codes "/")
 
@@ -23,30 +24,30 @@ PathMatchesItself = (text path : List ℕ) → is_path text ≡ true → is_path
 abbrev pub StarMatchesAny : Type 0
 StarMatchesAny = (bytes : List ℕ) → MatchesComponent (codes "*") bytes
 
--- ---- reading
+-- ---- parsing
 
--- a text spells a pattern: it is the pattern's own text, or that after a slash unless the pattern
--- is the root's
+-- The text spells the pattern: it is the pattern's own text, or this text after a slash, unless the
+-- pattern is the root's.
 abbrev pub SpellsPattern : List ℕ → Pattern → Type 0
 SpellsPattern text pattern = (text ≡ pattern_text pattern) ⊎ ((pattern ≢ []) × (text ≡ 47 ∷ pattern_text pattern))
 
--- a text spells patterns: it has as many parts between commas, and each spells its pattern
+-- the text spells the patterns: its parts between commas spell them one by one
 pub record SpellsEach (text : List ℕ) (patterns : List Pattern) : Type 0 where
   pub parts : List (List ℕ)
   pub joined : text ≡ join_with_byte 44 parts
   pub as_many : length parts ≡ length patterns
   pub each : All (λ pair. SpellsPattern pair.0 pair.1) (zip parts patterns)
 
--- Patterns are parsed from a text if and only if it spells them, and there are one to 16 of them,
--- each well formed.
+-- Parsing a text succeeds with `patterns` exactly if the text spells them, and they are 1 to 16
+-- well-formed patterns.
 abbrev pub ReadsPatterns : Type 0
 ReadsPatterns =
     (text : List ℕ) (patterns : List Pattern) → (patterns_of text ≡ Ok patterns) ↔ (ArePatterns patterns × SpellsEach text patterns)
 
--- Round trip: the text of patterns is parsed as those patterns.
+-- Round trip: parsing the text of patterns gives the same patterns.
 abbrev pub ReadAgain : Type 0
 ReadAgain = (patterns : List Pattern) → ArePatterns patterns → patterns_of (patterns_text patterns) ≡ Ok patterns
 
--- A slash before the first component doesn't change a pattern.
+-- A slash before the first component doesn't change the components of a pattern.
 abbrev pub SlashIsFree : Type 0
 SlashIsFree = (byte : ℕ) (bytes : List ℕ) → byte ≢ 47 → components (47 ∷ byte ∷ bytes) ≡ components (byte ∷ bytes)

@@ -1,4 +1,6 @@
-//! Whether one pattern matches.
+//! Tests whether a single pattern matches a path.
+//!
+//! Lists of patterns are in `patterns`.
 ghost use Rattle.std.specs.Prelude.{◌≡◌, ◌==◌};
 ghost use Rattle.std.specs.List.{list_all};
 ghost use Rattle.psi_base.specs.Path.{parts_at};
@@ -10,16 +12,18 @@ use psi_base::Parts;
 /// The last star that the search has passed.
 #[derive(Clone, Copy)]
 struct LastStar {
-    /// The index at which the pattern continues after it.
+    /// The index of the pattern's byte after the star.
     suffix: usize,
-    /// The end of the bytes that it matches.
+    /// The index after the bytes of the path's component that the star matches.
     end: usize,
 }
 
-// Whether a component of a pattern matches one of a path: a star matches any bytes, any other byte
-// itself. If the pattern after the last star doesn't match, that star takes one more byte. Earlier
-// stars keep their shortest match, since a longer one would only leave less to the last. So the
-// number of steps is at most about the product of the two lengths.
+// Returns whether a component of a pattern matches a component of a path: a star matches any bytes,
+// including none, and any other byte matches itself.
+//
+// If the pattern after the last star doesn't match, that star takes one more byte. Earlier stars
+// keep their shortest match, because a longer match would only leave fewer bytes to the last star.
+// So the number of steps is at most about the product of the two lengths.
 fn matches_component(pattern: &[u8], bytes: &[u8]) -> bool
     ensures { result ≡ is_component_match pattern.now bytes.now }
 {
@@ -50,14 +54,15 @@ fn matches_component(pattern: &[u8], bytes: &[u8]) -> bool
     are_stars(&pattern[at..])
 }
 
-// Only stars, which match no byte at all.
+// Returns whether the pattern consists of stars only, so that it matches the empty string.
 fn are_stars(pattern: &[u8]) -> bool
     ensures { result ≡ list_all (λ c. c == 42) pattern.now }
 {
     pattern.iter().all(|c| *c == b'*')
 }
 
-// Whether both have the same number of components, each matched.
+// Returns whether the pattern and the path have the same number of components, and each component
+// matches.
 fn matches_components(pattern: &[u8], path: &[u8]) -> bool
     ensures { result ≡ are_matches (parts_at 47 pattern.now) (parts_at 47 path.now) }
 {
@@ -76,7 +81,7 @@ fn matches_components(pattern: &[u8], path: &[u8]) -> bool
     found.next_part().is_none()
 }
 
-/// Whether a pattern, given by its text, matches a path. The root has no components.
+/// Returns whether a pattern matches a path; both are texts. The root has no components.
 #[tactic(auto, unfolding(crate::specs::Match::components))]
 pub fn matches_pattern(pattern: &[u8], path: &[u8]) -> bool
     ensures { result ≡ are_matches (components pattern.now) (components path.now) }

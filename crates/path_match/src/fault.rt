@@ -1,9 +1,11 @@
 //! Why a text is not a list of patterns.
+//!
+//! The rules of the syntax are in `form`.
 
-/// Why a text is not a list of patterns.
+/// The cause for which a text isn't a list of patterns.
 #[derive(Clone, Copy, Debug, PartialEq, Eq)]
 pub enum PatternFault {
-    /// Some part between commas is not a pattern.
+    /// A part between commas isn't a pattern.
     BadPattern,
     /// There are more than 16 patterns.
     TooMany,

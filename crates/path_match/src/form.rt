@@ -1,4 +1,6 @@
-//! The form of patterns.
+//! The syntax of patterns: tests whether a text is a list of patterns.
+//!
+//! What a pattern matches is in `component`.
 ghost use Rattle.std.specs.Prelude.{◌≡◌, length, nat_le};
 ghost use Rattle.std.specs.List.{list_all};
 ghost use Rattle.psi_base.specs.Path.{parts_at};
@@ -6,24 +8,26 @@ ghost use Rattle.path_match.specs.Match.{after_slash, is_pattern, is_pattern_byt
 
 use psi_base::Parts;
 
-/// The maximum number of patterns of a text.
+/// The greatest number of patterns in a text.
 const MOST_PATTERNS: u8 = 16;
 
-// A letter, a digit, one of `_.@:-\`, or a star.
+// Returns whether a component of a pattern may contain the byte: a letter, a digit, one of
+// `_.@:-\`, or a star.
 fn is_pattern_byte(c: u8) -> bool
     ensures { result ≡ is_pattern_byte c }
 {
     c.is_ascii_alphanumeric() || matches!(c, b'_' | b'.' | b'@' | b':' | b'-' | b'\\' | b'*')
 }
 
-// All are such bytes.
+// Returns whether a component of a pattern may contain all these bytes.
 fn are_pattern_bytes(part: &[u8]) -> bool
     ensures { result ≡ list_all is_pattern_byte part.now }
 {
     part.iter().all(|c| is_pattern_byte(*c))
 }
 
-// One or more such bytes, but not `.` or `..`.
+// Returns whether the bytes are a component of a pattern: one or more pattern bytes, but not `.` or
+// `..`.
 fn is_component(part: &[u8]) -> bool
     ensures { result ≡ is_pattern_component part.now }
 {
@@ -33,7 +37,7 @@ fn is_component(part: &[u8]) -> bool
     are_pattern_bytes(part)
 }
 
-// Each part between slashes is one.
+// Returns whether each part between slashes is a component of a pattern.
 fn are_components(text: &[u8]) -> bool
     ensures { result ≡ list_all is_pattern_component (parts_at 47 text.now) }
 {
@@ -46,7 +50,7 @@ fn are_components(text: &[u8]) -> bool
     true
 }
 
-/// The text without the one slash that may come first.
+/// Returns the text without its first byte if that is a slash.
 pub fn after_slash(text: &[u8]) -> &[u8]
     ensures { result.now ≡ after_slash text.now }
 {
@@ -56,7 +60,8 @@ pub fn after_slash(text: &[u8]) -> &[u8]
     }
 }
 
-// The root, or components with or without a slash before the first.
+// Returns whether the text is a pattern: the root, or components with or without a slash before the
+// first.
 #[tactic(auto, unfolding(crate::specs::Match::components))]
 fn is_pattern(text: &[u8]) -> bool
     ensures { result ≡ is_pattern text.now }
@@ -67,7 +72,7 @@ fn is_pattern(text: &[u8]) -> bool
     are_components(after_slash(text))
 }
 
-/// Each part between commas is a pattern.
+/// Returns whether each part between commas is a pattern.
 pub fn are_patterns(text: &[u8]) -> bool
     ensures { result ≡ list_all is_pattern (parts_at 44 text.now) }
 {
@@ -80,7 +85,7 @@ pub fn are_patterns(text: &[u8]) -> bool
     true
 }
 
-/// There are at most 16 parts between commas.
+/// Returns whether there are at most 16 parts between commas.
 pub fn are_few(text: &[u8]) -> bool
     ensures { result ≡ nat_le (length (parts_at 44 text.now)) 16 }
 {

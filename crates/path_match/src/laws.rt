@@ -1,8 +1,10 @@
-//! Laws of patterns. Each function has an empty body: its contract is the law.
+//! Laws of patterns.
+//!
+//! Each function has an empty body: its contract is the law.
 ghost use Rattle.path_match.specs.Laws.{PathMatchesItself, ReadAgain, ReadsPatterns, RootAlone, SlashIsFree, StarMatchesAny, TestShows};
 
-/// Laws of matching: the test agrees with the relation, the root's pattern matches only the root, a
-/// path matches only itself, and a star matches any component.
+/// Laws of matching: the Boolean test agrees with the relation, the root's pattern matches only the
+/// root, a path as a pattern matches only itself, and a star matches any component.
 pub fn law_matching()
     ensures shows { TestShows }
     ensures root { RootAlone }
@@ -10,9 +12,9 @@ pub fn law_matching()
     ensures star { StarMatchesAny }
 {}
 
-/// Laws of parsing patterns: they are parsed from exactly the texts that spell them, one to 16 of
-/// them, each well formed; their own text is parsed as the same patterns (a round trip); and a
-/// slash before the first component changes nothing.
+/// Laws of parsing patterns: a text is accepted exactly if it spells 1 to 16 well-formed patterns;
+/// parsing the text of patterns gives the same patterns (a round trip); and a slash before the
+/// first component changes nothing.
 pub fn law_reading_patterns()
     ensures spelled { ReadsPatterns }
     ensures again { ReadAgain }

@@ -1,4 +1,6 @@
-//! Lists of patterns.
+//! A list of patterns, as an argument in a rules file has it.
+//!
+//! The syntax of patterns is in `form`, and the test for a single pattern is in `component`.
 ghost use Rattle.std.specs.Prelude.{◌≡◌, ◌↔◌, ◌++◌, Err, IsTrue, IsOk, IfOk, OnErr, OnOk, map};
 ghost use Rattle.psi_base.specs.Path.{parts_at};
 ghost use Rattle.path_match.specs.Match.{components, is_match, patterns_of, patterns_text};
@@ -13,12 +15,12 @@ use psi_base::{Fault, NoMemory, Parts, Path, Text};
 use std::alloc::Global;
 use std::marker::Model;
 
-/// One to 16 patterns of paths. Contracts see a list of patterns, each a list of components; the
+/// A list of 1 to 16 patterns of paths. Contracts see each pattern as a list of components; the
 /// root has none. A component consists of letters, digits, stars and `_.@:-\`, and isn't `.` or
 /// `..`; there is no limit on its length or on the number of components.
 #[derive(Drop)]
 pub struct Patterns {
-    /// The patterns as they were written, separated by commas.
+    /// The text of the patterns as it was parsed, separated by commas.
     text: Text,
 }
 
@@ -34,7 +36,8 @@ impl Model for Patterns {
     ghost invariant = { λ p. patterns_of p.text ≡ Ok (map components (parts_at 44 p.text)) };
 }
 
-// Whether some pattern of the text, between commas, matches the path.
+// Returns whether at least one of the patterns, which are separated by commas in `text`, matches
+// the path.
 #[tactic(auto, unfolding(crate::specs::Match::is_match))]
 fn some_matches(text: &[u8], path: &[u8]) -> bool
     ensures { result ≡ is_match (map components (parts_at 44 text.now)) path.now }
@@ -49,10 +52,10 @@ fn some_matches(text: &[u8], path: &[u8]) -> bool
 }
 
 impl Patterns {
-    /// Parses patterns, which are separated by commas. A pattern is `/`, the root, or components
-    /// separated by `/`, with or without a leading `/`. `BadPattern` exactly if some part isn't a
-    /// pattern, otherwise `TooMany` exactly if there are more than 16. `NoMemory` is only possible
-    /// if the text is valid.
+    /// Parses patterns, which are separated by commas. A pattern is `/` (the root), or components
+    /// separated by `/`, with or without a leading `/`. Fails with `BadPattern` if a part isn't a
+    /// pattern, otherwise with `TooMany` if there are more than 16 parts. `NoMemory` is possible
+    /// only if the text is valid.
     #[tactic(auto, unfolding(crate::specs::Match::patterns_of))]
     pub fn read(alloc: Global, text: &str) -> Result<Patterns, Fault<PatternFault>>
         ensures exact { Gives result (patterns_of text.now) }
@@ -69,8 +72,9 @@ impl Patterns {
         Ok(Patterns { text })
     }
 
-    /// Whether some pattern matches the path: it has the same number of components, each matched,
-    /// and a star matches any bytes within one component, also none.
+    /// Returns whether at least one of the patterns matches the path. A pattern matches if it has
+    /// the same number of components and each matches; a star matches any bytes within one
+    /// component, including none.
     pub fn matches(&self, path: &Path) -> bool
         ensures relation { IsTrue result ↔ MatchesSome self.now path.now }
         ensures test { result ≡ is_match self.now path.now }
@@ -79,7 +83,7 @@ impl Patterns {
         some_matches(self.text.bytes(), path.bytes())
     }
 
-    /// A copy of the patterns.
+    /// Returns a copy of the patterns.
     pub fn copy(&self, alloc: Global) -> Result<Patterns, NoMemory>
         ensures { IfOk result (λ patterns. patterns ≡ self.now) }
     {
@@ -87,8 +91,8 @@ impl Patterns {
         Ok(Patterns { text })
     }
 
-    /// Appends the text of the patterns: separated by commas, `/` for the root, and no slash before
-    /// the first component of others. After `NoMemory` the bytes are unchanged.
+    /// Appends the text of the patterns, separated by commas. The root is `/`; any other pattern
+    /// has no slash before its first component. After `NoMemory` the bytes are unchanged.
     pub fn write(&self, to: &mut Vec<u8>) -> Result<(), NoMemory>
         ensures text { OnOk result (to.new.items ≡ to.old.items ++ patterns_text self.now) }
         ensures unchanged { OnErr result (to.new.items ≡ to.old.items) }

@@ -1,4 +1,6 @@
-//! The text of patterns.
+//! Writes patterns as text.
+//!
+//! The text is normalised: it has no slash before the first component of a pattern.
 ghost use Rattle.std.specs.Prelude.{◌≡◌, ◌++◌, length, map, take, OnErr, OnOk};
 ghost use Rattle.psi_base.specs.Path.{parts_at};
 ghost use Rattle.path_match.specs.Match.{components, pattern_text, patterns_text};
@@ -6,7 +8,7 @@ ghost use Rattle.path_match.specs.Match.{components, pattern_text, patterns_text
 use crate::form::after_slash;
 use psi_base::{NoMemory, Parts};
 
-// The text of a pattern, without the slash that may come before its first component.
+// Returns the text of a pattern without a slash before its first component.
 #[tactic(auto, using(crate::proofs::Texts::slashless))]
 fn slashless(pattern: &[u8]) -> &[u8]
     ensures { result.now ≡ pattern_text (components pattern.now) }
@@ -17,8 +19,8 @@ fn slashless(pattern: &[u8]) -> &[u8]
     after_slash(pattern)
 }
 
-// Appends the patterns of a text that are separated by commas. A part of them stays if memory runs
-// out.
+// Appends the patterns of `text`, which are separated by commas. After `NoMemory` a part of them
+// may be appended.
 #[tactic(auto, using(crate::proofs::Texts::prefix_more))]
 fn put_patterns(text: &[u8], to: &mut Vec<u8>) -> Result<(), NoMemory>
     ensures text { OnOk result (to.new.items
@@ -37,7 +39,8 @@ fn put_patterns(text: &[u8], to: &mut Vec<u8>) -> Result<(), NoMemory>
     Ok(())
 }
 
-/// Appends the patterns of a text that are separated by commas, or nothing if memory runs out.
+/// Appends the patterns of `text`, which are separated by commas. After `NoMemory` nothing is
+/// appended.
 pub fn write_patterns(text: &[u8], to: &mut Vec<u8>) -> Result<(), NoMemory>
     ensures text { OnOk result (to.new.items
         ≡ to.old.items ++ patterns_text (map components (parts_at 44 text.now))) }
