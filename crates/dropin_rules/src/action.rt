@@ -1,4 +1,6 @@
-//! Actions as plugin objects: one function each, with one line for each argument.
+//! Converts actions to JSON: plugin objects with all arguments.
+//!
+//! There is one function for each kind of action, with one line for each argument.
 ghost use Rattle.std.specs.Prelude.{◌≡◌, IfOk};
 ghost use Rattle.path_match.specs.Answers.{ArePatterns};
 ghost use Rattle.serde_json.specs.View.{view};
@@ -90,7 +92,7 @@ fn pg_scan(alloc: Global, cgroup: &Patterns, after: After) -> Result<Value, NoMe
     args.plugin(ActionName::PgScan.text())
 }
 
-/// An action as a plugin object.
+/// Returns an action as a plugin object.
 pub fn action(alloc: Global, action: &Action) -> Result<Value, NoMemory>
     ensures value { IfOk result (λ v. view v ≡ action_data action.now) }
     ensures formed { IfOk result (λ _. ActionHasPatterns action.now) }

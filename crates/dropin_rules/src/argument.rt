@@ -1,4 +1,6 @@
-//! The arguments of a plugin, each a string with its key.
+//! Builds the arguments of a plugin, each a string with its key.
+//!
+//! Which arguments a plugin has is in `action` and `detector`.
 ghost use Rattle.std.specs.Prelude.{◌≡◌, codes, decimal, IfOk, OnOk, IsUtf8};
 ghost use Rattle.psi_spec.specs.Fields as fields;
 ghost use Rattle.path_match.specs.Match.{patterns_text};
@@ -15,7 +17,7 @@ use ruleset_json::{Key, Size};
 use serde_json::{Map, Value};
 use std::alloc::Global;
 
-/// A string as a JSON value.
+/// Returns a string as a JSON value. Precondition: the bytes are UTF-8.
 pub fn text_value(alloc: Global, bytes: &[u8]) -> Result<Value, NoMemory>
     requires { IsUtf8 bytes.now }
     ensures { IfOk result (λ v. view v ≡ string bytes.now) }
@@ -41,7 +43,7 @@ fn truth_word(truth: bool) -> &'static str
     if truth { "true" } else { "false" }
 }
 
-// The text of a ratio, given in thousandths.
+// Returns a ratio, given in thousandths, as a JSON string with three decimals.
 fn ratio_value(alloc: Global, ratio: u32) -> Result<Value, NoMemory>
     ensures { IfOk result (λ v. view v ≡ string (ratio_text ratio)) }
 {
@@ -64,7 +66,7 @@ fn size_value(alloc: Global, size: Size) -> Result<Value, NoMemory>
     }
 }
 
-/// The arguments of a plugin so far.
+/// The arguments of a plugin object that is being built.
 #[derive(Drop)]
 pub struct Arguments {
     alloc: Global,
@@ -72,7 +74,7 @@ pub struct Arguments {
 }
 
 impl Arguments {
-    /// No arguments.
+    /// Returns an empty list of arguments.
     pub fn new(alloc: Global) -> Arguments
         ensures { members_view result.members.entries ≡ no_members }
     {
@@ -82,7 +84,7 @@ impl Arguments {
         }
     }
 
-    // Adds an argument.
+    // Adds an argument with any value.
     fn put(&mut self, key: Key, value: Value) -> Result<(), NoMemory>
         ensures { OnOk result (members_view self.new.members.entries
             ≡ with_member (key_word key) (view value) (members_view self.old.members.entries)) }
@@ -90,7 +92,7 @@ impl Arguments {
         Ok(serde_json::put(&mut self.members, self.alloc, key.text(), value)?)
     }
 
-    /// Adds patterns.
+    /// Adds an argument that is a list of patterns.
     pub fn patterns(&mut self, key: Key, patterns: &Patterns) -> Result<(), NoMemory>
         ensures value { OnOk result (members_view self.new.members.entries
             ≡ with_member (key_word key) (string (patterns_text patterns.now))
@@ -101,7 +103,7 @@ impl Arguments {
         self.put(key, value)
     }
 
-    /// Adds a resource.
+    /// Adds an argument that is a resource.
     pub fn resource(&mut self, key: Key, resource: Res) -> Result<(), NoMemory>
         ensures { OnOk result (members_view self.new.members.entries
             ≡ with_member (key_word key) (string (fields.resource_word resource))
@@ -111,7 +113,7 @@ impl Arguments {
         self.put(key, value)
     }
 
-    /// Adds a number.
+    /// Adds an argument that is a number.
     pub fn number(&mut self, key: Key, number: u32) -> Result<(), NoMemory>
         ensures { OnOk result (members_view self.new.members.entries
             ≡ with_member (key_word key) (string (decimal number))
@@ -121,7 +123,7 @@ impl Arguments {
         self.put(key, Value::String(text))
     }
 
-    /// Adds a ratio, given in thousandths.
+    /// Adds an argument that is a ratio, given in thousandths.
     pub fn ratio(&mut self, key: Key, ratio: u32) -> Result<(), NoMemory>
         ensures { OnOk result (members_view self.new.members.entries
             ≡ with_member (key_word key) (string (ratio_text ratio))
@@ -131,7 +133,7 @@ impl Arguments {
         self.put(key, value)
     }
 
-    /// Adds a size.
+    /// Adds an argument that is a size.
     pub fn size(&mut self, key: Key, size: Size) -> Result<(), NoMemory>
         ensures { OnOk result (members_view self.new.members.entries
             ≡ with_member (key_word key) (string (size_text size))
@@ -141,7 +143,7 @@ impl Arguments {
         self.put(key, value)
     }
 
-    /// Adds a Boolean.
+    /// Adds an argument that is a Boolean.
     pub fn truth(&mut self, key: Key, truth: bool) -> Result<(), NoMemory>
         ensures { OnOk result (members_view self.new.members.entries
             ≡ with_member (key_word key) (string (truth_text truth))
@@ -151,7 +153,7 @@ impl Arguments {
         self.put(key, value)
     }
 
-    /// The plugin object with this name and these arguments.
+    /// Returns the plugin object with this name and these arguments.
     pub fn plugin(self, name: &str) -> Result<Value, NoMemory>
         ensures { IfOk result (λ v. view v ≡ object
             (member (codes "args") (object (members_view self.members.entries))

@@ -1,4 +1,6 @@
-//! Detectors as plugin objects: one function each, with one line for each argument.
+//! Converts detectors to JSON: plugin objects with all arguments.
+//!
+//! There is one function for each kind of detector, with one line for each argument.
 ghost use Rattle.std.specs.Prelude.{◌≡◌, IfOk};
 ghost use Rattle.path_match.specs.Answers.{ArePatterns};
 ghost use Rattle.serde_json.specs.View.{view};
@@ -106,7 +108,7 @@ fn exists(alloc: Global, cgroup: &Patterns, negate: bool) -> Result<Value, NoMem
     args.plugin(DetectorName::Exists.text())
 }
 
-/// A detector as a plugin object.
+/// Returns a detector as a plugin object.
 pub fn detector(alloc: Global, detector: &DetectorSpec) -> Result<Value, NoMemory>
     ensures value { IfOk result (λ v. view v ≡ detector_data detector.now) }
     ensures formed { DetectorHasPatterns detector.now }

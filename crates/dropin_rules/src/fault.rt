@@ -1,24 +1,26 @@
 //! Why a drop-in file is rejected, and at which place.
+//!
+//! The text that is printed for a fault is defined in `FaultText`.
 use psi_base::Fault;
 use ruleset_json::{Place, RulesCause, RulesFault};
 
 /// Why a drop-in file is rejected.
 #[derive(Clone, Copy, Debug, PartialEq, Eq)]
 pub enum DropCause {
-    /// It can't be parsed, with a cause that a rules file may have too.
+    /// The file can't be parsed; the cause is one that a rules file can have too.
     Rules(RulesCause),
-    /// One of its rulesets has neither detectors nor actions.
+    /// A ruleset of the drop-in file has neither detectors nor actions.
     NoParts,
-    /// No ruleset of the rules file has the name of one of its rulesets.
+    /// A ruleset of the drop-in file has a name that no ruleset of the rules file has.
     UnknownRule,
 }
 
 /// The first fault of a drop-in file.
 #[derive(Clone, Copy, Debug, PartialEq, Eq)]
 pub struct DropFault {
-    /// Its place in the drop-in file.
+    /// The place of the fault in the drop-in file.
     pub place: Place,
-    /// Its cause.
+    /// The cause of the fault.
     pub what: DropCause,
 }
 

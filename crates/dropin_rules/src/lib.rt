@@ -1,7 +1,7 @@
 //! Drop-in files over a rules file, and rules as text.
 //!
 //! [`join`] applies the parts of a drop-in file to the rules of a rules file, and [`write_rules`]
-//! writes rules as a rules file. Parsing is ruleset_json's.
+//! writes rules as a rules file. It doesn't parse files: ruleset_json does.
 #![tactic(auto)]
 
 mod action;

@@ -1,4 +1,6 @@
-//! Rules as text.
+//! Writes rules as the text of a rules file.
+//!
+//! The text is built as a JSON value first.
 ghost use Rattle.std.specs.Prelude.{◌≡◌, ◌++◌, ◌≤◌, All, IfOk, OnOk, OnErr, length, map, Ok};
 ghost use Rattle.serde_json.specs.View.{view};
 ghost use Rattle.ruleset_json.specs.GroupRanges.{FitsGroup, FitsGroups};
@@ -15,7 +17,7 @@ use ruleset_json::{Action, DetectorGroup, Rule, Rules};
 use serde_json::{Map, Value};
 use std::alloc::Global;
 
-// A group: its name, followed by its detectors in the same list.
+// Returns the JSON array of a group: its name, followed by its detectors.
 fn group_value(alloc: Global, group: &DetectorGroup) -> Result<Value, NoMemory>
     requires { FitsGroup group.now }
     ensures value { IfOk result (λ v. view v ≡ group_data group.now) }
@@ -31,7 +33,7 @@ fn group_value(alloc: Global, group: &DetectorGroup) -> Result<Value, NoMemory>
     Ok(Value::Array(items))
 }
 
-// Groups in a list.
+// Returns the JSON array of several groups.
 fn groups_value(alloc: Global, groups: &[DetectorGroup]) -> Result<Value, NoMemory>
     requires { FitsGroups groups.now }
     ensures value { IfOk result (λ v. view v ≡ list_data (map group_data groups.now)) }
@@ -45,7 +47,7 @@ fn groups_value(alloc: Global, groups: &[DetectorGroup]) -> Result<Value, NoMemo
     Ok(Value::Array(items))
 }
 
-// Actions in a list.
+// Returns the JSON array of several actions.
 fn actions_value(alloc: Global, actions: &[Action]) -> Result<Value, NoMemory>
     ensures value { IfOk result (λ v. view v ≡ list_data (map action_data actions.now)) }
     ensures formed { IfOk result (λ _. All ActionHasPatterns actions.now) }
@@ -58,7 +60,7 @@ fn actions_value(alloc: Global, actions: &[Action]) -> Result<Value, NoMemory>
     Ok(Value::Array(items))
 }
 
-// A ruleset.
+// Returns the JSON object of a ruleset.
 #[tactic(auto, using(crate::proofs::Sorted::rule))]
 fn rule_value(alloc: Global, rule: &Rule) -> Result<Value, NoMemory>
     requires { FitsRule rule.now }
@@ -75,7 +77,7 @@ fn rule_value(alloc: Global, rule: &Rule) -> Result<Value, NoMemory>
     Ok(Value::Object(members))
 }
 
-// Rulesets in a list.
+// Returns the JSON array of several rulesets.
 fn rulesets_value(alloc: Global, rules: &[Rule]) -> Result<Value, NoMemory>
     requires { FitsRules rules.now }
     ensures value { IfOk result (λ v. view v ≡ list_data (map rule_data rules.now)) }
@@ -89,7 +91,7 @@ fn rulesets_value(alloc: Global, rules: &[Rule]) -> Result<Value, NoMemory>
     Ok(Value::Array(items))
 }
 
-// Rulesets, as in a file.
+// Returns the JSON object of a whole rules file.
 fn rules_value(alloc: Global, rules: &[Rule]) -> Result<Value, NoMemory>
     requires { FitsRules rules.now }
     ensures value { IfOk result (λ v. view v ≡ rules_data rules.now) }
@@ -101,8 +103,8 @@ fn rules_value(alloc: Global, rules: &[Rule]) -> Result<Value, NoMemory>
     Ok(Value::Object(members))
 }
 
-/// Appends the rules as one line of compact JSON with every default filled in, without a newline: a
-/// rules file with these rules. After `NoMemory` the bytes are unchanged.
+/// Appends the rules as one line of compact JSON with every default filled in, without a newline.
+/// The line is a rules file with these rules. After `NoMemory` the bytes are unchanged.
 pub fn write_rules(rules: &Rules, to: &mut Vec<u8>) -> Result<(), NoMemory>
     ensures text { OnOk result (to.new.items ≡ to.old.items ++ rules_text rules.now.rules) }
     ensures unchanged { OnErr result (to.new.items ≡ to.old.items) }
