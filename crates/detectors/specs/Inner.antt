@@ -1,4 +1,5 @@
--- The places of groups in a reading, and of the children of each group.
+-- The places (indexes) of groups in a reading, and the places of the children of each group. They
+-- let a walk over the children skip all other groups.
 use Rattle.std.specs.Prelude.{◌≡◌, ℕ, ◌<◌, ◌≤◌, List, [], ◌∷◌, ◌++◌, All, length, map, filter}
 use Rattle.std.specs.Prelude.{Bool, true, false, if◌then◌else◌, None, slice_index_or}
 use Rattle.psi_base.specs.declared.event.Preference.TheVariants.{Plain}
@@ -9,7 +10,7 @@ use Rattle.kill_spec.specs.Victims.{names_slot}
 
 -- ---- places
 
--- the group at a place that doesn't exist
+-- the group that `group_at` returns for an index that has no group
 abbrev pub no_group : GroupReading
 no_group = record {
   slot = record { 0 = 0 };
@@ -21,31 +22,31 @@ no_group = record {
   populated = false;
 }
 
--- the group at a place
+-- the group of the reading at index `place`
 abbrev pub group_at : List GroupReading → ℕ → GroupReading
 group_at groups place = slice_index_or groups place no_group
 
--- the groups at places
+-- the groups of the reading at these indexes
 abbrev pub groups_at : List GroupReading → List ℕ → List GroupReading
 groups_at groups places = map (group_at groups) places
 
--- each place in the list has a group
+-- each index in the list has a group
 abbrev pub AreAmong : List GroupReading → List ℕ → Type 0
 AreAmong groups places = All (λ place. place < length groups) places
 
 -- ---- children
 
--- a group is a child of the one in a slot
+-- the group is a child of the group in slot `slot`
 abbrev pub is_child : List GroupLife → ℕ → GroupReading → Bool
 is_child lives slot group = names_slot slot (slice_index_or (parents_of lives) group.slot.0 None)
 
--- the number of children that the group in a slot ever has
+-- the number of children that the group in slot `slot` ever has
 abbrev pub child_count : List GroupLife → ℕ → ℕ
 child_count lives slot = length (filter (names_slot slot) (parents_of lives))
 
--- ---- how places are stored
+-- ---- storage of places
 
--- a list of places, and its capacity
+-- a list of places, and its capacity `room`
 pub record PlacesView : Type 0 where
   pub places : List ℕ
   pub room : ℕ
@@ -53,26 +54,29 @@ pub record PlacesView : Type 0 where
 abbrev pub places_with : List ℕ → ℕ → PlacesView
 places_with places room = record { places = places; room = room }
 
--- a list has the places of the groups that pass a test, in order, and a capacity of at least `room`
+-- the list has the places of the groups that pass the test, in order, and its capacity is at least
+-- `room`
 pub record AreHeld (test : GroupReading → Bool) (groups : List GroupReading) (room : ℕ)
     (held : PlacesView) : Type 0 where
   pub passed : groups_at groups held.places ≡ filter test groups
   pub within : AreAmong groups held.places
   pub spare : room ≤ held.room
 
--- by slot, lists have the places of the children of each group
+-- for every slot, the list `below` has the places of the group's children, with capacity for all
+-- its children
 abbrev pub AreBelow : List GroupLife → List GroupReading → List PlacesView → Type 0
 AreBelow lives groups below = (slot : ℕ) (d : PlacesView) → slot < length lives →
     AreHeld (is_child lives slot) groups (child_count lives slot) (slice_index_or below slot d)
 
--- the invariant of the places in a reading: those of all its groups, and of the children of each
+-- The invariant of the places in a reading: `all` has the places of all groups, and `below` has, by
+-- slot, the places of each group's children.
 pub record ArePlaces (lives : List GroupLife) (groups : List GroupReading) (all : PlacesView)
     (below : List PlacesView) : Type 0 where
   pub each : AreHeld (λ group. true) groups (length lives) all
   pub slots : length below ≡ length lives
   pub children : AreBelow lives groups below
 
--- a place was appended to a list if `is_placed`
+-- `place` was appended to the list if `is_placed`; otherwise nothing changed
 pub record HasPlaced (is_placed : Bool) (place : ℕ) (old new : PlacesView) : Type 0 where
   pub places : new.places ≡ (if is_placed then old.places ++ place ∷ [] else old.places)
   pub room : old.room ≤ new.room

@@ -1,4 +1,5 @@
--- The readings that a detector represents.
+-- The state of a detector in terms of the readings that led to it. A detector *represents* readings
+-- if its state is the one after it has taken these readings.
 use Rattle.std.specs.Prelude.{◌≡◌, ℕ, ◌≤◌, List, [], ◌∷◌, length, Bool, false, if◌then◌else◌}
 use Rattle.std.specs.Prelude.{Option, None, Some}
 use Rattle.psi_spec.specs.declared.machine.GroupLife.{GroupLife}
@@ -12,19 +13,20 @@ use Rattle.detectors.specs.Views.{DetectorView, IsBy, ReadingView, slots_of}
 use Rattle.detectors.specs.Tables.{detector_patterns, is_long, is_recent, keeps_scans, scan_in, scan_of}
 use Rattle.detectors.specs.Tables.{match_table, scan_slots}
 
--- ---- what a detector uses of readings
+-- ---- what a detector stores of its readings
 
--- the time (ns) of the newest reading, or None
+-- the time (ns) of the newest reading, or `None` before the first
 abbrev pub newest_moment : List Reading → Option ℕ
 newest_moment [] = None
 newest_moment (reading ∷ past) = Some reading.at
 
--- after a reading, a table has the groups that the patterns match
+-- after at least one reading, the table says for each slot whether the patterns match the group
 abbrev pub IsMatchTable : List GroupLife → List Pattern → List Reading → List Bool → Type 0
 IsMatchTable lives patterns [] matched = Unit {0}
 IsMatchTable lives patterns (reading ∷ past) matched = matched ≡ match_table lives patterns
 
--- the condition that a detector requires for its duration; for detectors without one it never holds
+-- the condition that must hold for the detector's duration; always false for a detector without
+-- such a condition
 abbrev pub condition_of : List GroupLife → DetectorSpec → Reading → Bool
 condition_of lives (detector.PressureAbove cgroup resource threshold duration_s) reading =
     is_pressed lives cgroup resource ten_seconds threshold reading
@@ -34,24 +36,25 @@ condition_of lives (detector.MemoryAbove cgroup threshold duration_s) reading =
     is_memory_above lives cgroup threshold reading
 condition_of lives _ reading = false
 
--- the greatest full average over 10 s of its matches at the newest reading, for a detector that
--- tests whether pressure is rising; 0 for others
+-- For a detector of rising pressure, the greatest full average over 10 s among its matches at the
+-- newest reading; 0 for any other detector.
 abbrev pub greatest_kept : List GroupLife → DetectorSpec → List Reading → ℕ
 greatest_kept lives (detector.PressureRisingBeyond cgroup resource _ _ _) history =
     greatest_before lives cgroup resource history
 greatest_kept lives _ history = 0
 
--- the scan count of the group in a slot at the newest reading, if it was live then
+-- the scan count of the group in slot `slot` at the newest reading, or `None` if it wasn't live
+-- then
 abbrev pub last_scan : List Reading → ℕ → Option ℕ
 last_scan [] slot = None
 last_scan (reading ∷ past) slot = scan_of (group_in reading slot)
 
--- the same for a detector that tests scans; None for others
+-- the result of `last_scan` for a detector of memory reclaim, and `None` for any other detector
 abbrev pub scan_kept : DetectorSpec → List Reading → ℕ → Option ℕ
 scan_kept spec history slot = if keeps_scans spec then last_scan history slot else None
 
--- pages were scanned for some match at a reading at most `duration` (ns) before a time (ns), if the
--- detector tests scans
+-- For a detector of memory reclaim: pages of a match were scanned at a reading at most `duration`
+-- (ns) before time `at` (ns). False for any other detector.
 abbrev pub is_scanned_kept : List GroupLife → DetectorSpec → ℕ → ℕ → List Reading → Bool
 is_scanned_kept lives spec duration at history =
     if keeps_scans spec
@@ -60,11 +63,12 @@ is_scanned_kept lives spec duration at history =
 
 -- ---- the readings that a detector represents
 
--- A detector represents readings of groups, the newest first. It has the arguments, the time of the
--- newest reading, a place for each group and, after a reading, the groups that match. The start of
--- the current run gives for each duration whether the condition has held. The detector has the
--- greatest average of the matches and the scan counts at the newest reading. The time of the last
--- rise gives for each duration whether pages were scanned within it.
+-- The detector's state is the one after the readings `history` (newest first). It has the arguments
+-- `spec`, the time of the newest reading, one table entry for each group and, after the first
+-- reading, the groups that match. The start of the current run determines, for every duration,
+-- whether the condition has held for it. The state also has the greatest average and the scan
+-- counts at the newest reading; and the time of the last increase determines, for every duration,
+-- whether pages were scanned within it.
 pub record Represents (detector : DetectorView) (lives : List GroupLife) (spec : DetectorSpec)
     (history : List Reading) : Type 0 where
   pub spec_is : detector.spec ≡ spec
@@ -78,14 +82,13 @@ pub record Represents (detector : DetectorView) (lives : List GroupLife) (spec :
   pub increased : (duration at : ℕ) →
       is_scanned_kept lives spec duration at history ≡ is_recent detector.increased duration at
 
--- The answer of a detector at a reading: whether it is true there, after the earlier readings that
--- it represents.
+-- `answer` says whether the detector is true at `reading`, after the readings that led to its state
 abbrev pub Answers : DetectorView → ReadingView → Bool → Type 0
 Answers old reading answer = (spec : DetectorSpec) (history : List Reading) →
     Represents old reading.lives spec history →
     answer ≡ is_true reading.lives spec reading.seen history
 
--- A detector takes a reading: afterwards it represents this reading and those before it.
+-- After the call, the detector's state is the one after its earlier readings and `reading`.
 abbrev pub DetectorTakes : DetectorView → ReadingView → DetectorView → Type 0
 DetectorTakes old reading new = (spec : DetectorSpec) (history : List Reading) →
     Represents old reading.lives spec history →
@@ -93,8 +96,9 @@ DetectorTakes old reading new = (spec : DetectorSpec) (history : List Reading) �
 
 -- ---- the invariant of a detector
 
--- The invariant of a detector: no run and no rise began after its last reading, no average exceeds
--- 100 percent, and it has scan counts if it tests scans.
+-- The invariant of a detector: its current run and its last increase began no later than its last
+-- reading, its average is at most 100 percent, and it has scan counts exactly if it is a detector
+-- of memory reclaim.
 pub record IsDetector (detector : DetectorView) : Type 0 where
   pub run : IsBy detector.run detector.last
   pub increased : IsBy detector.increased detector.last

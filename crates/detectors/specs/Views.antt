@@ -1,4 +1,4 @@
--- The values of a reading and of a detector in contracts.
+-- The values of a reading and of a detector, as contracts see them.
 use Rattle.std.specs.Prelude.{ℕ, ◌<◌, ◌≤◌, List, [], ◌∷◌, ◌++◌, length, map, Bool, Option, None}
 use Rattle.std.specs.Prelude.{Some}
 use Rattle.psi_spec.specs.declared.machine.GroupLife.{GroupLife}
@@ -11,44 +11,46 @@ use Rattle.kill_spec.specs.LegalReadings.{Ascend, IsReading}
 
 -- ---- readings
 
--- A reading: all groups that a trace ever creates, by slot, and what was read of the live ones.
+-- A reading: `lives` are all groups that a trace ever creates, by slot, and `seen` is what was read
+-- of the live groups.
 pub record ReadingView : Type 0 where
   pub lives : List GroupLife
   pub seen : Reading
 
--- a reading of a host and groups at a time (ns)
+-- the reading at time `at` (ns) of this host and these groups
 abbrev pub seen_at : ℕ → HostReading → List GroupReading → Reading
 seen_at at host groups = record { at = at; host = host; groups = groups }
 
--- a reading with all groups of a trace
+-- the reading `seen` with all groups of a trace
 abbrev pub reading_of : List GroupLife → Reading → ReadingView
 reading_of lives seen = record { lives = lives; seen = seen }
 
--- a reading with one more group at its end
+-- the reading with `group` appended to its groups
 abbrev pub with_group : Reading → GroupReading → Reading
 with_group seen group = seen_at seen.at seen.host (seen.groups ++ group ∷ [])
 
--- a group's path comes after those of the groups of a reading, in byte order
+-- the group's path is greater, in byte order, than the paths of all groups of the reading
 abbrev pub ComesLast : ReadingView → GroupReading → Type 0
 ComesLast reading group =
     Ascend (map (path_of reading.lives) (with_group reading.seen group).groups)
 
--- The invariant of a reading: there are at most 1,024 groups, and what was read is within them.
+-- The invariant of a reading: a trace has at most 1,024 groups, and what was read is legal for
+-- them.
 pub record IsReadingView (reading : ReadingView) : Type 0 where
   pub few : length reading.lives ≤ most_groups
   pub within : IsReading reading.lives reading.seen
 
--- there is a capacity for this count
+-- the capacity suffices for `count` elements
 pub record IsRoom (count capacity : ℕ) : Type 0 where
   pub room : count ≤ capacity
 
 -- ---- detectors
 
--- A detector: its arguments; the time (ns) of its last reading; by slot, whether the group matches;
--- the time (ns) at which the current run of its condition began; the greatest full average over 10
--- s of its matches at the last reading, if it tests whether pressure is rising, otherwise 0; by
--- slot, the group's scan count at the last reading if it was live, if the detector tests scans; and
--- the last time (ns) at which a match's count had risen.
+-- The state of a detector: its arguments; the time (ns) of its last reading; by slot, whether the
+-- group is a match; the time (ns) at which the current run of its condition began; for a detector
+-- of rising pressure, the greatest full average over 10 s among its matches at the last reading,
+-- otherwise 0; for a detector of memory reclaim, by slot, the scan count of the group at the last
+-- reading if it was live; and the last time (ns) at which a match's scan count had increased.
 pub record DetectorView : Type 0 where
   pub spec : DetectorSpec
   pub last : Option ℕ
@@ -58,7 +60,7 @@ pub record DetectorView : Type 0 where
   pub scans : List (Option ℕ)
   pub increased : Option ℕ
 
--- a detector with these parts
+-- the detector with these components
 abbrev pub detector_with : DetectorSpec → Option ℕ → List Bool → Option ℕ → ℕ → List (Option ℕ) →
     Option ℕ → DetectorView
 detector_with spec last matched run greatest scans increased = record {
@@ -71,16 +73,16 @@ detector_with spec last matched run greatest scans increased = record {
   increased = increased;
 }
 
--- the number of groups of a detector
+-- the number of groups for which a detector was made
 abbrev pub slots_of : DetectorView → ℕ
 slots_of detector = length detector.matched
 
--- a time (ns) is after another, if there is another
+-- `at` is later than `last` (ns), or there is no `last`
 abbrev pub IsAfter : Option ℕ → ℕ → Type 0
 IsAfter None at = Unit {0}
 IsAfter (Some last) at = last < at
 
--- a time (ns), if there is one, isn't after another
+-- there is no `moment`, or it is at or before `last` (ns)
 abbrev pub IsBy : Option ℕ → Option ℕ → Type 0
 IsBy None last = Unit {0}
 IsBy (Some moment) None = ⊥

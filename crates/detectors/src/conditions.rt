@@ -1,4 +1,7 @@
-//! Conditions on a reading and its matches.
+//! Tests a reading for the conditions of detectors. The *matches* of a detector are the groups that
+//! its patterns match.
+//!
+//! How long a condition has held is in `moments`.
 ghost use Rattle.std.specs.Prelude.{◌≡◌, ◌<◌, false, length};
 ghost use Rattle.std.specs.List.{list_any};
 ghost use Rattle.kill_spec.specs.declared.reading.GroupReading.{GroupReading};
@@ -18,7 +21,7 @@ const TEN_SECONDS: usize = 0;
 
 const SIXTY_SECONDS: usize = 1;
 
-/// Whether a group matches, according to a table.
+/// Returns whether the group is a match, according to the table `matched`.
 pub(crate) fn has(matched: &[bool], group: &GroupReading) -> bool
     ensures { result ≡ has matched.now group.now }
 {
@@ -28,7 +31,8 @@ pub(crate) fn has(matched: &[bool], group: &GroupReading) -> bool
     }
 }
 
-/// Whether some pattern of a detector matches a path. A detector of the host's swap has no pattern.
+/// Returns whether at least one pattern of the detector matches a path. A detector of the host's
+/// swap has no pattern.
 #[tactic(auto, unfolding(path_match::specs::Match::is_match))]
 fn is_match(spec: &DetectorSpec, path: &Path) -> bool
     ensures { result ≡ is_match (detector_patterns spec.now) path.now }
@@ -43,7 +47,7 @@ fn is_match(spec: &DetectorSpec, path: &Path) -> bool
     }
 }
 
-/// Stores for each group, by slot, whether the detector matches it.
+/// Stores by slot whether the group is a match of the detector.
 pub(crate) fn find_matches(matched: &mut [bool], spec: &DetectorSpec, lives: &[GroupLife])
     requires { length matched.old ≡ length lives.now }
     ensures { matched.new ≡ match_table lives.now (detector_patterns spec.now) }
@@ -60,7 +64,8 @@ fn full_average(group: &GroupReading, resource: Res, window: usize) -> u64
     group.averages[State::of(resource, Level::FullStalled) as usize][window]
 }
 
-/// The greatest full average of a resource over a window among the matches, or 0 if there are none.
+/// Returns the greatest full average of a resource over a window among the matches, or 0 if there
+/// are none.
 fn greatest_full(matched: &[bool], groups: &[GroupReading], resource: Res, window: usize) -> u64
     requires { window < 3 }
     ensures { result ≡ greatest_among resource window (found matched.now groups.now) }
@@ -72,8 +77,8 @@ fn greatest_full(matched: &[bool], groups: &[GroupReading], resource: Res, windo
         .fold(0, |greatest, average| greatest.max(average))
 }
 
-/// The greatest full average over 10 s of the matches, for a detector that tests whether pressure
-/// is rising; 0 for others.
+/// Returns the greatest full average over 10 s among the matches, for a detector of rising
+/// pressure; 0 for any other detector.
 pub(crate) fn greatest_of(spec: &DetectorSpec, matched: &[bool], groups: &[GroupReading]) -> u64
     ensures { result ≡ greatest_of spec.now (found matched.now groups.now) }
 {
@@ -85,7 +90,8 @@ pub(crate) fn greatest_of(spec: &DetectorSpec, matched: &[bool], groups: &[Group
     }
 }
 
-/// Whether memory in use is above a size in bytes or in percent of the host's memory.
+/// Returns whether `current` (bytes) is above a threshold in bytes or in percent of the host's
+/// memory.
 fn is_above(threshold: Size, host: &HostReading, current: u64) -> bool
     ensures { result ≡ is_above threshold host.now current }
 {
@@ -97,7 +103,7 @@ fn is_above(threshold: Size, host: &HostReading, current: u64) -> bool
     }
 }
 
-/// Whether the memory in use by some match is above a size.
+/// Returns whether at least one match uses more memory than `threshold`.
 fn is_some_above(
     matched: &[bool],
     groups: &[GroupReading],
@@ -112,7 +118,8 @@ fn is_some_above(
         .any(|group| is_above(threshold, host, group.current))
 }
 
-/// Whether the condition that the detector requires for its duration holds.
+/// Returns whether the condition that must hold for the detector's duration holds at this reading.
+/// False for a detector without such a condition.
 pub(crate) fn has_condition(
     spec: &DetectorSpec,
     matched: &[bool],
@@ -143,14 +150,14 @@ pub(crate) fn has_condition(
     }
 }
 
-/// Whether there is a match.
+/// Returns whether there is a match.
 pub(crate) fn has_match(matched: &[bool], groups: &[GroupReading]) -> bool
     ensures { result ≡ list_any (has matched.now) groups.now }
 {
     groups.iter().any(|group| has(matched, group))
 }
 
-/// Whether less than `percent` percent of the host's swap is free.
+/// Returns whether less than `percent` percent of the host's swap is free.
 pub(crate) fn is_swap_short(percent: u32, host: &HostReading) -> bool
     ensures { result ≡ is_host_swap_short percent host.now }
 {

@@ -1,4 +1,6 @@
-//! Copies, each in memory of its own.
+//! Copies the groups of a trace, so that a reading has its own.
+//!
+//! Patterns and arguments are copied in their own crates.
 ghost use Rattle.std.specs.Prelude.{◌≡◌, IfOk};
 
 use psi_base::NoMemory;
@@ -17,7 +19,7 @@ fn copy_life(alloc: Global, life: &GroupLife) -> Result<GroupLife, NoMemory>
     })
 }
 
-/// Copies of groups.
+/// Returns a copy of all groups.
 pub(crate) fn copy_lives(alloc: Global, lives: &[GroupLife]) -> Result<Vec<GroupLife>, NoMemory>
     ensures { IfOk result (λ copies. copies.items ≡ lives.now) }
 {

@@ -1,4 +1,6 @@
-//! Detectors.
+//! A detector of oomd, which takes readings one by one.
+//!
+//! Single conditions are in `conditions`.
 ghost use Rattle.std.specs.Prelude.{◌≡◌, ◌≤◌, List, [], None, Some, IfOk, length};
 ghost use Rattle.psi_spec.specs.declared.machine.GroupLife.{GroupLife};
 ghost use Rattle.detectors.specs.Views.{IsAfter, slots_of};
@@ -15,23 +17,26 @@ use ruleset_json::DetectorSpec;
 use std::alloc::Global;
 use std::marker::Model;
 
-/// One of oomd's detectors after the readings so far, none of which it stores.
+/// The state of one of oomd's detectors after the readings that it has taken. It doesn't store the
+/// readings.
 #[derive(Drop)]
 pub struct Detector {
     spec: DetectorSpec,
     /// The time of the last reading (ns).
     last: Option<Ns>,
-    /// By slot, whether the group matches; computed at the first reading.
+    /// By slot, whether the group is a match (its path matches a pattern); computed at the first
+    /// reading.
     matched: Vec<bool>,
-    /// The time at which the current run of its condition began (ns).
+    /// The time at which the current run of the condition began (ns), or `None` if it didn't hold
+    /// at the last reading.
     run: Option<Ns>,
-    /// The greatest full average over 10 s of its matches at the last reading, if it tests whether
-    /// pressure is rising; otherwise 0.
+    /// For a detector of rising pressure, the greatest full average over 10 s among the matches at
+    /// the last reading; 0 for any other detector.
     greatest: u64,
-    /// By slot, the scan count of the group at the last reading, if it was live. Empty unless the
-    /// detector tests scans.
+    /// By slot, the scan count of the group at the last reading, if it was live. Empty unless this
+    /// is a detector of memory reclaim.
     scans: Vec<Option<u64>>,
-    /// The last time at which the scan count of some match had risen (ns).
+    /// The last time at which the scan count of a match had increased (ns).
     increased: Option<Ns>,
 }
 
@@ -48,7 +53,7 @@ impl Model for Detector {
         d.run d.greatest d.scans.items d.increased) };
 }
 
-/// The number of slots for which a detector stores scan counts.
+/// Returns the number of slots for which a detector stores scan counts.
 fn scan_slots(spec: &DetectorSpec, slots: u32) -> u32
     ensures { result ≡ scan_slots spec.now slots }
 {
@@ -59,8 +64,8 @@ fn scan_slots(spec: &DetectorSpec, slots: u32) -> u32
 }
 
 impl Detector {
-    /// A detector with these arguments over `slots` groups, before the first reading. Allocates
-    /// everything at the start.
+    /// Returns a detector with these arguments for `slots` groups, before the first reading.
+    /// Allocates all its memory.
     pub fn new(alloc: Global, spec: &DetectorSpec, slots: u32) -> Result<Detector, NoMemory>
         ensures { IfOk result (λ detector. (lives : List GroupLife) → length lives ≡ slots →
             Represents detector lives spec.now []) }
@@ -76,15 +81,15 @@ impl Detector {
         })
     }
 
-    /// Takes the next reading, which is later than the last. Returns whether the detector is true
-    /// at it, after the readings before. Does not allocate.
+    /// Takes the next reading. Returns whether the detector is true at `reading`, given the earlier
+    /// readings. Doesn't allocate. Precondition: `reading` is later than the last reading.
     pub fn step(&mut self, reading: &Reading) -> bool
         requires later { IsAfter self.old.last reading.now.seen.at }
         requires slots { length reading.now.lives ≡ slots_of self.old }
         ensures answer { Answers self.old reading.now result }
         ensures stands { DetectorTakes self.old reading.now self.new }
 
-        // These also hold for a detector that represents no known readings.
+        // The next three clauses hold for any state, even if no readings are known that lead to it.
         ensures last { self.new.last ≡ Some reading.now.seen.at }
         ensures slots { slots_of self.new ≡ slots_of self.old }
         ensures spec { self.new.spec ≡ self.old.spec }
@@ -95,7 +100,7 @@ impl Detector {
         self.answer(before, reading)
     }
 
-    /// Finds the matches, at the first reading.
+    /// Computes the table of matches if this is the first reading.
     fn begin(&mut self, reading: &Reading)
         requires { length reading.now.lives ≡ slots_of self.old }
         ensures { self.new ≡ begun self.old reading.now.lives }
@@ -105,7 +110,7 @@ impl Detector {
         }
     }
 
-    /// Updates the state by the reading, after the matches were found.
+    /// Updates the state for a reading. Precondition: the table of matches is computed.
     fn take(&mut self, reading: &Reading)
         requires later { IsAfter self.old.last reading.now.seen.at }
         requires slots { length reading.now.lives ≡ slots_of self.old }
@@ -128,8 +133,8 @@ impl Detector {
         self.last = Some(now);
     }
 
-    /// Whether the detector is true, from its state after it has taken the reading. `before` is the
-    /// previous reading's greatest average.
+    /// Returns whether the detector is true, from its state after it has taken the reading.
+    /// `before` is the greatest average at the previous reading.
     fn answer(&self, before: u64, reading: &Reading) -> bool
         requires last { self.now.last ≡ Some reading.now.seen.at }
         requires before { before ≤ 204800 }

@@ -1,7 +1,8 @@
 //! Readings of groups, and whether oomd's detectors are true at them.
 //!
-//! It doesn't combine detectors into rulesets (kill_engine does), and doesn't choose victims
-//! (victim_rank does).
+//! A reading is what an evaluation of the rules sees: the time, the host's memory and the live
+//! groups. This crate doesn't combine detectors into rulesets (kill_engine does), and doesn't
+//! choose victims (victim_rank does).
 #![tactic(auto)]
 
 mod conditions;

@@ -1,4 +1,6 @@
-//! The times that a detector stores.
+//! Updates and tests the times that a detector stores.
+//!
+//! It doesn't test the conditions themselves: `conditions` does.
 ghost use Rattle.std.specs.Prelude.{◌≡◌, None, Some, if◌then◌else◌};
 ghost use Rattle.detectors.specs.Tables.{is_long, is_recent, run_after};
 ghost use Rattle.detectors.specs.Views.{IsBy};
@@ -6,15 +8,15 @@ ghost use Rattle.kill_spec.specs.Detectors.{of_seconds};
 
 use psi_base::Ns;
 
-/// A number of seconds in ns.
+/// Returns a number of seconds in ns.
 pub(crate) fn of_seconds(seconds: u32) -> Ns
     ensures { result ≡ of_seconds seconds }
 {
     u64::from(seconds) * 1_000_000_000
 }
 
-/// The time at which the current run of a condition began (ns), after the condition was tested at
-/// `now` (ns).
+/// Returns the start (ns) of the current run of a condition, after it was tested at `now` (ns).
+/// `None` if it doesn't hold.
 pub(crate) fn run_after(run: Option<Ns>, holds: bool, now: Ns) -> Option<Ns>
     ensures { result ≡ run_after run holds now }
 {
@@ -27,14 +29,14 @@ pub(crate) fn run_after(run: Option<Ns>, holds: bool, now: Ns) -> Option<Ns>
     }
 }
 
-/// The time of the last rise (ns), after the counts were compared at `now` (ns).
+/// Returns the time (ns) of the last increase, after the counts were compared at `now` (ns).
 pub(crate) fn rise_after(increased: Option<Ns>, has_risen: bool, now: Ns) -> Option<Ns>
     ensures { result ≡ (if has_risen then Some now else increased) }
 {
     if has_risen { Some(now) } else { increased }
 }
 
-/// Whether a run has lasted at least `duration` (ns) at `now`.
+/// Returns whether there is a run and it has lasted at least `duration` (ns) at `now` (ns).
 pub(crate) fn is_long(run: Option<Ns>, duration: Ns, now: Ns) -> bool
     requires { IsBy run (Some now) }
     ensures { result ≡ is_long run duration now }
@@ -45,7 +47,7 @@ pub(crate) fn is_long(run: Option<Ns>, duration: Ns, now: Ns) -> bool
     }
 }
 
-/// Whether there is a time, at most `duration` (ns) before `now`.
+/// Returns whether there is a time and it is at most `duration` (ns) before `now` (ns).
 pub(crate) fn is_recent(moment: Option<Ns>, duration: Ns, now: Ns) -> bool
     requires { IsBy moment (Some now) }
     ensures { result ≡ is_recent moment duration now }

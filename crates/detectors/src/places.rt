@@ -1,4 +1,6 @@
-//! The places of groups in a reading.
+//! The places (indexes) of groups in a reading, and of the children of each group.
+//!
+//! They let a walk over the children of a group skip all other groups.
 ghost use Rattle.std.specs.Prelude.{◌≡◌, ◌<◌, ◌≤◌, ℕ, [], IfOk, length, slice_index_or, true};
 ghost use Rattle.psi_spec.specs.Stall.{number_of_slot};
 ghost use Rattle.kill_spec.specs.Victims.{names_slot};
@@ -9,7 +11,7 @@ use psi_spec::GroupLife;
 use std::alloc::Global;
 use std::marker::Model;
 
-/// Places of groups in a reading, in order.
+/// A list of places of groups in a reading, in ascending order.
 #[derive(Drop)]
 pub(crate) struct Places {
     places: Vec<u32>,
@@ -25,7 +27,7 @@ impl Model for Places {
 }
 
 impl Places {
-    /// No place yet, with a capacity of `room`.
+    /// Returns an empty list with a capacity of at least `room`.
     pub(crate) fn with_room(alloc: Global, room: usize) -> Result<Places, NoMemory>
         ensures none { IfOk result (λ made. made.places ≡ []) }
         ensures room { IfOk result (λ made. room ≤ made.room) }
@@ -35,14 +37,14 @@ impl Places {
         })
     }
 
-    /// Removes all places.
+    /// Removes all places. The capacity doesn't change.
     pub(crate) fn clear(&mut self)
         ensures { self.new ≡ places_with [] self.old.room }
     {
         self.places.clear();
     }
 
-    /// Appends a place. Does not allocate.
+    /// Appends a place. Doesn't allocate. Precondition: the list isn't full.
     pub(crate) fn push(&mut self, place: u32)
         requires { length self.old.places < self.old.room }
         ensures { HasPlaced true place self.old self.new }
@@ -52,7 +54,7 @@ impl Places {
         }
     }
 
-    /// The places.
+    /// Returns the places.
     pub(crate) fn items(&self) -> &[u32]
         ensures { result.now ≡ self.now.places }
     {
@@ -60,7 +62,7 @@ impl Places {
     }
 }
 
-// The number of children that the group in a slot ever has.
+// Returns the number of children that the group in slot `slot` ever has.
 fn child_count(lives: &[GroupLife], slot: Slot) -> usize
     ensures { result ≡ child_count lives.now slot.0 }
 {
@@ -73,7 +75,8 @@ fn child_count(lives: &[GroupLife], slot: Slot) -> usize
     count
 }
 
-/// For each group, by slot, room for the places of its children.
+/// Returns, by slot, an empty list with capacity for the places of all children that the group ever
+/// has.
 pub(crate) fn room_below(alloc: Global, lives: &[GroupLife]) -> Result<Vec<Places>, NoMemory>
     requires { length lives.now ≤ 1024 }
     ensures slots { IfOk result (λ below. length below.items ≡ length lives.now) }
@@ -87,7 +90,7 @@ pub(crate) fn room_below(alloc: Global, lives: &[GroupLife]) -> Result<Vec<Place
     Ok(below)
 }
 
-/// Removes the places of all children.
+/// Empties the list of every slot.
 pub(crate) fn clear_below(below: &mut Vec<Places>)
     ensures slots { length below.new.items ≡ length below.old.items }
     ensures each { (slot : ℕ) (d : PlacesView) → slot < length below.old.items →
@@ -99,7 +102,8 @@ pub(crate) fn clear_below(below: &mut Vec<Places>)
     }
 }
 
-/// Appends a place to the children of `parent`, if any. Does not allocate.
+/// Appends a place to the list of slot `parent`, if any. Doesn't allocate. Precondition: that list
+/// isn't full.
 pub(crate) fn place_below(below: &mut Vec<Places>, parent: Option<Slot>, place: u32)
     requires { (slot : ℕ) (d : PlacesView) → slot < length below.old.items →
         names_slot slot (number_of_slot parent) ≡ true →

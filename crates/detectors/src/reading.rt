@@ -1,4 +1,6 @@
-//! Readings.
+//! A reading: what an evaluation of the rules sees.
+//!
+//! The values are filled in by the caller; nothing is measured here.
 ghost use Rattle.std.specs.Prelude.{◌≡◌, ◌<◌, ◌≤◌, [], IfOk, filter, length};
 ghost use Rattle.psi_spec.specs.Groups.{path_at};
 ghost use Rattle.psi_spec.specs.World.{most_groups};
@@ -16,8 +18,8 @@ use std::alloc::Global;
 use std::marker::Model;
 
 /// A reading for an evaluation: the time, the host's memory, and the live groups in the byte order
-/// of their paths. It also has all groups that a trace ever creates. Allocates everything at the
-/// start.
+/// of their paths. It also has all groups that a trace ever creates. All memory is allocated when
+/// it is made.
 #[derive(Drop)]
 pub struct Reading {
     lives: Vec<GroupLife>,
@@ -27,7 +29,8 @@ pub struct Reading {
     groups: Vec<GroupReading>,
     /// The places of all live groups, in order.
     all: Places,
-    /// By slot, the places of the group's live children, with capacity for all its children.
+    /// By slot, the places of the group's live children, with capacity for all children that it
+    /// ever has.
     below: Vec<Places>,
 }
 
@@ -47,7 +50,7 @@ impl Model for Reading {
 }
 
 impl Reading {
-    /// An empty reading at time 0, with capacity for all of `lives`.
+    /// Returns an empty reading at time 0, with capacity for all groups of `lives`.
     pub fn make(alloc: Global, lives: &[GroupLife]) -> Result<Reading, NoMemory>
         requires { length lives.now ≤ most_groups }
         ensures { IfOk result (λ reading.
@@ -67,7 +70,8 @@ impl Reading {
         })
     }
 
-    /// Starts a reading at a time (ns), with the last sample of the host's memory and no groups.
+    /// Starts a new reading at time `at` (ns), with the last sample of the host's memory and no
+    /// groups.
     pub fn start(&mut self, at: Ns, host: HostReading)
         requires { IsHostReading host }
         ensures { self.new ≡ reading_of self.old.lives (seen_at at host []) }
@@ -79,8 +83,9 @@ impl Reading {
         clear_below(&mut self.below);
     }
 
-    /// Appends a live group. Its path comes after the others in byte order, so there is room. Does
-    /// not allocate.
+    /// Appends a live group. Doesn't allocate. Precondition: the group's path is greater, in byte
+    /// order, than the paths of the groups in the reading. So no group occurs twice, and there is
+    /// room.
     pub fn push(&mut self, group: GroupReading)
         requires group { IsGroupReading (length self.old.lives) group }
         requires order { ComesLast self.old group }
@@ -95,14 +100,14 @@ impl Reading {
         }
     }
 
-    /// The time of the reading, in ns.
+    /// Returns the time of the reading (ns).
     pub fn at(&self) -> Ns
         ensures { result ≡ self.now.seen.at }
     {
         self.at
     }
 
-    /// The host's memory according to its last sample.
+    /// Returns the host's memory according to its last sample.
     pub fn host(&self) -> HostReading
         ensures host { result ≡ self.now.seen.host }
         ensures within { IsHostReading result }
@@ -110,7 +115,7 @@ impl Reading {
         self.host
     }
 
-    /// The live groups, in the byte order of their paths.
+    /// Returns the live groups, in the byte order of their paths.
     pub fn groups(&self) -> &[GroupReading]
         ensures groups { result.now ≡ self.now.seen.groups }
         ensures within { IsReading self.now.lives self.now.seen }
@@ -118,7 +123,7 @@ impl Reading {
         &self.groups
     }
 
-    /// The live group at a place, from 0.
+    /// Returns the live group at index `place`.
     pub fn group(&self, place: u32) -> &GroupReading
         requires { place < length self.now.seen.groups }
         ensures group { result.now ≡ group_at self.now.seen.groups place }
@@ -127,7 +132,7 @@ impl Reading {
         &self.groups[place as usize]
     }
 
-    /// The places of all live groups, in the byte order of their paths.
+    /// Returns the places of all live groups, in the byte order of their paths.
     pub fn places(&self) -> &[u32]
         ensures groups { groups_at self.now.seen.groups result.now ≡ self.now.seen.groups }
         ensures within { AreAmong self.now.seen.groups result.now }
@@ -138,7 +143,8 @@ impl Reading {
         self.all.items()
     }
 
-    /// The places of the live children of the group in a slot, in the byte order of their paths.
+    /// Returns the places of the live children of the group in slot `slot`, in the byte order of
+    /// their paths.
     pub fn below(&self, slot: Slot) -> &[u32]
         requires { slot.0 < length self.now.lives }
         ensures groups { groups_at self.now.seen.groups result.now
@@ -151,7 +157,7 @@ impl Reading {
         self.below[slot.0 as usize].items()
     }
 
-    /// All groups that a trace ever creates, by slot.
+    /// Returns all groups that a trace ever creates, by slot.
     pub fn lives(&self) -> &[GroupLife]
         ensures lives { result.now ≡ self.now.lives }
         ensures few { length result.now ≤ most_groups }
@@ -159,7 +165,7 @@ impl Reading {
         &self.lives
     }
 
-    /// The path of the group in a slot, whether it is live or not.
+    /// Returns the path of the group in slot `slot`, whether it is live or not.
     pub fn path(&self, slot: Slot) -> &Path
         requires { slot.0 < length self.now.lives }
         ensures { result.now ≡ path_at self.now.lives slot.0 }

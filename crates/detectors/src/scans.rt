@@ -1,4 +1,7 @@
-//! Counts of scanned pages.
+//! Stores and compares scan counts: the numbers of pages of each group that memory reclaim has
+//! scanned.
+//!
+//! Only detectors of memory reclaim use them.
 ghost use Rattle.std.specs.Prelude.{◌≡◌, ◌<◌, ℕ, All, length, nat_lt};
 ghost use Rattle.detectors.specs.Tables.{found, have_risen, last_rise, risen_from, scan_after};
 ghost use Rattle.detectors.specs.Tables.{scan_among, scan_in, scan_slots};
@@ -19,7 +22,7 @@ fn scan_in(scans: &[Option<u64>], slot: Slot) -> Option<u64>
     }
 }
 
-/// Whether a count exceeds the previous one; false if there is none.
+/// Returns whether a count is greater than the previous one. False if there is no previous one.
 fn has_risen(before: Option<u64>, scan: u64) -> bool
     ensures { result ≡ nat_lt 0 (risen_from before scan) }
 {
@@ -29,7 +32,7 @@ fn has_risen(before: Option<u64>, scan: u64) -> bool
     }
 }
 
-/// Whether the count of some match exceeds that of the table.
+/// Returns whether at least one match has a greater scan count than the stored one.
 pub(crate) fn have_risen(scans: &[Option<u64>], matched: &[bool], groups: &[GroupReading]) -> bool
     ensures { result ≡ have_risen scans.now (found matched.now groups.now) }
 {
@@ -39,8 +42,8 @@ pub(crate) fn have_risen(scans: &[Option<u64>], matched: &[bool], groups: &[Grou
         .any(|group| has_risen(scan_in(scans, group.slot), group.scan))
 }
 
-/// Stores the scan counts of a reading's groups, and discards all others. If two groups had the
-/// same slot, which is impossible, the first would win.
+/// Stores the scan counts of the groups in a reading, and discards all others. The code would use
+/// the first of two groups with the same slot, but a reading has no such groups.
 pub(crate) fn take_scans(scans: &mut [Option<u64>], groups: &[GroupReading])
     requires { All (λ (group : GroupReading). group.slot.0 < length scans.old) groups.now }
     ensures { (slot : ℕ) → scan_in scans.new slot ≡ scan_among groups.now slot }
@@ -54,8 +57,9 @@ pub(crate) fn take_scans(scans: &mut [Option<u64>], groups: &[GroupReading])
     }
 }
 
-/// Stores the counts of a reading at `now` (ns) if the detector tests scans, and returns the last
-/// time (ns) at which some match's count had risen. Otherwise nothing changes.
+/// For a detector of memory reclaim, stores the scan counts of a reading at `now` (ns), and returns
+/// the last time (ns) at which a match's count had increased. For any other detector, changes
+/// nothing and returns `increased`.
 pub(crate) fn take_rise(
     spec: &DetectorSpec,
     scans: &mut [Option<u64>],
