@@ -1,4 +1,5 @@
--- Choices that depend on earlier readings only through the stored past.
+-- Choices of a victim that depend on earlier readings only through the stored past. The past
+-- *represents* readings if it is what is stored after them.
 use Rattle.std.specs.Prelude.{◌≡◌, ℕ, List, length, filter, option_map, Option}
 use Rattle.psi_base.specs.declared.event.Slot.{Slot}
 use Rattle.psi_spec.specs.declared.machine.GroupLife.{GroupLife}
@@ -11,23 +12,25 @@ use Rattle.victim_rank.specs.Pasts.{IsPastOf, Kept}
 use Rattle.victim_rank.specs.Growth.{has_grown_more_over, is_growing_over}
 use Rattle.victim_rank.specs.Scopes.{ScopeView, among}
 
--- The victim of an action at a reading: the slot of the group that the action kills after any
--- earlier readings (the newest first) that the stored past represents, or None.
+-- `result` is the slot of the group that the action kills at the reading `now`, for any earlier
+-- readings (newest first) that the stored past represents; `None` if there is no victim.
 abbrev pub IsVictim : List GroupLife → Action → Reading → Kept → Option Slot → Type 0
 IsVictim lives act now kept result = (history : List Reading) → IsPastOf kept history →
     result ≡ option_map (λ (group : GroupReading). group.slot) (victim lives act now history)
 
--- a choice in a scope is that of its action after any readings that the stored past represents
+-- `result` is the action's choice among the groups of the scope, for any earlier readings that the
+-- stored past represents
 abbrev pub Chooses : ScopeView → Reading → Kept → Option GroupReading → Type 0
 Chooses scope now kept result = (history : List Reading) → IsPastOf kept history →
     result ≡ choice scope.lives scope.act now history (among scope.lives scope.act scope.above now)
 
--- the last group of at most `count` more choices, each among the children of the previous one
+-- `result` is the last of at most `count` further choices, each among the children of the group
+-- chosen before it
 abbrev pub Descends : ScopeView → Reading → Kept → ℕ → GroupReading → GroupReading → Type 0
 Descends scope now kept count chosen result = (history : List Reading) → IsPastOf kept history →
     result ≡ descended scope.lives scope.act now history count chosen
 
--- the choice by size or growth, given each group's past sizes
+-- the choice by size or growth, if `sizes` gives the past sizes of each group
 abbrev pub size_choice : (GroupReading → List ℕ) → List GroupLife → ℕ → ℕ → ℕ →
     List GroupReading → Option GroupReading
 size_choice sizes lives size_threshold percentile ratio groups =

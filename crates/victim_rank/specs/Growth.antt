@@ -10,19 +10,19 @@ use Rattle.victim_rank.specs.Pasts.{Kept}
 abbrev pub sizes_from : Kept → GroupReading → List ℕ
 sizes_from kept group = slice_index_or kept.sizes group.slot.0 []
 
--- a group has past sizes that aren't all 0, and its size is at least `ratio` thousandths of their
+-- the group has past sizes that aren't all 0, and its size is at least `ratio` thousandths of their
 -- mean
 abbrev pub is_growing_over : (GroupReading → List ℕ) → ℕ → GroupReading → Bool
 is_growing_over sizes ratio group =
     nat_lt 0 (sum (sizes group))
     && nat_le (ratio * sum (sizes group)) (memory_in_use group * length (sizes group) * 1000)
 
--- a group's size divided by the mean of its past, multiplied by the sums of its own past and
--- another's
+-- The growth of `group` (its size over the mean of its past sizes), multiplied by the sums of the
+-- past sizes of both groups. So two growths are compared without division.
 abbrev pub growth_over : (GroupReading → List ℕ) → GroupReading → GroupReading → ℕ
 growth_over sizes group other = memory_in_use group * length (sizes group) * sum (sizes other)
 
--- a group has grown more than another, or as much and is larger
+-- the first group has grown more than the second, or as much and is larger
 abbrev pub has_grown_more_over : (GroupReading → List ℕ) → List GroupLife →
     GroupReading → GroupReading → Bool
 has_grown_more_over sizes lives first second =

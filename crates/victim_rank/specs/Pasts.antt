@@ -1,4 +1,5 @@
--- The past that is stored of earlier readings for choices of victims.
+-- The stored past: what is stored of earlier readings for the choice of victims. It *represents* a
+-- list of readings if it is what is stored after these readings.
 use Rattle.std.specs.Prelude.{◌≡◌, ℕ, ◌≤◌, ◌^◌, List, [], ◌∷◌, All, length, map, take, option_map}
 use Rattle.std.specs.Prelude.{slice_index_or, Option, None}
 use Rattle.kill_spec.specs.declared.reading.GroupReading.{GroupReading}
@@ -6,35 +7,36 @@ use Rattle.kill_spec.specs.Readings.{Reading, group_in}
 use Rattle.kill_spec.specs.Victims.{sizes_in}
 use Rattle.victim_rank.specs.declared.past.Sizes.{Sizes}
 
--- The stored past of groups, by slot: the last sizes (bytes) of each group, the newest first, and
--- its scan count at the last reading, if it was live then.
+-- The stored past of groups, by slot: the last sizes (bytes) of each group, newest first, and its
+-- scan count (pages that memory reclaim has scanned) at the last reading, if it was live then.
 pub record Kept : Type 0 where
   pub sizes : List (List ℕ)
   pub scans : List (Option ℕ)
 
--- the scan count of the group in a slot at the newest reading, if it was live then
+-- the scan count of the group in slot `slot` at the newest reading, or `None` if it wasn't live
+-- then
 abbrev pub scan_before : List Reading → ℕ → Option ℕ
 scan_before [] slot = None
 scan_before (before ∷ past) slot =
     option_map (λ (group : GroupReading). group.scan) (group_in before slot)
 
--- A stored past represents readings, the newest first: it has each group's last sizes, at most
--- four, at readings at which the group was live, and its scan count at the newest reading.
+-- The stored past is the one after the readings `history` (newest first): for each group, the sizes
+-- at the last four readings at which it was live, and its scan count at the newest reading.
 pub record IsPastOf (kept : Kept) (history : List Reading) : Type 0 where
   pub sizes : (slot : ℕ) → slice_index_or kept.sizes slot [] ≡ take 4 (sizes_in slot history)
   pub scans : (slot : ℕ) → slice_index_or kept.scans slot None ≡ scan_before history slot
 
--- A stored past takes a reading: afterwards it represents this reading and those before it.
+-- After the call, the stored past is the one after its earlier readings and `now`.
 abbrev pub PastTakes : Kept → Reading → Kept → Type 0
 PastTakes old now new = (history : List Reading) → IsPastOf old history → IsPastOf new (now ∷ history)
 
--- ---- how the past is stored
+-- ---- storage of the past
 
--- the sizes (bytes) stored for a group, the newest first
+-- the sizes (bytes) that are stored for a group, newest first
 abbrev pub sizes_of : Sizes → List ℕ
 sizes_of sizes = take sizes.count sizes.bytes
 
--- at most four sizes are stored for a group, of at most 2^60 bytes each
+-- at most four sizes are stored for a group, each at most 2^60 bytes
 pub record AreSizes (sizes : Sizes) : Type 0 where
   pub few : sizes.count ≤ 4
   pub places : length sizes.bytes ≡ 4
@@ -44,8 +46,8 @@ pub record AreSizes (sizes : Sizes) : Type 0 where
 abbrev pub kept_of : List Sizes → List (Option ℕ) → Kept
 kept_of sizes scans = record { sizes = map sizes_of sizes; scans = scans }
 
--- the invariant of a past: it has the same number of scan counts and of size entries, each with at
--- most four sizes
+-- The invariant of a stored past: it has scan counts and sizes for the same number of groups, and
+-- at most four sizes of each.
 pub record IsPast (sizes : List Sizes) (scans : List (Option ℕ)) : Type 0 where
   pub same : length scans ≡ length sizes
   pub each : All AreSizes sizes

@@ -1,4 +1,5 @@
--- The groups among which a choice is made, and how an action compares them.
+-- The scope of a choice (the groups among which it is made), and the measure by which an action
+-- ranks groups.
 use Rattle.std.specs.Prelude.{◌≡◌, ℕ, length, ◌-◌, ◌&&◌, ◌==◌, List, Option, None, Some, Bool, true}
 use Rattle.std.specs.Prelude.{nat_lt, slice_index_or}
 use Rattle.psi_base.specs.declared.event.Slot.{Slot}
@@ -18,41 +19,41 @@ use Rattle.victim_rank.specs.Pasts.{Kept}
 
 -- ---- scopes
 
--- The scope of a choice: all groups that a trace ever creates, the action, and the group that was
--- chosen before, if any. The choice is made among that group's children, or else among the
--- candidates of the action.
+-- A scope: all groups that a trace ever creates, the action, and the slot of the group chosen
+-- before, if any. The choice is made among the children of that group, or else among the action's
+-- candidates (the populated groups that its patterns match).
 pub record ScopeView : Type 0 where
   pub lives : List GroupLife
   pub act : Action
   pub above : Option Slot
 
--- the groups of a reading among which a choice is made
+-- the groups of a reading that are in the scope
 abbrev pub among : List GroupLife → Action → Option Slot → Reading → List GroupReading
 among lives act None now = candidates lives (action_patterns act) now
 among lives act (Some above) now = children lives above.0 now
 
--- a group of a reading is one of them
+-- the group is in the scope of these arguments
 abbrev pub is_in_scope : List GroupLife → Action → Option Slot → GroupReading → Bool
 is_in_scope lives act None group = group.populated && is_match (action_patterns act) (path_of lives group)
 is_in_scope lives act (Some above) group =
     group.populated && names_slot above.0 (slice_index_or (parents_of lives) group.slot.0 None)
 
--- the same for a scope
+-- the group is in the scope
 abbrev pub is_in_view : ScopeView → GroupReading → Bool
 is_in_view scope group = is_in_scope scope.lives scope.act scope.above group
 
--- a group is in a scope, and its preference has this rank
+-- the group is in the scope, and its preference has the rank `best_rank`
 abbrev pub is_in_rank : ScopeView → ℕ → GroupReading → Bool
 is_in_rank scope best_rank group = is_in_view scope group && rank_of group == best_rank
 
--- A scope is used with a reading and a past of the same groups, and its action's numbers are in
--- range.
+-- The scope, the reading and the past are about the same groups, and the action's numbers are in
+-- range. This is the precondition of a choice.
 pub record IsUse (scope : ScopeView) (reading : ReadingView) (kept : Kept) : Type 0 where
   pub fits : FitsAction scope.act
   pub lives : reading.lives ≡ scope.lives
   pub slots : length kept.sizes ≡ length scope.lives
 
--- an action chooses by size or growth
+-- the action chooses by size or growth
 abbrev pub IsSizes : Action → Type 0
 IsSizes (action.SizeOrGrowth cgroup size_threshold percentile ratio after) = Unit {0}
 IsSizes (action.SwapUsage cgroup threshold after) = ⊥
@@ -61,16 +62,16 @@ IsSizes (action.PgScan cgroup after) = ⊥
 
 -- ---- measures
 
--- by how much a scan count exceeds an earlier one, or 0 if there is none
+-- the increase of a scan count over an earlier count, or 0 if there is no earlier count
 abbrev pub above_count : ℕ → Option ℕ → ℕ
 above_count scan None = 0
 above_count scan (Some before) = scan - before
 
--- the rise of a group's scan count over the stored one
+-- the increase of the group's scan count over the stored count
 abbrev pub rise_from : Kept → GroupReading → ℕ
 rise_from kept group = above_count group.scan (slice_index_or kept.scans group.slot.0 None)
 
--- the measure by which an action compares groups
+-- the measure of a group for this action: groups with a greater measure are chosen first
 abbrev pub measure_of : Action → Kept → GroupReading → ℕ
 measure_of (action.SizeOrGrowth cgroup size_threshold percentile ratio after) kept group =
     memory_in_use group
@@ -78,7 +79,7 @@ measure_of (action.SwapUsage cgroup threshold after) kept group = group.swap
 measure_of (action.Pressure cgroup resource after) kept group = pressure_measure resource group
 measure_of (action.PgScan cgroup after) kept group = rise_from kept group
 
--- whether an action can choose a group at all
+-- the action may choose the group
 abbrev pub is_eligible : Action → HostReading → Kept → GroupReading → Bool
 is_eligible (action.SizeOrGrowth cgroup size_threshold percentile ratio after) host kept group =
     true

@@ -1,4 +1,4 @@
--- How the best group so far is compared with the next.
+-- The comparison of the best group found with the next group, in a walk over the groups.
 use Rattle.std.specs.Prelude.{◌≡◌, ◌<◌, List, length, nat_lt, ◌==◌, ◌&&◌, ◌||◌, Bool}
 use Rattle.ruleset_json.specs.declared.types.Action.{Action}
 use Rattle.kill_spec.specs.declared.reading.GroupReading.{GroupReading}
@@ -8,12 +8,13 @@ use Rattle.victim_rank.specs.Pasts.{Kept}
 use Rattle.victim_rank.specs.Scopes.{measure_of}
 use Rattle.victim_rank.specs.declared.foremost.Measured.{Measured}
 
--- a group beats an earlier one: its preference is better, or equal and its measure is greater
+-- `next` beats the earlier group `best`: its preference is better, or equal and its measure is
+-- greater
 abbrev pub leads_measured : Measured → Measured → Bool
 leads_measured next best =
     nat_lt best.rank next.rank || (next.rank == best.rank && nat_lt best.measure next.measure)
 
--- the rank and the measure are those of the group at the place
+-- `measured` has the rank and the measure of the group at its place
 pub record IsMeasured (act : Action) (kept : Kept) (groups : List GroupReading)
     (measured : Measured) : Type 0 where
   pub within : measured.place < length groups

@@ -1,4 +1,6 @@
-//! The victim of an action.
+//! Chooses the victim of an action.
+//!
+//! It doesn't decide whether the action is taken.
 ghost use Rattle.std.specs.Prelude.{◌≡◌, length};
 ghost use Rattle.detectors.specs.Tables.{match_table};
 ghost use Rattle.kill_spec.specs.Victims.{action_patterns};
@@ -20,9 +22,9 @@ use psi_base::Slot;
 use psi_spec::GroupLife;
 use ruleset_json::Action;
 
-// The choice by size or growth: the largest group of the best preference if it has the required
-// share of all memory in use; else the growing group of that preference that has grown most; else
-// the largest group anyway.
+// Returns the choice by size or growth: the largest group of the best preference if it uses the
+// required share of the memory that all groups of the scope use; else the growing group of that
+// preference that has grown most; else the largest group of that preference after all.
 fn by_size_or_growth(
     scope: &Scope<'_>,
     reading: &Reading,
@@ -68,7 +70,8 @@ fn choose(scope: &Scope<'_>, reading: &Reading, past: &Past) -> Option<GroupRead
     }
 }
 
-// Repeats the choice among the children of the last chosen group, and returns the last one.
+// Repeats the choice among the children of the group chosen last, until none can be chosen. Returns
+// the group chosen last.
 fn descend(scope: &Scope<'_>, reading: &Reading, past: &Past, chosen: GroupReading) -> GroupReading
     requires { IsUse scope.now reading.now past.now }
     ensures { Descends scope.now reading.now.seen past.now (length scope.now.lives) chosen result }
@@ -83,10 +86,10 @@ fn descend(scope: &Scope<'_>, reading: &Reading, past: &Past, chosen: GroupReadi
     last
 }
 
-/// The group that an action kills at a reading, after the readings that the past represents; `None`
-/// if there is no victim. The first choice is among the populated groups that match according to
-/// `table`; a recursive action repeats the choice among the children of the chosen group. Does not
-/// allocate.
+/// Returns the slot of the group that an action kills at a reading, after the earlier readings in
+/// `past`; `None` if there is no victim. The first choice is among the populated groups that match
+/// according to `table`; a recursive action repeats the choice among the children of the chosen
+/// group. Doesn't allocate.
 ///
 /// A choice by a measure walks the groups of its scope once. A choice by size or growth walks them
 /// up to four times, plus the walks of `grown_most`. A recursive action chooses once for each

@@ -1,4 +1,6 @@
-//! The boundary of the largest groups of a scope and a rank, in the order of sizes.
+//! Finds the largest groups of a scope that have the same preference rank.
+//!
+//! It sorts nothing: a *cutoff* is the key (in the order of sizes) that exactly these groups reach.
 ghost use Rattle.std.specs.Prelude.{◌≡◌, ◌<◌, ◌≤◌, ◌^◌, ◌*◌, ◌+◌, ◌-◌, Contains, IfSome, filter, length, nat_le, nat_lt, true};
 ghost use Rattle.detectors.specs.Inner.{AreAmong, group_at, groups_at};
 ghost use Rattle.kill_spec.specs.LegalReadings.{IsGroupReading};
@@ -11,8 +13,8 @@ use crate::size::is_in_rank;
 use detectors::Reading;
 use kill_spec::GroupReading;
 
-/// The key of the group at a place in the order of sizes: a larger group has a greater key, and of
-/// two with the same size the one whose path comes first has.
+/// Returns the key of the group at index `place`: a larger group has a greater key; of two groups
+/// with the same size, the group whose path comes first has the greater key.
 fn size_key(place: u32, group: &GroupReading) -> u128
     requires place { place < 1024 }
     ensures { result ≡ memory_in_use group.now * 1024 + (1023 - place) }
@@ -20,7 +22,7 @@ fn size_key(place: u32, group: &GroupReading) -> u128
     u128::from(group.current) * 1024 + u128::from(1023 - place)
 }
 
-/// The number of groups of a scope and a rank with at least this key.
+/// Returns the number of groups of the scope with rank `best_rank` whose key is at least `key`.
 fn count_reaching(
     scope: &Scope<'_>,
     best_rank: u8,
@@ -42,7 +44,8 @@ fn count_reaching(
     count
 }
 
-/// A key that no group of a scope and a rank exceeds.
+/// Returns the greatest key of the groups of the scope with rank `best_rank`, or 0 if there are
+/// none.
 fn greatest_key(scope: &Scope<'_>, best_rank: u8, reading: &Reading, places: &[u32]) -> u128
     requires { IsRanking scope.now best_rank reading.now places.now }
     ensures none { count_reaching (is_in_rank scope.now best_rank)
@@ -59,9 +62,9 @@ fn greatest_key(scope: &Scope<'_>, best_rank: u8, reading: &Reading, places: &[u
     greatest
 }
 
-/// The key that exactly the `few` largest groups of a scope and a rank reach, by binary search:
-/// each step halves the range of keys and walks the groups once. If there are at most `few` groups,
-/// all of them reach the key.
+/// Returns the key that exactly the `few` largest groups of the scope with rank `best_rank` reach.
+/// Finds it by binary search: each step halves the range of keys, and walks the groups once. If
+/// there are at most `few` groups, all of them reach the key.
 fn cutoff(scope: &Scope<'_>, best_rank: u8, reading: &Reading, places: &[u32], few: u128) -> u128
     requires ranking { IsRanking scope.now best_rank reading.now places.now }
     requires few { 0 < few }
@@ -84,8 +87,9 @@ fn cutoff(scope: &Scope<'_>, best_rank: u8, reading: &Reading, places: &[u32], f
     low
 }
 
-/// Whether fewer than `few` groups of a scope and a rank are larger than the one at a place, which
-/// is one of them. The cutoff is computed once, when it is first needed.
+/// Returns whether fewer than `few` groups of the scope with rank `best_rank` are larger than the
+/// group at index `place`. Precondition: that group is in the scope and has this rank. The cutoff
+/// is computed at the first call, and stored in `known`.
 pub(crate) fn is_among_largest(
     scope: &Scope<'_>,
     best_rank: u8,

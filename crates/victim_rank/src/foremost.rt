@@ -1,4 +1,6 @@
-//! The group that no other beats by an action's measure.
+//! Finds the group that ranks first: by preference, then by the action's measure, then by path.
+//!
+//! The choice by growth is in `growth`.
 ghost use Rattle.std.specs.Prelude.{◌≡◌, ◌&&◌, ◌<◌, MatchOption, false, filter, length, map, true, if◌then◌else◌};
 ghost use Rattle.ruleset_json.specs.Ranges.{FitsAction};
 ghost use Rattle.kill_spec.specs.Readings.{path_of};
@@ -13,7 +15,7 @@ use crate::scope::Scope;
 use detectors::Reading;
 use kill_spec::{GroupReading, HostReading};
 
-/// The place of a group in a reading, the rank of its preference, and its measure.
+/// The place (index) of a group in a reading, the rank of its preference, and its measure.
 #[derive(Clone, Copy)]
 pub(crate) struct Measured {
     place: u32,
@@ -21,15 +23,15 @@ pub(crate) struct Measured {
     measure: u64,
 }
 
-// Whether a group beats an earlier one: its preference is better, or equal and its measure is
-// greater.
+// Returns whether `next` beats the earlier group `best`: its preference is better, or equal and its
+// measure is greater.
 fn leads(next: &Measured, best: &Measured) -> bool
     ensures { result ≡ leads_measured next.now best.now }
 {
     next.rank > best.rank || (next.rank == best.rank && next.measure > best.measure)
 }
 
-// The better of two groups; the next one if there is none before.
+// Returns the better of two groups, or `next` if there is no earlier group.
 fn better(best: Option<Measured>, next: Measured) -> Measured
     ensures { MatchOption best (result ≡ next)
         (λ before. result ≡ (if leads_measured next before then next else before)) }
@@ -40,7 +42,8 @@ fn better(best: Option<Measured>, next: Measured) -> Measured
     }
 }
 
-// The measure of a group, if it is in the scope and eligible.
+// Returns the measure of a group, by which the action ranks groups. `None` if the group isn't in
+// the scope, or the action may not choose it.
 fn measured_in(
     scope: &Scope<'_>,
     host: HostReading,
@@ -64,8 +67,9 @@ fn measured_in(
     measured(scope.action(), host, past, group)
 }
 
-/// The eligible group that no other beats: by preference, then by the action's measure, then by
-/// path. Walks the groups of the scope once.
+/// Returns the group that ranks first among the groups of the scope that the action may choose: by
+/// preference, then by the action's measure, then by path. `None` if there is none. Walks the
+/// groups of the scope once.
 pub(crate) fn foremost(scope: &Scope<'_>, reading: &Reading, past: &Past) -> Option<GroupReading>
     requires { IsUse scope.now reading.now past.now }
     ensures choice { result

@@ -1,4 +1,6 @@
-//! The growth of groups over their past.
+//! Finds the group that has grown most over its past sizes.
+//!
+//! Growth is a quotient; growths are compared by products, so nothing is rounded.
 ghost use Rattle.std.specs.Prelude.{◌≡◌, ◌≤◌, ◌<◌, ◌^◌, ◌*◌, All, MatchOption, filter, length, nat_le, nat_lt, sum, true, ◌&&◌};
 ghost use Rattle.ruleset_json.specs.Ranges.{IsRatio};
 ghost use Rattle.kill_spec.specs.Victims.{largest_few, unbeaten};
@@ -13,8 +15,9 @@ use crate::size::is_in_rank;
 use detectors::Reading;
 use kill_spec::GroupReading;
 
-/// The place of a group in a reading, its size in bytes, its size multiplied by the number of its
-/// past sizes, and their sum. The quotient of the last two is its size over the mean of its past.
+/// The growth of a group: its place (index) in a reading, its size (bytes), its size times the
+/// number of its past sizes, and the sum of its past sizes. The growth is `sizes / sum`: the size
+/// over the mean of the past sizes.
 #[derive(Clone, Copy)]
 pub(crate) struct Grown {
     place: u32,
@@ -36,7 +39,7 @@ fn sum(sizes: &[u64]) -> u64
     total
 }
 
-// The growth of a group over its past.
+// Returns the growth of a group over its past sizes.
 fn growth_of(past: &Past, place: u32, group: &GroupReading) -> Grown
     requires { group.now.current ≤ 2 ^ 60 }
     ensures place { result.place ≡ place }
@@ -51,7 +54,8 @@ fn growth_of(past: &Past, place: u32, group: &GroupReading) -> Grown
     }
 }
 
-// Whether the growth is at least a ratio (thousandths).
+// Returns whether the growth is at least `ratio` (thousandths). False if the past sizes are all 0,
+// or there are none.
 fn is_growing(ratio: u32, grown: &Grown) -> bool
     requires ratio { IsRatio ratio }
     requires sizes { grown.now.sizes ≤ 2 ^ 62 }
@@ -62,7 +66,8 @@ fn is_growing(ratio: u32, grown: &Grown) -> bool
     grown.sum > 0 && u128::from(grown.sizes) * 1000 >= u128::from(ratio) * u128::from(grown.sum)
 }
 
-// Whether a group beats an earlier one: it has grown more, or as much and uses more memory.
+// Returns whether `next` beats the earlier `best`: the group has grown more, or as much and uses
+// more memory.
 fn leads(next: &Grown, best: &Grown) -> bool
     ensures { result ≡ leads_grown next.now best.now }
 {
@@ -71,7 +76,7 @@ fn leads(next: &Grown, best: &Grown) -> bool
     next_growth > best_growth || (next_growth == best_growth && next.current > best.current)
 }
 
-// Whether there is no earlier group, or the next one beats it.
+// Returns whether there is no earlier group, or `next` beats it.
 fn leads_any(next: &Grown, best: Option<Grown>) -> bool
     ensures { MatchOption best (result ≡ true) (λ before.
         result ≡ leads_grown next.now before) }
@@ -82,8 +87,9 @@ fn leads_any(next: &Grown, best: Option<Grown>) -> bool
     }
 }
 
-/// The growing group that has grown most, among the `few` largest of a scope and a rank. Walks the
-/// groups once, and up to 72 times more to find the cutoff if a group is growing.
+/// Returns the growing group that has grown most, among the `few` largest groups of the scope with
+/// rank `best_rank`. `None` if none of them is growing. Walks the groups once, and up to 72 times
+/// more to find the cutoff if a group is growing.
 pub(crate) fn grown_most(
     scope: &Scope<'_>,
     best_rank: u8,

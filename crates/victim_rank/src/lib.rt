@@ -1,9 +1,11 @@
 //! The choice of a victim: the group that an action kills at a reading, after the earlier readings.
 //!
-//! [`Past`] stores what later choices need of each reading, and [`victim`] chooses. Neither
-//! allocates after a past is created. [`after_of`] returns what follows a kill.
+//! A reading is what an evaluation of the rules sees: the time, the host's memory and the live
+//! groups. [`Past`] stores what later choices need of each reading, and [`victim`] chooses. Neither
+//! allocates after the `Past` is made. [`after_of`] returns the settings of an action that apply
+//! after a kill.
 //!
-//! It doesn't decide when an action is taken: kill_engine does.
+//! This crate doesn't decide when an action is taken: kill_engine does.
 #![tactic(auto)]
 
 mod choice;

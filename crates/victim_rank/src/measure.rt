@@ -1,4 +1,6 @@
-//! How an action compares groups.
+//! The preference rank and the measure by which an action ranks groups.
+//!
+//! The walks over the groups are in `foremost`.
 ghost use Rattle.std.specs.Prelude.{◌≡◌, ◌<◌, ◌≤◌, ◌^◌, All, MatchOption, false, length, true};
 ghost use Rattle.pressure_spec.specs.Within.{IsRow};
 ghost use Rattle.pressure_spec.specs.Share.{irq_quantity};
@@ -12,7 +14,7 @@ use kill_spec::{GroupReading, HostReading};
 use psi_base::{Level, Preference, Res, State};
 use ruleset_json::{Action, Size};
 
-/// The rank of a group's preference: preferred groups are chosen first, and avoided ones last.
+/// Returns the rank of a group's preference: groups with a greater rank are chosen first.
 pub(crate) fn rank(group: &GroupReading) -> u8
     ensures { result ≡ rank_of group.now }
 {
@@ -23,7 +25,7 @@ pub(crate) fn rank(group: &GroupReading) -> u8
     }
 }
 
-// The sum of the full averages of a resource over 10 s and 60 s.
+// Returns the sum of the full averages of a resource over 10 s and 60 s.
 fn pressure(group: &GroupReading, resource: Res) -> u64
     requires rows { length group.now.averages ≡ irq_quantity }
     requires each { All IsRow group.now.averages }
@@ -33,7 +35,8 @@ fn pressure(group: &GroupReading, resource: Res) -> u64
     averages[0] + averages[1]
 }
 
-// Whether the swap in use is at least a size.
+// Returns whether the swap in use is at least `threshold`, which is in bytes or in percent of the
+// host's swap.
 fn is_at_least(threshold: Size, host: HostReading, swap: u64) -> bool
     requires threshold { IsSize threshold }
     requires host { IsHostReading host }
@@ -48,15 +51,15 @@ fn is_at_least(threshold: Size, host: HostReading, swap: u64) -> bool
     }
 }
 
-// A number, or `None` for 0.
+// Returns the number, or `None` for 0.
 fn above_zero(measure: u64) -> Option<u64>
     ensures { MatchOption result (measure ≡ 0) (λ same. (0 < measure) × (same ≡ measure)) }
 {
     if measure > 0 { Some(measure) } else { None }
 }
 
-/// The measure by which an action compares a group with others; `None` if it can't choose the
-/// group.
+/// Returns the measure of a group, by which the action ranks groups. `None` if the action may not
+/// choose the group.
 pub(crate) fn measured(
     action: &Action,
     host: HostReading,

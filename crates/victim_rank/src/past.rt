@@ -1,4 +1,6 @@
-//! The past that is stored of earlier readings.
+//! The stored past: what is stored of earlier readings for the choice of victims.
+//!
+//! It stores no whole readings.
 ghost use Rattle.std.specs.Prelude.{◌≡◌, ◌≤◌, ◌^◌, ℕ, [], ◌∷◌, All, IfOk, Some, length, map, option_map, replicate, slice_index_or, take, None};
 ghost use Rattle.kill_spec.specs.declared.reading.GroupReading.{GroupReading};
 ghost use Rattle.kill_spec.specs.Readings.{group_in};
@@ -13,10 +15,10 @@ use psi_base::NoMemory;
 use std::alloc::Global;
 use std::marker::Model;
 
-/// The last sizes of a group, at most four, the newest first.
+/// The last sizes of a group, at most four, newest first.
 #[derive(Clone, Copy)]
 pub(crate) struct Sizes {
-    /// In bytes; only the first `count` are valid.
+    /// The sizes (bytes); only the first `count` are valid.
     bytes: [u64; 4],
     /// The number of sizes.
     count: usize,
@@ -39,7 +41,7 @@ fn no_scans(alloc: Global, slots: u32) -> Result<Vec<Option<u64>>, NoMemory>
     Ok(vec![in alloc; None; slots as usize]?)
 }
 
-// Prepends `newest` to the sizes, and drops the fifth.
+// Returns the sizes with `newest` in front, and without the fifth.
 fn suffix(newest: u64, sizes: Sizes) -> Sizes
     requires newest { newest ≤ 2 ^ 60 }
     requires within { AreSizes sizes }
@@ -53,7 +55,7 @@ fn suffix(newest: u64, sizes: Sizes) -> Sizes
     }
 }
 
-// Prepends the size of each group of the reading to its others.
+// Adds the size of each group in the reading to the stored sizes of the group.
 fn take_sizes(sizes: &mut [Sizes], reading: &Reading)
     requires slots { length sizes.old ≡ length reading.now.lives }
     requires within { All AreSizes sizes.old }
@@ -68,7 +70,7 @@ fn take_sizes(sizes: &mut [Sizes], reading: &Reading)
     }
 }
 
-// Stores the scan counts of the groups of the reading, and discards all others.
+// Stores the scan counts of the groups in the reading, and discards all others.
 fn take_scans(scans: &mut [Option<u64>], reading: &Reading)
     requires { length scans.old ≡ length reading.now.lives }
     ensures { (slot : ℕ) → slice_index_or scans.new slot None
@@ -81,7 +83,8 @@ fn take_scans(scans: &mut [Option<u64>], reading: &Reading)
 }
 
 /// The stored past of each group, by slot: its sizes (bytes) at the last four evaluations at which
-/// it was live, and its scan count at the last evaluation, if it was live then.
+/// it was live, and its scan count (pages that memory reclaim has scanned) at the last evaluation,
+/// if it was live then.
 #[derive(Drop)]
 pub struct Past {
     sizes: Vec<Sizes>,
@@ -99,7 +102,7 @@ impl Model for Past {
 }
 
 impl Past {
-    /// The past of `slots` groups before the first evaluation. Allocates everything at the start.
+    /// Returns the past of `slots` groups before the first evaluation. Allocates all its memory.
     pub fn make(alloc: Global, slots: u32) -> Result<Past, NoMemory>
         ensures slots { IfOk result (λ past. length past.sizes ≡ slots) }
         ensures first { IfOk result (λ past. IsPastOf past []) }
@@ -110,7 +113,7 @@ impl Past {
         })
     }
 
-    /// Stores the reading of the next evaluation. Does not allocate.
+    /// Stores the reading of the next evaluation. Doesn't allocate.
     pub fn push(&mut self, reading: &Reading)
         requires { length self.old.sizes ≡ length reading.now.lives }
         ensures slots { length self.new.sizes ≡ length self.old.sizes }
@@ -120,8 +123,8 @@ impl Past {
         take_scans(&mut self.scans, reading);
     }
 
-    // The number of pages scanned for a group since the last evaluation, or 0 if it wasn't live
-    // then.
+    // Returns the number of pages scanned for a group since the last evaluation, or 0 if it wasn't
+    // live then.
     pub(crate) fn rise(&self, group: &GroupReading) -> u64
         ensures { result ≡ rise_from self.now group.now }
     {
@@ -131,7 +134,7 @@ impl Past {
         }
     }
 
-    // The last sizes of a group, in bytes, at most four, the newest first.
+    // Returns the last sizes of a group (bytes), at most four, newest first.
     pub(crate) fn sizes(&self, group: &GroupReading) -> &[u64]
         ensures sizes { result.now ≡ sizes_from self.now group.now }
         ensures few { length result.now ≤ 4 }

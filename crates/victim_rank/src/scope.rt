@@ -1,4 +1,6 @@
-//! The groups among which a choice is made.
+//! The scope of a choice: the groups among which it is made.
+//!
+//! The choice itself is in `choice`.
 ghost use Rattle.std.specs.Prelude.{◌≡◌, ◌<◌, ◌≤◌, None, Some, filter, length};
 ghost use Rattle.kill_spec.specs.Victims.{action_patterns, after_of};
 ghost use Rattle.detectors.specs.Inner.{AreAmong, groups_at};
@@ -16,14 +18,14 @@ use ruleset_json::{Action, After};
 use std::marker::Model;
 
 /// The groups among which an action chooses: its candidates, or the children of a group. Only
-/// groups with a live task in them or below them count.
+/// populated groups count: a live task is in them or below them.
 #[derive(Drop)]
 pub(crate) struct Scope<'a> {
     lives: &'a [GroupLife],
     action: &'a Action,
     /// By slot, whether the action's patterns match the group.
     matched: &'a [bool],
-    /// The group among whose children the choice is made, if any.
+    /// The group among whose children the choice is made; `None` for the action's candidates.
     above: Option<Slot>,
 }
 
@@ -41,7 +43,7 @@ impl<'a> Model for Scope<'a> {
         s.matched.now ≡ match_table s.lives.now (action_patterns s.action.now) };
 }
 
-/// The patterns of an action.
+/// Returns the patterns of an action.
 pub(crate) fn patterns(action: &Action) -> &Patterns
     ensures { result.now ≡ action_patterns action.now }
 {
@@ -53,7 +55,7 @@ pub(crate) fn patterns(action: &Action) -> &Patterns
     }
 }
 
-/// The action's `After`: delay, recursive, always_continue.
+/// Returns the settings of an action that apply after a kill: delay, recursive, always_continue.
 pub fn after_of(action: &Action) -> After
     ensures { result ≡ after_of action.now }
 {
@@ -66,8 +68,8 @@ pub fn after_of(action: &Action) -> After
 }
 
 impl<'a> Scope<'a> {
-    /// The scope of an action's candidates. `matched` has by slot whether its patterns match the
-    /// group.
+    /// Returns the scope of an action's candidates. `matched` says, by slot, whether the action's
+    /// patterns match the group.
     pub(crate) fn candidates(
         lives: &'a [GroupLife],
         action: &'a Action,
@@ -84,7 +86,7 @@ impl<'a> Scope<'a> {
         }
     }
 
-    /// The scope of a group's children.
+    /// Returns the scope of the children of the group in slot `above`, for the same action.
     pub(crate) fn below(&self, above: Slot) -> Scope<'a>
         ensures { result ≡ record {
           lives = self.now.lives;
@@ -100,22 +102,22 @@ impl<'a> Scope<'a> {
         }
     }
 
-    /// The action.
+    /// Returns the action.
     pub(crate) fn action(&self) -> &'a Action
         ensures { result.now ≡ self.now.act }
     {
         self.action
     }
 
-    /// All groups that a trace ever creates.
+    /// Returns all groups that a trace ever creates, by slot.
     pub(crate) fn lives(&self) -> &'a [GroupLife]
         ensures { result.now ≡ self.now.lives }
     {
         self.lives
     }
 
-    /// The places in a reading to search for the groups of the scope, in order: those of the
-    /// children of the group above, or else all.
+    /// Returns the places (indexes) in a reading at which groups of the scope can be, in ascending
+    /// order: the places of the children of the group `above`, or else all places.
     pub(crate) fn places<'r>(&self, reading: &'r Reading) -> &'r [u32]
         requires { reading.now.lives ≡ self.now.lives }
         ensures groups { filter (is_in_view self.now)
@@ -126,14 +128,15 @@ impl<'a> Scope<'a> {
         ensures all { length reading.now.seen.groups ≤ most_groups }
         ensures read { IsReading reading.now.lives reading.now.seen }
     {
-        // The slot above is always that of a group; for any other slot all places would be correct.
+        // The slot in `above` is always a group's. The test makes the index safe, and for any other
+        // slot all places would be correct.
         match self.above {
             Some(above) if (above.0 as usize) < self.lives.len() => reading.below(above),
             _ => reading.places(),
         }
     }
 
-    /// Whether a group of the reading is in the scope.
+    /// Returns whether a group of the reading is in the scope.
     pub(crate) fn has(&self, group: &GroupReading) -> bool
         requires { group.now.slot.0 < length self.now.lives }
         ensures { result ≡ is_in_view self.now group.now }

@@ -1,4 +1,6 @@
-//! Comparisons of the sizes of groups.
+//! Sizes of groups: sums, shares and counts.
+//!
+//! The size of a group is the memory that it uses.
 ghost use Rattle.std.specs.Prelude.{◌≡◌, ◌<◌, ◌^◌, ◌*◌, filter, length, nat_le, nat_lt};
 ghost use Rattle.ruleset_json.specs.Ranges.{IsPercent};
 ghost use Rattle.kill_spec.specs.Victims.{count_above, is_larger, memory_in_use, total_size};
@@ -10,7 +12,7 @@ use detectors::Reading;
 use kill_spec::GroupReading;
 use psi_spec::GroupLife;
 
-/// The sum of the memory that the groups of a scope use, in bytes.
+/// Returns the sum of the memory (bytes) that the groups of a scope use.
 pub(crate) fn total_size(scope: &Scope<'_>, reading: &Reading) -> u128
     requires { reading.now.lives ≡ scope.now.lives }
     ensures sum { result ≡ total_size (filter (is_in_view scope.now) reading.now.seen.groups) }
@@ -26,7 +28,7 @@ pub(crate) fn total_size(scope: &Scope<'_>, reading: &Reading) -> u128
     total
 }
 
-/// Whether a group uses at least `size_threshold` percent of the total memory in use.
+/// Returns whether a group uses at least `size_threshold` percent of `total`.
 pub(crate) fn is_large(size_threshold: u32, total: u128, group: &GroupReading) -> bool
     requires percent { IsPercent size_threshold }
     requires total { total < 2 ^ 120 }
@@ -35,7 +37,7 @@ pub(crate) fn is_large(size_threshold: u32, total: u128, group: &GroupReading) -
     u128::from(group.current) * 100 >= u128::from(size_threshold) * total
 }
 
-/// Whether a group is in a scope and has this rank.
+/// Returns whether a group is in the scope and its preference has the rank `best_rank`.
 pub(crate) fn is_in_rank(scope: &Scope<'_>, best_rank: u8, group: &GroupReading) -> bool
     requires { group.now.slot.0 < length scope.now.lives }
     ensures { result ≡ is_in_rank scope.now best_rank group.now }
@@ -43,7 +45,7 @@ pub(crate) fn is_in_rank(scope: &Scope<'_>, best_rank: u8, group: &GroupReading)
     rank(group) == best_rank && scope.has(group)
 }
 
-/// The number of groups of a scope with this rank.
+/// Returns the number of groups of the scope whose preference has the rank `best_rank`.
 pub(crate) fn count_in_rank(scope: &Scope<'_>, best_rank: u8, reading: &Reading) -> usize
     requires { reading.now.lives ≡ scope.now.lives }
     ensures { result ≡ length (filter (is_in_rank scope.now best_rank) reading.now.seen.groups) }
@@ -57,7 +59,7 @@ pub(crate) fn count_in_rank(scope: &Scope<'_>, best_rank: u8, reading: &Reading)
     count
 }
 
-/// The number of `count` groups above a percentile: rounded up, and at least one.
+/// Returns how many of `count` groups are above a percentile: rounded up, and at least one.
 pub(crate) fn count_above(percentile: u32, count: usize) -> u128
     requires { IsPercent percentile }
     ensures { result ≡ count_above percentile count }

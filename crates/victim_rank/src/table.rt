@@ -1,4 +1,6 @@
-//! Which groups an action matches.
+//! The groups that an action's patterns match.
+//!
+//! The table is computed once, instead of at each evaluation.
 ghost use Rattle.std.specs.Prelude.{◌≡◌, IfOk};
 ghost use Rattle.detectors.specs.Tables.{match_table};
 ghost use Rattle.kill_spec.specs.Victims.{action_patterns};
@@ -11,10 +13,9 @@ use std::alloc::Global;
 use std::marker::Model;
 
 /// By slot, whether the patterns of an action match the group, for all groups that a trace ever
-/// creates. Patterns are matched once, instead of at each evaluation.
+/// creates.
 #[derive(Drop)]
 pub struct MatchTable {
-    /// By slot.
     slots: Vec<bool>,
 }
 
@@ -27,7 +28,7 @@ impl Model for MatchTable {
 }
 
 impl MatchTable {
-    /// The table of an action for these groups, by slot.
+    /// Returns the table of an action for the groups `lives`.
     pub fn of(alloc: Global, action: &Action, lives: &[GroupLife]) -> Result<MatchTable, NoMemory>
         ensures { IfOk result (λ table.
             table ≡ match_table lives.now (action_patterns action.now)) }
@@ -40,7 +41,7 @@ impl MatchTable {
         Ok(MatchTable { slots })
     }
 
-    /// By slot.
+    /// Returns the entries of the table, by slot.
     pub(crate) fn slots(&self) -> &[bool]
         ensures { result.now ≡ self.now }
     {
