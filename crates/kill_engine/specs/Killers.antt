@@ -1,4 +1,6 @@
--- A killer, and the readings that it represents.
+-- The state of a killer (all rulesets of a rules file) in terms of the readings that led to it. A
+-- killer, a ruleset or a past *represents* readings if its state is the one after it has taken
+-- these readings.
 use Rattle.std.specs.Prelude.{◌≡◌, ℕ, ◌+◌, ◌≤◌, List, [], ◌∷◌, length, Option, All}
 use Rattle.psi_spec.specs.declared.machine.GroupLife.{GroupLife}
 use Rattle.ruleset_json.specs.declared.types.Rule.{Rule}
@@ -10,26 +12,26 @@ use Rattle.detectors.specs.Stands.{newest_moment}
 use Rattle.victim_rank.specs.Pasts.{IsPastOf, Kept}
 use Rattle.kill_engine.specs.Rulesets.{IsRulesetAt, RulesetRepresents, RulesetView}
 
--- A killer: its rulesets, the stored past of groups, the time (ns) of its last reading, and the
--- kills at it.
+-- A killer: its rulesets, the stored past of the groups, the time (ns) of its last reading, and the
+-- kills at that reading.
 pub record KillerView : Type 0 where
   pub rulesets : List RulesetView
   pub past : Kept
   pub last : Option ℕ
   pub found : List Kill
 
--- a killer with these parts
+-- the killer with these components
 abbrev pub killer_of : List RulesetView → Kept → Option ℕ → List Kill → KillerView
 killer_of rulesets past last found =
     record { rulesets = rulesets; past = past; last = last; found = found }
 
--- the number of groups in a killer's readings
+-- the number of groups for which a killer was made
 abbrev pub killer_slots : KillerView → ℕ
 killer_slots killer = length killer.past.sizes
 
 -- ---- the readings that a killer represents
 
--- rulesets represent readings; the first one has this number
+-- each ruleset's state is the one after these readings; the first ruleset has number `number`
 abbrev pub RulesetsRepresent :
     List GroupLife → List Reading → ℕ → List RulesetView → List Rule → Type 0
 RulesetsRepresent lives history number [] [] = Unit {0}
@@ -39,14 +41,14 @@ RulesetsRepresent lives history number (state ∷ states) (rule ∷ rules) =
     RulesetRepresents lives history number state rule
     × RulesetsRepresent lives history (number + 1) states rules
 
--- the kills at the newest reading, if any
+-- the kills at the newest reading; none before the first reading
 abbrev pub newest_kills : List GroupLife → List Rule → List Reading → List Kill
 newest_kills lives rules [] = []
 newest_kills lives rules (now ∷ past) = kills lives rules now past
 
--- A killer with rules represents readings of groups, the newest first: it has a place for each
--- group, each ruleset and the past represent the readings, and it has the time of the newest
--- reading and the kills at it.
+-- The killer's state is the one after the readings `history` (newest first), for these rules and
+-- groups: so are its rulesets and its past, and it has the time of the newest reading and the kills
+-- at it.
 pub record Represents (killer : KillerView) (lives : List GroupLife) (rules : List Rule)
     (history : List Reading) : Type 0 where
   pub slots : killer_slots killer ≡ length lives
@@ -55,37 +57,39 @@ pub record Represents (killer : KillerView) (lives : List GroupLife) (rules : Li
   pub last : killer.last ≡ newest_moment history
   pub found : killer.found ≡ newest_kills lives rules history
 
--- a killer represents some readings of the groups
+-- the killer is in a valid state for these groups: some rules and some readings lead to it
 abbrev pub IsStanding : KillerView → List GroupLife → Type 0
 IsStanding killer lives = (rules : List Rule) × (history : List Reading) ×
     Represents killer lives rules history
 
--- The kills that a killer decides at a reading, after the earlier readings that it represents.
+-- `found` are the kills of the rules at `reading`, after the readings that led to the killer's
+-- state
 abbrev pub Decides : KillerView → ReadingView → List Kill → Type 0
 Decides old reading found = (rules : List Rule) (history : List Reading) →
     Represents old reading.lives rules history →
     found ≡ kills reading.lives rules reading.seen history
 
--- A killer takes a reading: afterwards it represents this reading and those before it.
+-- After the call, the killer's state is the one after its earlier readings and `reading`.
 abbrev pub KillerTakes : KillerView → ReadingView → KillerView → Type 0
 KillerTakes old reading new = (rules : List Rule) (history : List Reading) →
     Represents old reading.lives rules history →
     Represents new reading.lives rules (reading.seen ∷ history)
 
--- ---- rulesets in order
+-- ---- lists of rulesets
 
--- rulesets represent some readings of the groups
+-- the rulesets are in a valid state for these groups: some rules and some readings lead to it
 abbrev pub AreStanding : List GroupLife → List RulesetView → Type 0
 AreStanding lives states = (rules : List Rule) × (history : List Reading) ×
     RulesetsRepresent lives history 0 states rules
 
--- the kills of rulesets at a reading, after the earlier readings that they represent
+-- `found` are the kills of all rulesets at `reading`, after the readings that led to their states
 abbrev pub AllDecide : List RulesetView → ReadingView → Kept → List Kill → Type 0
 AllDecide old reading past found = (rules : List Rule) (history : List Reading) →
     RulesetsRepresent reading.lives history 0 old rules → IsPastOf past history →
     found ≡ kills reading.lives rules reading.seen history
 
--- rulesets take a reading: afterwards they represent this reading and those before it
+-- After the call, the states of the rulesets are the ones after their earlier readings and
+-- `reading`.
 abbrev pub RulesetsTake : List RulesetView → ReadingView → Kept → List RulesetView → Type 0
 RulesetsTake old reading past new = (rules : List Rule) (history : List Reading) →
     RulesetsRepresent reading.lives history 0 old rules → IsPastOf past history →
@@ -93,8 +97,8 @@ RulesetsTake old reading past new = (rules : List Rule) (history : List Reading)
 
 -- ---- the invariant of a killer
 
--- The invariant of a killer: it has at most 64 rulesets, and their detectors have the same number
--- of groups and the same last reading as the killer.
+-- The invariant of a killer: it has at most 64 rulesets, and their detectors were made for the same
+-- number of groups and have the same last reading as the killer.
 pub record IsKiller (killer : KillerView) : Type 0 where
   pub few : length killer.rulesets ≤ 64
   pub at : All (λ state. IsRulesetAt killer.last (killer_slots killer) state) killer.rulesets

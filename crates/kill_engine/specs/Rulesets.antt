@@ -1,4 +1,5 @@
--- The state of a ruleset, and the readings that it represents.
+-- The state of a ruleset in terms of the readings that led to it. A detector or a ruleset
+-- *represents* readings if its state is the one after it has taken these readings.
 use Rattle.std.specs.Prelude.{◌≡◌, ℕ, ◌+◌, List, ◌∷◌, ◌++◌, length, find, map, option_map, slice_get}
 use Rattle.std.specs.Prelude.{Bool, Option, None, Some, All}
 use Rattle.std.specs.List.{AllZip, list_all, list_any}
@@ -18,23 +19,23 @@ use Rattle.detectors.specs.Views.{DetectorView, IsAfter, ReadingView, slots_of}
 use Rattle.detectors.specs.Stands.{Represents}
 use Rattle.victim_rank.specs.Pasts.{IsPastOf, Kept}
 
--- ---- which readings detectors can take
+-- ---- preconditions of a reading
 
--- a detector can take a reading: it has the same number of groups, and is later than the detector's
--- last
+-- the detector can take the reading: it was made for the same number of groups, and the reading is
+-- later than its last
 pub record IsStateReady (reading : ReadingView) (detector : DetectorView) : Type 0 where
   pub later : IsAfter detector.last reading.seen.at
   pub slots : length reading.lives ≡ slots_of detector
 
--- a detector has this number of groups, and its last reading was at this time (ns), if there was
--- one
+-- the detector was made for `slots` groups, and its last reading was at `moment` (ns), or there was
+-- none
 pub record IsAt (moment : Option ℕ) (slots : ℕ) (detector : DetectorView) : Type 0 where
   pub last : detector.last ≡ moment
   pub places : slots_of detector ≡ slots
 
 -- ---- groups of detectors
 
--- detectors represent readings, each with its arguments
+-- each detector's state is the one after the readings `history`, for its own arguments
 abbrev pub DetectorsRepresent :
     List GroupLife → List Reading → List DetectorView → List DetectorSpec → Type 0
 DetectorsRepresent lives history detectors specs =
@@ -42,21 +43,21 @@ DetectorsRepresent lives history detectors specs =
     Represents detector lives spec history)
     detectors specs
 
--- the answer of detectors at a reading, after the earlier readings that they represent: whether all
--- are true
+-- `answer` says whether all detectors are true at `reading`, after the readings that led to their
+-- states
 abbrev pub AllAnswer : List DetectorView → ReadingView → Bool → Type 0
 AllAnswer old reading answer = (specs : List DetectorSpec) (history : List Reading) →
     DetectorsRepresent reading.lives history old specs →
     answer ≡
     list_all (λ (spec : DetectorSpec). is_true reading.lives spec reading.seen history) specs
 
--- detectors take a reading: afterwards they represent this reading and those before it
+-- After the call, the detectors' states are the ones after their earlier readings and `reading`.
 abbrev pub AllTake : List DetectorView → ReadingView → List DetectorView → Type 0
 AllTake old reading new = (specs : List DetectorSpec) (history : List Reading) →
     DetectorsRepresent reading.lives history old specs →
     DetectorsRepresent reading.lives (reading.seen ∷ history) new specs
 
--- groups of detectors represent readings
+-- the states of the detectors of all groups are the ones after the readings `history`
 abbrev pub GroupsRepresent :
     List GroupLife → List Reading → List (List DetectorView) → List DetectorGroup → Type 0
 GroupsRepresent lives history groups specs =
@@ -64,57 +65,60 @@ GroupsRepresent lives history groups specs =
     DetectorsRepresent lives history group spec.detectors)
     groups specs
 
--- the answer of groups of detectors at a reading, after the earlier readings that they represent:
--- whether one of the groups holds
+-- `answer` says whether all detectors of at least one group are true at `reading`, after the
+-- readings that led to their states
 abbrev pub SomeAnswers : List (List DetectorView) → ReadingView → Bool → Type 0
 SomeAnswers old reading answer = (specs : List DetectorGroup) (history : List Reading) →
     GroupsRepresent reading.lives history old specs →
     answer ≡
     list_any (λ (group : DetectorGroup). group_holds reading.lives group reading.seen history) specs
 
--- groups of detectors take a reading: afterwards they represent this reading and those before it
+-- After the call, the states of the detectors of all groups are the ones after their earlier
+-- readings and `reading`.
 abbrev pub GroupsTake : List (List DetectorView) → ReadingView → List (List DetectorView) → Type 0
 GroupsTake old reading new = (specs : List DetectorGroup) (history : List Reading) →
     GroupsRepresent reading.lives history old specs →
     GroupsRepresent reading.lives (reading.seen ∷ history) new specs
 
--- a property holds for each detector of groups of detectors
+-- the property holds for each detector of each group
 abbrev pub EachDetector : (DetectorView → Type 0) → List (List DetectorView) → Type 0
 EachDetector Holds groups = All (λ (group : List DetectorView). All Holds group) groups
 
--- ---- which groups actions match
+-- ---- groups that actions match
 
 -- for each action and by slot, whether the action's patterns match the group
 abbrev pub match_tables : List GroupLife → List Action → List (List Bool)
 match_tables lives actions =
     map (λ (action : Action). match_table lives (action_patterns action)) actions
 
--- ---- chains
+-- ---- chains of actions
 
--- the time (ns) until which a ruleset rests after a kill that ended its chain
+-- the time (ns) until which a ruleset rests after a kill that ended its chain of actions
 abbrev pub rest_of : List Action → Kill → ℕ
 rest_of actions kill = kill.at + delay_of (slice_get actions kill.action)
 
--- the time (ns) until which a ruleset rests after its last such kill, or 0 without one
+-- the time (ns) until which a ruleset rests after the last kill that ended its chain, or 0 if there
+-- was none
 abbrev pub rest_after : List Action → Option Kill → ℕ
 rest_after actions None = 0
 rest_after actions (Some kill) = rest_of actions kill
 
--- the kill of an action of a ruleset, both identified by number, at a reading after any earlier
--- readings that the past represents
+-- `kill` is the kill of an action at `reading`, for any earlier readings that the past represents.
+-- `number` is the ruleset's number, `act` the action's number.
 abbrev pub IsKillBy : ℕ → ℕ → Action → ReadingView → Kept → Option Kill → Type 0
 IsKillBy number act action reading past kill = (history : List Reading) → IsPastOf past history →
     kill ≡ kill_by number act reading.seen (victim reading.lives action reading.seen history)
 
--- the kills of a ruleset's chain, from the action with this number on, were appended to earlier
--- kills
+-- The kills of a ruleset's chain were appended to the earlier kills `before`. `act` is the number
+-- of the first action in `actions`.
 abbrev pub HasChain :
     ℕ → ℕ → List Action → ReadingView → Kept → List Kill → List Kill → Type 0
 HasChain number act actions reading past before after =
     (history : List Reading) → IsPastOf past history →
     after ≡ before ++ chain reading.lives number act actions reading.seen history
 
--- the time (ns) until which a ruleset rests after its chain, if a kill ends it
+-- `until` is the time (ns) until which the ruleset rests after its chain, or `None` if no kill ends
+-- the chain
 abbrev pub IsRestOf : ℕ → List Action → ReadingView → Kept → Option ℕ → Type 0
 IsRestOf number actions reading past until = (history : List Reading) → IsPastOf past history →
     until ≡
@@ -123,23 +127,23 @@ IsRestOf number actions reading past until = (history : List Reading) → IsPast
 
 -- ---- rulesets
 
--- A ruleset: its detectors in groups, its actions, the groups that the patterns of each action
--- match, and the time (ns) until which it rests.
+-- The state of a ruleset: its detectors in groups, its actions, the groups that the patterns of
+-- each action match, and the time (ns) until which it rests.
 pub record RulesetView : Type 0 where
   pub groups : List (List DetectorView)
   pub actions : List Action
   pub tables : List (List Bool)
   pub rests_until : ℕ
 
--- a ruleset with these parts
+-- the ruleset with these components
 abbrev pub ruleset_of :
     List (List DetectorView) → List Action → List (List Bool) → ℕ → RulesetView
 ruleset_of groups actions tables rests_until =
     record { groups = groups; actions = actions; tables = tables; rests_until = rests_until }
 
--- A ruleset with a number represents readings, the newest first: its detectors do, it has the
--- actions and the groups that they match, and it rests after its last chain-ending kill at these
--- readings, for the delay of that kill's action.
+-- The ruleset's state is the one after the readings `history` (newest first): so are its detectors,
+-- it has the rule's actions and the groups that they match, and it rests for the delay after the
+-- last kill that ended its chain.
 pub record RulesetRepresents (lives : List GroupLife) (history : List Reading) (number : ℕ)
     (state : RulesetView) (rule : Rule) : Type 0 where
   pub groups : GroupsRepresent lives history state.groups rule.groups
@@ -148,22 +152,23 @@ pub record RulesetRepresents (lives : List GroupLife) (history : List Reading) (
   pub rests : state.rests_until ≡
       rest_after rule.actions (last_ending rule.actions (kills_of lives number rule history))
 
--- a ruleset can take a reading: each of its detectors can
+-- each detector of the ruleset can take the reading
 abbrev pub IsRulesetReady : ReadingView → RulesetView → Type 0
 IsRulesetReady reading state = EachDetector (IsStateReady reading) state.groups
 
--- a ruleset with this number represents some readings of the groups
+-- the ruleset is in a valid state for these groups: some rule and some readings lead to it;
+-- `number` is the ruleset's number
 abbrev pub IsStanding : List GroupLife → ℕ → RulesetView → Type 0
 IsStanding lives number state = (rule : Rule) × (history : List Reading) ×
     RulesetRepresents lives history number state rule
 
--- each detector of a ruleset has this number of groups, and its last reading was at this time (ns),
--- if there was one
+-- each detector of the ruleset was made for `slots` groups, and its last reading was at `moment`
+-- (ns), or there was none
 abbrev pub IsRulesetAt : Option ℕ → ℕ → RulesetView → Type 0
 IsRulesetAt moment slots state = EachDetector (IsAt moment slots) state.groups
 
--- the kills of a ruleset at a reading, after the earlier readings that it represents, were appended
--- to earlier kills
+-- the kills of the ruleset at `reading`, after the readings that led to its state, were appended to
+-- the earlier kills `before`
 abbrev pub HasKills : ℕ → RulesetView → ReadingView → Kept → List Kill → List Kill → Type 0
 HasKills number old reading past before after = (rule : Rule) (history : List Reading) →
     RulesetRepresents reading.lives history number old rule → IsPastOf past history →
@@ -172,7 +177,7 @@ HasKills number old reading past before after = (rule : Rule) (history : List Re
     ++ kills_at reading.lives number rule reading.seen history
     (kills_of reading.lives number rule history)
 
--- a ruleset takes a reading: afterwards it represents this reading and those before it
+-- After the call, the ruleset's state is the one after its earlier readings and `reading`.
 abbrev pub RulesetTakes : ℕ → RulesetView → ReadingView → Kept → RulesetView → Type 0
 RulesetTakes number old reading past new = (rule : Rule) (history : List Reading) →
     RulesetRepresents reading.lives history number old rule → IsPastOf past history →

@@ -1,4 +1,7 @@
-//! Chains of actions.
+//! Takes the actions of a ruleset in order: a *chain*, which the first kill without
+//! `always_continue` ends.
+//!
+//! The victims are chosen in victim_rank.
 ghost use Rattle.std.specs.Prelude.{◌≡◌, ◌≤◌, ◌+◌, ◌++◌, ◌∷◌, [], length, vec_capacity, vec_len};
 ghost use Rattle.kill_spec.specs.Detectors.{of_seconds};
 ghost use Rattle.kill_spec.specs.Victims as victims;
@@ -12,14 +15,16 @@ use psi_base::Ns;
 use ruleset_json::Action;
 use victim_rank::{MatchTable, Past, after_of, victim};
 
-/// The end (ns) of a rest of `delay_s` seconds. It may not fit in 64 bits.
+/// Returns the end (ns) of a rest of `delay_s` seconds that begins at `at` (ns). It may not fit in
+/// 64 bits.
 fn end_of_rest(at: Ns, delay_s: u32) -> u128
     ensures { result ≡ at + of_seconds delay_s }
 {
     u128::from(at) + u128::from(delay_s) * 1_000_000_000
 }
 
-/// The kill of an action, or `None` if it has no victim.
+/// Returns the kill of an action, or `None` if it has no victim. `number` and `act` are the numbers
+/// of the ruleset and of the action.
 fn kill_by(
     number: u32,
     act: u32,
@@ -43,7 +48,7 @@ fn kill_by(
     })
 }
 
-/// Appends a kill. There must be room.
+/// Appends a kill. Precondition: there is room.
 fn put(found: &mut Vec<Kill>, kill: Kill)
     requires { vec_len found.old + 1 ≤ vec_capacity found.old }
     ensures items { found.new.items ≡ found.old.items ++ kill ∷ [] }
@@ -57,7 +62,7 @@ fn put(found: &mut Vec<Kill>, kill: Kill)
 
 /// Takes the actions of a ruleset in order, and appends their kills. The first kill by an action
 /// without `always_continue` ends the chain: then returns the time (ns) until which the ruleset
-/// rests. Does not allocate.
+/// rests. Returns `None` if no kill ends the chain. Doesn't allocate.
 pub(crate) fn take_chain(
     actions: &[Action],
     tables: &[MatchTable],

@@ -1,4 +1,6 @@
-//! A group of detectors.
+//! A group of detectors of a ruleset.
+//!
+//! Single detectors are in the crate `detectors`.
 ghost use Rattle.std.specs.Prelude.{◌≤◌, [], IfOk, All, Some, length};
 ghost use Rattle.psi_spec.specs.World.{most_groups};
 ghost use Rattle.kill_engine.specs.Rulesets.{AllAnswer, AllTake, DetectorsRepresent, IsAt, IsStateReady};
@@ -10,7 +12,7 @@ use ruleset_json::DetectorSpec;
 use std::alloc::Global;
 use std::marker::Model;
 
-/// The detectors of a group. The group holds if all of them are true.
+/// The detectors of a group, with their state. The group holds if all of them are true.
 #[derive(Drop)]
 pub(crate) struct GroupState {
     detectors: Vec<Detector>,
@@ -25,8 +27,8 @@ impl Model for GroupState {
     ghost view = { λ g. g.detectors.items };
 }
 
-/// Steps every detector, without short-circuit, because detectors have state. Returns whether all
-/// are true.
+/// Passes a reading to every detector, also after one is false, because detectors have state.
+/// Returns whether all are true.
 fn step_all(detectors: &mut [Detector], reading: &Reading) -> bool
     requires ready { All (IsStateReady reading.now) detectors.old }
     ensures answer { AllAnswer detectors.old reading.now result }
@@ -41,7 +43,7 @@ fn step_all(detectors: &mut [Detector], reading: &Reading) -> bool
 }
 
 impl GroupState {
-    /// The detectors with these arguments, before the first reading.
+    /// Returns a group of detectors with these arguments, before the first reading.
     pub(crate) fn of(
         alloc: Global,
         specs: &[DetectorSpec],
@@ -58,7 +60,8 @@ impl GroupState {
         Ok(GroupState { detectors })
     }
 
-    /// Takes the next reading, and returns whether the group holds at it. Does not allocate.
+    /// Passes the next reading to every detector, and returns whether the group holds at it.
+    /// Doesn't allocate.
     pub(crate) fn step(&mut self, reading: &Reading) -> bool
         requires ready { All (IsStateReady reading.now) self.old }
         ensures answer { AllAnswer self.old reading.now result }

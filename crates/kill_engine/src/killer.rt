@@ -1,4 +1,6 @@
-//! The killer.
+//! The killer: all rulesets of a rules file, with their state.
+//!
+//! It decides kills, but carries none out.
 ghost use Rattle.std.specs.Prelude.{◌≡◌, ◌≤◌, [], IfOk, All, Some, length, vec_capacity};
 ghost use Rattle.psi_spec.specs.World.{most_groups};
 ghost use Rattle.detectors.specs.Views.{IsAfter};
@@ -16,17 +18,17 @@ use std::alloc::Global;
 use std::marker::Model;
 use victim_rank::Past;
 
-/// The maximum number of kills at an evaluation: 16 actions for each of 64 rulesets.
+/// The greatest number of kills at an evaluation: 16 actions of each of 64 rulesets.
 const MOST_KILLS: usize = 1024;
 
-/// All rulesets after the readings so far, and the kills at the last reading.
+/// All rulesets after the readings that were taken, and the kills at the last reading.
 #[derive(Drop)]
 pub struct Killer {
     rulesets: Vec<RuleState>,
     past: Past,
     /// The time of the last reading (ns).
     last: Option<Ns>,
-    /// The kills at the last reading, with capacity for the maximum number.
+    /// The kills at the last reading, with capacity for the greatest number.
     found: Vec<Kill>,
 }
 
@@ -43,7 +45,7 @@ impl Model for Killer {
         × IsKiller (killer_of k.rulesets.items k.past k.last k.found.items) };
 }
 
-/// The rulesets before the first reading.
+/// Returns the rulesets of these rules, before the first reading.
 fn rulesets_of(
     alloc: Global,
     rules: Vec<Rule>,
@@ -81,8 +83,8 @@ fn evaluate_all(rulesets: &mut [RuleState], reading: &Reading, past: &Past, foun
 }
 
 impl Killer {
-    /// A killer with these rules for these groups, by slot, before the first reading. Allocates
-    /// everything at the start.
+    /// Returns a killer with these rules for the groups `lives`, before the first reading.
+    /// Allocates all its memory.
     pub fn make(alloc: Global, rules: Rules, lives: &[GroupLife]) -> Result<Killer, NoMemory>
         requires { length lives.now ≤ most_groups }
         ensures { IfOk result (λ killer. Represents killer lives.now rules.rules []) }
@@ -95,9 +97,9 @@ impl Killer {
         })
     }
 
-    /// Takes the next reading, which is later than the last: each ruleset that fires at it and
-    /// isn't resting takes its actions in order. [`Killer::kills`] returns the kills afterwards.
-    /// Does not allocate.
+    /// Takes the next reading: each ruleset that fires at it and isn't resting takes its actions in
+    /// order. Afterwards [`Killer::kills`] returns the kills. Doesn't allocate. Precondition:
+    /// `reading` is later than the last reading.
     pub fn evaluate(&mut self, reading: &Reading)
         requires later { IsAfter self.old.last reading.now.seen.at }
         requires stands { IsStanding self.old reading.now.lives }
@@ -112,7 +114,8 @@ impl Killer {
         self.last = Some(reading.at());
     }
 
-    /// The kills at the last reading, in the order of rulesets and actions; empty before the first.
+    /// Returns the kills at the last reading, in the order of rulesets and actions. Empty before
+    /// the first reading.
     pub fn kills(&self) -> &[Kill]
         ensures { result.now ≡ self.now.found }
     {

@@ -1,9 +1,10 @@
 //! Kills: at each evaluation the rulesets that fire and aren't resting take their actions in order.
 //!
-//! [`Killer`] has all detectors and the past of all groups. It takes readings in order, and returns
-//! the kills at the last one. It allocates everything at the start.
+//! [`Killer`] has the state of all detectors, and the past of all groups. It takes readings in
+//! order, and returns the kills at the last reading. A reading is what an evaluation sees: the
+//! time, the host's memory and the live groups. All memory is allocated when the killer is made.
 //!
-//! It kills nothing and prints nothing: it only decides.
+//! The crate kills nothing and prints nothing: it only decides.
 #![tactic(auto)]
 
 mod chain;

@@ -1,4 +1,6 @@
-//! A ruleset.
+//! A ruleset with its state.
+//!
+//! Its actions are taken in `chain`.
 ghost use Rattle.std.specs.Prelude.{◌≡◌, ◌≤◌, ◌+◌, ℕ, [], IfOk, Some, length, nat_lt, vec_capacity, vec_len};
 ghost use Rattle.psi_spec.specs.World.{most_groups};
 ghost use Rattle.kill_engine.specs.Rulesets.{EachDetector, GroupsRepresent, GroupsTake, HasKills, IsAt, IsStateReady, match_tables};
@@ -15,15 +17,15 @@ use std::alloc::Global;
 use std::marker::Model;
 use victim_rank::{MatchTable, Past};
 
-/// A ruleset after the readings so far.
+/// The state of a ruleset after the readings that it has taken.
 #[derive(Drop)]
 pub(crate) struct RuleState {
     groups: Vec<GroupState>,
     actions: ActionList,
-    /// The groups that each action matches.
+    /// By action, the groups that the action's patterns match.
     tables: Vec<MatchTable>,
-    /// The time (ns) until which it rests, or 0 if no kill ended its chain. It may not fit in 64
-    /// bits.
+    /// The time (ns) until which the ruleset rests, or 0 if no kill has ended its chain. It may not
+    /// fit in 64 bits.
     rests_until: u128,
 }
 
@@ -35,7 +37,7 @@ impl Model for RuleState {
     ghost view = { λ r. ruleset_of r.groups.items r.actions r.tables.items r.rests_until };
 }
 
-/// Groups of detectors with these arguments, before the first reading.
+/// Returns groups of detectors with these arguments, before the first reading.
 fn groups_of(
     alloc: Global,
     specs: &[DetectorGroup],
@@ -52,8 +54,8 @@ fn groups_of(
     Ok(groups)
 }
 
-/// The groups that the actions of a ruleset match. Patterns are matched once, instead of at each
-/// evaluation.
+/// Returns, for each action, the groups that its patterns match. Patterns are matched once, instead
+/// of at each evaluation.
 fn tables_of(
     alloc: Global,
     actions: &[Action],
@@ -69,8 +71,8 @@ fn tables_of(
     Ok(tables)
 }
 
-/// Steps every group's detectors, without short-circuit, because detectors have state. Returns
-/// whether a group holds.
+/// Passes a reading to every detector of every group, also after a group holds, because detectors
+/// have state. Returns whether at least one group holds.
 fn step_groups(groups: &mut [GroupState], reading: &Reading) -> bool
     requires ready { EachDetector (IsStateReady reading.now) groups.old }
     ensures answer { SomeAnswers groups.old reading.now result }
@@ -86,7 +88,7 @@ fn step_groups(groups: &mut [GroupState], reading: &Reading) -> bool
 }
 
 impl RuleState {
-    /// A ruleset before the first reading.
+    /// Returns a ruleset before the first reading.
     pub(crate) fn of(alloc: Global, rule: Rule, lives: &[GroupLife]) -> Result<RuleState, NoMemory>
         requires { length lives.now ≤ most_groups }
         ensures { IfOk result (λ state. (number : ℕ) →
@@ -102,7 +104,7 @@ impl RuleState {
         })
     }
 
-    /// Steps all its detectors, and returns whether it fires at the reading.
+    /// Passes the reading to all detectors, and returns whether the ruleset fires.
     fn fires(&mut self, reading: &Reading) -> bool
         requires ready { IsRulesetReady reading.now self.old }
         ensures answer { SomeAnswers self.old.groups reading.now result }
@@ -115,15 +117,15 @@ impl RuleState {
         step_groups(&mut self.groups, reading)
     }
 
-    /// Whether it rests at a time (ns).
+    /// Returns whether the ruleset rests at time `at` (ns).
     fn is_resting(&self, at: Ns) -> bool
         ensures { result ≡ nat_lt at self.now.rests_until }
     {
         u128::from(at) < self.rests_until
     }
 
-    /// Takes the next reading as the ruleset with this number, and appends its kills. Does not
-    /// allocate.
+    /// Takes the next reading, and appends the ruleset's kills. `number` is the ruleset's number.
+    /// Doesn't allocate.
     pub(crate) fn evaluate(
         &mut self,
         number: u32,
