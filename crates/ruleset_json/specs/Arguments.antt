@@ -1,4 +1,5 @@
--- The arguments of plugins: the kind of each, the meaning of its text, and its default.
+-- The arguments of plugins (detectors and actions): the kind of each, the meaning of its text, and
+-- its default.
 use Rattle.std.specs.Prelude.{ℕ, List, [], ◌∷◌, Bool, true, false, codes, decimal, Option, None, Some, option_and_then, Result, Ok, Err}
 use Rattle.psi_base.specs.declared.event.Res.{Res}
 use Rattle.psi_base.specs.ResultSteps.{◌>>=◌}
@@ -16,21 +17,21 @@ use Rattle.ruleset_json.specs.declared.name.Key.{Key}
 use Rattle.ruleset_json.specs.Names.{key_word}
 use Rattle.ruleset_json.specs.Forms.{number_up_to, ratio_of, size_of, truth_of, resource_of}
 
--- ---- the first fault on the walk
+-- ---- faults
 
--- a fault with this cause at this place
+-- the fault with this cause at place `at`
 abbrev pub refused_for : {A : Type 0} → Place → RulesCause → Result A RulesFault
 refused_for at what = Err (record { place = at; what = what })
 
--- the value, or a fault with this cause
+-- the value, or the fault with this cause at place `at` if there is none
 abbrev pub or_fault : {A : Type 0} → Place → RulesCause → Option A → Result A RulesFault
 or_fault at what None = refused_for at what
 or_fault at what (Some x) = Ok x
 
 -- ---- kinds of arguments
 
--- patterns of paths; a resource; a number up to a maximum; a ratio in thousandths; a size; a
--- Boolean
+-- The kind of an argument: patterns of paths, a resource, a number up to a maximum, a ratio in
+-- thousandths, a size, or a Boolean.
 pub data ArgumentKind : Type 0 where
   patterns : ArgumentKind
   resource : ArgumentKind
@@ -39,7 +40,7 @@ pub data ArgumentKind : Type 0 where
   size : ArgumentKind
   truth : ArgumentKind
 
--- the values of a kind
+-- the type of the values of a kind
 abbrev pub ArgumentValue : ArgumentKind → Type 0
 ArgumentValue patterns = List (List (List ℕ))
 ArgumentValue resource = Res
@@ -48,17 +49,17 @@ ArgumentValue ratio = ℕ
 ArgumentValue size = Size
 ArgumentValue truth = Bool
 
--- why a text of patterns is rejected
+-- the cause of a fault for a rejected list of patterns
 abbrev pub pattern_cause : PatternFault → RulesCause
 pattern_cause pattern.BadPattern = cause.BadArg
 pattern_cause pattern.TooMany = cause.TooMany
 
--- the value, or a fault with the cause against it
+-- the parsed patterns, or the fault at place `at` for their rejection
 abbrev pub or_pattern : {A : Type 0} → Place → Result A PatternFault → Result A RulesFault
 or_pattern at (Ok x) = Ok x
 or_pattern at (Err fault) = refused_for at (pattern_cause fault)
 
--- the value of a text as an argument of a kind
+-- the value that a text spells as an argument of kind `k`, or a fault
 unfoldable pub argument_of : Place → (k : ArgumentKind) → List ℕ → Result (ArgumentValue k) RulesFault
 argument_of at patterns text = or_pattern at (patterns_of text)
 argument_of at resource text = or_fault at cause.BadArg (resource_of text)
@@ -67,26 +68,27 @@ argument_of at ratio text = or_fault at cause.BadArg (ratio_of text)
 argument_of at size text = or_fault at cause.BadArg (size_of text)
 argument_of at truth text = or_fault at cause.BadArg (truth_of text)
 
--- ---- the texts of arguments
+-- ---- texts of arguments
 
--- the text of a Boolean
+-- the spelling of a Boolean
 abbrev pub truth_text : Bool → List ℕ
 truth_text true = codes "true"
 truth_text false = codes "false"
 
--- the text of a natural number
+-- the spelling of a natural number; `None` for any other number
 abbrev pub number_text : Num → Option (List ℕ)
 number_text (unsigned n) = Some (decimal n)
 number_text _ = None
 
--- the text of an argument: a string itself, or the spelling of a natural number or a Boolean
+-- the text of an argument in JSON: the string itself, or the spelling of a natural number or
+-- Boolean; `None` for any other value
 abbrev pub argument_text : Data → Option (List ℕ)
 argument_text (string text) = Some text
 argument_text (numeric n) = number_text n
 argument_text (boolean b) = Some (truth_text b)
 argument_text _ = None
 
--- an argument that is present, as a value of its kind
+-- the value of an argument that is present, or a fault
 unfoldable pub value_at : Place → (k : ArgumentKind) → Data → Result (ArgumentValue k) RulesFault
 value_at at k d = do
   text ← or_fault at cause.WrongKind (argument_text d)
@@ -94,7 +96,7 @@ value_at at k d = do
 
 -- ---- tables of arguments
 
--- a known argument: its key, its kind, and its default if it is optional
+-- a known argument: its key, its kind, and its default value if it is optional
 pub record Argument : Type 0 where
   pub key : Key
   pub kind : ArgumentKind
@@ -108,22 +110,23 @@ required key k = record { key = key; kind = k; default = None }
 abbrev pub optional : Key → (k : ArgumentKind) → ArgumentValue k → Argument
 optional key k default = record { key = key; kind = k; default = Some default }
 
--- the value of an argument, or its default if it is missing
+-- the value of an argument; if it is missing, its default, or a fault if it has none
 abbrev pub found_or : Place → (k : ArgumentKind) → Option (ArgumentValue k) → Option Data → Result (ArgumentValue k) RulesFault
 found_or at k None None = refused_for at cause.MissingKey
 found_or at k (Some default) None = Ok default
 found_or at k default (Some d) = value_at at k d
 
--- the value of one argument of a plugin, whose `args` may be missing
+-- the value of one argument of a plugin; `args` is the object of all arguments, if there is one
 unfoldable pub argument_at : Place → (a : Argument) → Option Data → Result (ArgumentValue a.kind) RulesFault
 argument_at at a args = found_or at a.kind a.default (option_and_then (get (key_word a.key)) args)
 
--- a function of arguments' values, in order
+-- a function that takes the values of these arguments, in order
 abbrev pub ArgumentsMaker : List Argument → Type 0 → Type 0
 ArgumentsMaker [] Made = Made
 ArgumentsMaker (a ∷ known) Made = ArgumentValue a.kind → ArgumentsMaker known Made
 
--- that function applied to the arguments of a plugin, which are parsed in order
+-- the result of such a function for the arguments of a plugin, which are parsed in order, or the
+-- first fault
 abbrev pub made_of_arguments : {Made : Type 0} → Place → (known : List Argument) → ArgumentsMaker known Made → Option Data
     → Result Made RulesFault
 made_of_arguments at [] made args = Ok made

@@ -8,7 +8,7 @@ use Rattle.ruleset_json.specs.declared.name.ActionName.TheVariants as action
 use Rattle.ruleset_json.specs.declared.name.Key.{Key}
 use Rattle.ruleset_json.specs.declared.name.Key.TheVariants as key
 
--- the name of a detector
+-- the name of a detector, as a rules file has it
 unfoldable pub detector_word : DetectorName → List ℕ
 detector_word detector.PressureAbove = codes "pressure_above"
 detector_word detector.PressureRisingBeyond = codes "pressure_rising_beyond"
@@ -17,32 +17,32 @@ detector_word detector.MemoryReclaim = codes "memory_reclaim"
 detector_word detector.SwapFree = codes "swap_free"
 detector_word detector.Exists = codes "exists"
 
--- all detectors
+-- the names of all detectors
 abbrev pub detector_names : List DetectorName
 detector_names =
     detector.PressureAbove ∷ detector.PressureRisingBeyond ∷ detector.MemoryAbove ∷ detector.MemoryReclaim ∷ detector.SwapFree
     ∷ detector.Exists ∷ []
 
--- the detector with this name
+-- the detector that a text names, or `None`
 unfoldable pub detector_named : List ℕ → Option DetectorName
 detector_named text = named detector_word detector_names text
 
--- the name of an action
+-- the name of an action, as a rules file has it
 unfoldable pub action_word : ActionName → List ℕ
 action_word action.SizeOrGrowth = codes "kill_by_memory_size_or_growth"
 action_word action.SwapUsage = codes "kill_by_swap_usage"
 action_word action.Pressure = codes "kill_by_pressure"
 action_word action.PgScan = codes "kill_by_pg_scan"
 
--- all actions
+-- the names of all actions
 abbrev pub action_names : List ActionName
 action_names = action.SizeOrGrowth ∷ action.SwapUsage ∷ action.Pressure ∷ action.PgScan ∷ []
 
--- the action with this name
+-- the action that a text names, or `None`
 unfoldable pub action_named : List ℕ → Option ActionName
 action_named text = named action_word action_names text
 
--- the text of a key
+-- the key of an argument, as a rules file has it
 unfoldable pub key_word : Key → List ℕ
 key_word key.Cgroup = codes "cgroup"
 key_word key.Resource = codes "resource"

@@ -1,5 +1,6 @@
--- The detectors and the actions: their arguments in the order in which they are parsed, and the
--- result. They are core plugins of oomd, with the arguments that this program supports.
+-- The plugins, which are the detectors and the actions: their arguments in the order in which they
+-- are parsed, and their results. They are core plugins of oomd, with the arguments that this
+-- program supports.
 use Rattle.std.specs.Prelude.{ℕ, List, [], ◌∷◌, false}
 use Rattle.ruleset_json.specs.declared.name.DetectorName.{DetectorName}
 use Rattle.ruleset_json.specs.declared.name.DetectorName.TheVariants.{PressureAbove, PressureRisingBeyond, MemoryAbove, MemoryReclaim, SwapFree, Exists}
@@ -14,24 +15,24 @@ use Rattle.ruleset_json.specs.declared.types.Action.{Action}
 use Rattle.ruleset_json.specs.declared.types.Action.TheVariants as action
 use Rattle.ruleset_json.specs.Arguments.{Argument, ArgumentsMaker, required, optional, patterns, resource, number, ratio, size, truth}
 
--- a plugin: its arguments, and a function of their values
+-- a plugin: its arguments, and the function from their values to the result
 pub record Plugin (Made : Type 0) : Type 0 where
   pub arguments : List Argument
   pub make : ArgumentsMaker arguments Made
 
--- the plugin with these parts
+-- the plugin with these components
 abbrev pub plugin : {Made : Type 0} (arguments : List Argument) → ArgumentsMaker arguments Made → Plugin Made
 plugin arguments make = record { arguments = arguments; make = make }
 
--- the highest percentage
+-- the greatest percentage
 abbrev pub percent : ℕ
 percent = 100
 
--- the longest time, in seconds
+-- the longest time (s)
 abbrev pub longest : ℕ
 longest = 1000000
 
--- the detectors
+-- the plugin of each detector
 unfoldable pub detector_of : DetectorName → Plugin DetectorSpec
 detector_of PressureAbove =
     plugin (required key.Cgroup patterns ∷ required key.Resource resource ∷ required key.Threshold (number percent)
@@ -45,7 +46,7 @@ detector_of MemoryReclaim = plugin (required key.Cgroup patterns ∷ required ke
 detector_of SwapFree = plugin (required key.ThresholdPct (number percent) ∷ []) detector.SwapFree
 detector_of Exists = plugin (required key.Cgroup patterns ∷ optional key.Negate truth false ∷ []) detector.Exists
 
--- the actions: from their own arguments and the settings that all actions share
+-- The plugin of each action. Its result still takes the settings that all actions share.
 unfoldable pub action_of : ActionName → Plugin (After → Action)
 action_of SizeOrGrowth =
     plugin (required key.Cgroup patterns ∷ optional key.SizeThreshold (number percent) 50
@@ -59,7 +60,8 @@ action_of Pressure =
     (λ cgroup resource after. action.Pressure cgroup resource after)
 action_of PgScan = plugin (required key.Cgroup patterns ∷ []) (λ cgroup after. action.PgScan cgroup after)
 
--- the arguments that every action has after its own, in a ruleset with this delay (s) after a kill
+-- the arguments of the settings that all actions share; `delay` is the ruleset's delay (s) after a
+-- kill
 unfoldable pub after_arguments : ℕ → Plugin After
 after_arguments delay =
     plugin (optional key.Recursive truth false ∷ optional key.AlwaysContinue truth false

@@ -1,4 +1,5 @@
--- The rules of a file's bytes, or the first fault in depth-first order.
+-- The rules that the bytes of a rules file spell, or the file's first fault in depth-first order.
+-- Each function takes the place that its faults report.
 use Rattle.std.specs.Prelude.{ℕ, ◌+◌, List, [], ◌∷◌, drop, length, nat_lt, if◌then◌else◌, codes, Option, None, Some, is_some, Result, Ok}
 use Rattle.std.specs.List.{slice_get}
 use Rattle.std.specs.Str.{is_utf8}
@@ -21,36 +22,36 @@ use Rattle.ruleset_json.specs.Arguments.{refused_for, or_fault, number, optional
 use Rattle.ruleset_json.specs.Names.{detector_named, action_named}
 use Rattle.ruleset_json.specs.Plugins.{Plugin, detector_of, action_of, after_arguments, longest}
 
--- ---- kinds of values
+-- ---- JSON values of a kind
 
--- an object
+-- the value if it is an object, or a fault
 abbrev pub object_at : Place → Data → Result Data RulesFault
 object_at at d = if is_some (as_object d) then Ok d else refused_for at cause.WrongKind
 
--- the member with this key, which is required
+-- the member of an object with this key, or a fault if it is missing
 abbrev pub member_at : Place → List ℕ → Data → Result Data RulesFault
 member_at at key d = or_fault at cause.MissingKey (get key d)
 
--- a string
+-- the string that the value is, or a fault
 abbrev pub text_at : Place → Data → Result (List ℕ) RulesFault
 text_at at d = or_fault at cause.WrongKind (as_str d)
 
--- the items of an array, as a list
+-- the items of a JSON array as a list
 abbrev pub items_list : Items → List Data
 items_list no_items = []
 items_list (item d ds) = d ∷ items_list ds
 
--- at most n items
+-- the items if there are at most `most`, or a fault
 abbrev pub few : Place → ℕ → List Data → Result (List Data) RulesFault
 few at most ds = if nat_lt most (length ds) then refused_for at cause.TooMany else Ok ds
 
--- a list of at most n items of any kind
+-- the items of an array of at most `most` items, or a fault
 unfoldable pub list_at : Place → ℕ → Data → Result (List Data) RulesFault
 list_at at most d = do
   items ← or_fault at cause.WrongKind (as_array d)
   few at most (items_list items)
 
--- each item in order, numbered from this one
+-- the results of `f` for all items in order, or the first fault; the first item has number `i`
 abbrev pub each : {A : Type 0} → (ℕ → Data → Result A RulesFault) → ℕ → List Data → Result (List A) RulesFault
 each f i [] = Ok []
 each f i (d ∷ ds) = do
@@ -60,26 +61,26 @@ each f i (d ∷ ds) = do
 
 -- ---- plugins
 
--- the arguments of a plugin object, or None if it has none
+-- the object of a plugin's arguments, `None` if there is none, or a fault if it isn't an object
 abbrev pub arguments_in : Place → Option Data → Result (Option Data) RulesFault
 arguments_in at None = Ok None
 arguments_in at (Some d) = do
   whole ← object_at at d
   Ok (Some whole)
 
--- the result of a plugin for its arguments
+-- the result of a plugin for its arguments, or the first fault
 unfoldable pub made_at : {Made : Type 0} → Place → Plugin Made → Option Data → Result Made RulesFault
 made_at at known args = made_of_arguments at known.arguments known.make args
 
--- the result of an action for its arguments, in a ruleset with this delay (s) after a kill
+-- the action for its arguments, in a ruleset with this delay (s) after a kill, or the first fault
 unfoldable pub action_made_at : Place → ℕ → ActionName → Option Data → Result Action RulesFault
 action_made_at at delay name args = do
   make ← made_at at (action_of name) args
   after ← made_at at (after_arguments delay) args
   Ok (make after)
 
--- the result of a plugin object, given the names of its kind and the result of each for its
--- arguments
+-- the result of a plugin object, or its first fault; `name_of` parses the plugin's name, and `made`
+-- gives the result for the name and the arguments
 unfoldable pub plugin_at : {Name Made : Type 0} → (List ℕ → Option Name) → (Name → Option Data → Result Made RulesFault) → Place
     → Data → Result Made RulesFault
 plugin_at name_of made at d = do
@@ -90,17 +91,17 @@ plugin_at name_of made at d = do
   args ← arguments_in at (get (codes "args") whole)
   made name args
 
--- the detector of a plugin object
+-- the detector of a plugin object, or the first fault
 abbrev pub detector_in : Place → Data → Result DetectorSpec RulesFault
 detector_in at d = plugin_at detector_named (λ name. made_at at (detector_of name)) at d
 
--- the action of a plugin object, in a ruleset with this delay (s) after a kill
+-- the action of a plugin object, in a ruleset with this delay (s) after a kill, or the first fault
 abbrev pub action_in : ℕ → Place → Data → Result Action RulesFault
 action_in delay at d = plugin_at action_named (action_made_at at delay) at d
 
--- ---- groups, rulesets and the file
+-- ---- groups, rulesets and files
 
--- a group: its name, followed by at most 16 detectors in the same list
+-- group number `j` of ruleset number `i`: an array of its name and at most 16 detectors
 unfoldable pub group_at : ℕ → ℕ → Data → Result DetectorGroup RulesFault
 group_at i j d = do
   items ← list_at (place.Group i j) 17 d
@@ -109,25 +110,25 @@ group_at i j d = do
   found ← each (λ k. detector_in (place.Detector i j k)) 0 (drop 1 items)
   Ok (record { name = name; detectors = found })
 
--- the delay (s) after a kill by an action that has none of its own
+-- the delay (s) of a ruleset after a kill, for actions without a delay of their own
 abbrev pub delay_at : Place → Data → Result ℕ RulesFault
 delay_at at whole = argument_at at (optional key.PostActionDelay (number longest) 15) (Some whole)
 
--- the groups of a ruleset
+-- the groups of ruleset number `i`, or the first fault
 abbrev pub groups_at : ℕ → Data → Result (List DetectorGroup) RulesFault
 groups_at i whole = do
   found ← member_at (place.Rule i) (codes "detectors") whole
   items ← list_at (place.Rule i) 16 found
   each (group_at i) 0 items
 
--- the actions of a ruleset with this delay
+-- the actions of ruleset number `i`, which has this delay (s) after a kill, or the first fault
 abbrev pub actions_at : ℕ → ℕ → Data → Result (List Action) RulesFault
 actions_at i delay whole = do
   found ← member_at (place.Rule i) (codes "actions") whole
   items ← list_at (place.Rule i) 16 found
   each (λ k. action_in delay (place.Action i k)) 0 items
 
--- a ruleset
+-- ruleset number `i` (from 0), or its first fault
 unfoldable pub rule_at : ℕ → Data → Result Rule RulesFault
 rule_at i d = do
   whole ← object_at (place.Rule i) d
@@ -138,24 +139,24 @@ rule_at i d = do
   chain ← actions_at i delay whole
   Ok (record { name = name; groups = groups; actions = chain })
 
--- the list of rulesets of a file
+-- the JSON values of the rulesets in the JSON value of a file, or a fault
 unfoldable pub rulesets_in : Data → Result (List Data) RulesFault
 rulesets_in d = do
   whole ← object_at place.Whole d
   found ← member_at place.Whole (codes "rulesets") whole
   list_at place.Whole 64 found
 
--- the JSON data of a text; bytes that aren't UTF-8 are not a text
+-- the JSON value that the bytes spell, or `None`; the bytes must be UTF-8
 abbrev pub data_of : List ℕ → Option Data
 data_of bytes = if is_utf8 bytes then json.read bytes else None
 
--- the list of rulesets of a file with these bytes
+-- the JSON values of the rulesets of a file with these bytes, or a fault
 abbrev pub rulesets_of : List ℕ → Result (List Data) RulesFault
 rulesets_of bytes =
     if nat_lt 1048576 (length bytes) then refused_for place.Whole cause.TooLong
     else or_fault place.Whole cause.BadJson (data_of bytes) >>= rulesets_in
 
--- the rules of a file's bytes, or the first fault
+-- the rules of a file with these bytes, or the file's first fault
 unfoldable pub rules_of : List ℕ → Result Rules RulesFault
 rules_of bytes = do
   items ← rulesets_of bytes

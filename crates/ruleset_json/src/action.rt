@@ -1,4 +1,6 @@
-//! Parsing of actions: one function each, with one line for each argument.
+//! Parses actions.
+//!
+//! There is one function for each kind of action, with one line for each argument.
 ghost use Rattle.std.specs.Prelude.{◌≡◌, option_map, IfOk};
 ghost use Rattle.serde_json.specs.View.{view};
 ghost use Rattle.ruleset_json.specs.declared.fault.RulesCause.TheVariants as cause;
@@ -19,7 +21,8 @@ use psi_base::Fault;
 use serde_json::Value;
 use std::alloc::Global;
 
-// The arguments that every action has after its own, in a ruleset with this delay after a kill.
+// Parses the settings that all actions share, after an action's own arguments. `delay_s` is the
+// ruleset's delay after a kill.
 #[tactic(auto, unfolding(crate::specs::Rules::made_at, crate::specs::Plugins::after_arguments))]
 fn after(args: &Arguments, delay_s: u32) -> Result<After, Fault<RulesFault>>
     requires { IsTime delay_s }
@@ -135,7 +138,7 @@ fn named(text: &str, place: Place) -> Result<ActionName, RulesFault>
     }
 }
 
-/// The action of a plugin object, in a ruleset with this delay (s) after a kill.
+/// Parses the plugin object of an action, in a ruleset with this delay (s) after a kill.
 #[tactic(auto, unfolding(crate::specs::Rules::plugin_at))]
 pub fn action(
     alloc: Global,

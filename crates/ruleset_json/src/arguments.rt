@@ -1,4 +1,7 @@
-//! The arguments of a plugin: each is looked up by its key and parsed according to its kind.
+//! The arguments of a plugin (a detector or an action): each is looked up by its key, and parsed
+//! according to its kind.
+//!
+//! Which arguments a plugin has is in `action` and `detector`; the syntax of values is in `form`.
 ghost use Rattle.std.specs.Prelude.{◌≡◌, ◌<◌, ◌≤◌, Option, Some, None, option_map, option_and_then, string_bytes, IfOk, codes};
 ghost use Rattle.serde_json.specs.View.{view};
 ghost use Rattle.serde_json.specs.Find as json;
@@ -21,13 +24,14 @@ use psi_base::{Fault, NoMemory, Res};
 use serde_json::Value;
 use std::alloc::Global;
 
-/// The highest percentage.
+/// The greatest percentage.
 pub const PERCENT: u32 = 100;
 
-/// The longest time, in seconds.
+/// The longest time (s).
 pub const LONGEST_S: u32 = 1_000_000;
 
-// The text of an argument: a string itself, or the spelling of a natural number or a Boolean.
+// Returns the text of an argument: the string itself, or the spelling of a natural number or
+// Boolean. `None` for any other value.
 fn text_in(alloc: Global, value: &Value) -> Result<Option<String>, NoMemory>
     ensures { IfOk result (λ text.
         option_map string_bytes text ≡ argument_text (view value.now)) }
@@ -45,7 +49,7 @@ fn text_in(alloc: Global, value: &Value) -> Result<Option<String>, NoMemory>
     }
 }
 
-// The same, or `WrongKind`.
+// Returns the text of an argument as `text_in` does, but fails with `WrongKind` if there is none.
 fn text_of(alloc: Global, value: &Value, place: Place) -> Result<String, Fault<RulesFault>>
     ensures { GivesBy string_bytes result
         (or_fault place cause.WrongKind (argument_text (view value.now))) }
@@ -136,17 +140,17 @@ fn truth(alloc: Global, value: &Value, place: Place) -> Result<bool, Fault<Rules
     }
 }
 
-/// The arguments of a plugin, and the place that their faults report.
+/// The arguments of a plugin object, and the place that their faults report.
 #[derive(Drop)]
 pub struct Arguments<'v> {
     alloc: Global,
-    /// The object of the arguments, if there is one.
+    /// The object with the arguments, if there is one.
     found: Option<&'v Value>,
     place: Place,
 }
 
 impl<'v> Arguments<'v> {
-    /// The arguments in an object.
+    /// Returns the members of an object as arguments.
     pub fn of(alloc: Global, object: &'v Value, place: Place) -> Self
         ensures place { result.place ≡ place }
         ensures found { option_map (λ v. view v.now) result.found ≡ Some (view object.now) }
@@ -158,7 +162,8 @@ impl<'v> Arguments<'v> {
         }
     }
 
-    /// The arguments under the key `args` of a plugin object; none if there is no such key.
+    /// Returns the arguments of a plugin object, under its key `args`. If the key is missing, there
+    /// are no arguments.
     pub fn of_plugin(alloc: Global, plugin: &'v Value, place: Place) -> Result<Self, RulesFault>
         ensures found { ReadsBy (λ arguments. option_map (λ v. view v.now) arguments.found) result
             (arguments_in place (json.get (codes "args") (view plugin.now))) }
@@ -201,7 +206,7 @@ impl<'v> Arguments<'v> {
         }
     }
 
-    /// The required patterns with this key.
+    /// Parses the required argument `key` as patterns of paths.
     #[tactic(auto, unfolding(crate::specs::Arguments::argument_at))]
     pub fn patterns(&self, key: Key) -> Result<Patterns, Fault<RulesFault>>
         ensures { Gives result
@@ -211,7 +216,7 @@ impl<'v> Arguments<'v> {
         patterns(self.alloc, self.needed(key)?, self.place)
     }
 
-    /// The required resource with this key.
+    /// Parses the required argument `key` as a resource.
     #[tactic(auto, unfolding(crate::specs::Arguments::argument_at))]
     pub fn resource(&self, key: Key) -> Result<Res, Fault<RulesFault>>
         ensures value { Gives result
@@ -222,7 +227,7 @@ impl<'v> Arguments<'v> {
         resource(self.alloc, self.needed(key)?, self.place)
     }
 
-    /// The required number with this key, at most `most`.
+    /// Parses the required argument `key` as a number of at most `most`.
     #[tactic(auto, unfolding(crate::specs::Arguments::argument_at))]
     pub fn number(&self, key: Key, most: u32) -> Result<u32, Fault<RulesFault>>
         ensures value { Gives result
@@ -233,7 +238,7 @@ impl<'v> Arguments<'v> {
         number(self.alloc, self.needed(key)?, most, self.place)
     }
 
-    /// The required size with this key.
+    /// Parses the required argument `key` as a size.
     #[tactic(auto, unfolding(crate::specs::Arguments::argument_at))]
     pub fn size(&self, key: Key) -> Result<Size, Fault<RulesFault>>
         ensures value { Gives result
@@ -244,7 +249,8 @@ impl<'v> Arguments<'v> {
         size(self.alloc, self.needed(key)?, self.place)
     }
 
-    /// The number with this key, at most `most`, or its default if it is missing.
+    /// Parses the optional argument `key` as a number of at most `most`. Returns `default` if it is
+    /// missing.
     #[tactic(auto, unfolding(crate::specs::Arguments::argument_at))]
     pub fn number_or(&self, key: Key, most: u32, default: u32) -> Result<u32, Fault<RulesFault>>
         requires { default ≤ most }
@@ -259,7 +265,8 @@ impl<'v> Arguments<'v> {
         }
     }
 
-    /// The ratio with this key in thousandths, or its default if it is missing.
+    /// Parses the optional argument `key` as a ratio (in thousandths). Returns `default` if it is
+    /// missing.
     #[tactic(auto, unfolding(crate::specs::Arguments::argument_at))]
     pub fn ratio_or(&self, key: Key, default: u32) -> Result<u32, Fault<RulesFault>>
         requires { IsRatio default }
@@ -274,7 +281,7 @@ impl<'v> Arguments<'v> {
         }
     }
 
-    /// The size with this key, or its default if it is missing.
+    /// Parses the optional argument `key` as a size. Returns `default` if it is missing.
     #[tactic(auto, unfolding(crate::specs::Arguments::argument_at))]
     pub fn size_or(&self, key: Key, default: Size) -> Result<Size, Fault<RulesFault>>
         requires { IsSize default }
@@ -289,7 +296,7 @@ impl<'v> Arguments<'v> {
         }
     }
 
-    /// The Boolean with this key, or its default if it is missing.
+    /// Parses the optional argument `key` as a Boolean. Returns `default` if it is missing.
     #[tactic(auto, unfolding(crate::specs::Arguments::argument_at))]
     pub fn truth_or(&self, key: Key, default: bool) -> Result<bool, Fault<RulesFault>>
         ensures { Gives result

@@ -1,4 +1,7 @@
-//! Copies of rules. Cloning allocates and can fail, so each type has a function.
+//! Copies rules.
+//!
+//! Copying allocates and so can fail, which `Clone` doesn't allow; so each type has a method
+//! `copy`.
 ghost use Rattle.std.specs.Prelude.{◌≡◌, IfOk};
 ghost use Rattle.ruleset_json.specs.declared.types.DetectorSpec.TheVariants as detector;
 
@@ -35,7 +38,7 @@ fn rising_beyond(
 }
 
 impl DetectorSpec {
-    /// A copy of a detector.
+    /// Returns a copy of the detector's arguments.
     pub fn copy(&self, alloc: Global) -> Result<DetectorSpec, NoMemory>
         ensures { IfOk result (λ copied. copied ≡ self.now) }
     {
@@ -89,7 +92,7 @@ impl DetectorSpec {
 }
 
 impl Action {
-    /// A copy of an action.
+    /// Returns a copy of the action.
     pub fn copy(&self, alloc: Global) -> Result<Action, NoMemory>
         ensures { IfOk result (λ copied. copied ≡ self.now) }
     {
@@ -134,7 +137,7 @@ impl Action {
 }
 
 impl SpecList {
-    /// A copy of detectors.
+    /// Returns a copy of the detectors.
     pub fn copy(&self, alloc: Global) -> Result<SpecList, NoMemory>
         ensures { IfOk result (λ copied. copied ≡ self.now) }
     {
@@ -148,7 +151,7 @@ impl SpecList {
 }
 
 impl DetectorGroup {
-    /// A copy of a group of detectors.
+    /// Returns a copy of the group.
     pub fn copy(&self, alloc: Global) -> Result<DetectorGroup, NoMemory>
         ensures { IfOk result (λ copied. copied ≡ self.now) }
     {
@@ -160,7 +163,7 @@ impl DetectorGroup {
 }
 
 impl GroupList {
-    /// A copy of groups of detectors.
+    /// Returns a copy of the groups.
     pub fn copy(&self, alloc: Global) -> Result<GroupList, NoMemory>
         ensures { IfOk result (λ copied. copied ≡ self.now) }
     {
@@ -174,7 +177,7 @@ impl GroupList {
 }
 
 impl ActionList {
-    /// A copy of actions.
+    /// Returns a copy of the actions.
     pub fn copy(&self, alloc: Global) -> Result<ActionList, NoMemory>
         ensures { IfOk result (λ copied. copied ≡ self.now) }
     {
@@ -188,7 +191,7 @@ impl ActionList {
 }
 
 impl Rule {
-    /// A copy of a ruleset.
+    /// Returns a copy of the ruleset.
     pub fn copy(&self, alloc: Global) -> Result<Rule, NoMemory>
         ensures { IfOk result (λ copied. copied ≡ self.now) }
     {
@@ -201,7 +204,7 @@ impl Rule {
 }
 
 impl RuleList {
-    /// A copy of rulesets.
+    /// Returns a copy of the rulesets.
     pub fn copy(&self, alloc: Global) -> Result<RuleList, NoMemory>
         ensures { IfOk result (λ copied. copied ≡ self.now) }
     {
@@ -215,7 +218,7 @@ impl RuleList {
 }
 
 impl Rules {
-    /// A copy of rules.
+    /// Returns a copy of the rules.
     pub fn copy(&self, alloc: Global) -> Result<Rules, NoMemory>
         ensures { IfOk result (λ copied. copied ≡ self.now) }
     {

@@ -1,4 +1,6 @@
-//! Parsing of detectors: one function each, with one line for each argument.
+//! Parses detectors.
+//!
+//! There is one function for each kind of detector, with one line for each argument.
 ghost use Rattle.std.specs.Prelude.{◌≡◌, option_map, IfOk};
 ghost use Rattle.serde_json.specs.View.{view};
 ghost use Rattle.ruleset_json.specs.declared.fault.RulesCause.TheVariants as cause;
@@ -138,7 +140,7 @@ fn named(text: &str, place: Place) -> Result<DetectorName, RulesFault>
     }
 }
 
-/// The detector of a plugin object.
+/// Parses the plugin object of a detector.
 #[tactic(auto, unfolding(crate::specs::Rules::plugin_at))]
 pub fn detector(
     alloc: Global,

@@ -1,4 +1,6 @@
-//! Parsing of a rules file, in depth-first order.
+//! Parses rules files and drop-in files, in depth-first order.
+//!
+//! Single plugins are parsed in `detector` and `action`.
 ghost use Rattle.std.specs.Prelude.{◌≡◌, ◌≤◌, ◌-◌, codes, drop, if◌then◌else◌, map, nat_lt, length, IfOk, Err};
 ghost use Rattle.std.specs.List.{slice_get};
 ghost use Rattle.serde_json.specs.Find.{get};
@@ -25,16 +27,17 @@ use psi_base::{Fault, Text};
 use serde_json::Value;
 use std::alloc::Global;
 
-/// The maximum number of bytes of a rules file.
+/// The greatest size of a rules file (bytes).
 const MOST_BYTES: usize = 1_048_576;
 
-/// The maximum number of rulesets of a file.
+/// The greatest number of rulesets in a file.
 const MOST_RULES: usize = 64;
 
-/// The maximum number of groups of a ruleset, detectors of a group, and actions of a ruleset.
+/// The greatest number of groups of a ruleset, of detectors of a group, and of actions of a
+/// ruleset.
 const MOST_PARTS: usize = 16;
 
-/// The default delay of a ruleset after a kill, in seconds: oomd's.
+/// The default delay of a ruleset after a kill (s), which is oomd's.
 const DELAY_S: u32 = 15;
 
 fn detectors(
@@ -60,7 +63,7 @@ fn detectors(
     Ok(SpecList::new(found))
 }
 
-// The actions of a ruleset with this delay (s) after a kill.
+// Parses the actions of a ruleset with this delay (s) after a kill.
 fn actions(
     alloc: Global,
     rule: u32,
@@ -85,7 +88,7 @@ fn actions(
     Ok(ActionList::new(found))
 }
 
-// The first item of a list, which is required.
+// Returns the first item of a list, or `MissingKey` if the list is empty.
 fn first(items: &[Value], place: Place) -> Result<&Value, RulesFault>
     ensures { ReadsBy (λ v. view v.now) result
         (or_fault place cause.MissingKey (slice_get (map view items.now) 0)) }
@@ -99,7 +102,7 @@ fn first(items: &[Value], place: Place) -> Result<&Value, RulesFault>
     }
 }
 
-// The items of a list after the first.
+// Returns the items of a list after the first.
 fn rest(items: &[Value]) -> &[Value]
     ensures rest { map view result.now ≡ drop 1 (map view items.now) }
     ensures fewer { length result.now ≤ length items.now - 1 }
@@ -110,7 +113,7 @@ fn rest(items: &[Value]) -> &[Value]
     }
 }
 
-// A group: its name and its detectors in one list.
+// Parses a group of detectors: a list of its name and its detectors.
 #[tactic(auto, unfolding(crate::specs::Rules::group_at))]
 fn group(
     alloc: Global,
@@ -145,7 +148,7 @@ fn groups(alloc: Global, rule: u32, items: &[Value]) -> Result<GroupList, Fault<
     Ok(GroupList::new(found))
 }
 
-// The groups of a ruleset, which are required.
+// Parses the groups of a ruleset. Fails if they are missing.
 fn groups_in(alloc: Global, rule: u32, whole: &Value) -> Result<GroupList, Fault<RulesFault>>
     ensures value { Gives result (groups_at rule (view whole.now)) }
 {
@@ -154,7 +157,7 @@ fn groups_in(alloc: Global, rule: u32, whole: &Value) -> Result<GroupList, Fault
     groups(alloc, rule, items)
 }
 
-// The actions of a ruleset, which are required, with this delay (s) after a kill.
+// Parses the actions of a ruleset with this delay (s) after a kill. Fails if they are missing.
 fn actions_in(
     alloc: Global,
     rule: u32,
@@ -169,7 +172,7 @@ fn actions_in(
     actions(alloc, rule, delay_s, items)
 }
 
-// The delay (s) of a ruleset after a kill, for actions that have none of their own.
+// Parses the delay (s) of a ruleset after a kill, for actions without a delay of their own.
 fn delay(alloc: Global, whole: &Value, place: Place) -> Result<u32, Fault<RulesFault>>
     ensures value { Gives result (delay_at place (view whole.now)) }
     ensures range { IfOk result IsTime }
@@ -196,7 +199,7 @@ fn rule(alloc: Global, index: u32, value: &Value) -> Result<Rule, Fault<RulesFau
     })
 }
 
-// The groups of a part, if it has any.
+// Parses the groups of a part (a ruleset of a drop-in file), if it has any.
 fn groups_if_there(
     alloc: Global,
     rule: u32,
@@ -211,7 +214,8 @@ fn groups_if_there(
     }
 }
 
-// The actions of a part, if it has any, with this delay (s) after a kill.
+// Parses the actions of a part (a ruleset of a drop-in file), if it has any. `delay_s` is the
+// part's delay (s) after a kill.
 fn actions_if_there(
     alloc: Global,
     rule: u32,
@@ -229,7 +233,7 @@ fn actions_if_there(
     }
 }
 
-// A ruleset of a drop-in file.
+// Parses a ruleset of a drop-in file.
 #[tactic(auto, unfolding(crate::specs::Parts::part_at))]
 fn part(alloc: Global, index: u32, value: &Value) -> Result<Part, Fault<RulesFault>>
     ensures value { Gives result (part_at index (view value.now)) }
@@ -280,7 +284,7 @@ fn parts(alloc: Global, items: &[Value]) -> Result<Vec<Part>, Fault<RulesFault>>
     Ok(found)
 }
 
-// The list of rulesets of a file.
+// Returns the JSON values of the rulesets of a file.
 #[tactic(auto, unfolding(crate::specs::Rules::rulesets_in))]
 fn rulesets(value: &Value) -> Result<&[Value], RulesFault>
     ensures read { ReadsBy (λ items. map view items.now) result (rulesets_in (view value.now)) }
@@ -294,7 +298,7 @@ fn rulesets(value: &Value) -> Result<&[Value], RulesFault>
     )
 }
 
-// The JSON value of a file's bytes.
+// Parses the bytes of a file as JSON.
 fn value_in(alloc: Global, bytes: &[u8]) -> Result<Value, Fault<RulesFault>>
     ensures value { GivesBy view result (if nat_lt 1048576 (length bytes.now)
         then refused_for place.Whole cause.TooLong
@@ -307,12 +311,14 @@ fn value_in(alloc: Global, bytes: &[u8]) -> Result<Value, Fault<RulesFault>>
     value_of(alloc, bytes)
 }
 
-/// Parses a rules file: the rules with every default filled in, or the first fault in depth-first
-/// order: the file, its list `rulesets`, and of each ruleset `name`, `post_action_delay`,
-/// `detectors` and `actions`. A list is checked before its items; for a plugin, its name, its
-/// `args` and then each argument in the order of its table. The JSON is what `serde_json` accepts:
-/// at most 127 nested lists and objects, and the last value of a repeated key. `NoMemory` is only
-/// possible if the file isn't too long.
+/// Parses a rules file. Returns its rules with every default filled in, or its first fault in
+/// depth-first order.
+///
+/// The order is: the file, its list `rulesets`, and for each ruleset `name`, `post_action_delay`,
+/// `detectors` and `actions`. A list is checked before its items; for a plugin, first its name is
+/// checked, then its `args`, and then each argument in the order of its table. The JSON is what
+/// `serde_json` accepts: at most 127 nested lists and objects, and the last value of a repeated
+/// key. `NoMemory` is possible only if the file isn't too long.
 #[tactic(auto, unfolding(crate::specs::Rules::rules_of))]
 pub fn read(alloc: Global, bytes: &[u8]) -> Result<Rules, Fault<RulesFault>>
     ensures exact { Gives result (rules_of bytes.now) }
@@ -323,9 +329,9 @@ pub fn read(alloc: Global, bytes: &[u8]) -> Result<Rules, Fault<RulesFault>>
     Ok(Rules { rules })
 }
 
-/// Parses a drop-in file: its parts, at most 64, or the first fault. It is parsed like a rules file
-/// ([`read`]), but a ruleset may lack `detectors` or `actions`. Actions without `post_action_delay`
-/// have their part's, or else 15 s.
+/// Parses a drop-in file. Returns its parts (rulesets), at most 64, or its first fault. It is
+/// parsed like a rules file ([`read`]), but a ruleset may lack `detectors` or `actions`. Actions
+/// without `post_action_delay` have the delay of their part, which is 15 s by default.
 #[tactic(auto, unfolding(crate::specs::Parts::parts_of))]
 pub fn read_parts(alloc: Global, bytes: &[u8]) -> Result<Vec<Part>, Fault<RulesFault>>
     ensures exact { GivesBy (λ parts. parts.items) result (parts_of bytes.now) }

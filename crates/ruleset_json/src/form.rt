@@ -1,4 +1,6 @@
-//! The texts of arguments: numbers, ratios, sizes, Booleans and resources.
+//! The syntax of arguments: parses numbers, ratios, sizes, Booleans and resources.
+//!
+//! The keys and defaults of arguments are in `arguments`.
 ghost use Rattle.std.specs.Prelude.{◌≡◌, ◌<◌, ◌≤◌, ◌^◌, ◌*◌, ◌+◌, ◌++◌, ◌&&◌, nat_le, nat_lt, length, take, codes, if◌then◌else◌, Some, None, IfSome};
 ghost use Rattle.ruleset_json.specs.Forms as form;
 ghost use Rattle.ruleset_json.specs.Ranges.{IsRatio, IsSize, IsStallable};
@@ -6,10 +8,10 @@ ghost use Rattle.ruleset_json.specs.Ranges.{IsRatio, IsSize, IsStallable};
 use crate::types::Size;
 use psi_base::{Parts, Res, read_digits, read_number};
 
-/// The largest size, in bytes.
+/// The greatest size (bytes).
 const LARGEST_BYTES: u64 = 1 << 60;
 
-/// The largest number before the point of a ratio.
+/// The greatest number before the decimal point of a ratio.
 const LARGEST_RATIO: u64 = 1000;
 
 #[tactic(auto, unfolding(crate::specs::Forms::number_up_to))]
@@ -23,7 +25,7 @@ fn long_number(text: &[u8], most: u64) -> Option<u64>
     }
 }
 
-/// A number of at most `most`.
+/// Parses a number of at most `most`, in decimal.
 pub fn number(text: &[u8], most: u32) -> Option<u32>
     ensures value { result ≡ form.number_up_to most text.now }
     ensures range { IfSome result (λ n. n ≤ most) }
@@ -34,7 +36,7 @@ pub fn number(text: &[u8], most: u32) -> Option<u32>
     }
 }
 
-// One to three digits after a point, padded with zeros to three.
+// Pads one to three digits with zeros to three. `None` for no digits or more than three.
 fn padded(digits: &[u8]) -> Option<[u8; 3]>
     ensures { result
         ≡ (if nat_lt 0 (length digits.now) && nat_le (length digits.now) 3
@@ -48,7 +50,7 @@ fn padded(digits: &[u8]) -> Option<[u8; 3]>
     }
 }
 
-// One to three digits after a point, as thousandths.
+// Parses one to three digits after a decimal point, as thousandths.
 #[tactic(auto, unfolding(crate::specs::Forms::fraction_of), using(crate::proofs::Fractions::padded_most))]
 fn fraction(digits: &[u8]) -> Option<u32>
     ensures value { result ≡ form.fraction_of digits.now }
@@ -60,8 +62,8 @@ fn fraction(digits: &[u8]) -> Option<u32>
     }
 }
 
-// The thousandths of a number of at most `most`, optionally followed by a point and one to three
-// digits.
+// Parses a number of at most `most`, optionally followed by a point and one to three digits.
+// Returns it in thousandths.
 #[tactic(auto, unfolding(crate::specs::Forms::thousandths_of))]
 fn thousandths(text: &[u8], most: u64) -> Option<u128>
     ensures value { result ≡ form.thousandths_of most text.now }
@@ -78,8 +80,8 @@ fn thousandths(text: &[u8], most: u64) -> Option<u128>
     Some(whole + u128::from(fraction(digits)?))
 }
 
-/// A ratio in thousandths: a number of at most 1000, optionally followed by a point and one to
-/// three digits.
+/// Parses a ratio: a number of at most 1000, optionally followed by a point and one to three
+/// digits. Returns it in thousandths.
 pub fn ratio(text: &[u8]) -> Option<u32>
     ensures value { result ≡ form.ratio_of text.now }
     ensures range { IfSome result IsRatio }
@@ -90,7 +92,7 @@ pub fn ratio(text: &[u8]) -> Option<u32>
     }
 }
 
-// The factor of a size's unit letter.
+// Returns the factor of a size's unit letter, or `None` for any other byte.
 #[tactic(auto, unfolding(crate::specs::Forms::unit_of))]
 fn unit(letter: u8) -> Option<u128>
     ensures value { result ≡ form.unit_of letter }
@@ -105,7 +107,8 @@ fn unit(letter: u8) -> Option<u128>
     }
 }
 
-// The bytes of a number with this unit, rounded down.
+// Parses a number, with or without a fraction, of units of `unit` bytes. Returns the size in bytes,
+// rounded down.
 #[tactic(auto, unfolding(crate::specs::Forms::scaled))]
 fn scaled(text: &[u8], unit: u128) -> Option<u64>
     requires { unit ≤ 2 ^ 40 }
@@ -120,7 +123,8 @@ fn scaled(text: &[u8], unit: u128) -> Option<u64>
     }
 }
 
-// The bytes of a text whose last byte may be a unit letter.
+// Parses a number of bytes with or without a unit letter. `prefix` is the text without its last
+// byte, and `last` is its last byte.
 fn bytes(text: &[u8], prefix: &[u8], last: u8) -> Option<u64>
     requires { prefix.now ≡ form.prefix text.now }
     ensures value { result ≡ form.bytes_in (form.unit_of last) text.now }
@@ -132,8 +136,9 @@ fn bytes(text: &[u8], prefix: &[u8], last: u8) -> Option<u64>
     }
 }
 
-/// A size: a number from 0 to 100 and `%`; or at most 2^60 bytes, as a number, or as a number with
-/// or without a point and one of the letters `K`, `M`, `G`, `T` in either case, for powers of 1024.
+/// Parses a size: a number from 0 to 100 and `%`; or at most 2^60 bytes, as a number, or as a
+/// number with or without a fraction and one of the letters `K`, `M`, `G`, `T` in either case, for
+/// powers of 1024.
 #[tactic(auto, using(crate::proofs::Texts::empty_size), unfolding(crate::specs::Forms::size_of))]
 pub fn size(text: &[u8]) -> Option<Size>
     ensures value { result ≡ form.size_of text.now }
@@ -157,7 +162,7 @@ pub fn size(text: &[u8]) -> Option<Size>
     }
 }
 
-/// A Boolean: `true`, `True` or `1`, and `false`, `False` or `0`.
+/// Parses a Boolean: `true`, `True` or `1`, and `false`, `False` or `0`.
 #[tactic(auto, unfolding(crate::specs::Forms::truth_of))]
 pub fn truth(text: &[u8]) -> Option<bool>
     ensures { result ≡ form.truth_of text.now }
@@ -174,7 +179,7 @@ pub fn truth(text: &[u8]) -> Option<bool>
     }
 }
 
-/// A resource that tasks can stall on: `io` or `memory`.
+/// Parses a resource that detectors and actions can use: `io` or `memory`.
 #[tactic(auto, unfolding(crate::specs::Forms::resource_of))]
 pub fn resource(text: &[u8]) -> Option<Res>
     ensures value { result ≡ form.resource_of text.now }

@@ -1,4 +1,6 @@
-//! JSON values of the expected kinds, or the faults of other kinds.
+//! Takes JSON values of the expected kind apart, or returns a fault.
+//!
+//! It knows nothing about the meaning of a rules file.
 ghost use Rattle.std.specs.Prelude.{◌≤◌, map, length, IfOk};
 ghost use Rattle.serde_json.specs.View.{view};
 ghost use Rattle.ruleset_json.specs.Arguments.{or_fault};
@@ -12,7 +14,7 @@ use psi_base::Fault;
 use serde_json::Value;
 use std::alloc::{AllocError, Global};
 
-/// The JSON value of the bytes, or `BadJson`.
+/// Parses the bytes as JSON. Fails with `BadJson`.
 pub fn value_of(alloc: Global, bytes: &[u8]) -> Result<Value, Fault<RulesFault>>
     ensures { GivesBy view result (or_fault place.Whole cause.BadJson (data_of bytes.now)) }
 {
@@ -28,7 +30,7 @@ pub fn value_of(alloc: Global, bytes: &[u8]) -> Result<Value, Fault<RulesFault>>
     }
 }
 
-/// The value as an object, or a fault.
+/// Returns the value if it is an object. Fails with `WrongKind`.
 pub fn object<'v>(value: &'v Value, place: Place) -> Result<&'v Value, RulesFault>
     ensures { ReadsBy (λ v. view v.now) result (object_at place (view value.now)) }
 {
@@ -42,7 +44,7 @@ pub fn object<'v>(value: &'v Value, place: Place) -> Result<&'v Value, RulesFaul
     }
 }
 
-/// The member with this key, which is required.
+/// Returns the member of an object with this key. Fails with `MissingKey`.
 pub fn member<'v>(value: &'v Value, key: &str, place: Place) -> Result<&'v Value, RulesFault>
     ensures { ReadsBy (λ v. view v.now) result (member_at place key.now (view value.now)) }
 {
@@ -55,7 +57,7 @@ pub fn member<'v>(value: &'v Value, key: &str, place: Place) -> Result<&'v Value
     }
 }
 
-/// The value as a string, or a fault.
+/// Returns the string that the value is. Fails with `WrongKind`.
 pub fn text<'v>(value: &'v Value, place: Place) -> Result<&'v str, RulesFault>
     ensures { ReadsBy (λ s. s.now) result (text_at place (view value.now)) }
 {
@@ -68,7 +70,8 @@ pub fn text<'v>(value: &'v Value, place: Place) -> Result<&'v str, RulesFault>
     }
 }
 
-/// The value as a list of at most `most` items, or a fault.
+/// Returns the items of the value if it is an array. Fails with `WrongKind`, or with `TooMany` if
+/// there are more than `most`.
 #[tactic(auto, using(crate::proofs::Views::listed_view), unfolding(crate::specs::Rules::list_at))]
 pub fn list<'v>(value: &'v Value, most: usize, place: Place) -> Result<&'v [Value], RulesFault>
     ensures read { ReadsBy (λ v. map view v.now) result (list_at place most (view value.now)) }

@@ -1,11 +1,13 @@
-//! Laws of parsing lists. Each function has an empty body: its contract is the law.
+//! Laws of parsing lists.
+//!
+//! Each function has an empty body: its contract is the law.
 ghost use Rattle.ruleset_json.specs.Laws.{ReadsEach, RefusesFirst};
 ghost use Rattle.ruleset_json.specs.declared.types.Action.{Action};
 ghost use Rattle.ruleset_json.specs.declared.types.DetectorGroup.{DetectorGroup};
 ghost use Rattle.ruleset_json.specs.declared.types.DetectorSpec.{DetectorSpec};
 ghost use Rattle.ruleset_json.specs.declared.types.Rule.{Rule};
 
-/// A list is accepted if and only if each of its items is.
+/// A list is accepted exactly if each of its items is.
 pub fn law_lists_are_read()
     ensures detectors { ReadsEach DetectorSpec }
     ensures groups { ReadsEach DetectorGroup }

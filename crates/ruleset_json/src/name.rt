@@ -1,4 +1,6 @@
-//! The names of plugins, and the keys of their arguments.
+//! The names of plugins (detectors and actions), and the keys of their arguments.
+//!
+//! Which keys a plugin has is in `action` and `detector`.
 ghost use Rattle.std.specs.Prelude.{◌≡◌};
 ghost use Rattle.ruleset_json.specs.Names as names;
 
@@ -14,7 +16,7 @@ pub enum DetectorName {
 }
 
 impl DetectorName {
-    /// Its text in a file.
+    /// Returns the name of the detector, as a rules file has it.
     #[tactic(auto, unfolding(crate::specs::Names::detector_word))]
     pub fn text(self) -> &'static str
         ensures { result.now ≡ names.detector_word self }
@@ -29,7 +31,7 @@ impl DetectorName {
         }
     }
 
-    /// The detector with this name, or `None`.
+    /// Returns the detector that a text names, or `None`.
     #[tactic(auto, unfolding(crate::specs::Names::detector_named))]
     pub fn of(text: &str) -> Option<DetectorName>
         ensures { result ≡ names.detector_named text.now }
@@ -62,7 +64,7 @@ pub enum ActionName {
 }
 
 impl ActionName {
-    /// Its text in a file.
+    /// Returns the name of the action, as a rules file has it.
     #[tactic(auto, unfolding(crate::specs::Names::action_word))]
     pub fn text(self) -> &'static str
         ensures { result.now ≡ names.action_word self }
@@ -75,7 +77,7 @@ impl ActionName {
         }
     }
 
-    /// The action with this name, or `None`.
+    /// Returns the action that a text names, or `None`.
     #[tactic(auto, unfolding(crate::specs::Names::action_named))]
     pub fn of(text: &str) -> Option<ActionName>
         ensures { result ≡ names.action_named text.now }
@@ -113,7 +115,7 @@ pub enum Key {
 }
 
 impl Key {
-    /// Its text in a file.
+    /// Returns the key, as a rules file has it.
     #[tactic(auto, unfolding(crate::specs::Names::key_word))]
     pub fn text(self) -> &'static str
         ensures { result.now ≡ names.key_word self }

@@ -1,4 +1,6 @@
-//! Rules: rulesets with their detectors and actions.
+//! The types of rules: rulesets with their detectors and actions.
+//!
+//! They are the result of parsing; kill_spec defines what they mean.
 use path_match::Patterns;
 use psi_base::{Res, Text};
 use std::marker::Model;
@@ -6,20 +8,21 @@ use std::marker::Model;
 /// A size: a number of bytes, at most 2^60, or a percentage, at most 100.
 #[derive(Clone, Copy, Debug, PartialEq, Eq)]
 pub enum Size {
-    /// Bytes.
+    /// A number of bytes.
     Bytes(u64),
-    /// A percentage of a total that the plugin names.
+    /// A percentage of a total, which depends on the plugin (the host's memory or swap).
     Percent(u32),
 }
 
-/// The settings that every action has: whether it descends to children, and what follows its kill.
+/// The settings that all actions share: whether the choice of a victim descends to children, and
+/// what follows a kill.
 #[derive(Clone, Copy, Debug, PartialEq, Eq)]
 pub struct After {
-    /// Whether the victim is also searched among the chosen group's children.
+    /// Whether the choice is repeated among the children of the chosen group.
     pub recursive: bool,
-    /// Whether the actions after it are taken although it killed.
+    /// Whether the next actions of the ruleset are taken even if this action killed.
     pub always_continue: bool,
-    /// How long the ruleset pauses after the kill, in seconds, at most 1,000,000.
+    /// The time for which the ruleset rests after the kill (s), at most 1,000,000.
     pub delay_s: u32,
 }
 
@@ -28,17 +31,18 @@ pub struct After {
 /// resource is IO or memory.
 #[derive(Drop)]
 pub enum DetectorSpec {
-    /// `pressure_above`: full pressure over 10 s is above the threshold (percent), for the duration
-    /// (s).
+    /// `pressure_above`: the greatest full pressure over 10 s among the matching groups has been
+    /// above the threshold (percent) for the duration (s).
     PressureAbove {
         cgroup: Patterns,
         resource: Res,
         threshold: u32,
         duration_s: u32,
     },
-    /// `pressure_rising_beyond`: full pressure over 60 s is above the threshold (percent) for the
-    /// duration (s); full pressure over 10 s is also above it now, and at least this fraction
-    /// (thousandths) of its value at the previous evaluation.
+    /// `pressure_rising_beyond`: the greatest full pressure over 60 s among the matching groups has
+    /// been above the threshold (percent) for the duration (s). In addition, their greatest full
+    /// pressure over 10 s is above the threshold now, and at least the ratio (thousandths) times
+    /// its value at the previous evaluation.
     PressureRisingBeyond {
         cgroup: Patterns,
         resource: Res,
@@ -46,35 +50,37 @@ pub enum DetectorSpec {
         duration_s: u32,
         ratio: u32,
     },
-    /// `memory_above`: memory in use is above the threshold for the duration (s).
+    /// `memory_above`: the memory in use by at least one matching group has been above the
+    /// threshold for the duration (s).
     MemoryAbove {
         cgroup: Patterns,
         threshold: Size,
         duration_s: u32,
     },
-    /// `memory_reclaim`: pages were scanned within the duration (s).
+    /// `memory_reclaim`: pages of a matching group were scanned within the duration (s).
     MemoryReclaim {
         cgroup: Patterns,
         duration_s: u32,
     },
-    /// `swap_free`: the machine's free swap is below the threshold (percent).
+    /// `swap_free`: the host's free swap is below the threshold (percent).
     SwapFree {
         threshold_pct: u32,
     },
-    /// `exists`: there is such a group; or, with `negate`, there is none.
+    /// `exists`: there is a group that the patterns match; with `negate`, there is none.
     Exists {
         cgroup: Patterns,
         negate: bool,
     },
 }
 
-/// An action: how the victim is chosen. Percentages are at most 100, a ratio in thousandths at most
-/// 1,000,999, and a resource is IO or memory.
+/// An action: it determines how the victim is chosen. Percentages are at most 100, a ratio in
+/// thousandths at most 1,000,999, and a resource is IO or memory.
 #[derive(Drop)]
 pub enum Action {
-    /// `kill_by_memory_size_or_growth`: the largest group, if it has this share of the memory
-    /// (percent); otherwise the group that grew most among the largest above the percentile, if its
-    /// size is at least this ratio (thousandths) of the mean of its history; otherwise the largest.
+    /// `kill_by_memory_size_or_growth`: the largest group, if it has at least `size_threshold`
+    /// percent of the memory that all candidates use. Otherwise the group that has grown most among
+    /// the largest groups (those above the percentile), if its size is at least the ratio
+    /// (thousandths) of the mean of its past sizes. Otherwise the largest group.
     SizeOrGrowth {
         cgroup: Patterns,
         size_threshold: u32,
@@ -82,7 +88,7 @@ pub enum Action {
         ratio: u32,
         after: After,
     },
-    /// `kill_by_swap_usage`: the group that uses the most swap, at least the threshold.
+    /// `kill_by_swap_usage`: the group that uses the most swap, if it uses at least the threshold.
     SwapUsage {
         cgroup: Patterns,
         threshold: Size,
@@ -123,7 +129,8 @@ impl SpecList {
     ghost use Rattle.std.specs.Prelude.{◌≡◌};
     ghost use Rattle.ruleset_json.specs.Ranges.{FitsDetectors};
 
-    /// A list with these detectors.
+    /// Returns a list of these detectors. Precondition: at most 16, and their arguments are in
+    /// range.
     pub fn new(specs: Vec<DetectorSpec>) -> Self
         requires { FitsDetectors specs.items }
         ensures { result ≡ specs.items }
@@ -131,7 +138,7 @@ impl SpecList {
         SpecList { specs }
     }
 
-    /// The detectors, in order.
+    /// Returns the detectors, in order.
     pub fn items(&self) -> &[DetectorSpec]
         ensures items { result.now ≡ self.now }
         ensures fits { FitsDetectors result.now }
@@ -139,7 +146,7 @@ impl SpecList {
         &self.specs
     }
 
-    /// The list as a vector. Does not allocate.
+    /// Returns the list as a vector. Doesn't allocate.
     pub fn into_items(self) -> Vec<DetectorSpec>
         ensures items { result.items ≡ self }
         ensures fits { FitsDetectors result.items }
@@ -148,13 +155,13 @@ impl SpecList {
     }
 }
 
-/// A group of detectors with a name. It is true if all its detectors are; one without detectors is
-/// always true.
+/// A group of detectors with a name. It is true if all its detectors are; a group without detectors
+/// is always true.
 #[derive(Drop)]
 pub struct DetectorGroup {
-    /// Its name.
+    /// The name of the group.
     pub name: Text,
-    /// Its detectors.
+    /// The detectors of the group.
     pub detectors: SpecList,
 }
 
@@ -180,7 +187,7 @@ impl GroupList {
     ghost use Rattle.std.specs.Prelude.{◌≡◌};
     ghost use Rattle.ruleset_json.specs.GroupRanges.{FitsGroups};
 
-    /// A list with these groups.
+    /// Returns a list of these groups. Precondition: at most 16, and their values are in range.
     pub fn new(groups: Vec<DetectorGroup>) -> Self
         requires { FitsGroups groups.items }
         ensures { result ≡ groups.items }
@@ -188,7 +195,7 @@ impl GroupList {
         GroupList { groups }
     }
 
-    /// The groups, in order.
+    /// Returns the groups, in order.
     pub fn items(&self) -> &[DetectorGroup]
         ensures items { result.now ≡ self.now }
         ensures fits { FitsGroups result.now }
@@ -196,7 +203,7 @@ impl GroupList {
         &self.groups
     }
 
-    /// The list as a vector. Does not allocate.
+    /// Returns the list as a vector. Doesn't allocate.
     pub fn into_items(self) -> Vec<DetectorGroup>
         ensures items { result.items ≡ self }
         ensures fits { FitsGroups result.items }
@@ -227,7 +234,7 @@ impl ActionList {
     ghost use Rattle.std.specs.Prelude.{◌≡◌};
     ghost use Rattle.ruleset_json.specs.Ranges.{FitsActions};
 
-    /// A list with these actions.
+    /// Returns a list of these actions. Precondition: at most 16, and their arguments are in range.
     pub fn new(actions: Vec<Action>) -> Self
         requires { FitsActions actions.items }
         ensures { result ≡ actions.items }
@@ -235,7 +242,7 @@ impl ActionList {
         ActionList { actions }
     }
 
-    /// The actions, in order.
+    /// Returns the actions, in order.
     pub fn items(&self) -> &[Action]
         ensures items { result.now ≡ self.now }
         ensures fits { FitsActions result.now }
@@ -243,7 +250,7 @@ impl ActionList {
         &self.actions
     }
 
-    /// The list as a vector. Does not allocate.
+    /// Returns the list as a vector. Doesn't allocate.
     pub fn into_items(self) -> Vec<Action>
         ensures items { result.items ≡ self }
         ensures fits { FitsActions result.items }
@@ -255,11 +262,11 @@ impl ActionList {
 /// A ruleset: if one of its groups is true, its actions are taken in order.
 #[derive(Drop)]
 pub struct Rule {
-    /// Its name. Several rulesets may have the same.
+    /// The name of the ruleset. Several rulesets may have the same name.
     pub name: Text,
-    /// Its groups of detectors.
+    /// The groups of detectors.
     pub groups: GroupList,
-    /// Its actions.
+    /// The actions, in the order in which they are taken.
     pub actions: ActionList,
 }
 
@@ -268,7 +275,7 @@ impl Rule {
     ghost use Rattle.ruleset_json.specs.Replaced.{replaced};
     ghost use Rattle.ruleset_json.specs.RuleRanges.{FitsRule};
 
-    // Replaces its groups, if any are given.
+    // Replaces the groups of the ruleset, unless `groups` is `None`.
     fn put_groups(&mut self, groups: Option<GroupList>)
         ensures value { self.new ≡ replaced groups None self.old }
         ensures fits { FitsRule self.old → FitsRule self.new }
@@ -278,7 +285,7 @@ impl Rule {
         }
     }
 
-    // Replaces its actions, if any are given.
+    // Replaces the actions of the ruleset, unless `actions` is `None`.
     fn put_actions(&mut self, actions: Option<ActionList>)
         ensures value { self.new ≡ replaced None actions self.old }
         ensures fits { FitsRule self.old → FitsRule self.new }
@@ -289,11 +296,11 @@ impl Rule {
     }
 }
 
-/// A ruleset of a drop-in file: replaces the groups, the actions, or both of the ruleset with its
-/// name.
+/// A ruleset of a drop-in file. It replaces the groups, the actions, or both, of the ruleset with
+/// its name.
 #[derive(Drop)]
 pub struct Part {
-    /// The name of the ruleset that it changes.
+    /// The name of the ruleset that this part changes.
     pub name: Text,
     /// The new groups of detectors, if any.
     pub groups: Option<GroupList>,
@@ -324,7 +331,7 @@ impl RuleList {
     ghost use Rattle.ruleset_json.specs.Replaced.{replaced_at};
     ghost use Rattle.ruleset_json.specs.RuleRanges.{FitsRules};
 
-    /// A list with these rulesets.
+    /// Returns a list of these rulesets. Precondition: at most 64, and their values are in range.
     pub fn new(rules: Vec<Rule>) -> Self
         requires { FitsRules rules.items }
         ensures { result ≡ rules.items }
@@ -332,7 +339,7 @@ impl RuleList {
         RuleList { rules }
     }
 
-    /// The rulesets, in order.
+    /// Returns the rulesets, in order.
     pub fn items(&self) -> &[Rule]
         ensures items { result.now ≡ self.now }
         ensures fits { FitsRules result.now }
@@ -340,8 +347,8 @@ impl RuleList {
         &self.rules
     }
 
-    /// Replaces the groups and actions, as far as they are given, of the ruleset with this number,
-    /// from 0. Nothing else changes. Does not allocate.
+    /// Replaces the groups and actions of ruleset number `rule` (from 0); `None` replaces nothing.
+    /// All else is unchanged. Doesn't allocate.
     pub fn replace(&mut self, rule: u32, groups: Option<GroupList>, actions: Option<ActionList>)
         requires { rule < length self.old }
         ensures { self.new ≡ replaced_at rule groups actions self.old }
@@ -351,7 +358,7 @@ impl RuleList {
         rule.put_actions(actions);
     }
 
-    /// The list as a vector. Does not allocate.
+    /// Returns the list as a vector. Doesn't allocate.
     pub fn into_items(self) -> Vec<Rule>
         ensures items { result.items ≡ self }
         ensures fits { FitsRules result.items }
@@ -363,6 +370,6 @@ impl RuleList {
 /// The rules of a file.
 #[derive(Drop)]
 pub struct Rules {
-    /// Its rulesets.
+    /// The rulesets, in order.
     pub rules: RuleList,
 }
