@@ -1,4 +1,6 @@
-//! The averages of one group.
+//! The averages of one group, and their update at a tick.
+//!
+//! The arithmetic is in `fixed_point`.
 ghost use Rattle.std.specs.Prelude.{◌≡◌, ◌≢◌, ◌≤◌, ◌<◌, ◌+◌, ◌^◌, ℕ, All, [], map, slice_index, slice_index_or};
 ghost use Rattle.psi_spec.specs.Within.{last_moment};
 ghost use Rattle.pressure_spec.specs.Share.{irq_quantity, zip_with};
@@ -12,26 +14,26 @@ use pressure_spec::{Amounts, AverageRows, QUANTITIES};
 use psi_base::{Ns, State};
 use std::marker::Model;
 
-/// The time from one update to the next (ns).
+/// The time from one update of the averages to the next (ns).
 const PERIOD: Ns = 2_000_000_000;
 
-/// The place of interrupt time among the quantities that have averages.
+/// The index of interrupt time among the quantities that have averages.
 const IRQ: usize = QUANTITIES - 1;
 
-/// The part of an average over 10, 60 and 300 seconds that remains after one idle period, in units
-/// of 1/2048.
+/// The part of each average that remains after a period without pressure, for the averages over 10,
+/// 60 and 300 seconds (in units of 1/2048).
 const FACTORS: [u64; 3] = [1677, 1981, 2034];
 
 /// The averages of a group's pressure over 10, 60 and 300 seconds, for each state except nonidle
 /// and for interrupt time: the kernel's `avg` of a `psi_group`. Each is a fixed-point number of at
-/// most 204,800.
+/// most 204,800, which is 100 percent.
 #[derive(Drop)]
 pub struct Averages {
     /// The time of the last update (ns).
     last: Ns,
-    /// The time from which the next update is due (ns).
+    /// The earliest time of the next update (ns).
     next: Ns,
-    /// The part of each total that was sampled so far (ns).
+    /// The part of each total that the averages have taken in (ns).
     sampled: Amounts,
     /// The three averages of each quantity.
     averages: AverageRows,
@@ -50,7 +52,8 @@ impl Model for Averages {
         (record { last = a.last; next = a.next; sampled = a.sampled; averages = a.averages }) };
 }
 
-/// The sample of each total over this time (ns): the part not sampled yet, but at most the time.
+/// Returns the sample of each total over `time` (ns): the part that the averages haven't taken in,
+/// but at most `time`.
 fn samples_of(time: Ns, sampled: &Amounts, totals: &Amounts) -> Amounts
     ensures value { result ≡ model.samples_of time sampled.now totals.now }
     ensures fits { (k : ℕ) → k < 7 →
@@ -63,7 +66,7 @@ fn samples_of(time: Ns, sampled: &Amounts, totals: &Amounts) -> Amounts
     samples
 }
 
-/// Adds the samples to the parts sampled before.
+/// Adds the samples to the parts that the averages have taken in.
 fn add_samples(sampled: &mut Amounts, samples: &Amounts)
     requires { (k : ℕ) → k < 7 →
         slice_index sampled.old k + slice_index samples.now k < 2 ^ 64 }
@@ -75,7 +78,7 @@ fn add_samples(sampled: &mut Amounts, samples: &Amounts)
     }
 }
 
-/// The factors to the power of the number of missed periods.
+/// Returns each factor to the power of the number of missed periods.
 fn decays_of(missed: u64) -> [u64; 3]
     ensures { result ≡ map (λ factor. model.power factor missed) model.factors }
 {
@@ -86,8 +89,8 @@ fn decays_of(missed: u64) -> [u64; 3]
     ]
 }
 
-/// An average after an update: it decays over the missed periods, if any, and then takes in the
-/// sample.
+/// Returns an average after an update: it decays over the missed periods, if any, and then takes in
+/// the sample `percent`. `decay` is `factor` to the power `missed`.
 #[tactic(auto, using(pressure_spec::proofs::AverageLaws::power_most))]
 fn average_after(missed: u64, decay: u64, average: u64, factor: u64, percent: u64) -> u64
     requires decay { decay ≡ model.power factor missed }
@@ -105,7 +108,7 @@ fn average_after(missed: u64, decay: u64, average: u64, factor: u64, percent: u6
     load(decayed, factor, percent * 2048)
 }
 
-/// The three averages of a quantity after an update.
+/// Returns the three averages of a quantity after an update with the sample `percent`.
 fn row_after(missed: u64, decays: &[u64; 3], row: &[u64; 3], percent: u64) -> [u64; 3]
     requires decays { decays.now ≡ map (λ factor. model.power factor missed) model.factors }
     requires row { IsRow row.now }
@@ -120,7 +123,7 @@ fn row_after(missed: u64, decays: &[u64; 3], row: &[u64; 3], percent: u64) -> [u
     after
 }
 
-/// Updates the averages of all quantities with their samples over this time (ns).
+/// Updates the averages of all quantities with their samples over `time` (ns).
 fn update_rows(rows: &mut AverageRows, missed: u64, time: Ns, samples: &Amounts)
     requires time { 0 < time }
     requires short { time ≤ 4000000000 }
@@ -136,8 +139,8 @@ fn update_rows(rows: &mut AverageRows, missed: u64, time: Ns, samples: &Amounts)
 }
 
 impl Averages {
-    /// The averages of a group created at this time (ns): all 0, with the first update two seconds
-    /// later.
+    /// Returns the averages of a group that is created at time `at` (ns): all are 0, and the first
+    /// update is two seconds later.
     pub fn new(at: Ns) -> Averages
         requires { at ≤ last_moment }
         ensures { result ≡ model.new_averages at }
@@ -150,11 +153,13 @@ impl Averages {
         }
     }
 
-    /// A tick at this time (ns), with the group's totals (ns): one for each state except nonidle,
-    /// ordered by state, and one for interrupt time. If an update is due, each average decays over
-    /// the missed periods and takes in the part of its total not sampled yet, at most the time
-    /// since the last update less the missed periods; the rest is carried over: the kernel's
-    /// `update_averages`. If no update is due, nothing changes.
+    /// Updates the averages at a tick at time `now` (ns), if an update is due: the kernel's
+    /// `update_averages`. `totals` are the group's totals (ns): one for each state except nonidle,
+    /// ordered by state, and one for interrupt time.
+    ///
+    /// Each average first decays over the missed periods. Then it takes in the part of its total
+    /// that it hasn't taken in yet, but at most the time since the last update less the missed
+    /// periods; the rest is carried over to the next update.
     pub fn update(&mut self, now: Ns, totals: Amounts)
         requires { now ≤ last_moment }
         ensures { self.new ≡ model.average_step self.old now totals }
@@ -171,7 +176,8 @@ impl Averages {
         self.last = now;
     }
 
-    /// The averages over 10, 60 and 300 seconds of a state except nonidle, in fixed point.
+    /// Returns the averages over 10, 60 and 300 seconds of a state, in fixed point. Precondition:
+    /// the state isn't nonidle.
     pub fn get(&self, state: State) -> [u64; 3]
         requires { state ≢ state_of.Nonidle }
         ensures value { result ≡ slice_index_or self.now.averages (state_number state) [] }
@@ -180,7 +186,7 @@ impl Averages {
         self.averages[state as usize]
     }
 
-    /// The averages over 10, 60 and 300 seconds of interrupt time, in fixed point.
+    /// Returns the averages over 10, 60 and 300 seconds of interrupt time, in fixed point.
     pub fn irq(&self) -> [u64; 3]
         ensures value { result ≡ slice_index_or self.now.averages irq_quantity [] }
         ensures most { All (λ average. average ≤ 204800) result }

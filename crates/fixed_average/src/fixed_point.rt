@@ -1,12 +1,15 @@
-//! Fixed-point numbers: the kernel's `calc_load` and `fixed_power_int`.
+//! Fixed-point arithmetic: the kernel's `calc_load` and `fixed_power_int`.
+//!
+//! A fixed-point number has 11 fraction bits: 2048 is 1.
 ghost use Rattle.std.specs.Prelude.{◌≡◌, ◌≤◌};
 ghost use Rattle.pressure_spec.specs.Average as model;
 
-/// One, in fixed point.
+/// The number 1, in fixed point.
 const ONE: u64 = 2048;
 
-/// An average `a` after a period in which it decays by the factor `e` and `x` was active, rounded
-/// up unless it falls: the kernel's `calc_load`.
+/// Returns an average `a` after a period in which `x` was active; `e` is the factor by which the
+/// average decays. The result is rounded up if `x` is at least `a`, and down otherwise: the
+/// kernel's `calc_load`.
 pub fn load(a: u64, e: u64, x: u64) -> u64
     requires average { a ≤ 204800 }
     requires factor { e ≤ 2048 }
@@ -22,7 +25,7 @@ pub fn load(a: u64, e: u64, x: u64) -> u64
     }
 }
 
-/// The product of two fixed-point numbers up to one, rounded to nearest.
+/// Returns the product of two fixed-point numbers of at most 1, rounded to nearest.
 fn product(x: u64, y: u64) -> u64
     requires left { x ≤ 2048 }
     requires right { y ≤ 2048 }
@@ -32,7 +35,8 @@ fn product(x: u64, y: u64) -> u64
     (x * y + ONE / 2) / ONE
 }
 
-/// `x` to the power `n`, rounded at each multiplication: the kernel's `fixed_power_int`.
+/// Returns the fixed-point number `x` to the power `n`, rounded at each multiplication: the
+/// kernel's `fixed_power_int`.
 pub fn power(x: u64, n: u64) -> u64
     requires { x ≤ 2048 }
     ensures value { result ≡ model.power x n }
