@@ -1,6 +1,6 @@
 //! Triggers: a signal if a group's stall time grew by a threshold within a window.
 //!
-//! One trigger only: tick_engine steps all of them at each tick.
+//! The crate has the state of one trigger only; tick_engine steps all triggers at each tick.
 #![tactic(auto)]
 
 mod trigger;

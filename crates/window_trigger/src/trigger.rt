@@ -1,4 +1,6 @@
-//! One trigger.
+//! The state of one trigger.
+//!
+//! The total that it watches is passed by the caller.
 ghost use Rattle.std.specs.Prelude.{◌≡◌, ◌≤◌, ◌<◌, ◌*◌, ◌/◌, ◌+◌, ◌-◌, MatchResult, true, false};
 ghost use Rattle.psi_base.specs.declared.event.Cause.TheVariants as cause;
 ghost use Rattle.psi_spec.specs.Refusal.{is_window};
@@ -8,20 +10,20 @@ ghost use Rattle.pressure_spec.specs.Signal as model;
 use psi_base::{Cause, Ns};
 use std::marker::Model;
 
-/// The number of ns in a microsecond.
+/// A microsecond (ns).
 const MICROSECOND: Ns = 1000;
 
 /// A trigger on the growth of a group's stall time in a sliding window, as a user sets it by
 /// writing to a pressure file: the kernel's `psi_trigger`. Its signals are at least a window apart.
 #[derive(Drop)]
 pub struct Trigger {
-    /// The growth that makes an event pending (ns).
+    /// The growth in a window that makes an event pending (ns).
     threshold: Ns,
-    /// The window (ns).
+    /// The length of the window (ns).
     size: Ns,
-    /// When the window began (ns).
+    /// The time at which the current window began (ns).
     start: Ns,
-    /// The total when it began (ns).
+    /// The total at the start of the current window (ns).
     start_value: u64,
     /// The total at the last tick (ns).
     last_value: u64,
@@ -53,9 +55,9 @@ impl Model for Trigger {
     ghost invariant = { λ t. IsTrigger t.size t.previous t.last_event };
 }
 
-/// The growth of a total in a window that hasn't expired: the growth since it began, plus a part of
-/// the growth in the previous window that is proportional to the remaining time. The product has up
-/// to 89 bits.
+/// Returns the growth of a total in a window that hasn't expired: the growth since the window
+/// began, plus a part of the growth in the previous window that is proportional to the remaining
+/// time. An intermediate product has up to 89 bits.
 fn slid(growth: u64, previous: u64, size: Ns, elapsed: Ns) -> u64
     requires growth { growth ≤ last_moment }
     requires previous { previous ≤ last_moment }
@@ -68,9 +70,9 @@ fn slid(growth: u64, previous: u64, size: Ns, elapsed: Ns) -> u64
 }
 
 impl Trigger {
-    /// A trigger that is set at the time `at` (ns), when the total is `value` (ns), with its
-    /// threshold and its window (us). `BadWindow` if the window isn't from 500 ms to 10 s, or the
-    /// threshold isn't from 1 us to the window.
+    /// Returns a trigger that is set at time `at` (ns), when the total is `value` (ns), with its
+    /// threshold and its window (us). Fails with `BadWindow` if the window isn't between 500 ms and
+    /// 10 s, or the threshold isn't between 1 us and the window.
     pub fn new(at: Ns, value: u64, threshold_us: u64, window_us: u64) -> Result<Trigger, Cause>
         requires at { at ≤ last_moment }
         requires value { value ≤ last_moment }
@@ -97,7 +99,7 @@ impl Trigger {
         })
     }
 
-    /// A tick at the time `now` (ns) with the total `value` (ns). Returns true if the trigger
+    /// Takes a tick at time `now` (ns) with the total `value` (ns). Returns whether the trigger
     /// fires.
     #[tactic(auto, unfolding(pressure_spec::specs::Signal::trigger_step, pressure_spec::specs::Signal::fires))]
     pub fn step(&mut self, now: Ns, value: u64) -> bool
@@ -112,8 +114,8 @@ impl Trigger {
         self.signal(now)
     }
 
-    /// The total changed. An expired window restarts, and growth that reaches the threshold makes
-    /// an event pending.
+    /// Takes a changed total. Restarts an expired window, and makes an event pending if the growth
+    /// reaches the threshold.
     fn grow(&mut self, now: Ns, value: u64)
         requires now { now ≤ last_moment }
         requires value { value ≤ last_moment }
@@ -135,7 +137,8 @@ impl Trigger {
         self.last_value = value;
     }
 
-    /// Signals the pending event, if the last signal was at least a window ago or there was none.
+    /// Signals a pending event, unless the last signal was less than a window ago. Returns whether
+    /// it does.
     fn signal(&mut self, now: Ns) -> bool
         requires { now ≤ last_moment }
         ensures state { self.new ≡ model.settled self.old now }
