@@ -1,4 +1,5 @@
--- The engine of ticks, and the ticks that it represents.
+-- The state of the engine in terms of the ticks that led to it. An engine *represents* ticks if its
+-- state is the one after it has taken these ticks.
 use Rattle.std.specs.Prelude.{◌≡◌, ℕ, ◌<◌, ◌≤◌, List, [], ◌∷◌, ◌++◌, length, map, nat_le, Bool, if◌then◌else◌, None, Some, All, IfSome}
 use Rattle.std.specs.List.{list_any}
 use Rattle.psi_base.specs.declared.event.TriggerSpec.{TriggerSpec}
@@ -24,21 +25,21 @@ pub record EngineView : Type 0 where
   pub watches : List TriggerWatch
   pub fired : List ℕ
 
--- an engine with these parts
+-- the engine with these components
 abbrev pub seen_as : ℕ → Tick → List Group → List TriggerWatch → List ℕ → EngineView
 seen_as cpus last groups watches fired = record { cpus = cpus; last = last; groups = groups; watches = watches; fired = fired }
 
--- the totals (ns) of the group in a slot
+-- the totals (ns) of the group in slot `slot`
 abbrev pub totals_in : EngineView → ℕ → List ℕ
 totals_in engine slot = (engine_group engine.groups slot).totals
 
--- the averages of the group in a slot
+-- the averages of the group in slot `slot`
 abbrev pub averages_in : EngineView → ℕ → AverageState
 averages_in engine slot = (engine_group engine.groups slot).averages
 
 -- ---- the ticks that an engine represents
 
--- the state of the group in a slot after ticks
+-- the state of the group in slot `slot` after these ticks
 abbrev pub group_after : ℕ → List GroupLife → List Tick → ℕ → Group
 group_after cpus lives ticks slot =
     record {
@@ -48,11 +49,11 @@ group_after cpus lives ticks slot =
       averages = group_averages cpus lives ticks slot;
     }
 
--- a trigger is active: some tick isn't before its line
+-- the trigger is active: at least one tick is at or after the time of its line
 abbrev pub has_begun : List Tick → TriggerSpec → Bool
 has_begun ticks trigger = list_any (λ (tick : Tick). nat_le trigger.at tick.at) ticks
 
--- the state of a trigger after ticks
+-- the state of a trigger after these ticks
 abbrev pub watch_after : ℕ → List GroupLife → List Tick → TriggerSpec → TriggerWatch
 watch_after cpus lives ticks trigger =
     record {
@@ -61,9 +62,9 @@ watch_after cpus lives ticks trigger =
           then Some (trigger_over trigger (history_of cpus lives ticks trigger.slot.0)) else None;
     }
 
--- An engine represents these ticks, for groups with these lives on n processors and with these
--- triggers: the ticks follow one another; the last tick, each group and each trigger are as they
--- are after all of them; and its list has what fired at the last one.
+-- The engine's state is the one after these ticks, for groups with the lives `lives`, `cpus`
+-- processors and these triggers: so are its last tick, its groups and its triggers, and it has the
+-- triggers that fired at the last tick. Each tick is a legal successor of the one before it.
 pub record Represents (engine : EngineView) (cpus : ℕ) (lives : List GroupLife) (triggers : List TriggerSpec)
     (ticks : List Tick) : Type 0 where
   pub ordered : AreNextTicks (no_tick cpus (length lives)) ticks
@@ -75,20 +76,20 @@ pub record Represents (engine : EngineView) (cpus : ℕ) (lives : List GroupLife
   pub fired : (prefix : List Tick) (tick : Tick) → ticks ≡ prefix ++ tick ∷ [] → engine.fired ≡ fired_at cpus lives triggers prefix tick
   pub unfired : ticks ≡ [] → engine.fired ≡ []
 
--- An engine takes a tick: if it represented these ticks before, it represents them and this one
--- afterwards.
+-- After the call, the engine's state is the one after its earlier ticks and `tick`.
 abbrev pub EngineTakes : EngineView → Tick → EngineView → Type 0
 EngineTakes old tick new = (cpus : ℕ) (lives : List GroupLife) (triggers : List TriggerSpec) (ticks : List Tick) →
     Represents old cpus lives triggers ticks → Represents new cpus lives triggers (ticks ++ tick ∷ [])
 
 -- ---- the invariant of an engine
 
--- each trigger is legal for a trace with n groups
+-- each trigger is legal for a trace with `slots` groups
 abbrev pub AreWatchesWithin : ℕ → List TriggerWatch → Type 0
 AreWatchesWithin slots watches = All (λ watch. IsTriggerWithin last_moment slots watch.spec) watches
 
--- The invariant of each engine: the limits of processors, groups and triggers; the sizes of the
--- last table; no total is longer than the time up to the last tick; and the triggers are in range.
+-- The invariant of an engine: its processors, groups and triggers are within their limits; the last
+-- table has the right sizes; no total exceeds the time up to the last tick; and the triggers are in
+-- range.
 pub record IsEngine (engine : EngineView) : Type 0 where
   pub few_cpus : engine.cpus ≤ 64
   pub few_groups : length engine.groups ≤ most_groups
@@ -98,34 +99,36 @@ pub record IsEngine (engine : EngineView) : Type 0 where
   pub totals : AreGroupsWithin engine.last engine.groups
   pub watches : AreWatchesWithin (length engine.groups) engine.watches
 
--- there is capacity for all of them
+-- the capacity suffices for `count` elements
 pub record IsRoom (count capacity : ℕ) : Type 0 where
   pub room : count ≤ capacity
 
--- the times (ns) at which a group was created and removed, if it was, are at most the latest of a
--- trace
+-- the times (ns) at which a group was created and, if it was, removed, are at most `latest`
 pub record IsLifeWithin (latest : ℕ) (life : GroupLife) : Type 0 where
   pub made : life.made ≤ latest
   pub gone : IfSome life.gone (λ gone. gone ≤ latest)
 
 -- ---- laws
 
--- The totals that an engine returns for a group are those after the ticks that it represents.
+-- The totals that an engine returns for a group are the defined totals after the ticks that led to
+-- its state.
 abbrev pub ShowsTotals : Type 0
 ShowsTotals = (engine : EngineView) (cpus : ℕ) (lives : List GroupLife) (triggers : List TriggerSpec) (ticks : List Tick) (slot : ℕ) →
     Represents engine cpus lives triggers ticks → slot < length lives → totals_in engine slot ≡ totals_after cpus lives ticks slot
 
--- The same for the averages.
+-- The averages that an engine returns for a group are the defined averages after the ticks that led
+-- to its state.
 abbrev pub ShowsAverages : Type 0
 ShowsAverages = (engine : EngineView) (cpus : ℕ) (lives : List GroupLife) (triggers : List TriggerSpec) (ticks : List Tick) (slot : ℕ) →
     Represents engine cpus lives triggers ticks → slot < length lives → averages_in engine slot ≡ group_averages cpus lives ticks slot
 
--- It returns the triggers that fired at the last of them.
+-- The triggers that an engine returns as fired are those that the definition gives for the last
+-- tick.
 abbrev pub ShowsFired : Type 0
 ShowsFired = (engine : EngineView) (cpus : ℕ) (lives : List GroupLife) (triggers : List TriggerSpec) (prefix : List Tick) (tick : Tick) →
     Represents engine cpus lives triggers (prefix ++ tick ∷ []) → engine.fired ≡ fired_at cpus lives triggers prefix tick
 
--- And its last tick is the last of them.
+-- The engine's last tick is the last of the ticks that led to its state.
 abbrev pub ShowsLast : Type 0
 ShowsLast = (engine : EngineView) (cpus : ℕ) (lives : List GroupLife) (triggers : List TriggerSpec) (prefix : List Tick) (tick : Tick) →
     Represents engine cpus lives triggers (prefix ++ tick ∷ []) → engine.last ≡ tick

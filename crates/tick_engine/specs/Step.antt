@@ -1,4 +1,4 @@
--- The effect of one tick on one group and on one trigger.
+-- The effect of one tick on one group, and on one trigger.
 use Rattle.std.specs.Prelude.{◌≡◌, ℕ, ◌≤◌, ◌<◌, List, length, slice_index, slice_index_or, nat_le, not, ◌&&◌, Bool, false, if◌then◌else◌, Option, None, Some, filter}
 use Rattle.std.specs.List.{range_with_len}
 use Rattle.psi_base.specs.declared.event.Level.TheVariants.{SomeStalled}
@@ -17,23 +17,24 @@ use Rattle.tick_engine.specs.declared.watch.TriggerWatch.{TriggerWatch}
 
 -- ---- groups
 
--- a new group, without samples
+-- the state of a new group, which wasn't sampled yet
 abbrev pub unsampled_group : GroupLife → Group
 unsampled_group life = record { made = life.made; gone = life.gone; totals = no_totals; averages = new_averages life.made }
 
--- a group that exists from 0 on, as a default for a slot without a group
+-- the group that `engine_group` returns for a slot without a group
 abbrev pub no_group : Group
 no_group = record { made = 0; gone = None; totals = no_totals; averages = new_averages 0 }
 
--- the group in a slot
+-- the group in slot `slot`
 abbrev pub engine_group : List Group → ℕ → Group
 engine_group groups slot = slice_index_or groups slot no_group
 
--- a group is live at a time (ns)
+-- the group is live at time `at` (ns)
 abbrev pub is_live_group : Group → ℕ → Bool
 is_live_group group at = nat_le group.made at && not (is_gone_by group.gone at)
 
--- a group with shares (ns) added to its totals, and its averages updated at a time (ns)
+-- the group after the shares `added` (ns) are added to its totals, and its averages are updated at
+-- time `now` (ns)
 abbrev pub sampled : Group → ℕ → List ℕ → Group
 sampled group now added =
     record {
@@ -43,25 +44,25 @@ sampled group now added =
       averages = average_step group.averages now (plus group.totals added);
     }
 
--- a group after a tick: sampled if it is live
+-- the group after a tick; it is sampled only if it is live
 abbrev pub group_step : Tick → Tick → ℕ → Group → Group
 group_step last tick slot group =
     if is_live_group group tick.at then sampled group tick.at (shares (growths (row_at last slot) (row_at tick slot))) else group
 
--- no total (ns) of the group in a slot is longer than the time up to a tick: state totals are at
--- most its time, and the interrupt total at most the sum of the processors' interrupt times
+-- No total (ns) of the group in slot `slot` is too large for the time of the tick: state totals are
+-- at most this time, and the interrupt total is at most the sum of the processors' interrupt times.
 abbrev pub AreTotalsWithin : Tick → ℕ → Group → Type 0
 AreTotalsWithin tick slot group = AreAmountsWithin tick.at (time_sum (row_at tick slot) irq_place) group.totals
 
--- the same for each group
+-- the totals of every group are within the bounds of `AreTotalsWithin`
 abbrev pub AreGroupsWithin : Tick → List Group → Type 0
 AreGroupsWithin tick groups = (slot : ℕ) → slot < length groups → AreTotalsWithin tick slot (engine_group groups slot)
 
--- no total (ns) of a state is above this bound
+-- no state total (ns) of the group is above `most`
 abbrev pub AreStatesWithin : ℕ → Group → Type 0
 AreStatesWithin most group = (quantity : ℕ) → quantity < irq_quantity → slice_index group.totals quantity ≤ most
 
--- each group is as after the tick
+-- every group in `new` is its group in `old` after the tick
 abbrev pub AreStepped : Tick → Tick → List Group → List Group → Type 0
 AreStepped last tick old new = (slot : ℕ) → slot < length old → engine_group new slot ≡ group_step last tick slot (engine_group old slot)
 
@@ -75,32 +76,33 @@ new_watch spec = record { spec = spec; trigger = None }
 abbrev pub watched_total : List Group → TriggerSpec → ℕ
 watched_total groups spec = at_state (engine_group groups spec.slot.0).totals (watched_state spec)
 
--- a trigger becomes active at the first tick that isn't before its line, with the total at the
--- previous tick
+-- The trigger's state before a tick at `now` (ns) is applied. A trigger that isn't active becomes
+-- active, with its total at the previous tick, if `now` is at or after the time of its line.
 abbrev pub begun_trigger : List Group → ℕ → TriggerSpec → Option TriggerState → Option TriggerState
 begun_trigger groups now spec (Some trigger) = Some trigger
 begun_trigger groups now spec None =
     if nat_le spec.at now then Some (new_trigger spec.at (watched_total groups spec) spec.threshold_us spec.window_us) else None
 
--- an active trigger after a tick at a time (ns) with a total (ns)
+-- the state of a trigger, if it is active, after a tick at time `now` (ns) with the total `total`
+-- (ns)
 abbrev pub stepped : Option TriggerState → ℕ → ℕ → Option TriggerState
 stepped None now total = None
 stepped (Some trigger) now total = Some (trigger_step trigger now total)
 
--- an active trigger fires at a tick
+-- the trigger is active, and fires at a tick at time `now` (ns) with the total `total` (ns)
 abbrev pub begun_signals : Option TriggerState → ℕ → ℕ → Bool
 begun_signals None now total = false
 begun_signals (Some trigger) now total = fires trigger now total
 
--- the state of a trigger that becomes active, if it is due to
+-- the trigger with its state activated if that is due at time `now` (ns)
 abbrev pub watch_begun : List Group → ℕ → TriggerWatch → TriggerWatch
 watch_begun groups now watch = record { spec = watch.spec; trigger = begun_trigger groups now watch.spec watch.trigger }
 
--- the group of a trigger is live at a time (ns)
+-- the group of the trigger is live at time `now` (ns)
 abbrev pub is_watching : List Group → ℕ → TriggerWatch → Bool
 is_watching groups now watch = is_live_group (engine_group groups watch.spec.slot.0) now
 
--- a trigger's state after a tick: stepped if its group is live
+-- the trigger after a tick; it is stepped only if its group is live
 abbrev pub watch_stepped : List Group → ℕ → TriggerWatch → TriggerWatch
 watch_stepped groups now watch =
     record {
@@ -109,21 +111,22 @@ watch_stepped groups now watch =
           then stepped watch.trigger now (watched_total groups watch.spec) else watch.trigger;
     }
 
--- a trigger fires at a tick
+-- the trigger fires at a tick at time `now` (ns): its group is live, and it is active and fires
 abbrev pub watch_signals : List Group → ℕ → TriggerWatch → Bool
 watch_signals groups now watch = is_watching groups now watch && begun_signals watch.trigger now (watched_total groups watch.spec)
 
--- a default for a trigger that doesn't exist
+-- the trigger that `watch_in` returns for a number without a trigger
 abbrev pub no_watch : TriggerWatch
 no_watch = record {
   spec = record { at = 0; slot = record { 0 = 0 }; res = Io; level = SomeStalled; threshold_us = 0; window_us = 0 };
   trigger = None;
 }
 
--- the state of the trigger with this number
+-- the state of trigger number `i` (from 0)
 abbrev pub watch_in : List TriggerWatch → ℕ → TriggerWatch
 watch_in watches i = slice_index_or watches i no_watch
 
--- the numbers below `count` of the triggers that fire at a tick, ascending
+-- the numbers below `count`, in ascending order, of the triggers that fire at a tick at time `now`
+-- (ns)
 abbrev pub fired_among : List Group → ℕ → List TriggerWatch → ℕ → List ℕ
 fired_among groups now watches count = filter (λ i. watch_signals groups now (watch_in watches i)) (range_with_len 0 count)

@@ -1,7 +1,7 @@
--- Tables of times at ticks, as the engine reads them.
+-- Ticks with their tables: the times of all groups on all processors, as the engine reads them.
 use Rattle.std.specs.Prelude.{ℕ, List}
 use Rattle.pressure_spec.specs.Ticks.{Tick}
 
--- the tick at a time (ns) with a table of times (ns)
+-- the tick at time `at` (ns) with this table of times (ns)
 abbrev pub tick_at : ℕ → List (List (List ℕ)) → Tick
 tick_at at table = record { at = at; table = table }

@@ -1,4 +1,6 @@
-//! The engine.
+//! The engine: all groups and all triggers of a trace, tick by tick.
+//!
+//! Single groups are in `group`, single triggers in `watch`.
 
 ghost use Rattle.std.specs.Prelude.{◌≡◌, ◌≤◌, ◌<◌, [], All, IfOk, length, map};
 ghost use Rattle.aggregate.specs.Table.{HasSizes};
@@ -22,17 +24,17 @@ use psi_spec::GroupLife;
 use std::alloc::Global;
 use std::marker::Model;
 
-/// The totals and averages of all groups and the signals of all triggers after the ticks so far:
-/// the kernel's `psi_avgs_work` and `update_triggers`, with the same ticks for all groups. It
-/// allocates everything at the start, and nothing at a tick.
+/// The totals and averages of all groups, and the signals of all triggers, after the ticks that
+/// were taken: the kernel's `psi_avgs_work` and `update_triggers`, with the same ticks for all
+/// groups. All memory is allocated when the engine is made, and none at a tick.
 #[derive(Drop)]
 pub struct Engine {
     last: LastTick,
     groups: Vec<Group>,
     watches: Vec<TriggerWatch>,
-    /// The number of processors of the tables.
+    /// The number of processors in the tables of times.
     cpus: u32,
-    /// The numbers of the triggers that fired at the last tick, with capacity for all of them.
+    /// The numbers of the triggers that fired at the last tick, with capacity for all triggers.
     fired: Vec<u32>,
 }
 
@@ -49,7 +51,7 @@ impl Model for Engine {
         (seen_as e.cpus e.last e.groups.items e.watches.items e.fired.items) };
 }
 
-/// The groups, before the first tick.
+/// Returns the states of the groups before the first tick.
 fn groups_of(alloc: Global, lives: &[GroupLife]) -> Result<Vec<Group>, NoMemory>
     requires { All (λ life. IsLifeWithin last_moment life) lives.now }
     ensures { IfOk result (λ groups. groups.items ≡ map unsampled_group lives.now) }
@@ -61,7 +63,7 @@ fn groups_of(alloc: Global, lives: &[GroupLife]) -> Result<Vec<Group>, NoMemory>
     Ok(groups)
 }
 
-/// The triggers, before the first tick.
+/// Returns the states of the triggers before the first tick.
 fn watches_of(alloc: Global, triggers: &[TriggerSpec]) -> Result<Vec<TriggerWatch>, NoMemory>
     ensures { IfOk result (λ watches. watches.items ≡ map new_watch triggers.now) }
 {
@@ -73,8 +75,8 @@ fn watches_of(alloc: Global, triggers: &[TriggerSpec]) -> Result<Vec<TriggerWatc
 }
 
 impl Engine {
-    /// An engine for groups with these lives, by slot, and these triggers, on `cpus` processors,
-    /// before the first tick. Allocates everything that it will need.
+    /// Returns an engine for groups with these lives, by slot, and these triggers, on `cpus`
+    /// processors, before the first tick. Allocates all its memory.
     pub fn make(
         alloc: Global,
         lives: &[GroupLife],
@@ -100,15 +102,16 @@ impl Engine {
         })
     }
 
-    /// The next tick: its time (ns), and the times (ns) of all groups on all processors up to it.
-    /// Each trigger whose line isn't later becomes active; each live group is sampled; and each
-    /// active trigger whose group is live is stepped. Does not allocate.
+    /// Takes the next tick: `now` is its time (ns), and `rows` has the times (ns) of all groups on
+    /// all processors up to then. First each trigger whose line is at or before `now` becomes
+    /// active, then each live group is sampled, and then each active trigger whose group is live is
+    /// stepped. Doesn't allocate.
     pub fn tick(&mut self, now: Ns, rows: &Rows)
         requires sizes { HasSizes self.old.cpus (length self.old.groups) rows.now }
         requires next { IsNextTick self.old.last (tick_at now rows.now) }
         ensures stands { EngineTakes self.old (tick_at now rows.now) self.new }
 
-        // This also holds for an engine that represents no known ticks.
+        // The next three clauses hold for any state, even if no ticks are known that lead to it.
         ensures last { self.new.last ≡ tick_at now rows.now }
         ensures cpus { self.new.cpus ≡ self.old.cpus }
         ensures slots { length self.new.groups ≡ length self.old.groups }
@@ -118,7 +121,7 @@ impl Engine {
         step_all(&mut self.watches, &self.groups, now, &mut self.fired);
     }
 
-    /// The totals of a group (ns), ordered by state, followed by that of interrupt time.
+    /// Returns the totals of a group (ns), ordered by state, and then the total of interrupt time.
     pub fn totals(&self, slot: Slot) -> Amounts
         requires { slot.0 < length self.now.groups }
         ensures { result ≡ totals_in self.now slot.0 }
@@ -126,7 +129,7 @@ impl Engine {
         self.groups[slot.0 as usize].totals.get()
     }
 
-    /// The averages of a group.
+    /// Returns the averages of a group.
     pub fn averages(&self, slot: Slot) -> &Averages
         requires { slot.0 < length self.now.groups }
         ensures { result.now ≡ averages_in self.now slot.0 }
@@ -134,8 +137,8 @@ impl Engine {
         &self.groups[slot.0 as usize].averages
     }
 
-    /// The numbers of the triggers that fired at the last tick, ascending; none before the first
-    /// tick.
+    /// Returns the numbers of the triggers that fired at the last tick, in ascending order. Empty
+    /// before the first tick.
     pub fn fired(&self) -> &[u32]
         ensures { result.now ≡ self.now.fired }
     {
@@ -143,7 +146,7 @@ impl Engine {
     }
 }
 
-/// Laws of the engine: what it returns is what the definitions give for the ticks so far.
+/// Laws of the engine: it returns what the definitions give for the ticks that led to its state.
 pub fn law_engine()
     ensures totals { ShowsTotals }
     ensures averages { ShowsAverages }

@@ -1,4 +1,6 @@
-//! The state of one group.
+//! The state of one group at a tick, and the step of all groups.
+//!
+//! The shares of an interval are computed in the crate `aggregate`.
 
 ghost use Rattle.std.specs.Prelude.{◌≡◌, ℕ, ◌≤◌, ◌<◌, ◌&&◌, length, nat_le, not};
 ghost use Rattle.aggregate.specs.Table.{HaveSameSizes};
@@ -19,7 +21,8 @@ use pressure_spec::Amounts;
 use psi_base::{Ns, Slot};
 use psi_spec::GroupLife;
 
-/// Whether something created at `made` and removed at `gone` (ns) exists at `at`.
+/// Returns whether something that is created at `made` and removed at `gone` (ns) exists at time
+/// `at` (ns).
 fn is_live(made: Ns, gone: Option<Ns>, at: Ns) -> bool
     ensures { result ≡ nat_le made at && not (is_gone_by gone at) }
 {
@@ -30,14 +33,15 @@ fn is_live(made: Ns, gone: Option<Ns>, at: Ns) -> bool
     made <= at && !is_gone
 }
 
-/// Whether a group is live at a time (ns): created by then, and not removed by then.
+/// Returns whether a group is live at time `at` (ns): it was created by then, and not removed by
+/// then.
 pub fn is_live_at(life: &GroupLife, at: Ns) -> bool
     ensures { result ≡ is_live_at life.now at }
 {
     is_live(life.made, life.gone, at)
 }
 
-/// A group: when it was created and removed (ns), its totals and its averages.
+/// A group: the times of its creation and removal (ns), its totals, and its averages.
 #[derive(Drop)]
 pub(crate) struct Group {
     pub(crate) made: Ns,
@@ -47,7 +51,7 @@ pub(crate) struct Group {
 }
 
 impl Group {
-    /// A new group, without samples.
+    /// Returns a new group, which wasn't sampled yet.
     pub(crate) fn of(life: &GroupLife) -> Group
         requires { life.now.made ≤ last_moment }
         ensures { result ≡ unsampled_group life.now }
@@ -60,15 +64,15 @@ impl Group {
         }
     }
 
-    /// It was created by this time (ns), and not removed by then.
+    /// Returns whether the group was created by time `at` (ns), and not removed by then.
     pub(crate) fn is_live(&self, at: Ns) -> bool
         ensures { result ≡ is_live_group self.now at }
     {
         is_live(self.made, self.gone, at)
     }
 
-    /// Adds the shares of an interval (ns) to the totals, and updates the averages at the
-    /// interval's end.
+    /// Adds the shares of an interval (ns) to the totals, and updates the averages at the end `now`
+    /// of the interval (ns).
     fn sample(&mut self, now: Ns, shares: Amounts)
         requires early { now ≤ last_moment }
         requires fits { AreAmountsWithin last_moment most_irq_total (plus self.old.totals shares) }
@@ -79,7 +83,7 @@ impl Group {
     }
 
     /// Samples the group at a tick, if it is live, by the growth of its times since the last tick.
-    /// Otherwise it stays the same, and no share is computed.
+    /// If it isn't live, nothing changes and no share is computed.
     fn tick(&mut self, slot: Slot, last: &LastTick, now: Ns, rows: &Rows)
         requires few { length (row_at (tick_at now rows.now) slot.0) ≤ 64 }
         requires each { length (row_at last.now slot.0)
@@ -99,8 +103,8 @@ impl Group {
     }
 }
 
-/// Advances all groups by one tick, and stores its times as the last tick's. A group's times are
-/// copied after it was sampled by their growth.
+/// Samples all live groups at a tick, and stores the times of this tick as the last ones. The times
+/// of a group are copied after the group is sampled by their growth.
 pub(crate) fn tick_all(groups: &mut [Group], last: &mut LastTick, now: Ns, rows: &Rows)
     requires few { (slot : ℕ) → length (row_at (tick_at now rows.now) slot) ≤ 64 }
     requires slots { length groups.old ≤ most_groups }

@@ -1,11 +1,13 @@
-//! The last tick.
+//! The last tick, from which the growth of times is computed.
+//!
+//! It isn't needed for triggers: they store their own totals.
 
 use aggregate::Rows;
 use psi_base::Ns;
 use std::marker::Model;
 
-/// The last tick: its time (ns), and the times of all groups on all processors up to it. Before the
-/// first tick everything is 0.
+/// The last tick: its time (ns), and the times (ns) of all groups on all processors up to it.
+/// Before the first tick all are 0.
 #[derive(Drop)]
 pub(crate) struct LastTick {
     pub(crate) at: Ns,

@@ -1,7 +1,7 @@
 //! All groups and triggers at a tick: totals, averages and signals.
 //!
-//! Its caller (replay_workers) passes the times of each tick. It doesn't compute these times, and
-//! doesn't use its results: rules and reports do.
+//! The caller (replay_ticks) passes the times of each tick, which replay_workers collects. The
+//! crate doesn't compute these times; its results are used by the rules and the reports.
 #![tactic(auto)]
 
 mod engine;

@@ -1,4 +1,6 @@
-//! The state of one trigger.
+//! The state of one trigger in a trace, and the step of all triggers.
+//!
+//! A trigger's window and threshold are in the crate `window_trigger`.
 
 ghost use Rattle.std.specs.Prelude.{◌≡◌, ◌≤◌, ◌<◌, ◌+◌, ◌++◌, ◌∷◌, [], All, if◌then◌else◌, length, map, true, vec_capacity, vec_len};
 ghost use Rattle.pressure_spec.specs.Signal.{new_trigger};
@@ -12,15 +14,15 @@ use crate::group::Group;
 use psi_base::{Ns, State, TriggerSpec};
 use window_trigger::Trigger;
 
-/// A trigger as the trace sets it, and the active trigger from the first tick that isn't before its
-/// line.
+/// A trigger as the trace sets it, and its state. The state is `None` before the first tick at or
+/// after the time of the trigger's line.
 #[derive(Drop)]
 pub(crate) struct TriggerWatch {
     pub(crate) spec: TriggerSpec,
     pub(crate) trigger: Option<Trigger>,
 }
 
-/// The total that a trigger watches (ns).
+/// Returns the total that a trigger watches (ns).
 fn watched_total(groups: &[Group], spec: &TriggerSpec) -> u64
     requires slot { spec.now.slot.0 < length groups.now }
     ensures { result ≡ watched_total groups.now spec.now }
@@ -29,7 +31,7 @@ fn watched_total(groups: &[Group], spec: &TriggerSpec) -> u64
     totals[State::of(spec.res, spec.level) as usize]
 }
 
-/// The trigger, set with a total (ns).
+/// Returns a trigger that is set at the time of its line, when its total is `total` (ns).
 fn trigger_with(spec: &TriggerSpec, total: u64) -> Trigger
     requires at { spec.now.at ≤ last_moment }
     requires window { is_window spec.now.threshold_us spec.now.window_us ≡ true }
@@ -43,7 +45,7 @@ fn trigger_with(spec: &TriggerSpec, total: u64) -> Trigger
 }
 
 impl TriggerWatch {
-    /// The state of a trigger that isn't active yet.
+    /// Returns a trigger that isn't active yet.
     pub(crate) fn of(spec: TriggerSpec) -> TriggerWatch
         ensures { result ≡ new_watch spec }
     {
@@ -53,8 +55,8 @@ impl TriggerWatch {
         }
     }
 
-    /// Activates the trigger at the first tick that isn't before its line, with its total at the
-    /// previous tick.
+    /// Activates the trigger with its total at the previous tick, if it isn't active and the tick
+    /// is at or after the time of its line.
     fn begin(&mut self, groups: &[Group], now: Ns)
         requires spec { IsTriggerWithin last_moment (length groups.now) self.old.spec }
         requires totals { All (λ group. AreStatesWithin last_moment group) groups.now }
@@ -66,8 +68,8 @@ impl TriggerWatch {
         }
     }
 
-    /// Steps the trigger at a tick, if it is active and its group is live. Returns true if it
-    /// fires.
+    /// Steps the trigger at a tick at time `now` (ns), if it is active and its group is live.
+    /// Returns whether it fires.
     fn step(&mut self, groups: &[Group], now: Ns) -> bool
         requires spec { IsTriggerWithin last_moment (length groups.now) self.old.spec }
         requires totals { All (λ group. AreStatesWithin last_moment group) groups.now }
@@ -86,8 +88,8 @@ impl TriggerWatch {
     }
 }
 
-/// Activates each trigger that isn't active and whose line isn't later than the tick, with its
-/// total at the previous tick.
+/// Activates each trigger that isn't active and whose line is at or before the tick, with its total
+/// at the previous tick.
 pub(crate) fn begin_all(watches: &mut [TriggerWatch], groups: &[Group], now: Ns)
     requires watches { AreWatchesWithin (length groups.now) watches.old }
     requires totals { All (λ group. AreStatesWithin last_moment group) groups.now }
@@ -98,7 +100,8 @@ pub(crate) fn begin_all(watches: &mut [TriggerWatch], groups: &[Group], now: Ns)
     }
 }
 
-/// Appends the number of a trigger to those that fired, if it did. There is capacity for it.
+/// Appends `number` to the triggers that fired, if `has_signalled`. Precondition: there is capacity
+/// for one more.
 fn add_where(fired: &mut Vec<u32>, number: u32, has_signalled: bool)
     requires { vec_len fired.old < vec_capacity fired.old }
     ensures items { fired.new.items
@@ -111,8 +114,8 @@ fn add_where(fired: &mut Vec<u32>, number: u32, has_signalled: bool)
     }
 }
 
-/// Steps each active trigger whose group is live, and collects the numbers of the triggers that
-/// fire.
+/// Steps each active trigger whose group is live at time `now` (ns), and collects the numbers of
+/// the triggers that fire.
 pub(crate) fn step_all(
     watches: &mut [TriggerWatch],
     groups: &[Group],
