@@ -1,5 +1,5 @@
--- The events that make groups and tasks: each may be spelled and is legal in its turn, and then all
--- tasks live.
+-- Proofs about the events that create groups and tasks: each can be spelled and is legal, and after
+-- them all tasks are live.
 use Rattle.std.proofs.Common.{◌≡◌, ◌≢◌, ℕ, zero, suc, ◌+◌, ◌-◌, ◌*◌, ◌/◌, ◌%◌, ◌^◌, ◌<◌, ◌≤◌, List, [], ◌∷◌, ◌++◌, refl, ◌∙◌, subst, arith, cond, true, false, Option, None, Some, ◌==◌, length, map, ◌⊎◌, ⊎_elim}
 use Rattle.std.specs.Prelude.{is_some, nat_le, IfSome, IsSome, if◌then◌else◌, codes}
 use Rattle.std.specs.List.{range_with_len}
@@ -31,17 +31,18 @@ use Rattle.trace_gen.specs.Generating.{IsGenerating, limits_in, made_groups}
 use Rattle.trace_gen.proofs.Following.{Go, go_on, go_then}
 use Rattle.trace_gen.proofs.Naming.{numbered_apart, numbered_is_path, numbered_parent}
 
--- ---- numbered events in a row
+-- ---- numbered events in sequence
 
--- an event may be spelled and is legal; if its number satisfies the invariant in the world before
--- it, the next number does so after it
+-- An event that can be spelled and is legal in world `w`. If `Holds` is true for its number before
+-- it, `Holds` is true for the next number after it.
 record IsGood (limits : Limits) (Holds : ℕ → World → Type 0) (number : ℕ) (w : World) (event : Event) : Type 0 where
   fits : Fits event
   known : IsKnown first_verbs event
   legal : cause_of limits w event ≡ None
   later : Holds (number + 1) (after_event w event)
 
--- numbered events up to `end`, and what holds after them
+-- the result for numbered events up to `end`: they can be spelled and are legal, and `Holds` is
+-- true for `end` after them
 record InRow (limits : Limits) (Holds : ℕ → World → Type 0) (end : ℕ) (w : World) (events : List Event) : Type 0 where
   go : Go limits w events
   later : Holds end (after_from w events)
@@ -57,7 +58,8 @@ in_row limits Holds end make good (suc count) from all w so =
 
 -- ---- groups
 
--- the world after the groups with numbers below this one were created, and no task
+-- The invariant of the world after the groups with numbers below `number` were created, and no
+-- task.
 record HasGroups (shape : Shape) (number : ℕ) (w : World) : Type 0 where
   root : is_some (slot_of w.groups (codes "/")) ≡ true
   made : (i : ℕ) → i < number → is_some (slot_of w.groups (numbered_path i)) ≡ true
@@ -68,17 +70,17 @@ record HasGroups (shape : Shape) (number : ℕ) (w : World) : Type 0 where
   last : w.last ≡ 0
   going : w.ended ≡ false
 
--- a first choice that is there stays
+-- the first of two options is chosen if it has a value
 chosen_first : (first other : Option ℕ) → is_some first ≡ true → is_some (first_of_two first other) ≡ true
 chosen_first (Some slot) other h = refl
 chosen_first None other h = cc h
 
--- if neither exists, none is chosen
+-- if both options are `None`, nothing is chosen
 neither : (first other : Option ℕ) → first ≡ None → other ≡ None → first_of_two first other ≡ None
 neither None other h k = k
 neither (Some slot) other h k = cc h
 
--- a path that is found is found with one more group
+-- a path that is found is still found after a group is appended
 still_found : (groups : List GroupLife) (group : GroupLife) (path : List ℕ) → is_some (slot_of groups path) ≡ true → is_some (slot_of (groups ++ group ∷ []) path) ≡ true
 still_found groups group path h = rw (found_in_suffix 0 groups group path) (chosen_first (slot_of groups path) _ h)
 
@@ -86,11 +88,11 @@ still_found groups group path h = rw (found_in_suffix 0 groups group path) (chos
 below_next : (i number : ℕ) → i < number + 1 → (i < number) ⊎ (i ≡ number)
 below_next i number h = grind arith
 
--- the new one is found
+-- the path of a new group is found
 new_found : (groups : List GroupLife) (path : List ℕ) (at : ℕ) → slot_of groups path ≡ None → is_some (slot_of (groups ++ new_group groups path at ∷ []) path) ≡ true
 new_found groups path at fresh = rw (found_in_suffix 0 groups (new_group groups path at) path, fresh, bytes_itself path) refl
 
--- others aren't
+-- another path that isn't found is still not found after a group is appended
 others_fresh : (groups : List GroupLife) (path other : List ℕ) (at : ℕ) → slot_of groups other ≡ None → bytes_eq path other ≡ false → slot_of (groups ++ new_group groups path at ∷ []) other ≡ None
 others_fresh groups path other at fresh apart = rw (found_in_suffix 0 groups (new_group groups path at) other, fresh, apart) refl
 
@@ -128,7 +130,8 @@ group_good shape shaped number w room so =
 
 -- ---- tasks
 
--- the world after all groups were created, and the tasks with numbers below this one
+-- The invariant of the world after all groups were created, and the tasks with numbers below
+-- `number`.
 record HasTasks (shape : Shape) (number : ℕ) (w : World) : Type 0 where
   low : 1 ≤ number
   root : is_some (slot_of w.groups (codes "/")) ≡ true
@@ -141,39 +144,39 @@ record HasTasks (shape : Shape) (number : ℕ) (w : World) : Type 0 where
   last : w.last ≡ 0
   going : w.ended ≡ false
 
--- a task more is one more at most
+-- adding a task increases the number of tasks by at most 1
 one_more : (tasks : Tasks) (pid : ℕ) (task : Task) → tasks_by.len (put tasks pid task) ≤ tasks_by.len tasks + 1
 one_more tasks pid task =
     rw (tasks_by.len-insert nat_cmp_total tasks pid task)
     (elim (tasks_by.contains_key tasks pid) as (λ b. cond b (tasks_by.len tasks) (tasks_by.len tasks + 1) ≤ tasks_by.len tasks + 1) [ true ↦ omega arith | false ↦ omega arith ])
 
--- no task is found under a number but the new one's
+-- adding a task doesn't add a task under another number
 none_there : (tasks : Tasks) (pid : ℕ) (task : Task) (q : ℕ) → task_of tasks q ≡ None → q ≢ pid → task_of (put tasks pid task) q ≡ None
 none_there tasks pid task q none apart =
     let other : (q == pid) ≡ false = grind (arith, nat_tests, apart) in
     get_put tasks pid task q ∙ rw (other, none) refl
 
--- the new one is
+-- the added task is found under its number
 one_there : (tasks : Tasks) (pid : ℕ) (task : Task) (q : ℕ) → q ≡ pid → IsSome (task_of (put tasks pid task) q)
 one_there tasks pid task q same =
     let it : (q == pid) ≡ true = grind (arith, nat_tests) in
     rw (get_put tasks pid task q, it) refl
 
--- those that lived live on
+-- every task is still found after a task is added
 lives_on : (tasks : Tasks) (pid : ℕ) (task : Task) (q : ℕ) → IsSome (task_of tasks q) → IsSome (task_of (put tasks pid task) q)
 lives_on tasks pid task q lived =
     rw (get_put tasks pid task q) (elim (q == pid) as (λ b. IsSome (cond b (Some task) (task_of tasks q))) [ true ↦ refl | false ↦ lived ])
 
--- each is on an existing processor
+-- after a task on an existing processor is added, every task is on an existing processor
 all_within : (cpus : ℕ) (tasks : Tasks) (pid : ℕ) (task : Task) → task.cpu.0 < cpus → ((q : ℕ) → IfSome (task_of tasks q) (λ task. task.cpu.0 < cpus)) → (q : ℕ) → IfSome (task_of (put tasks pid task) q) (λ task. task.cpu.0 < cpus)
 all_within cpus tasks pid task room within q =
     rw (get_put tasks pid task q) (elim (q == pid) as (λ b. IfSome (cond b (Some task) (task_of tasks q)) (λ task. task.cpu.0 < cpus)) [ true ↦ room | false ↦ within q ])
 
--- a number that isn't 0
+-- a number that isn't 0 is positive
 some_groups : (n : ℕ) → (n == 0) ≡ false → 0 < n
 some_groups n other = grind (arith, nat_tests)
 
--- the group of a task is there
+-- the group of a task was created
 home_found : (shape : Shape) (groups : List GroupLife) → is_some (slot_of groups (codes "/")) ≡ true → ((i : ℕ) → i < shape.groups → is_some (slot_of groups (numbered_path i)) ≡ true) → (pid : ℕ) → is_some (slot_of groups (home_of shape pid)) ≡ true
 home_found shape groups root made pid =
     elim (shape.groups == 0) as (λ b. (shape.groups == 0) ≡ b → is_some (slot_of groups (if b then codes "/" else numbered_path ((pid - 1) % shape.groups))) ≡ true) [
@@ -181,12 +184,12 @@ home_found shape groups root made pid =
       | false ↦ λ other. made ((pid - 1) % shape.groups) (mod-lt (pid - 1) (some_groups shape.groups other))
     ] refl
 
--- the root's path is one
+-- the path of the root is a path
 root_is_path : is_path (codes "/") ≡ true
 unfolding is_path
 root_is_path = refl
 
--- its path is one
+-- the path of a task's group is a path
 home_is_path : (shape : Shape) → shape.groups ≤ 1000 → (pid : ℕ) → is_path (home_of shape pid) ≡ true
 home_is_path shape few pid =
     elim (shape.groups == 0) as (λ b. (shape.groups == 0) ≡ b → is_path (if b then codes "/" else numbered_path ((pid - 1) % shape.groups)) ≡ true) [
@@ -200,7 +203,7 @@ home_is_path shape few pid =
 lower : (pid number : ℕ) → pid < number + 1 → (pid < number) ⊎ (pid ≡ number)
 lower pid number h = grind arith
 
--- a fourth of a number below four times another
+-- a fourth of a number below `4 * cpus` is below `cpus`
 fourth : (pid cpus : ℕ) → 1 ≤ pid → pid < 4 * cpus + 1 → (pid - 1) / 4 < cpus
 fourth pid cpus low high = omega arith
 
@@ -240,9 +243,9 @@ task_good shape shaped pid w room so =
       };
     }
 
--- ---- all of them
+-- ---- all first events
 
--- before the first event
+-- the invariant of groups holds before the first event
 no_groups : (shape : Shape) → IsShape shape → HasGroups shape 0 first_world
 no_groups shape shaped = record {
   root = refl;
@@ -255,11 +258,11 @@ no_groups shape shaped = record {
   going = refl;
 }
 
--- no task is there
+-- no task is found in the empty map
 none_yet : (tasks : Tasks) → tasks ≡ no_tasks → (q : ℕ) → task_of tasks q ≡ None
 none_yet tasks none q = rw none (tasks_by.get-empty nat_cmp q)
 
--- before the first task
+-- the invariant of tasks holds after the last group and before the first task
 groups_made : (shape : Shape) (w : World) → HasGroups shape shape.groups w → HasTasks shape 1 w
 groups_made shape w so =
     let lines = so.lines in
@@ -276,7 +279,7 @@ groups_made shape w so =
       going = so.going;
     }
 
--- after the last one
+-- the invariant of generated traces holds after the last task
 tasks_made : (shape : Shape) (w : World) → HasTasks shape (1 + task_count shape) w → IsGenerating shape 0 w
 tasks_made shape w so =
     let lines = so.lines in
@@ -305,15 +308,16 @@ task_turn shape shaped pid room =
     let tasks = map (λ i. at_start (made_task shape i)) (range_with_len 1 pid) in
     rw (after_from-append first_world groups tasks) (task_good shape shaped (pid + 1) (after_from (after_from first_world groups) tasks) (omega (arith, room)) second.later).legal
 
--- the same of a table after these events
+-- the next group's event is legal for a table that has played the events before it; so is the next
+-- task's event
 pub group_legal : (shape : Shape) → IsShape shape → (number : ℕ) → number < shape.groups → (table : TableView) (events : List Event) (event : Event) → table.limits ≡ limits_in shape → table.world ≡ after events → events ≡ made_groups shape number → event ≡ at_start (made_group number) → cause_of table.limits table.world event ≡ None
 group_legal shape shaped number room table events event limits world are is = rw (limits, world, are, is) (group_turn shape shaped number room)
 
 pub task_legal : (shape : Shape) → IsShape shape → (pid : ℕ) → pid < task_count shape → (table : TableView) (events : List Event) (event : Event) → table.limits ≡ limits_in shape → table.world ≡ after events → events ≡ made_groups shape shape.groups ++ map (λ i. at_start (made_task shape i)) (range_with_len 1 pid) → event ≡ at_start (made_task shape (pid + 1)) → cause_of table.limits table.world event ≡ None
 task_legal shape shaped pid room table events event limits world are is = rw (limits, world, are, is) (task_turn shape shaped pid room)
 
--- the events that make all groups and tasks go on from the first world, and then the world is as it
--- should be
+-- The events that create all groups and tasks can be spelled and are legal from the first world,
+-- and the invariant of generated traces holds after them.
 pub record AreFounded (shape : Shape) : Type 0 where
   pub go : Go (limits_in shape) first_world (first_events shape)
   pub later : IsGenerating shape 0 (after_from first_world (first_events shape))
