@@ -1,4 +1,4 @@
--- A header line, cut after `cpus=`.
+-- Proofs about header lines, which are split after `cpus=`.
 use Rattle.std.proofs.Common.{◌≡◌, ◌≢◌, ℕ, ◌^◌, ◌<◌, ◌≤◌, List, [], ◌∷◌, ◌++◌, length, take, drop, refl, sym, ap, ◌∙◌, arith, true, false, get_or, take-append-drop, inl, inr, ⊎_elim}
 use Rattle.std.specs.Prelude.{Option, None, Some, decimal, codes}
 use Rattle.std.specs.Str.{bytes_eq}
@@ -22,7 +22,7 @@ header-before version n = refl
 abbrev pub first_before : List ℕ
 first_before = codes "psitrace 1 cpus="
 
--- and in the second
+-- the bytes before the number of processors in the second version
 abbrev pub second_before : List ℕ
 second_before = codes "psitrace 2 cpus="
 
@@ -32,35 +32,35 @@ before-first version is = ap before_cpus is ∙ ap (λ digits. codes "psitrace "
 pub before-second : (version : ℕ) → version ≡ 2 → before_cpus version ≡ second_before
 before-second version is = ap before_cpus is ∙ ap (λ digits. codes "psitrace " ++ digits ++ codes " cpus=") (decimal_digit 2 (omega arith))
 
--- a header of the first version
+-- a header of the first version is its prefix and a number
 pub header-prefix : (n : ℕ) → header 1 n ≡ first_before ++ decimal n
 header-prefix n = header-before 1 n ∙ ap (λ bytes. bytes ++ decimal n) (before-first 1 refl)
 
--- it has at most 36 bytes
+-- a header of the first version has at most 36 bytes
 pub header_short : (n : ℕ) → n < 2 ^ 64 → length (header 1 n) ≤ 36
 header_short n fits = rw (header-prefix n) (let short = decimal_short n fits in omega (arith, short))
 
 -- ---- prefixes
 
--- a line with a prefix
+-- a line that begins with a known prefix is the prefix and the rest
 pub with_prefix : (line prefix rest known : List ℕ) → prefix ≡ known → bytes_eq (take (length prefix) line) prefix ≡ true → rest ≡ drop (length prefix) line → line ≡ known ++ rest
 with_prefix line prefix rest known same starts is =
     sym (take-append-drop (length prefix) line) ∙ ap (λ bytes. bytes ++ drop (length prefix) line) ((bytes_eq-Decides (take (length prefix) line) prefix).0 starts) ∙ ap (λ bytes. prefix ++ bytes) (sym is) ∙ ap (λ bytes. bytes ++ rest) same
 
--- a line without it
+-- a line that doesn't begin with a known prefix isn't the prefix and any rest
 without_prefix : (line prefix known rest : List ℕ) → prefix ≡ known → bytes_eq (take (length prefix) line) prefix ≡ false → line ≢ known ++ rest
 without_prefix line prefix known rest same other is =
     let starts : take (length prefix) line ≡ prefix = ap (take (length prefix)) is ∙ ap (λ bytes. take (length bytes) (known ++ rest)) same ∙ take-append_seam known rest ∙ sym same in
     let equal = (bytes_eq-Decides (take (length prefix) line) prefix).1 starts in cc
 
--- a line with neither prefix is no header
+-- a line with neither prefix isn't a header
 pub no_prefix_of : (line one two : List ℕ) → one ≡ first_before → two ≡ second_before → bytes_eq (take (length one) line) one ≡ false → bytes_eq (take (length two) line) two ≡ false → (version n : ℕ) → IsVersion version → line ≢ header version n
 no_prefix_of line one two first second not_first not_second version n is spelled = ⊎_elim
     (λ same. without_prefix line one first_before (decimal n) first not_first (spelled ∙ header-before version n ∙ ap (λ bytes. bytes ++ decimal n) (before-first version same)))
     (λ same. without_prefix line two second_before (decimal n) second not_second (spelled ∙ header-before version n ∙ ap (λ bytes. bytes ++ decimal n) (before-second version same)))
     is
 
--- ---- headers that are read
+-- ---- headers that are accepted
 
 number_again : (version : ℕ) → IsVersion version → version_number (version_of version) ≡ version
 number_again version is = ⊎_elim (λ same. rw same refl) (λ same. rw same refl) is
@@ -69,12 +69,12 @@ among : (version : Version) → IsAmong version versions
 among One = inl refl
 among Two = inr (inl refl)
 
--- the number of a version is that of one
+-- the number of a version is 1 or 2
 pub is_version : (version : Version) → IsVersion (version_number version)
 is_version One = inl refl
 is_version Two = inr refl
 
--- a header in range is read
+-- a header with 1 to 64 processors is accepted
 pub header_of-some : (line : List ℕ) (version n : ℕ) → IsVersion version → line ≡ header version n → 1 ≤ n → n ≤ 64 → header_of versions line ≡ Some (header_with version n)
 header_of-some line version n known is low high =
     (headers_spelled versions line (header_with version n)).1 (among (version_of version), low, high, is ∙ ap (λ number. header number n) (sym (number_again version known)))
@@ -88,7 +88,7 @@ no_header line (Some head) is none =
 pub header_of-none : (line : List ℕ) → ((version n : ℕ) → IsVersion version → 1 ≤ n → n ≤ 64 → line ≢ header version n) → header_of versions line ≡ None
 header_of-none line none = no_header line (header_of versions line) refl none
 
--- ---- headers by what follows their prefixes
+-- ---- headers by the bytes after their prefixes
 
 prefix_same : (prefix xs ys : List ℕ) → prefix ++ xs ≡ prefix ++ ys → xs ≡ ys
 prefix_same [] xs ys is = is
@@ -112,19 +112,19 @@ same_suffix version other xs ys is also same =
     also)
     is
 
--- no number is there
+-- a line isn't a header if no number follows its prefix
 pub header_of-wrong : (line : List ℕ) (version : ℕ) (rest : List ℕ) → IsVersion version → line ≡ before_cpus version ++ rest → ((n : ℕ) → n < 2 ^ 64 → rest ≡ decimal n → ⊥) → header_of versions line ≡ None
 header_of-wrong line version rest known cut none =
     header_of-none line (λ other n is low high spelled. none n (omega (arith, high)) (same_suffix version other rest (decimal n) known is (sym cut ∙ spelled ∙ header-before other n)))
 
--- one of too few or too many processors does
+-- a line isn't a header if its number of processors isn't between 1 and 64
 pub header_of-other : (line : List ℕ) (version n : ℕ) (rest : List ℕ) → IsVersion version → line ≡ before_cpus version ++ rest → rest ≡ decimal n → n < 2 ^ 64 → (1 ≤ n → 64 < n) → header_of versions line ≡ None
 header_of-other line version n rest known cut is fits out =
     header_of-none line (λ other m also low high spelled.
     let same = decimal_injective n m fits (omega (arith, high)) (sym is ∙ same_suffix version other rest (decimal m) known also (sym cut ∙ spelled ∙ header-before other m)) in
     omega (arith, same, out, low, high))
 
--- ---- the same for a parsed header
+-- ---- headers that were parsed
 
 pub header_found : (line : List ℕ) (version n : ℕ) → IsVersion version → header_of versions line ≡ Some (header_with version n) → IsVersion version × (1 ≤ n) × (n ≤ 64) × (line ≡ header version n)
 header_found line version n known is =

@@ -1,4 +1,4 @@
--- Lines in their pieces.
+-- Proofs about lines that are written piece by piece.
 use Rattle.std.proofs.Common.{◌≡◌, ◌≤◌, ◌+◌, ℕ, List, [], ◌∷◌, ◌++◌, length, drop, length-drop, sym, ap, arith, append_assoc, true}
 use Rattle.std.specs.Prelude.{decimal}
 use Rattle.std.proofs.lemmas.List.{append-nil}
@@ -23,11 +23,11 @@ spelling-spaced event = joined-spaced (decimal event.at) (act_words event.act)
 pub path_short : (path : List ℕ) → is_path path ≡ true → length path ≤ 255
 path_short path is = word_short kind.path path is
 
--- for lines written piece by piece
+-- the rules for lines that are written piece by piece
 pub ruleset lines = (append_assoc, append-nil, spelling-spaced, header-prefix, path_short)
 
--- ---- the bytes of a line
+-- ---- the length of a line
 
--- how many there are
+-- the length of the written bytes and the index of the first one add up to the capacity
 pub suffix : (bytes now : List ℕ) (room start : ℕ) → length bytes ≡ room → start ≤ room → drop start bytes ≡ now → length now + start ≡ room
 suffix bytes now room start wide inside is = let left = length-drop start bytes in let same = ap length is in omega (arith, left, same, wide, inside)

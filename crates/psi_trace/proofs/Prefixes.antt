@@ -1,4 +1,4 @@
--- Lines as prefixes of bytes, field by field.
+-- Proofs about lines at the start of buffered bytes, field by field.
 use Rattle.std.proofs.Common.{◌≡◌, ℕ, ◌+◌, ◌-◌, ◌*◌, ◌^◌, ◌<◌, ◌≤◌, List, [], ◌∷◌, ◌++◌, length, take, drop, get_or, suc, refl, sym, ap, ◌∙◌, subst, arith, true, take-append-drop, append_assoc}
 use Rattle.std.specs.Prelude.{Option, IfSome, decimal, codes}
 use Rattle.std.specs.Str.{all_ascii_digits, bytes_eq}
@@ -37,7 +37,7 @@ no_digits bytes = record {
   value = refl;
 }
 
--- one digit more
+-- one more digit
 pub digit_more : (bytes : List ℕ) (count next number digit : ℕ) → next ≡ count + 1 → AreDigits bytes number count → count < length bytes → IsDigit (get_or bytes count 0) digit → AreDigits bytes (number * 10 + digit) next
 digit_more bytes count next number digit is are inside one =
     let more = take_more bytes count 0 inside in
@@ -47,7 +47,7 @@ digit_more bytes count next number digit is are inside one =
       value = rw more (value_after-snoc 0 (take count bytes) (get_or bytes count 0) ∙ ap (λ n. n * 10 + (get_or bytes count 0 - 48)) are.value);
     })
 
--- four digits more, by the law of one
+-- four more digits, as four times one digit
 pub four_more : (bytes : List ℕ) (count number four : ℕ) → AreDigits bytes number count → count + 4 ≤ length bytes → AreFour bytes count four → AreDigits bytes (number * 10000 + four) (count + 4)
 four_more bytes count number four are inside is =
     let one = digit_more bytes count (count + 1) number is.a (omega arith) are (omega (arith, inside)) is.first in
@@ -73,15 +73,15 @@ below_four bytes count number four below is =
     let all = below_more (count + 3) (count + 4) (((number * 10 + is.a) * 10 + is.b) * 10 + is.c) is.d _ (omega arith) three is.fourth in
     omega (arith, all, is.value)
 
--- fewer than 19 have room for one more
+-- a number of fewer than 19 digits has room for one more digit in 64 bits
 pub has_room : (count number : ℕ) → number < 10 ^ count → count < 19 → number < 10 ^ 18
 has_room count number below few = let most = pow-le-pow_right {n = 10} (omega arith) {i = count} {j = 18} (omega (arith, few)) in omega (arith, below, most)
 
--- at most 15 have room for four
+-- a number of at most 15 digits has room for four more digits in 64 bits
 pub has_room_for_four : (count number : ℕ) → number < 10 ^ count → count ≤ 15 → number < 10 ^ 15
 has_room_for_four count number below few = let most = pow-le-pow_right {n = 10} (omega arith) {i = count} {j = 15} few in omega (arith, below, most)
 
--- a number of four digits
+-- a number of four digits is at most 9999
 pub four_small : (bytes : List ℕ) (place four : ℕ) → AreFour bytes place four → four ≤ 9999
 four_small bytes place four is = omega (arith, is.value, is.first.is, is.first.high, is.second.is, is.second.high, is.third.is, is.third.high, is.fourth.is, is.fourth.high)
 
@@ -99,13 +99,13 @@ number_prefix bytes number count end are some first fits inside is =
     sym (take-append-drop count bytes) ∙ ap (λ xs. xs ++ drop count bytes) (spelled_digits bytes number count are some first fits)
     ∙ ap (λ xs. decimal number ++ xs) (drop_more bytes count 0 inside ∙ ap (λ byte. byte ∷ drop (count + 1) bytes) is)
 
--- 0 before a byte
+-- if the number before a byte is 0, the bytes begin with the digit 0 and that byte
 pub zero_prefix : (bytes rest : List ℕ) (number end : ℕ) → number ≡ 0 → bytes ≡ decimal number ++ end ∷ rest → bytes ≡ 48 ∷ end ∷ rest
 zero_prefix bytes rest number end zero is = is ∙ ap (λ n. decimal n ++ end ∷ rest) zero ∙ ap (λ ds. ds ++ end ∷ rest) (decimal_digit 0 (omega arith))
 
 -- ---- a verb
 
--- a verb that the bytes begin with, and its fields
+-- bytes that begin with a verb are the verb and its fields
 pub verb_prefix : (bytes prefix fields verb : List ℕ) → prefix ≡ verb → bytes_eq (take (length prefix) bytes) prefix ≡ true → fields ≡ drop (length prefix) bytes → bytes ≡ verb ++ fields
 verb_prefix bytes prefix fields verb same starts suffix =
     sym (take-append-drop (length prefix) bytes) ∙ ap (λ xs. xs ++ drop (length prefix) bytes) ((bytes_eq-Decides (take (length prefix) bytes) prefix).0 starts) ∙ ap (λ xs. prefix ++ xs) (sym suffix) ∙ ap (λ xs. xs ++ fields) same
@@ -115,7 +115,7 @@ verb_prefix bytes prefix fields verb same starts suffix =
 joined-more : (word next : List ℕ) (words : List (List ℕ)) (rest : List ℕ) → joined (word ∷ next ∷ words) ++ rest ≡ word ++ 32 ∷ (joined (next ∷ words) ++ rest)
 joined-more word next words rest = append_assoc word (32 ∷ joined (next ∷ words)) rest
 
--- a line of a verb and one, two or three fields
+-- a line of a verb with one, two or three fields is its words joined by spaces
 pub one_field : (time verb first fields rest : List ℕ) → fields ≡ first ++ 10 ∷ rest → time ++ 32 ∷ (verb ++ 32 ∷ fields) ≡ joined (time ∷ verb ∷ first ∷ []) ++ 10 ∷ rest
 one_field time verb first fields rest is =
     ap (λ xs. time ++ 32 ∷ (verb ++ 32 ∷ xs)) is
@@ -135,7 +135,7 @@ three_fields time verb first second third fields more last rest is then ends =
     ap (λ xs. time ++ 32 ∷ (verb ++ 32 ∷ xs)) fields_are
     ∙ sym (joined-more time verb (first ∷ second ∷ third ∷ []) (10 ∷ rest) ∙ ap (λ xs. time ++ 32 ∷ xs) (joined-more verb first (second ∷ third ∷ []) (10 ∷ rest)))
 
--- ---- the events of these lines
+-- ---- the events of the parsed lines
 
 abbrev event_at : ℕ → Act → Event
 event_at at what = record { at = at; act = what }
@@ -183,7 +183,7 @@ unstall_prefix at pid fields rest fits is_pid is = record {
   whole = one_field (decimal at) (codes "unstall") (decimal pid.0) fields rest is;
 }
 
--- how many bytes the line of an event has
+-- the number of bytes in the line of an event that the bytes begin with
 pub counted_prefix : (bytes : List ℕ) (event : Event) (rest : List ℕ) → BeginsWithEvent bytes event rest → BeginsBufferWith bytes event (length bytes - length rest - 1)
 counted_prefix bytes event rest begins =
     let text = spelling event in

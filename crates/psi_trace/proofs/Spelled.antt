@@ -1,4 +1,5 @@
--- What a reader returned, in the words of the grammar.
+-- Proofs that the results of parsing, as the contracts give them, are events that the grammar
+-- spells.
 use Rattle.std.proofs.Common.{◌≡◌, ◌≢◌, ℕ, List}
 use Rattle.std.specs.Prelude.{Result, Ok, Err, IfOk}
 use Rattle.psi_base.specs.Path.{parts_at}
