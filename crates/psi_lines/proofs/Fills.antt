@@ -1,4 +1,4 @@
--- Reads preserve the remaining bytes.
+-- Proofs that reads preserve the remaining bytes of the file.
 use Rattle.std.proofs.Common.{◌≡◌, ℕ, ◌+◌, ◌-◌, ◌<◌, ◌≤◌, List, [], ◌∷◌, ◌++◌, length, take, drop, refl, sym, ap, ◌∙◌, append_assoc, length-drop, arith}
 use Rattle.std.proofs.lemmas.Grind.{common_steps}
 use Rattle.std.specs.Prelude.{slice_index}
@@ -9,12 +9,13 @@ use Rattle.std.proofs.Math.Seq.{take-add}
 use Rattle.outside.specs.Outside.{ReadsBytes}
 use Rattle.psi_lines.specs.Next.{FillsBytes}
 
--- bytes that were read at a place come before the rest
+-- bytes that were read at an offset, followed by the bytes after them, are the bytes from that
+-- offset
 read_on : (old chunk bytes : List ℕ) (at n : ℕ) → take n chunk ≡ take n (drop at bytes) → (old ++ take n chunk) ++ drop (at + n) bytes ≡ old ++ drop at bytes
 read_on old chunk bytes at n same =
     append_assoc old (take n chunk) (drop (at + n) bytes) ∙ ap (λ xs. old ++ xs) (ap (λ xs. xs ++ drop (at + n) bytes) same ∙ ap (λ xs. take n (drop at bytes) ++ xs) (sym (drop-drop n at bytes)) ∙ take-append-drop n (drop at bytes))
 
--- a buffer that begins with these bytes, followed by those that were read
+-- a read into a buffer appends the bytes that it returned to the buffered bytes
 pub fills : (bytes : List ℕ) (at buffered n : ℕ) (old new before buffer : List ℕ) → new ≡ take (buffered + n) buffer → take buffered buffer ≡ old → buffered < length buffer
     → ReadsBytes bytes at n before (drop buffered buffer) → FillsBytes bytes at old new n
 fills bytes at buffered n old new before buffer grew prefix room reads =
@@ -24,24 +25,24 @@ fills bytes at buffered n old new before buffer grew prefix room reads =
       end = λ none. drop_of_length-le bytes (reads.end none (omega (arith, length-drop buffered buffer)));
     }
 
--- the first bytes that a buffer holds
+-- the first buffered bytes, as a slice of the buffer
 pub takes : (buffer : List ℕ) (start end count : ℕ) → start + count ≤ end → take (start + count - start) (drop start buffer) ≡ take count (take (end - start) (drop start buffer))
 takes buffer start end count inside =
     let same : start + count - start ≡ count = omega arith in
     rw same (sym (take-take count (end - start) (drop start buffer) (omega arith)))
 
--- the buffered bytes after those that were returned
+-- the buffered bytes after the returned ones, as a slice of the buffer
 pub skips : (buffer : List ℕ) (start end count : ℕ) → start + count ≤ end → take (end - (start + count)) (drop (start + count) buffer) ≡ drop count (take (end - start) (drop start buffer))
 skips buffer start end count inside =
     let more : end - start ≡ count + (end - (start + count)) = omega arith in
     rw more (rw drop-take (rw drop-drop refl))
 
--- if bytes are buffered, something remains
+-- if bytes are buffered, bytes remain
 pub some_left : (buffered rest : List ℕ) → 0 < length buffered → buffered ++ rest ≡ [] → ⊥
 some_left [] rest some none = absurd (omega arith)
 some_left (byte ∷ buffered) rest some none = cc
 
--- a line found at the start of the buffered bytes is the first of the rest
+-- a line at the start of the buffered bytes is the first of the remaining lines
 pub line_begins : (buffered rest whole line after : List ℕ) (count : ℕ) → count < length buffered → count ≤ 512 → slice_index buffered count ≡ 10 → HasNoNewline buffered count → buffered ++ rest ≡ whole
     → line ≡ take count buffered → after ≡ drop (count + 1) buffered → BeginsWithLine whole line (after ++ rest)
 line_begins buffered rest whole line after count inside short newline none same is goes =
