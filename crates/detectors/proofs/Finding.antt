@@ -1,4 +1,4 @@
--- What a table of the matches finds in a reading are the matches.
+-- Proofs that the groups which a table of matches finds in a reading are the matches.
 use Rattle.std.proofs.Common.{◌≡◌, ℕ, suc, ◌<◌, List, [], ◌∷◌, length, refl, sym, ap, ◌∙◌, arith}
 use Rattle.std.specs.Prelude.{All, Bool, false, filter, nat_lt, slice_index_or, Option, None, Some}
 use Rattle.std.specs.List.{list_any}
@@ -17,7 +17,7 @@ use Rattle.detectors.specs.Stands.{condition_of, greatest_kept, last_scan}
 
 -- ---- tables
 
--- a group matches, according to a table, if some pattern matches its path
+-- a group is a match according to its table exactly if at least one pattern matches its path
 pub has_match_of : (lives : List GroupLife) (patterns : List Pattern) (group : GroupReading) →
     group.slot.0 < length lives →
     has (match_table lives patterns) group ≡ is_match patterns (path_of lives group)
@@ -25,7 +25,7 @@ has_match_of lives patterns group inside =
     get_or-map (λ (life : GroupLife). is_match patterns life.path) lives group.slot.0 root false inside
     ∙ sym (ap (is_match patterns) (get_or-map (λ (life : GroupLife). life.path) lives group.slot.0 root [] inside))
 
--- each group's slot is below n
+-- the slot of every group is below `slots`
 abbrev pub AreWithin : ℕ → List GroupReading → Type 0
 AreWithin slots groups = All (λ (group : GroupReading). group.slot.0 < slots) groups
 
@@ -90,7 +90,7 @@ greatest_met lives (detector.MemoryReclaim cgroup duration_s) reading past withi
 greatest_met lives (detector.SwapFree threshold_pct) reading past within = refl
 greatest_met lives (detector.Exists cgroup negate) reading past within = refl
 
--- ---- rises
+-- ---- increases of scan counts
 
 risen_same : (scan : ℕ) (before : Option GroupReading) →
     risen_from (scan_of before) scan ≡ grown_from scan before
@@ -102,7 +102,7 @@ rise_same : (past : List Reading) (group : GroupReading) →
 rise_same [] group = refl
 rise_same (before ∷ past) group = risen_same group.scan (group_in before group.slot.0)
 
--- counts above those of a table of the last ones are rises
+-- the comparison with the stored counts agrees with the definition of an increase
 pub risen_met : (scans : List (Option ℕ)) (past : List Reading) (groups : List GroupReading) →
     ((slot : ℕ) → scan_in scans slot ≡ last_scan past slot) →
     have_risen scans groups ≡ list_any (λ (group : GroupReading). nat_lt 0 (rise past group)) groups

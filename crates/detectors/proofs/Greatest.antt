@@ -1,4 +1,4 @@
--- No average is above 100 percent, so neither is the greatest.
+-- Proofs that the greatest of several averages is at most 100 percent, because each is.
 use Rattle.std.proofs.Common.{ℕ, suc, ◌≤◌, ◌<◌, List, [], ◌∷◌, get_or, arith}
 use Rattle.std.specs.Prelude.{All, Bool, max, map, fold}
 use Rattle.std.proofs.Math.Nat.{max-le}
@@ -49,7 +49,7 @@ greatest_within (detector.MemoryReclaim cgroup duration_s) slots groups each = o
 greatest_within (detector.SwapFree threshold_pct) slots groups each = omega arith
 greatest_within (detector.Exists cgroup negate) slots groups each = omega arith
 
--- among those that a table has, too
+-- each group that a table finds is within its ranges
 pub found_within : (slots : ℕ) (matched : List Bool) (groups : List GroupReading) →
     All (IsGroupReading slots) groups →
     All (IsGroupReading slots) (found matched groups)

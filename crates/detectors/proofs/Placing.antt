@@ -1,4 +1,5 @@
--- A reading with one group more keeps the places of its groups, and there is room for them.
+-- Proofs that the places in a reading stay right after a group is appended, and that there is room
+-- for its place.
 use Rattle.std.proofs.Common.{◌≡◌, ℕ, ◌+◌, ◌<◌, ◌≤◌, List, [], ◌∷◌, ◌++◌, length, get_or, refl, sym, ap, subst, ◌∙◌, arith}
 use Rattle.std.specs.Prelude.{All, Bool, true, filter, map, Option, None}
 use Rattle.std.proofs.lemmas.List.{get_or-map, length-map}
@@ -15,9 +16,9 @@ use Rattle.detectors.specs.Inner.{AreHeld, ArePlaces, HasPlaced, PlacesView, chi
 use Rattle.detectors.proofs.Order.{at_most_slots, each_more}
 use Rattle.detectors.proofs.Children.{at_most_children, held_more, one_more}
 
--- ---- one group more
+-- ---- one more group
 
--- groups with one more are in their ranges and in order
+-- the groups, with one more, are in their ranges and in order
 pub record AreMore (lives : List GroupLife) (groups : List GroupReading) (group : GroupReading) : Type 0 where
   pub fit : All (IsGroupReading (length lives)) (groups ++ group ∷ [])
   pub order : Ascend (map (path_of lives) (groups ++ group ∷ []))
@@ -70,14 +71,14 @@ room_for_child lives groups group slot held is more child =
       is.spare,
     )
 
--- the parent of a group by its life
+-- the parent of a group, as its life has it
 pub parent_is : (lives : List GroupLife) (slot : ℕ) (life : GroupLife) → life ≡ get_or lives slot life →
     slot < length lives → number_of_slot life.parent ≡ get_or (parents_of lives) slot None
 parent_is lives slot life is below =
     ap (λ (group : GroupLife). number_of_slot group.parent) is
     ∙ sym (get_or-map (λ (group : GroupLife). number_of_slot group.parent) lives slot life None below)
 
--- ---- everything that is stored
+-- ---- the whole reading
 
 pub places_kept : (lives : List GroupLife) (groups : List GroupReading) (group : GroupReading) (parent : Option ℕ) (place : ℕ)
     (all all_new : PlacesView) (below below_new : List PlacesView) → ArePlaces lives groups all below →
@@ -98,7 +99,7 @@ places_kept lives groups group parent place all all_new below below_new is at ha
           (is.children slot d inside) (subst R has (subst Q at (each slot d (omega (arith, inside, is.slots)))));
     }
 
--- ---- how many places there are
+-- ---- the number of places
 
 fewer_pass : (test : GroupReading → Bool) (groups : List GroupReading) →
     length (filter test groups) ≤ length groups

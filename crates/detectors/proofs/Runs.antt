@@ -1,4 +1,5 @@
--- For each duration, the times that a detector stores have the answers about the readings.
+-- Proofs that the times which a detector stores give the right answers about its readings, for
+-- every duration.
 use Rattle.std.proofs.Common.{◌≡◌, ℕ, ◌-◌, refl, sym, arith}
 use Rattle.std.specs.Prelude.{Bool, true, false, ◌&&◌, ◌||◌, nat_le, if◌then◌else◌, Option, None}
 use Rattle.std.specs.Prelude.{Some}
@@ -6,7 +7,7 @@ use Rattle.std.proofs.lemmas.Bool.{leb-true, le-leb}
 use Rattle.detectors.specs.Views.{IsAfter, IsBy}
 use Rattle.detectors.specs.Tables.{is_long, is_recent, run_after}
 
--- ---- no time is after the last reading
+-- ---- no time is later than the last reading
 
 pub run_by : (run last : Option ℕ) (holds : Bool) (now : ℕ) → IsBy run last → IsAfter last now →
     IsBy (run_after run holds now) (Some now)
@@ -32,12 +33,12 @@ and_false : (a b : Bool) → ((a && false) || b) ≡ b
 and_false true b = refl
 and_false false b = refl
 
--- one of two tests if the first implies the second
+-- a disjunction is its second test if the first implies the second
 weaker : (a b : Bool) → (a ≡ true → b ≡ true) → (a || b) ≡ b
 weaker true b implies = sym (implies refl)
 weaker false b implies = refl
 
--- the same if the second implies the first
+-- a disjunction is its first test if the second implies the first
 stronger : (a b : Bool) → (b ≡ true → a ≡ true) → ((a && true) || b) ≡ a
 stronger true b implies = refl
 stronger false true implies = sym (implies refl)
@@ -45,7 +46,7 @@ stronger false false implies = refl
 
 -- ---- runs
 
--- the start of the run with one reading more
+-- the start of the run after one more reading
 pub long_next : (run last : Option ℕ) (holds : Bool) (now duration at : ℕ) → IsBy run last →
     IsAfter last now →
     (holds && (nat_le duration (at - now) || is_long run duration at)) ≡ is_long (run_after run holds now) duration at
@@ -56,9 +57,9 @@ long_next (Some start) (Some last) true now duration at by later =
     weaker (nat_le duration (at - now)) (nat_le duration (at - start)) (λ long.
     let so = leb-true duration (at - now) long in le-leb duration (at - start) (omega (arith, so, by, later)))
 
--- ---- rises
+-- ---- increases
 
--- the time of the last rise after one more reading
+-- the time of the last increase after one more reading
 pub recent_next : (increased last : Option ℕ) (risen : Bool) (now duration at : ℕ) → IsBy increased last →
     IsAfter last now →
     ((nat_le (at - now) duration && risen) || is_recent increased duration at)

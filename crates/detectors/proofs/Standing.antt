@@ -1,5 +1,5 @@
--- A detector that represents readings represents one more after taking it, and its answer is
--- whether it is true.
+-- Proofs that a detector's state is right after it takes a reading, and that its answer is right. A
+-- detector represents readings if its state is the one after it has taken them.
 use Rattle.std.proofs.Common.{◌≡◌, ℕ, ◌-◌, List, [], ◌∷◌, length, refl, sym, ap, ◌∙◌}
 use Rattle.std.specs.Prelude.{Bool, true, false, ◌&&◌, ◌||◌, nat_le, if◌then◌else◌, Option, None}
 use Rattle.std.specs.Prelude.{Some}
@@ -24,7 +24,7 @@ use Rattle.detectors.proofs.Finding.{greatest_met, risen_met}
 
 -- ---- matches
 
--- once a detector has begun, its table has the matches
+-- after the first reading, the table says which groups are matches
 table_known : (lives : List GroupLife) (spec : DetectorSpec) (history : List Reading) (matched : List Bool) →
     IsMatchTable lives (detector_patterns spec) history matched →
     matched_after (newest_moment history) matched (match_table lives (detector_patterns spec)) ≡ match_table lives (detector_patterns spec)
@@ -36,21 +36,21 @@ begun_table : (old : DetectorView) (lives : List GroupLife) (spec : DetectorSpec
 begun_table old lives spec history stands =
     rw (stands.last, stands.spec_is) (table_known lives spec history old.matched stands.matched)
 
--- ---- scans
+-- ---- scan counts
 
 scans_next : (keeps : Bool) (was now last : Option ℕ) → was ≡ (if keeps then last else None) →
     (if keeps then now else was) ≡ (if keeps then now else None)
 scans_next true was now last is = refl
 scans_next false was now last is = is
 
--- the last counts if the detector stores them
+-- the stored counts are the last ones, if the detector stores counts
 counts_kept : (keeps : Bool) (scans : List (Option ℕ)) (history : List Reading) → keeps ≡ true →
     ((slot : ℕ) → scan_in scans slot ≡ (if keeps then last_scan history slot else None)) →
     (slot : ℕ) → scan_in scans slot ≡ last_scan history slot
 counts_kept true scans history is each slot = each slot
 counts_kept false scans history is each slot = absurd cc
 
--- ---- rises
+-- ---- increases
 
 rises_next : (keeps risen scanned : Bool) (increased last : Option ℕ) (within : Bool) (now duration at : ℕ) →
     (keeps ≡ true → risen ≡ scanned) → IsBy increased last → IsAfter last now →
@@ -61,7 +61,7 @@ rises_next true risen scanned increased last within now duration at same by late
     rw (is, ← same refl) (recent_next increased last risen now duration at by later)
 rises_next false risen scanned increased last within now duration at same by later is = is
 
--- ---- one reading more
+-- ---- one more reading
 
 pub is_next_in : (old : DetectorView) (reading : ReadingView) (new : DetectorView) (spec : DetectorSpec) (history : List Reading) →
     IsBy old.run old.last → IsBy old.increased old.last → IsAfter old.last reading.seen.at →
