@@ -1,4 +1,5 @@
--- Rulesets in order.
+-- Proofs about lists of rulesets. A ruleset represents readings if its state is the one after it
+-- has taken them.
 use Rattle.std.proofs.Common.{◌≡◌, ℕ, zero, suc, ◌+◌, ◌<◌, List, [], ◌∷◌, ◌++◌, length, drop, get_or, refl, sym, ap, subst, arith, None}
 use Rattle.std.specs.Prelude.{All}
 use Rattle.psi_spec.specs.declared.machine.GroupLife.{GroupLife}
@@ -12,7 +13,7 @@ use Rattle.kill_engine.specs.Rulesets.{DetectorsRepresent, IsAt, IsRulesetAt, Ru
 use Rattle.kill_engine.specs.Killers.{RulesetsRepresent}
 use Rattle.kill_engine.proofs.ZipLaws.{zipped_all}
 
--- one more ruleset at the end
+-- one more ruleset is appended
 pub rulesets_push : (lives : List GroupLife) (history : List Reading) (number : ℕ) (states : List RulesetView) (rules : List Rule) (state : RulesetView) (rule : Rule) →
     RulesetsRepresent lives history number states rules → ((n : ℕ) → RulesetRepresents lives history n state rule) →
     RulesetsRepresent lives history number (states ++ state ∷ []) (rules ++ rule ∷ [])
@@ -21,7 +22,7 @@ rulesets_push lives history number [] (first ∷ rules) state rule represents ea
 rulesets_push lives history number (first ∷ states) [] state rule represents each = absurd represents
 rulesets_push lives history number (first ∷ states) (one ∷ rules) state rule represents each = (represents.0, rulesets_push lives history (number + 1) states rules state rule represents.1 each)
 
--- the rule of the ruleset at a place, and the later ones
+-- the rule of ruleset `i`, and the rules after it
 pub record IsRuled (lives : List GroupLife) (history : List Reading) (number : ℕ) (states : List RulesetView) (rules : List Rule) (i : ℕ) : Type 0 where
   pub rule : Rule
   pub rest : drop i rules ≡ rule ∷ drop (i + 1) rules
@@ -48,8 +49,8 @@ ruled_end lives history number [] (one ∷ rules) represents = absurd represents
 ruled_end lives history number (first ∷ states) [] represents = absurd represents
 ruled_end lives history number (first ∷ states) (one ∷ rules) represents = ruled_end lives history (number + 1) states rules represents.1
 
--- if each new ruleset represents the later readings whenever the old one represents the earlier
--- ones, all do
+-- if the step is right for each ruleset, it is right for the list: each new state is the one after
+-- the later readings
 pub ruled_map : (lives : List GroupLife) (before after : List Reading) (number : ℕ) (old new : List RulesetView) (rules : List Rule) →
     length new ≡ length old →
     ((k : ℕ) (d : RulesetView) (rule : Rule) → k < length old → RulesetRepresents lives before (number + k) (get_or old k d) rule → RulesetRepresents lives after (number + k) (get_or new k d) rule) →
@@ -78,13 +79,13 @@ ruled_count lives history number [] (one ∷ rules) represents = absurd represen
 ruled_count lives history number (first ∷ states) [] represents = absurd represents
 ruled_count lives history number (first ∷ states) (one ∷ rules) represents = ap suc (ruled_count lives history (number + 1) states rules represents.1)
 
--- before the first reading, detectors have taken none
+-- before the first reading, detectors have taken no reading
 detectors_begun : (lives : List GroupLife) (detectors : List DetectorView) (specs : List DetectorSpec) → DetectorsRepresent lives [] detectors specs → All (IsAt None (length lives)) detectors
 detectors_begun lives detectors specs represents =
     zipped_all (λ (detector : DetectorView) (spec : DetectorSpec). Represents detector lives spec []) (IsAt None (length lives)) detectors specs represents
     (λ detector spec stands. record { last = stands.last; places = stands.slots })
 
--- nor have those of rulesets
+-- before the first reading, the detectors of all rulesets have taken no reading
 pub begun : (lives : List GroupLife) (number : ℕ) (states : List RulesetView) (rules : List Rule) → RulesetsRepresent lives [] number states rules → All (λ state. IsRulesetAt None (length lives) state) states
 begun lives number states rules represents k d below =
     let r = ruled_at lives [] number states rules k represents below in
