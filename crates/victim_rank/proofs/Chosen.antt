@@ -1,4 +1,5 @@
--- A choice from the stored past is the choice after the readings that it represents.
+-- Proofs that a choice from the stored past is the defined choice after the readings that the past
+-- represents.
 use Rattle.std.proofs.Common.{◌≡◌, ℕ, zero, suc, ◌+◌, ◌-◌, ◌<◌, List, [], ◌∷◌, length, refl, sym}
 use Rattle.std.proofs.Common.{ap, ◌∙◌, arith, true, false}
 use Rattle.std.proofs.Math.Path.{fun_ext}
@@ -55,7 +56,7 @@ among_order lives act above now ascend = rw (among_is lives act above now)
 
 -- ---- the choice by size or growth
 
--- the groups of a scope and of a rank are those of the scope that have the rank
+-- the groups of a scope with a preference rank are the groups of the scope that have this rank
 pub ranked : (lives : List GroupLife) (act : Action) (above : Option Slot) (now : Reading)
     (best : GroupReading) (r : ℕ) → r ≡ rank_of best →
     filter (λ group. is_in_scope lives act above group && rank_of group == r) now.groups ≡ filter

@@ -1,4 +1,4 @@
--- Growth orders groups, and the walk finds the group that has grown most.
+-- Proofs that growth orders groups, and that the walk finds the group that has grown most.
 use Rattle.std.proofs.Common.{◌≡◌, ℕ, ◌*◌, ◌<◌, ◌≤◌, List, [], ◌∷◌, length, sum, refl, sym, ap, ◌∙◌}
 use Rattle.std.proofs.Common.{arith, true, false, mul-lt-mul_of_pos_right, mul-le-mul_right}
 use Rattle.std.proofs.Common.{lt_of_mul-lt-mul_right, ⊎_elim, inl, inr}
@@ -20,7 +20,7 @@ use Rattle.victim_rank.specs.Grown.{IsGrown, IsGrownAt, leads_grown}
 use Rattle.detectors.specs.Inner.{group_at}
 use Rattle.victim_rank.proofs.Scoped.{filter_filter, foremost_none, kept_by, leads_plainly}
 
--- a group leads one before it: it has grown more, or as much and it uses more memory
+-- a group beats an earlier one: it has grown more, or as much and it uses more memory
 abbrev pub leads_over : (GroupReading → List ℕ) → GroupReading → GroupReading → Bool
 leads_over sizes next best =
     nat_lt (growth_over sizes best next) (growth_over sizes next best)
@@ -43,7 +43,7 @@ above_then a b c s t u some first second =
     let high : b * s * u < a * t * u = mul-lt-mul_of_pos_right first some in
     lt_of_mul-lt-mul_right t (omega (arith, low, high))
 
--- a/s, b/t and c/u are the same
+-- a/s, b/t and c/u are equal
 all_same : (a b c s t u : ℕ) → 0 < t → a * t ≡ b * s → b * u ≡ c * t → a * u ≡ c * s
 all_same a b c s t u some first second =
     let low : b * u * s ≡ c * t * s = ap (λ n. n * s) second in
@@ -67,7 +67,7 @@ by_products a b c s t u f g h some_s some_t some_u onward first second =
     (then_shows (b * u) (c * t) g (g ≡ true) (λ is. is) second))
     (then_shows (a * t) (b * s) f (f ≡ true) (λ is. is) first))
 
--- a group's past has memory in use
+-- the group's past sizes aren't all 0
 abbrev pub HasPast : (GroupReading → List ℕ) → GroupReading → Type 0
 HasPast sizes group = 0 < sum (sizes group)
 
@@ -93,7 +93,7 @@ growth_order lives sizes =
 
 -- ---- the walk
 
--- the groups from which the most grown one is chosen, by one test
+-- the test for groups from which the most grown group is chosen
 abbrev pub is_choosable : (GroupReading → List ℕ) → List GroupLife → ℕ → ℕ → (GroupReading → Bool) →
     List GroupReading → GroupReading → Bool
 is_choosable sizes lives ratio few p groups group =
@@ -111,7 +111,7 @@ choosable_is sizes lives ratio few p groups =
     (filter (λ other. is_larger lives other group) (filter p groups))) few && is_growing_over
     sizes ratio group) groups
 
--- two lists with the same groups of the scope and the rank have the same choosable groups
+-- two lists with the same groups of the scope and rank have the same choosable groups
 pub same_choosable : (sizes : GroupReading → List ℕ) (lives : List GroupLife) (ratio few : ℕ)
     (p : GroupReading → Bool) (found groups : List GroupReading) →
     filter p found ≡ filter p groups →
@@ -129,7 +129,7 @@ has_past sizes ratio group growing =
     growing).0 in
     grind (arith, nat_tests)
 
--- after the walk has passed all groups, the best so far is the group that has grown most
+-- after the walk over all groups, the best group is the one that has grown most
 pub walked_growth : (lives : List GroupLife) (sizes : GroupReading → List ℕ) (ratio few : ℕ)
     (p : GroupReading → Bool) (groups : List GroupReading) → Ascend (map (path_of lives) groups) →
     (best : Option GroupReading) → foremost (leads_over sizes) best [] ≡ foremost (leads_over sizes)
@@ -149,9 +149,9 @@ walked_growth lives sizes ratio few p groups ascend best rest =
     (pairs_filter (IsBefore lives) _ (filter p groups)
     (pairs_filter (IsBefore lives) p groups (in_order lives groups ascend))))
 
--- ---- one group more
+-- ---- one more group
 
--- the stored growths lead like those of their groups
+-- the comparison of stored growths agrees with the comparison of the groups
 pub leads_as : (sizes : GroupReading → List ℕ) (next best : Grown) (group before : GroupReading) →
     IsGrown sizes next group → IsGrown sizes best before →
     leads_grown next best ≡ leads_over sizes group before
@@ -164,15 +164,16 @@ pub growing_as : (sizes : GroupReading → List ℕ) (ratio : ℕ) (next : Grown
     ≡ is_growing_over sizes ratio group
 growing_as sizes ratio next group is = rw (is.sizes_is, is.sum_is) refl
 
--- the best so far by its group
+-- the group with the best growth, if there is one
 abbrev pub best_group : List GroupReading → Option Grown → Option GroupReading
 best_group groups best = option_map (λ (grown : Grown). group_at groups grown.place) best
 
--- whether a group beats the best so far; true if there is none
+-- the growth beats the best growth found; true if there is none
 abbrev pub LeadsAny : Option Grown → Grown → Bool → Type 0
 LeadsAny best next leads = MatchOption best (leads ≡ true) (λ before. leads ≡ leads_grown next before)
 
--- the better of two is the next one if it beats the one before, and otherwise the one before
+-- the better of two groups is the next group if it beats the earlier one, and the earlier one
+-- otherwise
 next_better : (leads : GroupReading → GroupReading → Bool) (best next : GroupReading) →
     leads next best ≡ true → next ≡ better leads best next
 next_better leads best next is = rw is refl
@@ -185,7 +186,7 @@ passes_first : (p : GroupReading → Bool) (group : GroupReading) (groups : List
     p group ≡ true → filter p (group ∷ groups) ≡ group ∷ filter p groups
 passes_first p group groups passes = rw passes refl
 
--- the walk continues with a group that beats the best so far, if it can be chosen
+-- the walk continues with the next group if it can be chosen and beats the best group
 pub next_taken : (sizes : GroupReading → List ℕ) (p : GroupReading → Bool)
     (groups : List GroupReading) (best : Option Grown) (next : Grown) (group : GroupReading)
     (leads : Bool) (rest : List GroupReading) →
@@ -203,7 +204,7 @@ next_taken sizes p groups (Some best) next group leads rest was is known holds p
     (next_better (leads_over sizes) before group over)
     ∙ ap (foremost (leads_over sizes) (Some before)) (sym (passes_first p group rest passes))
 
--- with the best so far if another doesn't beat it
+-- the walk continues with the best group if the next group doesn't beat it
 pub next_trails : (sizes : GroupReading → List ℕ) (p : GroupReading → Bool)
     (groups : List GroupReading) (best : Option Grown) (next : Grown) (group : GroupReading)
     (leads : Bool) (rest : List GroupReading) →
@@ -223,14 +224,14 @@ next_trails sizes p groups (Some best) next group leads rest was is known fails 
     ∙ ap (foremost (leads_over sizes) (Some before)) (sym (passes_first p group rest passes)))
     (λ left. rw left refl)
 
--- or can't be chosen
+-- the walk continues with the best group if the next group can't be chosen
 pub next_left : (sizes : GroupReading → List ℕ) (p : GroupReading → Bool) (best : Option GroupReading)
     (group : GroupReading) (groups : List GroupReading) → p group ≡ false →
     foremost (leads_over sizes) best (filter p groups)
     ≡ foremost (leads_over sizes) best (filter p (group ∷ groups))
 next_left sizes p best group groups fails = rw fails refl
 
--- the tests of a group that can be chosen
+-- a conjunction of three tests that hold
 pub choosable_all : (a b c : Bool) → a ≡ true → b ≡ true → c ≡ true → (a && (b && c)) ≡ true
 choosable_all a b c first second third = rw (first, second, third) refl
 

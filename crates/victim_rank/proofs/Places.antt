@@ -1,4 +1,4 @@
--- Places of sizes, as they are stored.
+-- Proofs about the stored sizes of groups, by slot.
 use Rattle.std.proofs.Common.{◌≡◌, ℕ, zero, suc, ◌+◌, ◌<◌, ◌≤◌, List, [], ◌∷◌, length, get_or, set}
 use Rattle.std.proofs.Common.{take, drop, refl, sym, ap, ◌∙◌, arith, add-one}
 use Rattle.std.specs.Prelude.{Option, None, map, option_map, replicate}
@@ -15,7 +15,7 @@ use Rattle.victim_rank.specs.Tables.{newer_sizes}
 use Rattle.victim_rank.proofs.Tables.{newer_history, scans_taken, sizes_taken, taken, with_scan}
 use Rattle.victim_rank.proofs.Tables.{with_size}
 
--- ---- one size more
+-- ---- one more size
 
 first_three : (bytes : List ℕ) → length bytes ≡ 4 →
     take 3 bytes ≡ get_or bytes 0 0 ∷ get_or bytes 1 0 ∷ get_or bytes 2 0 ∷ []
@@ -46,7 +46,7 @@ get_or-replicate_default zero i d = refl
 get_or-replicate_default (suc n) zero d = refl
 get_or-replicate_default (suc n) (suc i) d = get_or-replicate_default n i d
 
--- ---- one group more
+-- ---- one more group
 
 pub size_step : (sizes : List Sizes) (groups : List GroupReading) (i : ℕ) (group : GroupReading)
     (new d : Sizes) →
