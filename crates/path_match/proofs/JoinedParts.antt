@@ -1,4 +1,5 @@
--- Texts that are joined from parts with a byte between them, and the parts between that byte.
+-- Proofs about texts that are joined from parts with a separator byte, and about the parts between
+-- the separators.
 use Rattle.std.proofs.Common.{◌≡◌, ℕ, zero, suc, List, [], ◌∷◌, ◌++◌, length, refl, sym, ap, ◌∙◌, arith, Bool, true, false}
 use Rattle.std.specs.Prelude.{◌==◌, ◌&&◌, if◌then◌else◌, map}
 use Rattle.std.specs.List.{join_with_byte, list_all}
@@ -20,13 +21,13 @@ list_all-weaker test other (x ∷ xs) weaker pass =
 
 -- ---- parts that are joined
 
--- bytes that pass a test which fails at one byte have none of it
+-- if all bytes pass a test that the separator fails, they don't contain the separator
 pub none_of : (at : ℕ) (test : ℕ → Bool) (bytes : List ℕ) → test at ≡ false → list_all test bytes ≡ true → HasNone at bytes (length bytes)
 none_of at test [] fails pass k below = absurd (omega arith)
 none_of at test (byte ∷ bytes) fails pass zero below = λ same. let passes = (and_parts (test byte) (list_all test bytes) pass).0 in let is : test byte ≡ test at = ap test same in absurd cc
 none_of at test (byte ∷ bytes) fails pass (suc k) below = none_of at test bytes fails (and_parts (test byte) (list_all test bytes) pass).1 k (omega arith)
 
--- parts that pass such a test are the parts of their joined text
+-- splitting the joined text of such parts gives the parts
 pub parts-joined_by : (at : ℕ) (test : ℕ → Bool) (part : List ℕ) (parts : List (List ℕ)) → test at ≡ false → list_all (list_all test) (part ∷ parts) ≡ true →
     parts_at at (join_with_byte at (part ∷ parts)) ≡ part ∷ parts
 parts-joined_by at test part [] fails pass = parts_at-all at part (none_of at test part fails (and_parts (list_all test part) true pass).0)
@@ -40,7 +41,7 @@ list_all-append test (x ∷ xs) ys first second =
     let both = and_parts (test x) (list_all test xs) first in
     and_from (test x) (list_all test (xs ++ ys)) both.0 (list_all-append test xs ys both.1 second)
 
--- joined parts pass a test that each of them passes, and the byte between them
+-- a joined text passes a test that the separator and all bytes of the parts pass
 pub list_all-join : (at : ℕ) (test : ℕ → Bool) (parts : List (List ℕ)) → test at ≡ true → list_all (list_all test) parts ≡ true → list_all test (join_with_byte at parts) ≡ true
 list_all-join at test [] passes pass = refl
 list_all-join at test (part ∷ []) passes pass = (and_parts (list_all test part) true pass).0
@@ -48,7 +49,7 @@ list_all-join at test (part ∷ next ∷ parts) passes pass =
     let both = and_parts (list_all test part) (list_all (list_all test) (next ∷ parts)) pass in
     list_all-append test part (at ∷ join_with_byte at (next ∷ parts)) both.0 (and_from (test at) (list_all test (join_with_byte at (next ∷ parts))) passes (list_all-join at test (next ∷ parts) passes both.1))
 
--- ---- the parts of a text, joined again
+-- ---- joining the parts of a text
 
 joined-onto : (at byte : ℕ) (parts : List (List ℕ)) → HasFirst parts → join_with_byte at (onto_first byte parts) ≡ byte ∷ join_with_byte at parts
 joined-onto at byte [] has = absurd (cc (has.2))

@@ -1,4 +1,4 @@
--- Patterns: the test says what the relation says.
+-- Proofs that the Boolean test of patterns agrees with the relation.
 use Rattle.std.proofs.Common.{◌≡◌, ℕ, zero, suc, ◌<◌, List, [], ◌∷◌, ◌++◌, length, get_or, refl, sym, ap, ◌∙◌, arith, Bool, true, false, ⊎_elim, subst}
 use Rattle.std.specs.Prelude.{◌==◌, ◌||◌, if◌then◌else◌, codes, All, MatchBool, IsTrue, ◌↔◌}
 use Rattle.std.specs.Bool.{Decides}
@@ -15,7 +15,7 @@ use Rattle.path_match.specs.Laws.{TestShows, RootAlone, StarMatchesAny}
 
 -- ---- one component
 
--- some end of the bytes has a property
+-- at least one suffix of the bytes has the property
 abbrev pub HasEnd : (List ℕ → Type 0) → List ℕ → Type 0
 HasEnd P bytes = (run rest : List ℕ) × (bytes ≡ run ++ rest) × P rest
 
@@ -67,7 +67,7 @@ component_shows (c ∷ pattern) bytes =
 
 -- ---- one pattern
 
--- equally many components, each matched
+-- the same number of components, each of which matches
 abbrev pub EachMatched : List (List ℕ) → List (List ℕ) → Type 0
 EachMatched pattern parts = (length pattern ≡ length parts) × All (λ pair. MatchesComponent pair.0 pair.1) (zip pattern parts)
 
@@ -99,7 +99,7 @@ pattern_shows pattern path =
       λ matches. shows.1 (matches.equally_many, matches.each),
     )
 
--- ---- some pattern
+-- ---- several patterns
 
 some_at : (pattern : List (List ℕ)) (patterns : List (List (List ℕ))) (path : List ℕ) → (MatchesSome patterns path → list_any (λ p. are_matches p (components path)) patterns ≡ true) →
     (k : ℕ) (one : List (List ℕ)) → k < length (pattern ∷ patterns) → get_or (pattern ∷ patterns) k one ≡ one → Matches one path →
@@ -131,7 +131,7 @@ root_if : (test : Bool) (parts : List (List ℕ)) → HasFirst parts → are_mat
 root_if true parts has = refl
 root_if false parts has = rw has.2 refl
 
--- the root's pattern matches the root alone
+-- the root's pattern matches only the root
 pub root_matches : (path : List ℕ) → are_matches [] (components path) ≡ bytes_eq path (codes "/")
 unfolding components
 root_matches path = root_if (bytes_eq path (codes "/")) (parts_at 47 (after_slash path)) (first_part 47 (after_slash path))
@@ -140,7 +140,7 @@ missed_if : (test : Bool) (parts : List (List ℕ)) → HasFirst parts → are_m
 missed_if true parts has = refl
 missed_if false parts has = rw has.2 refl
 
--- the root is matched by the root's pattern alone
+-- only the root's pattern matches the root
 pub root_matched : (pattern : List ℕ) → are_matches (components pattern) [] ≡ bytes_eq pattern (codes "/")
 unfolding components
 root_matched pattern = missed_if (bytes_eq pattern (codes "/")) (parts_at 47 (after_slash pattern)) (first_part 47 (after_slash pattern))
@@ -155,7 +155,7 @@ pub components-root : components (codes "/") ≡ []
 unfolding components
 components-root = refl
 
--- what a test answered says whether some pattern matches
+-- the result of the test says whether at least one pattern matches
 pub known : (result : Bool) (patterns : List (List (List ℕ))) (path : List ℕ) → result ≡ is_match patterns path → IsTrue result ↔ MatchesSome patterns path
 known result patterns path is =
     let shows = test_shows patterns path in

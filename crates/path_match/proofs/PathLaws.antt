@@ -1,4 +1,4 @@
--- Paths as patterns: each matches itself alone.
+-- Proofs that a path, as a pattern, matches itself and no other path.
 use Rattle.std.proofs.Common.{◌≡◌, ℕ, List, [], ◌∷◌, length, refl, sym, ap, ◌∙◌, arith, true, ⊎_elim, subst}
 use Rattle.std.specs.Prelude.{◌==◌, nat_lt, slice_index, drop, codes}
 use Rattle.std.specs.List.{join_with_byte, list_all}
@@ -11,9 +11,9 @@ use Rattle.path_match.proofs.MatchLaws.{components-root, pattern_shows}
 use Rattle.path_match.proofs.JoinedParts.{joined_by-parts}
 use Rattle.path_match.proofs.PatternLaws.{components-slash}
 
--- ---- the form of a path
+-- ---- the components of a path
 
--- the components of a path, and the path from them
+-- a path is determined by its components, which are well formed
 record HasComponents (path : List ℕ) : Type 0 where
   formed : list_all is_component (components path) ≡ true
   text : 47 ∷ join_with_byte 47 (components path) ≡ path

@@ -1,4 +1,4 @@
--- Patterns of a text: which it spells.
+-- Proofs about the patterns that a text spells.
 use Rattle.std.proofs.Common.{◌≡◌, ◌≢◌, ℕ, ◌<◌, List, [], ◌∷◌, ◌++◌, length, refl, sym, ap, ◌∙◌, arith, Bool, true, false, inl, inr, ⊎_elim, subst}
 use Rattle.std.specs.Prelude.{nat_lt, nat_le, if◌then◌else◌, map, Ok, Err}
 use Rattle.std.specs.List.{join_with_byte, list_all}
@@ -15,7 +15,7 @@ use Rattle.path_match.proofs.MatchLaws.{components-root}
 
 -- ---- parsed patterns
 
--- what was read from parts that are all good, and few
+-- if parsing succeeds, all parts are patterns and there are at most 16
 pub read_if : {A : Type 0} (good few : Bool) (all read : A) → (if good then (if few then Ok all else Err TooMany) else Err BadPattern) ≡ Ok read → (good ≡ true) × (few ≡ true) × (read ≡ all)
 read_if true true all read is = (refl, refl, cc)
 read_if true false all read is = absurd cc
@@ -48,7 +48,7 @@ components-slash byte bytes = refl
 pub slash_is_free : SlashIsFree
 slash_is_free byte bytes other = components-slash byte bytes ∙ sym (components-byte byte bytes other)
 
--- a component of a pattern has bytes of the kind alone
+-- a component of a pattern consists of pattern bytes
 pub formed_bytes : (part : List ℕ) → is_pattern_component part ≡ true → list_all is_pattern_byte part ≡ true
 formed_bytes part formed =
     let prefix = (and_parts _ _ (and_parts _ _ formed).0).0 in
@@ -59,7 +59,7 @@ some_bytes part formed =
     let prefix = (and_parts _ _ (and_parts _ _ formed).0).0 in
     ltb-true 0 (length part) (and_parts (nat_lt 0 (length part)) (list_all is_pattern_byte part) prefix).0
 
--- a text whose first byte is no slash
+-- a text whose first byte isn't a slash
 record StartsPlain (text : List ℕ) : Type 0 where
   byte : ℕ
   rest : List ℕ

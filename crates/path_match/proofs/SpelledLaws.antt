@@ -1,4 +1,4 @@
--- Patterns are read from the texts that spell them.
+-- Proofs that patterns are parsed from exactly the texts that spell them.
 use Rattle.std.proofs.Common.{◌≡◌, ℕ, suc, ◌≤◌, List, [], ◌∷◌, length, refl, sym, ap, ◌∙◌, arith, Bool, true, inl, ⊎_elim}
 use Rattle.std.specs.Prelude.{◌==◌, ◌||◌, nat_le, if◌then◌else◌, map, Ok, Err, All}
 use Rattle.std.specs.List.{join_with_byte, list_all, zip}
@@ -13,9 +13,9 @@ use Rattle.path_match.proofs.JoinedParts.{joined_by-parts, list_all-join, list_a
 use Rattle.path_match.proofs.MatchLaws.{all_cons}
 use Rattle.path_match.proofs.PatternLaws.{formed_bytes, read_if, reads_patterns, spelled_components, spells_components}
 
--- ---- a pattern's text has no comma
+-- ---- the text of a pattern has no comma
 
--- a byte of a pattern's text
+-- a byte that the text of a pattern may contain
 abbrev pub is_text_byte : ℕ → Bool
 is_text_byte c = is_pattern_byte c || c == 47
 
@@ -34,7 +34,7 @@ spelled_text text pattern formed spells = ⊎_elim
 
 -- ---- parts that spell patterns
 
--- the same number of parts, each of which spells its pattern
+-- the same number of parts as of patterns, and each part spells its pattern
 abbrev pub SpellAll : List (List ℕ) → List Pattern → Type 0
 SpellAll parts patterns = (length parts ≡ length patterns) × All (λ pair. SpellsPattern pair.0 pair.1) (zip parts patterns)
 
