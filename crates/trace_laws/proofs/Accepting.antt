@@ -1,4 +1,4 @@
--- A whole trace: its header and its events.
+-- Proofs about whole traces: the header and the events.
 use Rattle.std.proofs.Common.{◌≡◌, ℕ, ◌+◌, ◌^◌, ◌<◌, List, [], ◌∷◌, ◌++◌, length, refl, sym, ap, ◌∙◌, arith, append_assoc, subst, ◌⊎◌, inl, inr, ⊎_elim, Bool, true, false}
 use Rattle.std.specs.Prelude.{Option, None, Some, Result, Ok, Err, nat_lt, ◌||◌, if◌then◌else◌}
 use Rattle.std.proofs.lemmas.List.{append-nil}
@@ -37,7 +37,7 @@ chosen_first true found head is = absurd (cc is)
 chosen_first false None head is = absurd (cc is)
 chosen_first false (Some other) head is = let same : other ≡ head = cc is in ap (λ h. let o : Option Header = Some h in o) same
 
--- a header that was read: its line, a version among these, and a number of processors in range
+-- a header that was accepted: its line, a version of the list, and a number of processors in range
 record IsHead (versions : List Version) (part : List ℕ) (head : Header) : Type 0 where
   spelled : part ≡ header_line head
   known : IsAmong head.version versions
@@ -49,7 +49,7 @@ first_read versions part head is =
     let found = (headers_spelled versions part head).0 (chosen_first (nat_lt 512 (length part)) (header_of versions part) head is) in
     record { spelled = found.3; known = found.0; counted = (found.1, found.2) }
 
--- the numbers of versions are small
+-- the numbers of versions fit in 64 bits
 small_version : (version : Version) → version_number version < 2 ^ 64
 small_version One = omega arith
 small_version Two = omega arith
@@ -89,7 +89,7 @@ made head events = record { version = head.version; cpus = head.cpus; events = e
 abbrev head_of : Trace → Header
 head_of trace = record { version = trace.version; cpus = trace.cpus }
 
--- the events after a header, read with the verbs of its version
+-- the events after a header, parsed with the verbs of its version
 abbrev after_head : Accepts → Header → List ℕ → Events
 after_head accepts head suffix = rest_from (accepts.verbs head.version) (limits_of accepts.tick head.cpus) first_world 2 suffix
 

@@ -1,4 +1,4 @@
--- A line that is rejected is rejected exactly for the leftmost error.
+-- Proofs that a line that isn't accepted is rejected exactly for its leftmost error.
 use Rattle.std.proofs.Common.{◌≡◌, ℕ, zero, suc, ◌+◌, ◌<◌, ◌⊎◌, inl, inr, List, [], ◌∷◌, refl, sym, ap, subst, ◌∙◌, arith}
 use Rattle.std.specs.Prelude.{Option, None, Some, Result, Ok, Err}
 use Rattle.std.specs.List.{slice_get}
@@ -27,7 +27,7 @@ err_same a b is = cc
 no_bad : {A : Type 0} (i : ℕ) (x : A) (words : List (List ℕ)) (why : Cause) → or_bad i (Some x) words ≡ Err why → ⊥
 no_bad i x words why is = cc
 
--- a word spells a value exactly if one is read from it
+-- if a word spells a value, parsing the word gives this value
 spells_value : (k : Kind) (text : List ℕ) (spells : Spells k text) → value_of k text ≡ Some spells.0
 spells_value k text spells = ap (value_of k) spells.1.1 ∙ value_again k spells.0 spells.1.0
 
@@ -50,7 +50,7 @@ good_then : (k : Kind) (value : Value k) (ks : List Kind) (words : List (List �
 good_then k value ks words at fits first zero below = (value, (fits, refl))
 good_then k value ks words at fits first (suc i) below = first.before i (omega arith)
 
--- the reader of fields rejects with the number of the leftmost bad field
+-- fields are rejected with the number of the leftmost bad field
 record IsRefused (i : ℕ) (ks : List Kind) (words : List (List ℕ)) (why : Cause) : Type 0 where
   pub at : ℕ
   pub is : why ≡ cause.BadField (i + at)
@@ -156,7 +156,7 @@ unfolding event_at
 event_at_err verbs [] why is = subst (λ w. IsCause verbs [] w) (err_same cause.BadTime why is) (λ has. has)
 event_at_err verbs (time ∷ words) why is = event_in_err verbs time (number_of time) words why refl is
 
--- The other way round: what is wrong first is what is answered.
+-- The converse: the cause is the one for the leftmost error.
 
 no_time : (time : List ℕ) (read : Option ℕ) → number_of time ≡ read → (Spells kind.number time → ⊥) → read ≡ None
 no_time time None found bad = refl

@@ -1,4 +1,5 @@
--- Each kind of field: reading and spelling are inverse to each other, and the form of its words.
+-- Proofs that parsing and spelling are inverse to each other for each kind of field, and about the
+-- form of its words.
 use Rattle.std.proofs.Common.{◌≡◌, ℕ, zero, suc, ◌^◌, ◌<◌, ◌⊎◌, inl, inr, ⊎_elim, List, [], ◌∷◌, refl, sym, ap, ◌∙◌, arith, true, false, Bool}
 use Rattle.std.specs.Prelude.{Option, None, Some, IfSome, option_map, decimal, nat_lt, ◌&&◌, if◌then◌else◌}
 use Rattle.std.specs.Str.{bytes_eq}
@@ -23,7 +24,7 @@ if_some : {A : Type 0} (test : Bool) (x y : A) (rest : Option A) → (if test th
 if_some true x y rest is = inl (refl, cc)
 if_some false x y rest is = inr is
 
--- a name that was found is the word
+-- a name that is found is the text
 pub named_spells : {A : Type 0} (name : A → List ℕ) (xs : List A) (text : List ℕ) (x : A) → named name xs text ≡ Some x → text ≡ name x
 named_spells name [] text x is = absurd cc
 named_spells name (y ∷ ys) text x is =
@@ -32,7 +33,7 @@ named_spells name (y ∷ ys) text x is =
       | inr later ↦ named_spells name ys text x later
     ]
 
--- and it is one of the list
+-- a name that is found is in the list
 pub named_among : {A : Type 0} (name : A → List ℕ) (xs : List A) (text : List ℕ) (x : A) → named name xs text ≡ Some x → IsAmong x xs
 named_among name [] text x is = absurd cc
 named_among name (y ∷ ys) text x is =
@@ -45,7 +46,7 @@ if_found : {A : Type 0} (test : Bool) (x y : A) (rest : Option A) → (test ≡ 
 if_found true x y rest here later = ap (λ a. Some a) (sym (here refl))
 if_found false x y rest here later = later refl
 
--- an item of the list is found by its name, if names differ
+-- an element of the list is found by its name, if all names differ
 pub named_again : {A : Type 0} (name : A → List ℕ) (xs : List A) (x : A) → ((y : A) → IsAmong y xs → name x ≡ name y → x ≡ y) → IsAmong x xs → named name xs (name x) ≡ Some x
 named_again name [] x differ among = absurd among
 named_again name (y ∷ ys) x differ among =
@@ -68,13 +69,13 @@ kept_some holds (Some m) n is =
     let both = if_kept (holds m) m n is in
     (ap (λ k. let o : Option ℕ = Some k in o) both.0, ap holds (sym both.0) ∙ both.1)
 
--- a number in a range that was read is spelled so
+-- a number that is parsed within a range has the parsed text as its spelling
 number_in_spells : (holds : ℕ → Bool) (text : List ℕ) (n : ℕ) → number_in holds text ≡ Some n → (text ≡ decimal n) × (holds n ≡ true)
 number_in_spells holds text n is =
     let both = kept_some holds (number_of text) n is in
     ((decimal-number_of text n both.0).0, both.1)
 
--- a number in a range is read from its spelling
+-- parsing the spelling of a number in a range gives the number
 number_in_again : (holds : ℕ → Bool) (n : ℕ) → n < 2 ^ 64 → holds n ≡ true → number_in holds (decimal n) ≡ Some n
 number_in_again holds n fits is = ap (accepted_if holds) (number_of-decimal n fits) ∙ ap (λ b. if b then Some n else None) is
 
@@ -105,7 +106,7 @@ path_spells true text bytes holds is =
     (ap is_path (sym same) ∙ holds, same)
 path_spells false text bytes holds is = absurd cc
 
--- a value that was read is in range and spelled so
+-- a value that is parsed is in range, and has the parsed text as its spelling
 pub value_spells : (k : Kind) (text : List ℕ) (value : Value k) → value_of k text ≡ Some value → InRange k value × (text ≡ word k value)
 unfolding value_of
 value_spells pid text value is =
@@ -170,7 +171,7 @@ unfolding value_of
 account_again true = refl
 account_again false = refl
 
--- a value in range is read from its word
+-- parsing the spelling of a value in range gives the value
 pub value_again : (k : Kind) (value : Value k) → InRange k value → value_of k (word k value) ≡ Some value
 unfolding value_of
 value_again pid value fits = ap (option_map _) (number_in_again _ value.0 (omega arith) (grind (arith, fits.0, fits.1)))

@@ -1,4 +1,4 @@
--- A header is read exactly if it is spelled.
+-- Proofs that a header line is accepted exactly if it is the spelling of a header.
 use Rattle.std.proofs.Common.{◌≡◌, ◌≢◌, ◌⊎◌, inl, inr, ⊎_elim, subst, ◌==◌, map, ℕ, zero, suc, ◌+◌, ◌^◌, ◌<◌, ◌≤◌, List, [], ◌∷◌, ◌++◌, length, refl, sym, ap, ◌∙◌, arith, false, get_or, append_assoc, length-append}
 use Rattle.std.specs.Prelude.{decimal, codes}
 use Rattle.std.specs.List.{flat_map, range_with_len}
@@ -25,12 +25,12 @@ unfolding header
 header-injective version m n small fits is =
     decimal_injective m n small fits (prefix_same (codes "psitrace " ++ decimal version ++ codes " cpus=") (decimal m) (decimal n) is)
 
--- ---- headers among those of some versions
+-- ---- headers of a list of versions
 
 abbrev made : Version → ℕ → Header
 made version cpus = record { version = version; cpus = cpus }
 
--- what is among one list or another
+-- an element of one list is an element of both lists joined
 among_prefix : {A : Type 0} (x : A) (xs ys : List A) → IsAmong x xs → IsAmong x (xs ++ ys)
 among_prefix x [] ys among = absurd among
 among_prefix x (y ∷ xs) ys among = ⊎_elim (λ same. inl same) (λ there. inr (among_prefix x xs ys there)) among
@@ -43,7 +43,7 @@ among_either : {A : Type 0} (x : A) (xs ys : List A) → IsAmong x (xs ++ ys) �
 among_either x [] ys among = inr among
 among_either x (y ∷ xs) ys among = ⊎_elim (λ same. inl (inl same)) (λ there. ⊎_elim (λ prefix. inl (inr prefix)) (λ back. inr back) (among_either x xs ys there)) among
 
--- the headers of a version have it, and a number of processors in the range
+-- each header of a version has this version, and a number of processors in the range
 ranged : (version : Version) (low n : ℕ) (head : Header) → IsAmong head (map (made version) (range_with_len low n)) → (head.version ≡ version) × (low ≤ head.cpus) × (head.cpus < low + n)
 ranged version low zero head among = absurd among
 ranged version low (suc n) head among = ⊎_elim
@@ -75,7 +75,7 @@ heads (version ∷ versions) head known low high = ⊎_elim
     (λ there. among_back head (headers_of version) (flat_map headers_of versions) (heads versions head there low high))
     known
 
--- headers that are written alike are the same
+-- numbers that begin with the digits 1 and 2 differ, so headers of different versions differ
 digits_differ : (first second : ℕ) (xs ys : List ℕ) → first ≡ 1 → second ≡ 2 → decimal first ++ xs ≡ decimal second ++ ys → ⊥
 digits_differ first second xs ys one two is =
     let heads : 49 ∷ xs ≡ 50 ∷ ys = ap (λ d. d ++ xs) (sym (decimal_digit 1 (omega arith))) ∙ ap (λ n. decimal n ++ xs) (sym one) ∙ is ∙ ap (λ n. decimal n ++ ys) two ∙ ap (λ d. d ++ ys) (decimal_digit 2 (omega arith)) in
@@ -112,7 +112,7 @@ pub header-no_newline : (version cpus : ℕ) → version < 2 ^ 64 → cpus < 2 ^
 header-no_newline version cpus fits small =
     rw (header_words version cpus) (joined-no_newline (codes "psitrace" ∷ decimal version ∷ (codes "cpus=" ++ decimal cpus) ∷ []) (header_printed version cpus fits small))
 
--- a header has at most 512 bytes, as a line has
+-- a header has at most 512 bytes, which is the limit of a line
 pub length-header-le : (version cpus : ℕ) → version < 2 ^ 64 → cpus < 2 ^ 64 → length (header version cpus) ≤ 512
 unfolding header
 length-header-le version cpus fits small =

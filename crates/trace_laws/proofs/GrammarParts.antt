@@ -1,4 +1,4 @@
--- A line and its parts.
+-- Proofs about a line and its parts, which are separated by spaces.
 use Rattle.std.proofs.Common.{◌≡◌, ◌≢◌, ℕ, zero, suc, ◌+◌, ◌<◌, ◌≤◌, List, [], ◌∷◌, ◌++◌, length, refl, sym, ap, ◌∙◌, arith, true, false, Bool, length-append}
 use Rattle.std.specs.Prelude.{◌==◌, nat_lt, if◌then◌else◌}
 use Rattle.std.specs.List.{list_all}
@@ -20,14 +20,14 @@ joined_if : (test : Bool) (byte : ℕ) (parts : List (List ℕ)) → HasFirst pa
 joined_if true byte parts has is = joined-empty parts has ∙ ap (λ b. b ∷ joined parts) (sym (is refl))
 joined_if false byte parts has is = joined-onto byte parts has
 
--- the parts of a line, joined again, are the line
+-- joining the parts of a line gives the line
 pub joined-parts : (line : List ℕ) → joined (parts_at 32 line) ≡ line
 unfolding parts_at
 joined-parts [] = refl
 joined-parts (byte ∷ line) =
     joined_if (byte == 32) byte (parts_at 32 line) (first_part 32 line) (eqb-true byte 32) ∙ ap (λ bs. byte ∷ bs) (joined-parts line)
 
--- no byte is a space or below it
+-- every byte is above 32, the space
 abbrev pub IsPrinted : List ℕ → Type 0
 IsPrinted bytes = list_all (λ byte. nat_lt 32 byte) bytes ≡ true
 
@@ -39,12 +39,12 @@ printed_none at [] low are k below = absurd (omega arith)
 printed_none at (byte ∷ bytes) low are zero below = λ same. let high = printed_head byte bytes are in omega (arith, high.0, same)
 printed_none at (byte ∷ bytes) low are (suc k) below = printed_none at bytes low (printed_head byte bytes are).1 k (omega arith)
 
--- each word is printed
+-- every byte of each word is above 32, the space
 abbrev pub AreWords : List (List ℕ) → Type 0
 AreWords [] = Unit {0}
 AreWords (text ∷ words) = IsPrinted text × AreWords words
 
--- the parts of joined words are these
+-- splitting joined words gives the words
 pub parts-joined : (text : List ℕ) (words : List (List ℕ)) → AreWords (text ∷ words) → parts_at 32 (joined (text ∷ words)) ≡ text ∷ words
 parts-joined text [] are = parts_at-all 32 text (printed_none 32 text (omega arith) are.0)
 parts-joined text (next ∷ words) are =
@@ -67,7 +67,7 @@ joined-no_newline (text ∷ next ∷ words) are =
     none_append 10 text (32 ∷ joined (next ∷ words)) (printed_none 10 text (omega arith) are.0)
     (none_cons 10 32 (joined (next ∷ words)) (λ same. omega (arith, same)) (joined-no_newline (next ∷ words) are.1))
 
--- the bytes of words that each have a space ahead
+-- the number of bytes in words with a space before each
 abbrev pub suffix : List (List ℕ) → ℕ
 suffix [] = 0
 suffix (text ∷ words) = 1 + length text + suffix words

@@ -1,4 +1,4 @@
--- Reading and spelling are inverse to each other.
+-- Proofs that parsing and spelling an event are inverse to each other.
 use Rattle.std.proofs.Common.{◌≡◌, ℕ, ◌+◌, ◌≤◌, List, [], ◌∷◌, length, refl, sym, ap, ◌∙◌, subst, arith, lit≤}
 use Rattle.std.specs.Prelude.{Option, None, Some, Result, Ok, Err, decimal}
 use Rattle.psi_base.specs.Number.{number_of}
@@ -17,40 +17,40 @@ use Rattle.trace_laws.proofs.GrammarFields.{named_again, named_among, named_spel
 use Rattle.trace_laws.proofs.GrammarParts.{joined-parts, parts-joined, AreWords, IsPrinted, joined-no_newline, suffix, length-joined}
 use Rattle.trace_laws.proofs.GrammarWords.{decimal_printed, decimal_short, word_printed, word_short, longest}
 
--- the act built from values, all at once
+-- the act that a maker builds from a tuple of values
 abbrev pub made : (ks : List Kind) → Maker ks → Values ks → Act
 made [] what values = what
 made (k ∷ ks) make values = made ks (make values.0) values.1
 
--- the act of a verb and its values
+-- the act with this verb and these values
 abbrev pub act_of : (verb : Verb) → Values (kinds_of verb) → Act
 act_of verb values = made (kinds_of verb) (form_of verb).act values
 
--- the act of a verb and its values is spelled by the verb and their words
+-- the words of an act are the word of its verb and the words of its values
 pub form_words : (verb : Verb) (values : Values (kinds_of verb)) → act_words (act_of verb values) ≡ verb_word verb ∷ field_words (kinds_of verb) values
 form_words Group values = refl
 form_words _ values = refl
 
--- and fits if they are in range
+-- an act fits if its values are in range
 form_fits : (verb : Verb) (values : Values (kinds_of verb)) → AreInRange (kinds_of verb) values → ActFits (act_of verb values)
 form_fits Group values are = are
 form_fits _ values are = are
 
--- an act is made of its verb and the values of its fields
+-- an act is the act of its verb and the values of its fields
 pub formed : (what : Act) → act_of (phrase_of what).verb (phrase_of what).values ≡ what
 formed (act.Group path) = refl
 formed _ = refl
 
--- the first verb of the last version that is written as a verb is that verb
+-- looking up the word of a verb in the last version finds the verb
 first_again : (verb : Verb) → named verb_word (verbs_of Two) (verb_word verb) ≡ Some verb
 first_again Group = refl
 first_again _ = refl
 
--- so each verb is one of the last version
+-- every verb is a verb of the last version
 pub all_known : (verb : Verb) → IsAmong verb (verbs_of Two)
 all_known verb = named_among verb_word (verbs_of Two) (verb_word verb) verb (first_again verb)
 
--- no two verbs are written alike
+-- verbs with the same word are equal
 words_differ : (one other : Verb) → verb_word one ≡ verb_word other → one ≡ other
 words_differ one other same =
     let found : (let o : Option Verb = Some one in o) ≡ Some other = sym (first_again one) ∙ ap (named verb_word (verbs_of Two)) same ∙ first_again other in
@@ -68,7 +68,7 @@ verb_printed : (verb : Verb) → IsPrinted (verb_word verb)
 verb_printed Group = refl
 verb_printed _ = refl
 
--- steps that may fail
+-- a sequence of two steps succeeds only if both do
 pub bind_ok : {A B : Type 0} (r : Result A Cause) (f : A → Result B Cause) (y : B) → (r >>= f) ≡ Ok y → (x : A) × (r ≡ Ok x) × (f x ≡ Ok y)
 bind_ok (Ok x) f y is = (x, refl, is)
 bind_ok (Err e) f y is = absurd cc
@@ -82,7 +82,7 @@ or_bad_ok {A} i (Some x) words taken is =
     let same : (let p : A × List (List ℕ) = (x, words) in p) ≡ taken = ok_same _ taken is in
     (ap (λ (p : A × List (List ℕ)). let o : Option A = Some p.0 in o) same, ap (λ (p : A × List (List ℕ)). p.1) same)
 
--- a field that was read is the first word, in range
+-- a field that is parsed is the first word, and its value is in range
 pub field_ok : (i : ℕ) (k : Kind) (words : List (List ℕ)) (taken : Value k × List (List ℕ)) → field i k words ≡ Ok taken → (words ≡ word k taken.0 ∷ taken.1) × InRange k taken.0
 field_ok i k [] taken is = absurd cc
 field_ok i k (text ∷ words) taken is =
@@ -90,7 +90,7 @@ field_ok i k (text ∷ words) taken is =
     let spells = value_spells k text taken.0 read.0 in
     (ap (λ w. w ∷ words) spells.1 ∙ ap (λ ws. word k taken.0 ∷ ws) read.1, spells.0)
 
--- what an act was made from: words of values in range
+-- the words from which an act was built: they spell values in range
 record IsMade (ks : List Kind) (make : Maker ks) (words : List (List ℕ)) (what : Act) : Type 0 where
   values : Values ks
   makes : made ks make values ≡ what
@@ -120,14 +120,14 @@ made_again i (k ∷ ks) make values are =
     ap (λ r. r >>= λ first. made_from (i + 1) ks (make first.0) first.1) (field_again i k values.0 (field_words ks values.1) are.0)
     ∙ made_again (i + 1) ks (make values.0) values.1 are.1
 
--- an act that was read is spelled so
+-- an act that is parsed has the parsed words as its spelling
 act_from_ok : (verb : Verb) (words : List (List ℕ)) (what : Act) → act_from verb words ≡ Ok what → (verb_word verb ∷ words ≡ act_words what) × ActFits what
 unfolding act_from
 act_from_ok verb words what is =
     let read = made_ok 1 (kinds_of verb) (form_of verb).act words what is in
     rw (← read.makes) (ap (λ ws. verb_word verb ∷ ws) read.words_are ∙ sym (form_words verb read.values), form_fits verb read.values read.in_range)
 
--- what an act was read from: its words, by a verb of these
+-- an act that is parsed: its words are its spelling, and its verb is in the list
 record IsSpelled (verbs : List Verb) (words : List (List ℕ)) (what : Act) : Type 0 where
   spelled : words ≡ act_words what
   fits : ActFits what
@@ -137,7 +137,7 @@ verb_known : (verb : Verb) (values : Values (kinds_of verb)) → (phrase_of (act
 verb_known Group values = refl
 verb_known _ values = refl
 
--- the verb of an act that was read
+-- the verb of a parsed act is the verb that was looked up
 act_from_verb : (verb : Verb) (words : List (List ℕ)) (what : Act) → act_from verb words ≡ Ok what → (phrase_of what).verb ≡ verb
 unfolding act_from
 act_from_verb verb words what is =
@@ -174,7 +174,7 @@ unfolding event_at
 event_at_ok verbs [] event is = absurd cc
 event_at_ok verbs (time ∷ words) event is = event_in_ok verbs time (number_of time) words event refl is
 
--- what was read is a spelling
+-- an event that is parsed is in range, and has the parsed line as its spelling
 pub event_spelled : (verbs : List Verb) (line : List ℕ) (event : Event) → event_of verbs line ≡ Ok event → Fits event × IsKnown verbs event × (line ≡ spelling event)
 unfolding event_of spelling
 event_spelled verbs line event is =
@@ -210,7 +210,7 @@ act_printed what fits = (verb_printed (phrase_of what).verb, words_printed (kind
 event_printed : (event : Event) → Fits event → AreWords (decimal event.at ∷ act_words event.act)
 event_printed event fits = (decimal_printed event.at fits.at, act_printed event.act fits.act)
 
--- what is spelled is read
+-- parsing the spelling of an event gives the event
 pub spelled_event : (verbs : List Verb) (event : Event) → IsKnown verbs event → Fits event → event_of verbs (spelling event) ≡ Ok event
 unfolding event_of spelling
 spelled_event verbs event known fits =
@@ -219,15 +219,15 @@ spelled_event verbs event known fits =
 pub reads_spelled : ReadsSpelled
 reads_spelled verbs line event = (event_spelled verbs line event, λ spells. ap (event_of verbs) spells.2 ∙ spelled_event verbs event spells.1 spells.0)
 
--- each event has a verb of the last version
+-- every event has a verb of the last version
 pub event_known : (event : Event) → IsKnown (verbs_of Two) event
 event_known event = all_known (phrase_of event.act).verb
 
--- a verb that is found among those of every version is one of them
+-- a verb that is found among the verbs of every version is in that list
 pub found_first : (verb : Verb) → named verb_word first_verbs (verb_word verb) ≡ Some verb → IsAmong verb first_verbs
 found_first verb found = named_among verb_word first_verbs (verb_word verb) verb found
 
--- an event with a verb of every version has a verb of each
+-- an event with a verb of every version has a verb of each version
 pub known_still : (version : Version) (event : Event) → IsKnown first_verbs event → IsKnown (verbs_of version) event
 known_still One event known = known
 known_still Two event known = event_known event
@@ -237,12 +237,12 @@ pub spelling-no_newline : (event : Event) → Fits event → HasNone 10 (spellin
 unfolding spelling
 spelling-no_newline event fits = joined-no_newline (decimal event.at ∷ act_words event.act) (event_printed event fits)
 
--- two events with one spelling are the same
+-- events with the same spelling are equal
 pub spelling-injective : (first second : Event) → Fits first → Fits second → spelling first ≡ spelling second → first ≡ second
 spelling-injective first second fits also same =
     ok_same first second (sym (spelled_event (verbs_of Two) first (event_known first) fits) ∙ ap (event_of (verbs_of Two)) same ∙ spelled_event (verbs_of Two) second (event_known second) also)
 
--- the most bytes of fields and the spaces ahead of them
+-- the greatest number of bytes of fields with a space before each
 abbrev pub most : List Kind → ℕ
 most [] = 0
 most (k ∷ ks) = 1 + longest k + most ks
@@ -259,7 +259,7 @@ act_short : (what : Act) → ActFits what → suffix (act_words what) ≤ 401
 act_short what fits =
     omega (arith, form_short (phrase_of what).verb, after_short_one (kinds_of (phrase_of what).verb) (phrase_of what).values fits)
 
--- a spelling has at most 512 bytes, as a line has
+-- a spelling has at most 512 bytes, which is the limit of a line
 pub length-spelling-le : (event : Event) → Fits event → length (spelling event) ≤ 512
 unfolding spelling
 length-spelling-le event fits =

@@ -1,4 +1,5 @@
--- The bytes of a field's word: none is a space or below it, and their number is bounded.
+-- Proofs about the bytes of a field's word: each is above 32 (the space), and their number is
+-- bounded.
 use Rattle.std.proofs.Common.{◌≡◌, ℕ, ◌^◌, ◌<◌, ◌≤◌, ◌⊎◌, inl, inr, List, [], ◌∷◌, length, drop, refl, ap, arith, true, false, Bool, lit≤}
 use Rattle.std.specs.Prelude.{Option, None, Some, IfSome, decimal, codes, nat_lt, nat_le, slice_index, ◌&&◌, ◌||◌, ◌==◌, if◌then◌else◌}
 use Rattle.std.specs.List.{list_all}
@@ -25,7 +26,7 @@ digits_printed (c ∷ cs) are =
     let rest : IsPrinted cs = digits_printed cs (grind (arith, are)) in
     grind (arith, are, rest)
 
--- the digits of a number of 64 bits
+-- the bytes are digits, and there are at most `most`
 record IsShort (bytes : List ℕ) (most : ℕ) : Type 0 where
   pub printed : IsPrinted bytes
   pub short : length bytes ≤ most
@@ -39,7 +40,7 @@ decimal_short n fits = length-decimal-le 20 n (omega arith) (omega arith) fits
 path_byte_printed : (byte : ℕ) → is_path_byte byte ≡ true → nat_lt 32 byte ≡ true
 path_byte_printed byte is = grind (arith, is)
 
--- the parts between slashes have bytes of a path alone
+-- the parts between slashes consist of bytes that a path may contain
 abbrev pub PartsPass : List (List ℕ) → Type 0
 PartsPass parts = list_all (λ part. list_all is_path_byte part) parts ≡ true
 
@@ -71,7 +72,7 @@ parts_printed (byte ∷ bytes) are =
     let rest : IsPrinted bytes = parts_printed bytes both.1 in
     grind (arith, both.0, rest)
 
--- the bytes after the slash of a path that isn't the root
+-- the bytes after the first slash of a path other than the root
 record IsDeep (bytes : List ℕ) : Type 0 where
   pub slash : slice_index bytes 0 ≡ 47
   pub short : length bytes ≤ 255
@@ -137,7 +138,7 @@ account_shape : (on : Bool) → IsShort (account_word on) 3
 account_shape true = record { printed = refl; short = lit≤ tt }
 account_shape false = record { printed = refl; short = lit≤ tt }
 
--- the most bytes that a word of a kind has
+-- the greatest number of bytes in a word of this kind
 abbrev pub longest : Kind → ℕ
 longest pid = 20
 longest next = 20

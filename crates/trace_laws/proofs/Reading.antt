@@ -1,4 +1,4 @@
--- Which bytes are accepted as a trace, and at which line others are rejected.
+-- Proofs about which bytes are accepted as a trace, and at which line other bytes are rejected.
 use Rattle.std.proofs.Common.{◌≡◌, ℕ, zero, suc, ◌+◌, ◌≤◌, List, [], ◌∷◌, ◌++◌, length, refl, sym, ap, ◌∙◌, arith, append_assoc, subst, ◌⊎◌, inl, inr, ⊎_elim, Bool, true, false}
 use Rattle.std.specs.Prelude.{Option, None, Some, Result, Ok, Err, nat_lt, if◌then◌else◌}
 use Rattle.psi_base.specs.Path.{parts_at}
@@ -19,7 +19,7 @@ use Rattle.psi_spec.proofs.Following.{open_of_legal}
 abbrev pub Events : Type 0
 Events = Result (List Event) Refusal
 
--- the events of the rest of the input
+-- the events of the remaining bytes
 abbrev pub rest_from : List Verb → Limits → World → ℕ → List ℕ → Events
 rest_from verbs limits w line bytes = events_from verbs limits w line (parts_at 10 bytes)
 
@@ -29,16 +29,16 @@ step_parts : (verbs : List Verb) (limits : Limits) (w : World) (line : ℕ) (par
 unfolding events_from
 step_parts verbs limits w line part parts has = rw has.2 refl
 
--- a line with its newline is read, and then the bytes after it
+-- a complete line is parsed first, and then the bytes after it
 pub rest_from-line : (verbs : List Verb) (limits : Limits) (w : World) (line : ℕ) (part suffix : List ℕ) → HasNone 10 part (length part) → rest_from verbs limits w line (part ++ 10 ∷ suffix) ≡ or_refused line (line_event verbs limits w part) (λ event. followed (event ∷ []) (rest_from verbs limits (after_event w event) (line + 1) suffix))
 rest_from-line verbs limits w line part suffix none = rw (parts_at-line 10 part suffix none) (step_parts verbs limits w line part (parts_at 10 suffix) (first_part 10 suffix))
 
--- a rest without a newline
+-- the remaining bytes without a newline are the last line, which is incomplete or empty
 pub rest_from-rest : (verbs : List Verb) (limits : Limits) (w : World) (line : ℕ) (rest : List ℕ) → HasNone 10 rest (length rest) → rest_from verbs limits w line rest ≡ at_end line (rest_cause w rest)
 unfolding events_from
 rest_from-rest verbs limits w line rest none = rw (parts_at-all 10 rest none) refl
 
--- a line that is taken: the world hasn't ended, and the line spells an event that is legal
+-- a line that is accepted: the world hasn't ended, and the line spells a legal event
 pub record IsTaken (verbs : List Verb) (limits : Limits) (w : World) (part : List ℕ) (event : Event) : Type 0 where
   pub open_ : w.ended ≡ false
   pub fits : Fits event
@@ -71,7 +71,7 @@ taken verbs limits w part event is =
     let spelled = (reads_spelled verbs part event).0 read.0 in
     record { open_ = parts.0; fits = spelled.0; known = spelled.1; spelled = spelled.2; legal = read.1 }
 
--- a line that is taken back: that of a legal event in range
+-- the spelling of an event in range isn't too long for a line
 short_line : (event : Event) → Fits event → nat_lt 512 (length (spelling event)) ≡ false
 short_line event fits = grind (arith, length-spelling-le event fits)
 
@@ -81,21 +81,21 @@ chosen_back ended long read event open_ short is = rw (open_, short, is) refl
 legal_back : (limits : Limits) (w : World) (read : Result Event Cause) (event : Event) → read ≡ Ok event → cause_of limits w event ≡ None → then_legal limits w read ≡ Ok event
 legal_back limits w read event is legal = rw is (ap (λ why. if_legal why event) legal)
 
--- a legal event's spelling is taken
+-- the spelling of a legal event is accepted
 pub takes : (verbs : List Verb) (limits : Limits) (w : World) (event : Event) → Fits event → IsKnown verbs event → cause_of limits w event ≡ None → line_event verbs limits w (spelling event) ≡ Ok event
 unfolding line_event
 takes verbs limits w event fits known legal =
     chosen_back w.ended (nat_lt 512 (length (spelling event))) _ event (open_of_legal limits w event legal) (short_line event fits)
     (legal_back limits w (event_of verbs (spelling event)) event ((reads_spelled verbs (spelling event) event).1 (fits, known, refl)) legal)
 
--- the verbs of all events are those of the last version
+-- the verbs of all events are verbs of the last version
 pub events_known : (events : List Event) → AreKnown (verbs_of Two) events
 events_known [] = tt
 events_known (event ∷ events) = (event_known event, events_known events)
 
 -- ---- all lines
 
--- input that is read to its end as these events
+-- the bytes are accepted to their end, as these events
 pub record Reads (verbs : List Verb) (limits : Limits) (w : World) (bytes : List ℕ) (events : List Event) : Type 0 where
   pub text : bytes ≡ lines_of events
   pub fit : AllFit events
@@ -134,7 +134,7 @@ reads_rest verbs limits w line rest events none is =
     let so = rest_none w rest parts.0 in
     subst (Reads verbs limits w rest) parts.1 (record { text = so.1; fit = tt; known = tt; legal = tt; ended = so.0 })
 
--- an event's line before those of others
+-- the line of an event followed by the lines of other events are the lines of all
 joins : (part suffix : List ℕ) (event : Event) (others : List Event) → part ≡ spelling event → suffix ≡ lines_of others → part ++ 10 ∷ suffix ≡ lines_of (event ∷ others)
 joins part suffix event others first rest = rw (first, rest) (sym (append_assoc (spelling event) (10 ∷ []) (lines_of others)))
 
@@ -170,7 +170,7 @@ reads (suc n) verbs limits w line bytes events few is = ⊎_elim
     (sym (ap (rest_from verbs limits w line) c.whole) ∙ is)))
     (cut 10 bytes)
 
--- the lines of legal events are accepted, and then the bytes after them are read
+-- the lines of legal events are accepted, and then the bytes after them are parsed
 lines-append : (event : Event) (others : List Event) (rest : List ℕ) → lines_of (event ∷ others) ++ rest ≡ spelling event ++ 10 ∷ (lines_of others ++ rest)
 lines-append event others rest = append_assoc (spelling event ++ 10 ∷ []) (lines_of others) rest ∙ append_assoc (spelling event) (10 ∷ []) (lines_of others ++ rest)
 
@@ -196,9 +196,9 @@ rest_from-lines verbs limits w line (event ∷ prefix) rest fit known legal =
     ∙ followed-followed (event ∷ []) prefix _
     ∙ ap (λ n. followed (event ∷ prefix) (rest_from verbs limits (after_from (after_event w event) prefix) n rest)) count
 
--- ---- refusals
+-- ---- rejections
 
--- input that is rejected after the lines of some legal events
+-- the bytes are rejected after the lines of some legal events
 pub record Refuses (verbs : List Verb) (limits : Limits) (w : World) (line : ℕ) (bytes : List ℕ) (at : ℕ) (why : Cause) : Type 0 where
   pub prefix : List Event
   pub rest : List ℕ
@@ -269,7 +269,7 @@ refuses (suc n) verbs limits w line bytes at why few is = ⊎_elim
     (sym (ap (rest_from verbs limits w line) c.whole) ∙ is)))
     (cut 10 bytes)
 
--- a cause at the start of the rest is the answer there
+-- a cause for the first remaining line is the result for the remaining bytes
 pub rest_from-cause : (verbs : List Verb) (limits : Limits) (w : World) (line : ℕ) (rest : List ℕ) (why : Cause) → IsLineCause verbs limits w rest why → rest_from verbs limits w line rest ≡ Err (refused line why)
 rest_from-cause verbs limits w line rest why has = ⊎_elim
     (λ found. ap (rest_from verbs limits w line) found.1.1.1 ∙ rest_from-line verbs limits w line found.0 found.1.1.0 found.1.0 ∙ ap (λ r. or_refused line r (λ e. followed (e ∷ []) (rest_from verbs limits (after_event w e) (line + 1) found.1.1.0))) found.2)
@@ -282,7 +282,7 @@ reads_all verbs limits w line bytes events is = reads (length bytes) verbs limit
 pub refuses_all : (verbs : List Verb) (limits : Limits) (w : World) (line : ℕ) (bytes : List ℕ) (at : ℕ) (why : Cause) → rest_from verbs limits w line bytes ≡ Err (refused at why) → Refuses verbs limits w line bytes at why
 refuses_all verbs limits w line bytes at why is = refuses (length bytes) verbs limits w line bytes at why (omega arith) is
 
--- no byte is left, and the world has ended
+-- the input may end if no byte is left and the trace has ended
 may_end : (ended : Bool) → ended ≡ true → (if ended then (if nat_lt 0 0 then Some cause.AfterEnd else None) else if nat_lt 512 0 then Some cause.LineTooLong else Some cause.NoEnd) ≡ None
 may_end ended is = rw is refl
 

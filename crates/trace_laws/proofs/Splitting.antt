@@ -1,11 +1,11 @@
--- Input, cut at its first newline.
+-- Proofs about splitting bytes at their first newline.
 use Rattle.std.proofs.Common.{◌≡◌, ◌≢◌, ℕ, zero, suc, ◌+◌, ◌<◌, List, [], ◌∷◌, ◌++◌, length, ap, ◌∙◌, arith, ◌⊎◌, inl, inr, ⊎_elim}
 use Rattle.std.proofs.lemmas.Bool.Decides.{eqb_tells}
 use Rattle.std.proofs.lemmas.List.{length-append}
 use Rattle.psi_base.specs.Path.{parts_at}
 use Rattle.psi_base.proofs.PartLaws.{HasNone, parts_at-line}
 
--- the bytes up to the first `at`, and those after it
+-- the bytes up to the first `at`, and the bytes after it
 pub record Cut (at : ℕ) (bytes : List ℕ) : Type 0 where
   pub line : List ℕ
   pub suffix : List ℕ
@@ -16,7 +16,7 @@ none_more : (at byte : ℕ) (bytes : List ℕ) → byte ≢ at → HasNone at by
 none_more at byte bytes other none zero below = other
 none_more at byte bytes other none (suc k) below = none k (omega (arith, below))
 
--- bytes have no `at`, or are cut at the first
+-- bytes don't contain `at`, or are split at the first one
 pub cut : (at : ℕ) (bytes : List ℕ) → HasNone at bytes (length bytes) ⊎ Cut at bytes
 cut at [] = inl (λ k below. absurd (omega (arith, below)))
 cut at (byte ∷ bytes) = ⊎_elim
