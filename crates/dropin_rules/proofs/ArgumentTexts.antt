@@ -1,4 +1,4 @@
--- An argument is read again from its text.
+-- Proofs that parsing the text of an argument gives the argument.
 use Rattle.std.proofs.Common.{◌≡◌, ℕ, ◌+◌, ◌*◌, ◌/◌, ◌%◌, ◌^◌, ◌<◌, ◌≤◌, List, [], ◌∷◌, ◌++◌, Bool, true, false, Some, None, Ok, length, refl, ap, ◌∙◌, arith, inl, inr}
 use Rattle.std.specs.Prelude.{◌==◌, codes, decimal, nat_le}
 use Rattle.std.specs.List.{list_all}

@@ -1,5 +1,5 @@
--- Data that are texts, in lists and objects: what is written of them is UTF-8, and is read again as
--- them.
+-- Proofs about data that consist of strings in lists and objects: their text is UTF-8, and parsing
+-- it gives the data.
 use Rattle.std.proofs.Common.{◌≡◌, suc, ◌≤◌, List, [], ◌∷◌, ◌++◌, Bool, true, false, Option, Some, option_and_then, refl, sym, ap, ap₂, ◌∙◌, arith, append-nil}
 use Rattle.std.specs.Prelude.{⊤, max, IsUtf8}
 use Rattle.std.proofs.lemmas.Str.{IsUtf8-append, IsUtf8-nil}
@@ -59,7 +59,7 @@ mutual
       let suffix = IsUtf8-append (58 ∷ []) (compact_text d ++ members_text true ms) (IsUtf8-are_ascii (58 ∷ []) refl) value in
       IsUtf8-append (comma_if later) (quoted k ++ 58 ∷ (compact_text d ++ members_text true ms)) (comma_utf8 later) (IsUtf8-append (quoted k) (58 ∷ (compact_text d ++ members_text true ms)) (IsUtf8-quoted k t.0) suffix)
 
--- ---- the tree that is written
+-- ---- the tree of the written text
 
 mutual
   outline_numbers : (d : Data) → OnlyTexts d → tree.HasNumbers (outline d)
@@ -95,11 +95,12 @@ mutual
   members_outline_depth no_members = refl
   members_outline_depth (member k d ms) = ap₂ max (outline_depth d) (members_outline_depth ms)
 
--- what is read of the tree that the tokens are
+-- the data of the tree that the tokens form, if all tokens are consumed
 abbrev whole : Option (json.Json × List Token) → Option Data
 whole read = option_and_then of_json (option_and_then (λ p. json.if_last p.0 p.1) read)
 
--- data whose tree is theirs again are read again from their text
+-- parsing the text of such data gives the data, if they don't nest too deep and their tree
+-- represents them
 pub text_read : (d : Data) → OnlyTexts d → of_json (outline d) ≡ Some d → depth d ≤ max_depth → read (compact_text d) ≡ Some d
 text_read d t back shallow =
     let same : tokens (compact_text d) ≡ tree.json_tokens (outline d) ++ [] =

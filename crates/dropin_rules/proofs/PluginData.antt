@@ -1,4 +1,4 @@
--- A plugin is read again from its object.
+-- Proofs that parsing the object of a plugin gives the plugin.
 use Rattle.std.proofs.Common.{◌≡◌, ℕ, Ok, refl, arith}
 use Rattle.ruleset_json.specs.declared.fault.Place.{Place}
 use Rattle.ruleset_json.specs.declared.types.Action.{Action}
