@@ -1,5 +1,5 @@
--- A list is accepted if and only if each item is, and rejected with the fault of its first rejected
--- item.
+-- Proofs that a list is accepted exactly if each item is, and is rejected with the fault of its
+-- first rejected item.
 use Rattle.std.proofs.Common.{◌≡◌, ℕ, zero, suc, ◌+◌, ◌<◌, List, [], ◌∷◌, length, refl, sym, ap, subst, ◌∙◌, arith}
 use Rattle.std.specs.Prelude.{Some, Result, Ok, Err}
 use Rattle.std.specs.List.{slice_get}
@@ -35,7 +35,7 @@ before_later f i d ds x at was before (suc k) e below is =
     let P : ℕ → Type 0 = λ n. IsOk (f n e) in
     subst P later (before k e (omega arith) is)
 
--- a list that begins so is rejected for its first item, or for its rest
+-- a list with a first item is rejected for this item, or for the rest
 refused_cons : {A : Type 0} (f : ℕ → Data → Result A RulesFault) (i : ℕ) (d : Data) (ds : List Data) (e : RulesFault) (first : Result A RulesFault) (rest : Result (List A) RulesFault) → f i d ≡ first
     → ((why : RulesFault) → rest ≡ Err why → IsFirstFault f (i + 1) ds why)
     → (first >>= (λ x. rest >>= (λ xs. Ok (x ∷ xs)))) ≡ Err e
@@ -89,7 +89,7 @@ refused_at f i (d ∷ ds) e (suc at) item stands refused before =
 pub refuses_first : {A : Type 0} → RefusesFirst A
 refuses_first f i ds e = (each_refused f i ds e, λ first. refused_at f i ds e first.at first.item first.stands first.refused first.before)
 
--- ---- lists that are read
+-- ---- lists that are accepted
 
 ok_same : {A : Type 0} (a b : A) → (let r : Result A RulesFault = Ok a in r) ≡ Ok b → a ≡ b
 ok_same a b is = cc
