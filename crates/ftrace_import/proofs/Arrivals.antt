@@ -1,4 +1,5 @@
--- What brings a task to a processor goes, and then it is ready there; who runs there stays.
+-- Proofs about the acts that bring a task to a processor: they are legal, the task is ready there
+-- after them, and the running task of the processor doesn't change.
 use Rattle.std.proofs.Common.{◌≡◌, ℕ, ◌+◌, ◌≤◌, ◌<◌, List, [], ◌∷◌, refl, ap, ◌∙◌, sym, subst, arith, cond, true, false, Option, None, Some, ◌==◌, length}
 use Rattle.std.specs.Prelude.{codes, is_some, not}
 use Rattle.std.specs.FinMap as tasks_by
@@ -22,24 +23,25 @@ use Rattle.ftrace_import.proofs.Runs.{RunsAsBefore, rests, runs_put}
 use Rattle.ftrace_import.specs.Stands.{Stands}
 use Rattle.ftrace_import.proofs.Steps.{Goes, Step, event_at, goes_none, goes_one, goes_then, later_in, step_make, step_migrate, step_switch, step_wake}
 
--- room for fewer events
+-- the invariant of an import for fewer further events
 pub less_room : (cpus at have room : ℕ) (w : World) → Stands cpus at have w → room ≤ have → Stands cpus at room w
 less_room cpus at have room w so few = let all = so.few in later_in cpus at have at room w so (omega arith) so.early (omega (arith, few, all))
 
--- acts go, who runs on the processor stays, and the task is ready there
+-- The acts are legal, the running task of processor `cpu` doesn't change, and the task is ready on
+-- `cpu` after them.
 pub record Comes (cpus at room : ℕ) (cpu : Cpu) (pid : Pid) (w : World) (acts : List Act) : Type 0 where
   pub goes : Goes cpus at room w acts
   pub same : RunsAsBefore cpu.0 w.tasks (after_from w (events_at at acts)).tasks
   pub ready : is_some_and (task_of (after_from w (events_at at acts)).tasks pid.0) (is_ready_on cpu.0) ≡ true
 
--- a task that was put in its place is found there
+-- a task that was put into the map is found
 put_there : (tasks : Tasks) (k : ℕ) (t : Task) → task_of (put tasks k t) k ≡ Some t
 put_there tasks k t = get_put tasks k t k ∙ ap (λ b. cond b (Some t) (task_of tasks k)) (itself k)
 
 pub changed_is : (tasks : Tasks) (k : ℕ) (f : Task → Task) (t : Task) → task_of tasks k ≡ Some t → change tasks k f ≡ put tasks k (f t)
 changed_is tasks k f t is = ap (change_to tasks k f) is
 
--- a task that is ready on a processor
+-- a ready task that was put into the map is found ready on its processor
 ready_there : (tasks : Tasks) (k cpu : ℕ) (t : Task) → t.cpu.0 ≡ cpu → is_ready t.mode ≡ true → is_some_and (task_of (put tasks k t) k) (is_ready_on cpu) ≡ true
 ready_there tasks k cpu t there ready = rw (put_there tasks k t, there, itself cpu, ready) refl
 
@@ -70,24 +72,24 @@ ready_off Waiting h = refl
 ready_off Ready h = refl
 ready_off Running h = absurd (cc h)
 
--- a task is made
+-- creating the task brings it to the processor
 pub comes_made : (cpus at room : ℕ) (cpu : Cpu) (pid : Pid) (w : World) → Stands cpus at (room + 1) w → IsPid pid → cpu.0 < cpus → task_of w.tasks pid.0 ≡ None → tasks_by.len w.tasks < 65536 → Comes cpus at room cpu pid w (made pid cpu ∷ [])
 comes_made cpus at room cpu pid w so is there none space =
     comes_by cpus at room cpu pid w (made pid cpu) (new_task w.groups (codes "/") cpu.0) (step_make cpus at room w pid cpu so is there none space) refl (off_none (task_of w.tasks pid.0) cpu.0 none) refl refl
 
--- a task is woken
+-- waking the task brings it to the processor
 pub comes_woken : (cpus at room : ℕ) (cpu : Cpu) (pid : Pid) (w : World) (task : Task) → Stands cpus at (room + 1) w → IsPid pid → cpu.0 < cpus → task_of w.tasks pid.0 ≡ Some task → is_active task.mode ≡ false → Comes cpus at room cpu pid w (act.Wake pid cpu ∷ [])
 comes_woken cpus at room cpu pid w task so is there live sleeps =
     comes_by cpus at room cpu pid w (act.Wake pid cpu) (prepared_changes cpu.0 task) (step_wake cpus at room w pid cpu task so is there live sleeps) (changed_is w.tasks pid.0 (prepared_changes cpu.0) task live)
     (off_some (task_of w.tasks pid.0) task cpu.0 live (asleep_off task.mode sleeps)) refl refl
 
--- a task that is ready goes there
+-- migrating a ready task brings it to the processor
 pub comes_moved : (cpus at room : ℕ) (cpu : Cpu) (pid : Pid) (w : World) (task : Task) → Stands cpus at (room + 1) w → IsPid pid → cpu.0 < cpus → task_of w.tasks pid.0 ≡ Some task → is_ready task.mode ≡ true → Comes cpus at room cpu pid w (act.Migrate pid cpu ∷ [])
 comes_moved cpus at room cpu pid w task so is there live ready =
     comes_by cpus at room cpu pid w (act.Migrate pid cpu) (prepared_changes cpu.0 task) (step_migrate cpus at room w pid cpu task so is there live ready) (changed_is w.tasks pid.0 (prepared_changes cpu.0) task live)
     (off_some (task_of w.tasks pid.0) task cpu.0 live (ready_off task.mode ready)) refl refl
 
--- a task that is ready there already
+-- a task that is ready on the processor needs no act
 comes_ready : (cpus at room : ℕ) (cpu : Cpu) (pid : Pid) (w : World) (task : Task) → Stands cpus at room w → task_of w.tasks pid.0 ≡ Some task → is_ready task.mode ≡ true → (task.cpu.0 == cpu.0) ≡ true → Comes cpus at room cpu pid w []
 comes_ready cpus at room cpu pid w task so live ready there = record {
   goes = goes_none cpus at room w so;
@@ -95,13 +97,13 @@ comes_ready cpus at room cpu pid w task so live ready there = record {
   ready = rw (live, there, ready) refl;
 }
 
--- ---- a task that is running elsewhere
+-- ---- a task that runs on another processor
 
--- the processor of a live task is there
+-- the processor of a live task exists
 place_of : (cpus at room : ℕ) (w : World) → Stands cpus at room w → (k : ℕ) (t : Task) → task_of w.tasks k ≡ Some t → t.cpu.0 < cpus
 place_of cpus at room w so k t is = let here = so.legal.within k in (rw is at here).0
 
--- once it is preempted, it is ready there
+-- after a task is preempted, it is ready on its processor
 pulled_by : (tasks : Tasks) → RunsOnce tasks → (k cpu : ℕ) (t : Task) → task_of tasks k ≡ Some t → is_running_on cpu t ≡ true → (o : Option (ℕ × Task)) → running_on tasks cpu ≡ o → leave Preempt tasks o ≡ put tasks k (record t { mode = Ready })
 pulled_by tasks once k cpu t is runs None found = let some = runs_there tasks k t cpu is runs in absurd (cc (some, ap is_some found))
 pulled_by tasks once k cpu t is runs (Some e) found =
@@ -133,7 +135,7 @@ comes_pulled cpus at room cpu pid w task so is there live mode off =
       ready = second.ready;
     }
 
--- ---- all of them
+-- ---- all cases
 
 comes_live : (cpus at have room : ℕ) (cpu : Cpu) (pid : Pid) (w : World) (task : Task) (mode : Mode) → Stands cpus at have w → length (coming_acts pid cpu task.cpu mode) + room ≤ have → IsPid pid → cpu.0 < cpus → task_of w.tasks pid.0 ≡ Some task → task.mode ≡ mode → is_some_and (task_of w.tasks pid.0) (is_running_on cpu.0) ≡ false
     → Comes cpus at room cpu pid w (coming_acts pid cpu task.cpu mode)

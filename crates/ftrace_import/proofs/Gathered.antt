@@ -1,4 +1,4 @@
--- The state of an import after a line.
+-- Proofs about the state of an import after a line.
 use Rattle.std.proofs.Common.{◌≡◌, ℕ, ◌+◌, ◌-◌, ◌≤◌, ◌<◌, List, [], ◌∷◌, ◌++◌, refl, ap, ◌∙◌, sym, subst, arith, true, false, Option, None, Some, length, drop}
 use Rattle.std.specs.Prelude.{is_some, max, Ok, Err, slice_index_or}
 use Rattle.std.proofs.lemmas.List.{drop_more, length-append, length-map}
@@ -28,19 +28,19 @@ use Rattle.ftrace_import.proofs.Whole.{end_runs, ends_after, run_on}
 
 -- ---- deeds one by one
 
--- one deed more that makes no task
+-- a deed (a stored act) that creates no task doesn't change whether the rest creates one
 pub making_on : (kept : List Kept) (at : ℕ) (one : Kept) → at < length kept → one ≡ slice_index_or kept at one → is_some (names (act_by one.deed)).new_task ≡ false → make_task (acts_in (drop at kept)) ≡ make_task (acts_in (drop (at + 1) kept))
 making_on kept at one inside is none = rw (drop_more kept at one inside, sym is, none) refl
 
--- a deed that does
+-- a deed that creates a task
 pub making_one : (kept : List Kept) (at : ℕ) (one : Kept) → at < length kept → one ≡ slice_index_or kept at one → is_some (names (act_by one.deed)).new_task ≡ true → make_task (acts_in (drop at kept)) ≡ true
 making_one kept at one inside is some = rw (drop_more kept at one inside, sym is, some) refl
 
--- none is left
+-- no deed is left, so none creates a task
 pub making_end : (kept : List Kept) (at : ℕ) → length kept ≤ at → make_task (acts_in (drop at kept)) ≡ false
 making_end kept at end = rw (drop_of_length-le kept end) refl
 
--- the next event is legal, and those after it are legal in the world after it
+-- the next event is legal, and the events after it are legal in the world after it
 pub legal_next : (l : Limits) (w : World) (kept : List Kept) (at : ℕ) (one : Kept) → at < length kept → one ≡ slice_index_or kept at one → AreLegal l w (events_by (drop at kept)) → (cause_of l w (event_by one) ≡ None) × AreLegal l (after_event w (event_by one)) (events_by (drop (at + 1) kept))
 legal_next l w kept at one inside is legal =
     let same : drop at kept ≡ one ∷ drop (at + 1) kept = drop_more kept at one inside ∙ ap (λ (x : Kept). x ∷ drop (at + 1) kept) (sym is) in
@@ -54,9 +54,9 @@ world_next w kept at one inside is =
 pub world_end : (w : World) (kept : List Kept) (at : ℕ) → length kept ≤ at → after_from w (events_by (drop at kept)) ≡ w
 world_end w kept at end = rw (drop_of_length-le kept end) refl
 
--- ---- an import so far
+-- ---- the state between lines
 
--- before the first line
+-- the invariant holds before the first line
 pub gathered_none : (g : Gathering) → IsCpuCount g.cpus → g.table.limits ≡ limits g.cpus → reached_in g ≡ unreached → g.kept.items ≡ [] → IsGathered g
 gathered_none g counted limits_are fresh none = record {
   limits_are = limits_are;
@@ -65,7 +65,7 @@ gathered_none g counted limits_are fresh none = record {
   after_them = ap (λ (r : Reached). r.world) fresh ∙ sym (ap (λ ks. after_from first_world (events_by ks)) none);
 }
 
--- after a line
+-- the invariant holds after a line
 pub taken_events : (cpus : ℕ) (old new : Gathering) (line_events : LineEvents) → IsGathered old → new.cpus ≡ old.cpus → new.table.limits ≡ old.table.limits → events_by new.kept.items ≡ events_by old.kept.items ++ line_events.events → reached_in new ≡ line_events.reached
     → Gives old.cpus (reached_in old) line_events → IsGathered new
 taken_events cpus old new line_events so same limits_same kept reached gives = record {
@@ -92,10 +92,10 @@ pub take_bad : (cpus : ℕ) (reached : Reached) (line : List ℕ) (why : ImportC
 unfolding events_of_line
 take_bad cpus reached line why is = ap (events_read cpus reached) (sym is)
 
--- ---- the contents of a line
+-- ---- the content of a line
 
--- the code's data about a line at a time with these contents: its trace time, the events stored
--- before and now, and the new part
+-- The values that the code has for a line with this content at time `at` (ns): its trace time, the
+-- number of events stored before, and the newly stored events.
 pub record Sighted (old : Gathering) (at : ℕ) (what : Seen) (moment before : ℕ) (cpu : Cpu) (part new : List Kept) : Type 0 where
   pub moment_is : moment ≡ line_moment (reached_in old) at
   pub cpu_is : cpu ≡ needed_cpu what
@@ -112,7 +112,7 @@ sighted old at what first moment before cpu part new begins moved needed count s
   kept = kept;
 }
 
--- at least as much is stored as before
+-- the stored events don't become fewer
 pub kept_longer : (old new : List Kept) (events : List Event) (before : ℕ) → before ≡ length old → events_by new ≡ events_by old ++ events → before ≤ length new
 kept_longer old new events before is kept =
     let all = sym (length-map new event_by) ∙ ap length kept ∙ length-append (events_by old) events in
@@ -161,7 +161,7 @@ sighted_taken old now at what moment before cpu part is so seen none cpus first 
 
 -- ---- all lines
 
--- the events of an import and its end go on from the first world
+-- the events of an import and its end are legal from the first world
 pub all_end : (cpus : ℕ) (g : Gathering) → IsGathered g → g.cpus ≡ cpus → Ends cpus first_world (whole_events g)
 all_end cpus g so is =
     subst (λ n. Ends n first_world (whole_events g)) is (record {

@@ -1,5 +1,5 @@
--- The acts of an import, one by one: each may be spelled and is legal, and the world stays one of
--- an import.
+-- Proofs about the acts of an import, one by one: each can be spelled and is legal, and the
+-- invariant of the world holds after it.
 use Rattle.std.proofs.Common.{◌≡◌, ℕ, ◌+◌, ◌^◌, ◌≤◌, ◌<◌, List, [], ◌∷◌, ◌++◌, refl, ◌∙◌, arith, cond, true, false, Option, None, Some, inl, inr}
 use Rattle.std.specs.Prelude.{◌&&◌, IfSome, codes, is_some, nat_le}
 use Rattle.std.specs.FinMap as tasks_by
@@ -27,9 +27,9 @@ use Rattle.import_spec.specs.Events.{made}
 use Rattle.ftrace_import.specs.Stands.{IsCalm, Stands, limits}
 use Rattle.ftrace_import.proofs.Runs.{calm_change, calm_put, calm_running, calm_switch}
 
--- ---- the world of an import
+-- ---- the invariant of the world
 
--- the first one
+-- the invariant holds in the first world
 pub first_in : (cpus : ℕ) → IsCpuCount cpus → Stands cpus 0 0 first_world
 first_in cpus counted = record {
   counted = counted;
@@ -42,7 +42,7 @@ first_in cpus counted = record {
   few = omega arith;
 }
 
--- at a later time, and with room for fewer events
+-- the invariant holds at a later time, and for fewer further events
 pub later_in : (cpus at room now few : ℕ) (w : World) → Stands cpus at room w → at ≤ now → now ≤ 2000000000000000 → w.lines + few ≤ 3999999 → Stands cpus now few w
 later_in cpus at room now few w so later early left = record {
   counted = so.counted;
@@ -55,18 +55,18 @@ later_in cpus at room now few w so later early left = record {
   few = left;
 }
 
--- an act at a time (ns)
+-- the event with this act at time `at` (ns)
 abbrev pub event_at : ℕ → Act → Event
 event_at at what = record { at = at; act = what }
 
--- an act can be spelled and is legal, and the world after it is that of an import
+-- the act can be spelled and is legal, and the invariant holds after it
 pub record Step (cpus at room : ℕ) (w : World) (what : Act) : Type 0 where
   pub fits : Fits (event_at at what)
   pub known : IsKnown (verbs_of One) (event_at at what)
   pub legal : cause_of (limits cpus) w (event_at at what) ≡ None
   pub later : Stands cpus at room (after_event w (event_at at what))
 
--- an act of this kind, with no cause of its own against it
+-- the step for an act to which no cause of its kind applies
 pub step_is : (cpus at room : ℕ) (w : World) (what : Act) → Stands cpus at (room + 1) w → act_cause cpus w.groups w.tasks w.irqs w.triggers w.pressures at what ≡ None → ActFits what → IsAmong (phrase_of what).verb (verbs_of One)
     → groups_after at w.groups what ≡ w.groups → ends what ≡ false → IsCalm (tasks_after w.groups w.tasks what) → Step cpus at room w what
 step_is cpus at room w what so none fits known same goes calm =
@@ -92,8 +92,8 @@ step_is cpus at room w what so none fits known same goes calm =
 
 -- ---- several acts
 
--- acts at one time can be spelled and are legal in their turn, and the world after them is that of
--- an import
+-- the acts, all at one time, can be spelled and are legal in their order, and the invariant holds
+-- after them
 pub record Goes (cpus at room : ℕ) (w : World) (acts : List Act) : Type 0 where
   pub fit : AllFit (events_at at acts)
   pub known : AreKnown (verbs_of One) (events_at at acts)
@@ -111,11 +111,11 @@ goes_then cpus at mid room w what acts step rest = record {
   later = rest.later;
 }
 
--- one act alone
+-- a single act
 pub goes_one : (cpus at room : ℕ) (w : World) (what : Act) → Step cpus at room w what → Goes cpus at room w (what ∷ [])
 goes_one cpus at room w what step = goes_then cpus at room room w what [] step (goes_none cpus at room _ step.later)
 
--- acts, and later ones
+-- some acts, followed by others
 pub goes_on : (cpus at mid room : ℕ) (w : World) (xs ys : List Act) → Goes cpus at mid w xs → Goes cpus at room (after_from w (events_at at xs)) ys → Goes cpus at room w (xs ++ ys)
 goes_on cpus at mid room w [] ys prefix rest = rest
 goes_on cpus at mid room w (x ∷ xs) ys prefix rest =
@@ -130,7 +130,7 @@ goes_on cpus at mid room w (x ∷ xs) ys prefix rest =
 
 -- ---- the acts of an import
 
--- a processor that there is may be spelled, and no cause is against it
+-- the number of an existing processor can be spelled, and the test for a missing processor fails
 there_is : (cpus cpu : ℕ) → cpu < cpus → nat_le cpus cpu ≡ false
 there_is cpus cpu room = grind (arith, nat_tests)
 
@@ -144,7 +144,7 @@ root_is_path = refl
 not_full : (live : ℕ) → live < 65536 → nat_le 65536 live ≡ false
 not_full live room = grind (arith, nat_tests)
 
--- a task is made
+-- creating a task is legal
 pub step_make : (cpus at room : ℕ) (w : World) (pid : Pid) (cpu : Cpu) → Stands cpus at (room + 1) w → IsPid pid → cpu.0 < cpus → task_of w.tasks pid.0 ≡ None → tasks_by.len w.tasks < 65536 → Step cpus at room w (made pid cpu)
 step_make cpus at room w pid cpu so is there none space =
     let groups = so.groups in
@@ -154,7 +154,7 @@ step_make cpus at room w pid cpu so is there none space =
     (inr (inr (inr (inr (inr (inr (inl refl)))))))
     refl refl (calm_put w.tasks so.calm pid.0 _ refl)
 
--- a task that sleeps is woken
+-- waking a blocked task is legal
 pub step_wake : (cpus at room : ℕ) (w : World) (pid : Pid) (cpu : Cpu) (task : Task) → Stands cpus at (room + 1) w → IsPid pid → cpu.0 < cpus → task_of w.tasks pid.0 ≡ Some task → is_active task.mode ≡ false → Step cpus at room w (act.Wake pid cpu)
 step_wake cpus at room w pid cpu task so is there live sleeps =
     step_is cpus at room w (act.Wake pid cpu) so
@@ -163,7 +163,7 @@ step_wake cpus at room w pid cpu task so is there live sleeps =
     (inr (inl refl))
     refl refl (calm_change w.tasks so.calm pid.0 (prepared_changes cpu.0) (λ t. refl) (task_of w.tasks pid.0) refl)
 
--- a task that is ready goes elsewhere
+-- migrating a ready task is legal
 pub step_migrate : (cpus at room : ℕ) (w : World) (pid : Pid) (cpu : Cpu) (task : Task) → Stands cpus at (room + 1) w → IsPid pid → cpu.0 < cpus → task_of w.tasks pid.0 ≡ Some task → is_ready task.mode ≡ true → Step cpus at room w (act.Migrate pid cpu)
 step_migrate cpus at room w pid cpu task so is there live ready =
     step_is cpus at room w (act.Migrate pid cpu) so
@@ -172,7 +172,7 @@ step_migrate cpus at room w pid cpu task so is there live ready =
     (inr (inr (inr (inr (inl refl)))))
     refl refl (calm_change w.tasks so.calm pid.0 (prepared_changes cpu.0) (λ t. refl) (task_of w.tasks pid.0) refl)
 
--- a task that runs next, if there is one, is ready on the processor
+-- the next task, if there is one, is ready on the processor
 abbrev pub IsNext : Tasks → ℕ → Option Pid → Type 0
 IsNext tasks cpu next = IfSome next (λ pid. IsPid pid × (is_some_and (task_of tasks pid.0) (is_ready_on cpu) ≡ true))
 
@@ -180,7 +180,8 @@ some_ready : (o : Option Task) (cpu : ℕ) → is_some_and o (is_ready_on cpu) �
 some_ready None cpu ready = absurd (cc ready)
 some_ready (Some t) cpu ready = refl
 
--- the running task leaves and the next one starts, or the next one starts on an idle processor
+-- a switch is legal: the running task leaves and the next task starts, or the next task starts on
+-- an idle processor
 pub step_switch : (cpus at room : ℕ) (w : World) (cpu : Cpu) (next : Option Pid) (how : How) → Stands cpus at (room + 1) w → cpu.0 < cpus → IsNext w.tasks cpu.0 next → is_wrong how (running_on w.tasks cpu.0) ≡ false → Step cpus at room w (act.Switch cpu next how)
 step_switch cpus at room w cpu None how so there ready right =
     let calm = calm_running w.tasks so.calm cpu.0 (running_on w.tasks cpu.0) refl in

@@ -1,4 +1,4 @@
--- Where reading a text stops.
+-- Proofs that reading a text stops at the first rejected line.
 use Rattle.std.proofs.Common.{◌≡◌, ℕ, ◌+◌, ◌-◌, ◌≤◌, List, [], ◌∷◌, length, refl, sym, ap, ◌∙◌, subst, arith, Bool}
 use Rattle.std.specs.Prelude.{Option, None, Some, Result, Ok, Err, IsErrOf}
 use Rattle.std.specs.Borrow.{Bor}
@@ -26,7 +26,7 @@ use Rattle.ftrace_import.proofs.Texts.{SoFar, fresh_reader}
 abbrev Answer : Type 0
 Answer = Result (List Event) Refused
 
--- ---- the number of a refused line
+-- ---- the number of a rejected line
 
 same_number : (number : ℕ) (why : ImportCause) (refusal : Refused) → (let r : Answer = Err (import_refused number why) in r) ≡ Err refusal → number ≤ refusal.line
 same_number number why refusal is =
@@ -46,7 +46,7 @@ or_refused-line : (number : ℕ) (line_events : Result LineEvents ImportCause) (
 or_refused-line number (Ok line_events) suffix refusal later is = later line_events.reached (followed-err line_events.events (suffix line_events.reached) refusal is)
 or_refused-line number (Err why) suffix refusal later is = same_number number why refusal is
 
--- the lines from a given one on are rejected at no line before it
+-- the lines from number `number` are rejected at this line or at a later line
 from_line : (cpus : ℕ) (reached : Reached) (number : ℕ) (parts : List (List ℕ)) (refusal : Refused) → import_from cpus reached number parts ≡ Err refusal → number ≤ refusal.line
 unfolding import_from
 from_line cpus reached number [] refusal is = absurd (cc is)
@@ -63,7 +63,7 @@ err_same found other is = cc is
 same_fault : (lent : Result (Option (Bor (List ℕ))) LineFault) (why : LineFault) → lent ≡ Err why → why ≡ lines.ReadFault → lent ≡ Err lines.ReadFault
 same_fault lent why is read = is ∙ ap (λ f. let r : Result (Option (Bor (List ℕ))) LineFault = Err f in r) read
 
--- the fault of a line that was read isn't one of reading
+-- a line that was read has no read fault
 line_was_read : (line : ℕ) (why : Fault ImportCause) (found : ImportFault) → IsLineFault line why found → found ≡ import.ReadFault → ⊥
 line_was_read line (fault.Refused cause) found is read = absurd (cc (sym is ∙ read))
 line_was_read line (fault.NoMemory none) found is read = absurd (cc (sym is ∙ read))
@@ -75,7 +75,7 @@ line_number : (line : ℕ) (why : Fault ImportCause) (found : ImportFault) (numb
 line_number line (fault.Refused had) found number because is at = refusal_number line number had because (sym is ∙ at)
 line_number line (fault.NoMemory none) found number because is at = absurd (cc (sym is ∙ at))
 
--- a failed read is that of the line
+-- if the fault of the import is a failed read, so is the fault of the line
 read_failed : (why : LineFault) → import_fault why ≡ import.ReadFault → why ≡ lines.ReadFault
 read_failed (lines.TooLong n) is = absurd (cc is)
 read_failed (lines.Cut n) is = absurd (cc is)
@@ -90,7 +90,7 @@ fault_number at lines.NoFile number because same is = absurd (cc is)
 fault_number at lines.ReadFault number because same is = absurd (cc is)
 fault_number at (lines.NoMemory none) number because same is = absurd (cc is)
 
--- what is said of a line that is lent, of how many are left
+-- the number of remaining lines after the call, from the contract of a borrowed line
 keeps_lines : {A : Type 0} (files : Option Files) (bytes_read read_now : ℕ) (old new : Reader) (lent : Result (Option (Bor (List ℕ))) LineFault) (result : Result A ImportFault) → LendsLine files bytes_read read_now old new lent → (IsErrOf result import.ReadFault → lent ≡ Err lines.ReadFault)
     → ((number : ℕ) (why : ImportCause) → IsErrOf result (import.Refused number why) → number ≡ old.number) → KeepsLines (content_of files old.name) old new result
 keeps_lines files bytes_read read_now old new lent result lends only at = record {
@@ -99,11 +99,11 @@ keeps_lines files bytes_read read_now old new lent result lends only at = record
   refused = at;
 }
 
--- if it was taken, or there is none
+-- the number of remaining lines if a line was taken, or there is none
 pub taken_keeps : {A : Type 0} (files : Option Files) (bytes_read read_now : ℕ) (old new : Reader) (lent : Result (Option (Bor (List ℕ))) LineFault) (x : A) → LendsLine files bytes_read read_now old new lent → KeepsLines (content_of files old.name) old new (Ok x)
 taken_keeps files bytes_read read_now old new lent x lends = keeps_lines files bytes_read read_now old new lent (Ok x) lends (λ is. absurd (cc is)) (λ number why is. absurd (cc is))
 
--- if it was read, and isn't taken
+-- the number of remaining lines if the line was read and rejected
 pub faulted_keeps : {A : Type 0} (files : Option Files) (bytes_read read_now : ℕ) (old new : Reader) (lent : Result (Option (Bor (List ℕ))) LineFault) (why : Fault ImportCause) (found : ImportFault) → LendsLine files bytes_read read_now old new lent → IsLineFault old.number why found
     → KeepsLines {A = A} (content_of files old.name) old new (Err found)
 faulted_keeps files bytes_read read_now old new lent why found lends faults =
@@ -111,7 +111,7 @@ faulted_keeps files bytes_read read_now old new lent why found lends faults =
     (λ is. absurd (line_was_read old.number why found faults (err_same found import.ReadFault is)))
     (λ number because is. line_number old.number why found number because faults (err_same found (import.Refused number because) is))
 
--- if it wasn't read
+-- the number of remaining lines if the line can't be read
 pub unread_keeps : {A : Type 0} (files : Option Files) (bytes_read read_now : ℕ) (old new : Reader) (lent : Result (Option (Bor (List ℕ))) LineFault) (why : LineFault) (found : ImportFault) → LendsLine files bytes_read read_now old new lent → lent ≡ Err why → IsNumbered old.number (lent_line old.number lent) → found ≡ import_fault why
     → KeepsLines {A = A} (content_of files old.name) old new (Err found)
 unread_keeps files bytes_read read_now old new lent why found lends is numbered from =
@@ -122,7 +122,7 @@ unread_keeps files bytes_read read_now old new lent why found lends is numbered 
 no_newline : (buffered : List ℕ) → buffered ≡ [] → HasNoNewline buffered (length buffered)
 no_newline buffered none = rw none (λ k below. absurd (omega (arith, below)))
 
--- a check that nothing follows the lines takes none
+-- the check that nothing follows the last line consumes no line
 look_keeps : {A : Type 0} (known : Option (List ℕ)) (old new : Reader) (result : Result A ImportFault) → ((bytes : List ℕ) → known ≡ Some bytes → left new bytes ≡ left old bytes) → new.number ≡ old.number → (IsErrOf result import.ReadFault → new.buffered ≡ [])
     → ((number : ℕ) (why : ImportCause) → IsErrOf result (import.Refused number why) → number ≡ old.number) → KeepsLines known old new result
 look_keeps known old new result same number none at = record {
@@ -134,7 +134,7 @@ look_keeps known old new result same number none at = record {
 pub ended_keeps : {A : Type 0} (known : Option (List ℕ)) (old new : Reader) (x : A) → ((bytes : List ℕ) → known ≡ Some bytes → left new bytes ≡ left old bytes) → new.number ≡ old.number → KeepsLines known old new (Ok x)
 ended_keeps known old new x same number = look_keeps known old new (Ok x) same number (λ is. absurd (cc is)) (λ number why is. absurd (cc is))
 
--- more follows, and is rejected
+-- the number of remaining lines if more bytes follow, so that the text is rejected
 pub many_keeps : {A : Type 0} (known : Option (List ℕ)) (old new : Reader) (line : ℕ) (had : ImportCause) → ((bytes : List ℕ) → known ≡ Some bytes → left new bytes ≡ left old bytes) → new.number ≡ old.number → line ≡ old.number → KeepsLines {A = A} known old new (Err (import.Refused line had))
 many_keeps {A} known old new line had same number at =
     look_keeps {A = A} known old new (Err (import.Refused line had)) same number (λ is. absurd (cc is))
@@ -147,7 +147,7 @@ no_refusal lines.NoFile number because reads is = absurd (cc is)
 no_refusal lines.ReadFault number because reads is = absurd (cc is)
 no_refusal (lines.NoMemory none) number because reads is = absurd (cc is)
 
--- the look failed
+-- the number of remaining lines if the check fails
 pub unseen_keeps : {A : Type 0} (known : Option (List ℕ)) (old new : Reader) (seen : Result Bool LineFault) (why : LineFault) (found : ImportFault) → ((bytes : List ℕ) → known ≡ Some bytes → left new bytes ≡ left old bytes) → new.number ≡ old.number → (IsErrOf seen lines.ReadFault → new.buffered ≡ []) → IsReadFault seen → seen ≡ Err why → found ≡ import_fault why
     → KeepsLines {A = A} known old new (Err found)
 unseen_keeps {A} known old new seen why found same number none reads is from =
@@ -155,14 +155,15 @@ unseen_keeps {A} known old new seen why found same number none reads is from =
     (λ read. none (is ∙ ap (λ f. let r : Result Bool LineFault = Err f in r) (read_failed why (sym from ∙ err_same found import.ReadFault read))))
     (λ number because refuses. absurd (no_refusal why number because (rw is at reads) (sym from ∙ err_same found (import.Refused number because) refuses)))
 
--- so it is of the bytes that were known before
+-- `KeepsLines` holds for the file's bytes before the call if it holds for the bytes after it,
+-- because they are equal
 pub known_keeps : {A : Type 0} (files files_now : Option Files) (name name_now : List ℕ) (old new : Reader) (result : Result A ImportFault) → files_now ≡ files → name_now ≡ name → KeepsLines (content_of files_now name_now) old new result → KeepsLines (content_of files name) old new result
 known_keeps files files_now name name_now old new result same named keeps =
     subst (λ n. KeepsLines (content_of files n) old new result) named (subst (λ f. KeepsLines (content_of f name_now) old new result) same keeps)
 
 -- ---- all lines
 
--- reading stops at the line that a reader has come to
+-- reading stops at the line that the reader has reached
 pub stops_here : (A : Type 0) (cpus : ℕ) (g : Gathering) (known : Option (List ℕ)) (first old new : Reader) (bytes_read read_before read_now : ℕ) (found : ImportFault) → first.number ≡ 1 → first.buffered ≡ [] → first.at ≡ 0 → read_before + first.at ≡ bytes_read + old.at → read_now + old.at ≡ read_before + new.at → new.at ≤ furthest old.number
     → ((bytes : List ℕ) → known ≡ Some bytes → old.number + line_count (left old bytes) ≡ first.number + line_count (left first bytes))
     → SoFar cpus old.number g (left first) (left old) known → KeepsLines {A = Bool} known old new (Err found) → StopsAtRefusal {A = A} (rest_from cpus unreached 1) known bytes_read read_now (Err found)

@@ -1,4 +1,4 @@
--- Lines that are read, against the definition over a whole text.
+-- Proofs that reading lines agrees with the definition over a whole text.
 use Rattle.std.proofs.Common.{◌≡◌, ◌≢◌, ℕ, suc, ◌+◌, ◌≤◌, ◌<◌, List, [], ◌∷◌, ◌++◌, refl, ap, ◌∙◌, sym, subst, arith, append_assoc, cond, true, false, Option, Some, length, ◌⊎◌, ⊎_elim, get_or}
 use Rattle.std.proofs.Math.Seq.{get_or-append_seam}
 use Rattle.std.specs.Prelude.{nat_lt, Result, Ok, Err}
@@ -63,7 +63,7 @@ events_many : (cpus : ℕ) (reached : Reached) (number : ℕ) (line : List ℕ) 
 unfolding yield_of_line
 events_many cpus reached number line many = rw (high_number number many) refl
 
--- a line and what it gives
+-- the result of a text that begins with a complete line
 at_line : (cpus : ℕ) (reached : Reached) (number : ℕ) (bytes line suffix : List ℕ) (r : Result LineEvents ImportCause) → number ≤ 16000000 → BeginsWithLine bytes line suffix → events_of_line cpus reached line ≡ r → rest_from cpus reached number bytes ≡ or_refused_line number r (λ next. rest_from cpus next (number + 1) suffix)
 at_line cpus reached number bytes line suffix r few begins is =
     ap (rest_from cpus reached number) begins.whole ∙ rest_line cpus reached number line suffix begins.one
@@ -97,13 +97,13 @@ some_bytes bytes some is = let none = ap length is in absurd (omega (arith, some
 refusal_at : (reached : Reached) (number : ℕ) (why : ImportCause) (o : Option ImportCause) → o ≡ Some why → ends_or reached number o ≡ Err (import_refused number why)
 refusal_at reached number why o is = ap (ends_or reached number) is
 
--- a text that ends inside a line
+-- the result of a text that ends inside a line
 rest_cut : (cpus : ℕ) (reached : Reached) (number : ℕ) (bytes : List ℕ) → number ≤ 16000000 → IsCut bytes → rest_from cpus reached number bytes ≡ Err (import_refused number cause.Cut)
 rest_cut cpus reached number bytes few is =
     rest_last cpus reached number bytes is.none
     ∙ refusal_at reached number cause.Cut (tail_cause number bytes) (rest_some number bytes cause.Cut (some_bytes bytes is.some) (rw (low_number number few, short_line (length bytes) is.short) refl))
 
--- the first line of bytes without a newline among their first 513 is longer than 512
+-- a line whose first 513 bytes contain no newline has more than 512 bytes
 long_first : (bytes : List ℕ) (c : Cut 10 bytes) → IsTooLong bytes → 513 ≤ length c.line
 long_first bytes c is =
     let case : (513 ≤ length c.line) ⊎ (length c.line < 513) = grind arith in
@@ -119,7 +119,7 @@ rest_long cpus reached number bytes few is = ⊎_elim
     ∙ ap (λ r. or_refused_line number r (λ next. rest_from cpus next (number + 1) c.suffix)) (events_long cpus reached number c.line few (long_first bytes c is)))
     (cut 10 bytes)
 
--- something follows the maximum number of lines
+-- the result if bytes follow the greatest number of lines
 pub rest_many : (cpus : ℕ) (reached : Reached) (number : ℕ) (bytes : List ℕ) → 16000000 < number → bytes ≢ [] → rest_from cpus reached number bytes ≡ Err (import_refused number cause.TooManyLines)
 rest_many cpus reached number bytes many some = ⊎_elim
     (λ none.
@@ -167,7 +167,8 @@ followed_on : (xs ys : List Event) (rest : Answer) → events_followed (xs ++ ys
 followed_on xs ys (Ok events) = ap (λ es. let r : Answer = Ok es in r) (append_assoc xs ys events)
 followed_on xs ys (Err refusal) = refl
 
--- before the line with this number: what was stored, and the rest of the text
+-- The invariant of the loop over the lines, before line `number`: the stored events, and the
+-- remaining bytes.
 pub record SoFar (cpus number : ℕ) (g : Gathering) (before suffix : List ℕ → List ℕ) (known : Option (List ℕ)) : Type 0 where
   pub so : IsGathered g
   pub cpus_are : g.cpus ≡ cpus
@@ -191,7 +192,7 @@ one_more cpus number old new before suffix later known so taken = record {
       ∙ ap (events_followed (events_by old.kept.items)) (sym here) ∙ so.read bytes shows;
 }
 
--- the fault of a line is the whole's
+-- the fault of a line is the fault of the whole text
 faulted : (events : List Event) (rest whole : Answer) (why : ImportFault) → events_followed events rest ≡ whole → RefusalOf why rest → RefusalOf why whole
 faulted events rest whole (import.Refused number cause) is found = sym is ∙ ap (events_followed events) found
 faulted events rest whole import.NoFile is found = tt
@@ -204,7 +205,7 @@ fault_here cpus number old before suffix known why so found bytes shows =
     faulted (events_by old.kept.items) (rest_from cpus (reached_in old) number (suffix bytes)) (rest_from cpus unreached 1 (before bytes)) why (so.read bytes shows)
     (subst (λ n. RefusalOf why (rest_from n (reached_in old) number (suffix bytes))) so.cpus_are (found bytes shows))
 
--- there is no line more
+-- the result if no further line follows
 pub ends_here : (cpus number : ℕ) (old : Gathering) (before suffix : List ℕ → List ℕ) (known : Option (List ℕ)) → SoFar cpus number old before suffix known → ((bytes : List ℕ) → known ≡ Some bytes → rest_from old.cpus (reached_in old) number (suffix bytes) ≡ Ok (end_at (reached_in old) ∷ []))
     → (bytes : List ℕ) → known ≡ Some bytes → rest_from cpus unreached 1 (before bytes) ≡ Ok (whole_events old)
 ends_here cpus number old before suffix known so found bytes shows =
@@ -212,12 +213,12 @@ ends_here cpus number old before suffix known so found bytes shows =
 
 -- ---- a whole text
 
--- the events of a text are those of the rest from its first line on
+-- the import of a text is the import of the remaining bytes from line 1
 whole : (cpus : ℕ) (bytes : List ℕ) → import_of cpus bytes ≡ rest_from cpus unreached 1 bytes
 unfolding import_of
 whole cpus bytes = refl
 
--- a reader before the first line of a name
+-- the reader before the first line of a file
 abbrev pub fresh_reader : List ℕ → Reader
 fresh_reader name = record { name = name; number = 1; buffered = []; at = 0 }
 

@@ -1,4 +1,4 @@
--- The task that runs on a processor makes way for the next, which then runs there.
+-- Proofs about a switch on a processor: the running task leaves, and the next task runs after it.
 use Rattle.std.proofs.Common.{◌≡◌, ℕ, ◌+◌, ◌≤◌, ◌<◌, List, [], ◌∷◌, ◌++◌, refl, ap, ◌∙◌, sym, subst, arith, cond, Bool, true, false, Option, None, Some, ◌==◌, length}
 use Rattle.std.specs.Prelude.{IfSome, is_some}
 use Rattle.std.specs.FinMap as tasks_by
@@ -26,7 +26,7 @@ use Rattle.ftrace_import.specs.Stands.{Leaves, Stands}
 use Rattle.ftrace_import.proofs.Steps.{Goes, IsNext, event_at, goes_none, goes_on, goes_one, step_switch}
 use Rattle.ftrace_import.proofs.Arrivals.{changed_is, comes, less_room}
 
--- acts go, and then the next task runs on the processor, or none
+-- the acts are legal, and after them the next task, or none, runs on the processor
 pub record Turned (cpus at room : ℕ) (cpu : Cpu) (next : Option Pid) (w : World) (acts : List Act) : Type 0 where
   pub goes : Goes cpus at room w acts
   pub runs : runner (after_from w (events_at at acts)).tasks cpu.0 ≡ next
@@ -36,7 +36,7 @@ pub record Turned (cpus at room : ℕ) (cpu : Cpu) (next : Option Pid) (w : Worl
 put_there : (tasks : Tasks) (k : ℕ) (t : Task) → task_of (put tasks k t) k ≡ Some t
 put_there tasks k t = get_put tasks k t k ∙ ap (λ b. cond b (Some t) (task_of tasks k)) (itself k)
 
--- a task that was ready on a processor runs there once it was started
+-- a task that was ready on a processor runs there after it is started
 started_from : (tasks : Tasks) (cpu : ℕ) (how : How) (k : ℕ) (o : Option Task) → task_of tasks k ≡ o → is_some_and o (is_ready_on cpu) ≡ true → is_some_and (task_of (start (Some (record { 0 = k })) (leave how tasks (running_on tasks cpu))) k) (is_running_on cpu) ≡ true
 started_from tasks cpu how k None is ready = absurd (cc ready)
 started_from tasks cpu how k (Some t) is ready =
@@ -49,7 +49,7 @@ started_from tasks cpu how k (Some t) is ready =
 started : (tasks : Tasks) (cpu : ℕ) (how : How) (pid : Pid) → is_some_and (task_of tasks pid.0) (is_ready_on cpu) ≡ true → is_some_and (task_of (start (Some pid) (leave how tasks (running_on tasks cpu))) pid.0) (is_running_on cpu) ≡ true
 started tasks cpu how pid ready = started_from tasks cpu how pid.0 (task_of tasks pid.0) refl ready
 
--- one switch, after which its next task runs
+-- one switch, after which the next task runs
 turned_to : (cpus at room : ℕ) (w : World) (cpu : Cpu) (pid : Pid) (how : How) → Stands cpus at (room + 1) w → cpu.0 < cpus → IsNext w.tasks cpu.0 (Some pid) → is_wrong how (running_on w.tasks cpu.0) ≡ false → Turned cpus at room cpu (Some pid) w (act.Switch cpu (Some pid) how ∷ [])
 turned_to cpus at room w cpu pid how so there next right =
     let step = step_switch cpus at room w cpu (Some pid) how so there next right in
@@ -58,7 +58,7 @@ turned_to cpus at room w cpu pid how so there next right =
       runs = runner_is (after_event w (event_at at (act.Switch cpu (Some pid) how))).tasks step.later.legal.once cpu.0 pid (started w.tasks cpu.0 how pid next.1);
     }
 
--- one switch, after which none runs
+-- one switch, after which no task runs
 turned_off : (cpus at room : ℕ) (w : World) (cpu : Cpu) (how : How) (o : Option (ℕ × Task)) → Stands cpus at (room + 1) w → cpu.0 < cpus → running_on w.tasks cpu.0 ≡ o → is_some o ≡ true → Leaves how → Turned cpus at room cpu None w (act.Switch cpu None how ∷ [])
 turned_off cpus at room w cpu how None so there found some leaves = absurd (cc some)
 turned_off cpus at room w cpu how (Some e) so there found some leaves =
@@ -69,14 +69,14 @@ turned_off cpus at room w cpu how (Some e) so there found some leaves =
       runs = none_runs w.tasks so.legal.once cpu.0 how e found (leaves (Some e) some);
     }
 
--- ---- the turn
+-- ---- the acts that change the running task
 
--- if some task is running
+-- the acts if a task is running
 turned_some : (cpus at room : ℕ) (w : World) (cpu : Cpu) (next : Option Pid) (how : How) → Stands cpus at (room + 1) w → cpu.0 < cpus → IsNext w.tasks cpu.0 next → is_some (running_on w.tasks cpu.0) ≡ true → Leaves how → Turned cpus at room cpu next w (act.Switch cpu next how ∷ [])
 turned_some cpus at room w cpu None how so there ready some leaves = turned_off cpus at room w cpu how (running_on w.tasks cpu.0) so there refl some leaves
 turned_some cpus at room w cpu (Some pid) how so there ready some leaves = turned_to cpus at room w cpu pid how so there ready (leaves (running_on w.tasks cpu.0) some)
 
--- if none is running
+-- the acts if no task is running
 turned_none : (cpus at have room : ℕ) (w : World) (cpu : Cpu) (next : Option Pid) → Stands cpus at have w → length (start_acts cpu next) + room ≤ have → cpu.0 < cpus → IsNext w.tasks cpu.0 next → is_some (running_on w.tasks cpu.0) ≡ false → Turned cpus at room cpu next w (start_acts cpu next)
 turned_none cpus at have room w cpu None so few there ready none = record {
   goes = goes_none cpus at room w (less_room cpus at have room w so (omega (arith, few)));
@@ -84,7 +84,7 @@ turned_none cpus at have room w cpu None so few there ready none = record {
 }
 turned_none cpus at have room w cpu (Some pid) so few there ready none = turned_to cpus at room w cpu pid Idle (less_room cpus at have (room + 1) w so (omega (arith, few))) there ready none
 
--- the acts of a turn, whether a task is running or not
+-- the acts that change the running task, depending on whether a task is running
 abbrev pub turn_by : Bool → Cpu → Option Pid → How → List Act
 turn_by some cpu next how = cond some (act.Switch cpu next how ∷ []) (start_acts cpu next)
 
@@ -98,7 +98,7 @@ leaves_by : (tasks : Tasks) (cpu : Cpu) (previous : Option Pid) (how : How) → 
 leaves_by tasks cpu previous how leaves =
     elim (runs_there tasks cpu previous) as (λ b. Leaves (cond b how Preempt)) [ true ↦ leaves | false ↦ λ o some. rw some refl ]
 
--- the task runs there already
+-- the next task runs on the processor already
 turned_already : (cpus at have room : ℕ) (w : World) (cpu : Cpu) (next : Option Pid) → Stands cpus at have w → room ≤ have → runs_there w.tasks cpu next ≡ true → Turned cpus at room cpu next w []
 turned_already cpus at have room w cpu None so few runs = absurd (cc runs)
 turned_already cpus at have room w cpu (Some pid) so few runs = record {
@@ -106,11 +106,12 @@ turned_already cpus at have room w cpu (Some pid) so few runs = record {
   runs = runner_is w.tasks so.legal.once cpu.0 pid runs;
 }
 
--- the world after acts and later ones
+-- the world after some acts, followed by others
 pub events_after : (at : ℕ) (w : World) (xs ys : List Act) → after_from w (events_at at (xs ++ ys)) ≡ after_from (after_from w (events_at at xs)) (events_at at ys)
 events_after at w xs ys = ap (after_from w) (map-append (event_at at) xs ys) ∙ after_from-append w (events_at at xs) (events_at at ys)
 
--- what brings the next task, and then the turn
+-- the acts that bring the next task to the processor, followed by the acts that change the running
+-- task
 turned_in : (cpus at have room : ℕ) (w : World) (cpu : Cpu) (next : Option Pid) (how : How) → Stands cpus at have w → length (next_acts w.tasks cpu next ++ turn_by (is_some (running_on w.tasks cpu.0)) cpu next how) + room ≤ have → cpu.0 < cpus → IfSome next IsPid → Leaves how
     → IfSome next (λ pid. task_of w.tasks pid.0 ≡ None → tasks_by.len w.tasks < 65536) → runs_there w.tasks cpu next ≡ false → Turned cpus at room cpu next w (next_acts w.tasks cpu next ++ turn_by (is_some (running_on w.tasks cpu.0)) cpu next how)
 turned_in cpus at have room w cpu None how so few there is leaves space off = turned cpus at have room w cpu None how (is_some (running_on w.tasks cpu.0)) so few there tt refl leaves
@@ -126,7 +127,7 @@ turned_in cpus at have room w cpu (Some pid) how so few there is leaves space of
       runs = subst (λ (v : World). runner v.tasks cpu.0 ≡ Some pid) (sym (events_after at w prefix turn)) then.runs;
     }
 
--- a switch
+-- all acts of a switch
 pub turns : (cpus at have room : ℕ) (w : World) (cpu : Cpu) (previous next : Option Pid) (how : How) → Stands cpus at have w → length (switch_acts w.tasks cpu previous next how) + room ≤ have → cpu.0 < cpus → IfSome next IsPid → Leaves how
     → (runs_there w.tasks cpu next ≡ false → IfSome next (λ pid. task_of w.tasks pid.0 ≡ None → tasks_by.len w.tasks < 65536)) → Turned cpus at room cpu next w (switch_acts w.tasks cpu previous next how)
 turns cpus at have room w cpu previous next how so few there is leaves space =

@@ -1,4 +1,5 @@
--- A whole import: its events may be spelled, each is legal in its turn, and the end is the last.
+-- Proofs about a whole import: its events can be spelled and are legal in their order, and the last
+-- one is the end.
 use Rattle.std.proofs.Common.{◌≡◌, ℕ, ◌+◌, List, [], ◌∷◌, ◌++◌, refl, ap, ◌∙◌, sym, subst, arith, append_assoc, cond, true, false, Option, None, Some, inl, inr, length}
 use Rattle.std.specs.Prelude.{nat_lt, Result, Ok, Err}
 use Rattle.psi_base.specs.declared.event.Act.TheVariants as act
@@ -19,9 +20,9 @@ use Rattle.ftrace_import.proofs.Steps.{first_in}
 use Rattle.ftrace_import.proofs.Sights.{line_seen, some_same}
 use Rattle.ftrace_import.proofs.Lines.{Gives, gives, switch_runs, wakeup_wakes}
 
--- ---- events in a row
+-- ---- legal events in sequence
 
--- events, and later ones
+-- legal events, followed by legal events, are legal events
 pub run_on : (cpus : ℕ) (w : World) (xs ys : List Event) → Run cpus w xs → Run cpus (after_from w xs) ys → Run cpus w (xs ++ ys)
 run_on cpus w [] ys prefix rest = rest
 run_on cpus w (x ∷ xs) ys prefix rest =
@@ -29,11 +30,11 @@ run_on cpus w (x ∷ xs) ys prefix rest =
     let suffix = run_on cpus (after_event w x) xs ys inner rest in
     record { fit = (prefix.fit.0, suffix.fit); known = (prefix.known.0, suffix.known); legal = (prefix.legal.0, suffix.legal) }
 
--- the end is still last after other events
+-- a list that ends with the end still does so after other events are prepended
 pub ends_after : (xs ys : List Event) → EndsLast ys → EndsLast (xs ++ ys)
 ends_after xs ys ends = (xs ++ ends.0, ends.1, ap (λ zs. xs ++ zs) ends.2 ∙ sym (append_assoc xs ends.0 (record { at = ends.1; act = act.End } ∷ [])))
 
--- the end of an import
+-- the end of an import can be spelled and is legal
 pub end_runs : (cpus : ℕ) (reached : Reached) → IsUnderWay cpus reached → Run cpus reached.world (end_at reached ∷ [])
 end_runs cpus reached so =
     let early = so.early in
@@ -49,14 +50,15 @@ end_runs cpus reached so =
 end_ends : (cpus : ℕ) (reached : Reached) → IsUnderWay cpus reached → Ends cpus reached.world (end_at reached ∷ [])
 end_ends cpus reached so = record { run = end_runs cpus reached so; ends = ([], reached.moment, refl) }
 
--- the result of a line, and the results after it
+-- the events of a line, followed by legal events that end with the end
 pub then_ends : (cpus : ℕ) (reached : Reached) (line_events : LineEvents) (rest : List Event) → Gives cpus reached line_events → Ends cpus line_events.reached.world rest → Ends cpus reached.world (line_events.events ++ rest)
 then_ends cpus reached line_events rest gives suffix = record {
   run = run_on cpus reached.world line_events.events rest (record { fit = gives.fit; known = gives.known; legal = gives.legal }) (subst (λ (w : World). Run cpus w rest) gives.world suffix.run);
   ends = ends_after line_events.events rest suffix.ends;
 }
 
--- a whole line that is given isn't too long, nor one too many
+-- a complete line that isn't rejected isn't too long, and its number is at most the greatest number
+-- of lines
 pub events_whole : (cpus : ℕ) (reached : Reached) (number : ℕ) (line : List ℕ) (line_events : LineEvents) → yield_of_line cpus reached number line ≡ Ok line_events → events_of_line cpus reached line ≡ Ok line_events
 unfolding yield_of_line
 events_whole cpus reached number line line_events is =
@@ -123,7 +125,7 @@ under_way cpus [] reached suffix so is = subst (λ (r : Reached). IsUnderWay cpu
 under_way cpus (line ∷ lines) reached suffix so is =
     after_if cpus reached suffix line (λ now. reached_by cpus now lines) so (events_of_line cpus reached line) refl (λ now under. under_way cpus lines now suffix under) is
 
--- a line with contents has their result, and they are in range
+-- a marked line: its result is that of its content, whose values are in range
 record ReportedLine (cpus : ℕ) (reached : Reached) (sighting : Sighting) (line_events : LineEvents) : Type 0 where
   seen : IsSeen sighting.seen
   gives : line_events_at cpus reached sighting.at sighting.seen ≡ Ok line_events

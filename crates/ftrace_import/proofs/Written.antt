@@ -1,4 +1,4 @@
--- The events that a line gives, among all that are written.
+-- Proofs about the events of one line among all written events.
 use Rattle.std.proofs.Common.{◌≡◌, ℕ, ◌+◌, List, [], ◌∷◌, ◌++◌, refl, ap, ◌∙◌, sym, append_assoc, Option, None, Some}
 use Rattle.std.specs.Prelude.{◌≢◌, Result, Ok, Err}
 use Rattle.psi_base.specs.declared.event.Event.{Event}
@@ -39,14 +39,15 @@ world_following : (cpus : ℕ) (reached : Reached) (line : List ℕ) (line_event
 unfolding events_of_line
 world_following cpus reached line line_events is = world_by cpus reached line_events (read_line line) is
 
--- with the events before it
+-- the world after a line is the world after the earlier events and the line's events
 world_after : (cpus : ℕ) (reached : Reached) (line : List ℕ) (line_events : LineEvents) (prefix : List Event) → reached.world ≡ after prefix → events_of_line cpus reached line ≡ Ok line_events → line_events.reached.world ≡ after (prefix ++ line_events.events)
 world_after cpus reached line line_events prefix there is =
     world_following cpus reached line line_events is ∙ ap (λ (w : World). after_from w line_events.events) there ∙ sym (after_from-append first_world prefix line_events.events)
 
 -- ---- a line of a text
 
--- a complete line has its events, and the rest of the text the later ones
+-- the import of a text that begins with a complete line: the line's events, followed by the events
+-- of the rest
 record Splits (cpus : ℕ) (reached : Reached) (number : ℕ) (line : List ℕ) (rest : List (List ℕ)) (events : List Event) : Type 0 where
   line_events : LineEvents
   suffix : List Event
@@ -70,9 +71,9 @@ unfolding import_from
 splits cpus reached number line [] events some is = absurd (some refl)
 splits cpus reached number line (next ∷ parts) events some is = splits_if cpus reached number line (next ∷ parts) events (yield_of_line cpus reached number line) refl is
 
--- ---- a line after others
+-- ---- a line after other lines
 
--- like IsWritten, after the events so far
+-- like `IsWritten`, but from the progress `begun`, after the events before it
 record WrittenFrom (cpus : ℕ) (begun : Reached) (lines : List (List ℕ)) (line : List ℕ) (events : List Event) : Type 0 where
   prefix : List Event
   suffix : List Event
