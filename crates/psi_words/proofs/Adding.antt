@@ -1,4 +1,4 @@
--- Arguments added to a command of clap.
+-- Proofs about adding arguments to a `clap` command.
 use Rattle.std.proofs.Common.{◌≡◌, ℕ, ◌<◌, ◌≤◌, ◌+◌, ◌++◌, ◌∷◌, List, [], Result, Ok, Err, IfOk}
 use Rattle.std.proofs.Common.{Bor, false, length, map, take, ap, sym, ◌∙◌, get_or}
 use Rattle.std.proofs.lemmas.List.{map_more, take_all, map-append}
@@ -9,11 +9,11 @@ use Rattle.clap.specs.declared.builder.command.Command.{Command}
 use Rattle.psi_words.specs.Clap.{plain_shape, plain_app, option_rule, positional_rule}
 use Rattle.psi_words.specs.Reads.{names_in}
 
--- a command with these rules
+-- the command with these rules
 abbrev pub app_with : List Rule → App
 app_with rules = record { top = plain_shape rules; subs = [] }
 
--- the rules of options of these names
+-- the rules of options with these names
 abbrev pub option_rules : List (Bor (List ℕ)) → List Rule
 option_rules names = map option_rule (names_in names)
 
@@ -23,7 +23,7 @@ added : (old : Command) (a : Arg) (new : Command) (rules : List Rule) (r : Rule)
 added old a new rules r adds local is app =
     adds.shape local ∙ (ap (λ x. with_rule x (rule_of a)) app ∙ ap (with_rule (app_with rules)) is)
 
--- the options so far, and one more
+-- the rules after one more option is added
 pub option_added : (old : Command) (a : Arg) (new : Command) (names : List (Bor (List ℕ))) (i : ℕ)
     (d : Bor (List ℕ)) → i < length names → AddsArg old a new → a.global ≡ false
     → rule_of a ≡ option_rule (get_or names i d).now

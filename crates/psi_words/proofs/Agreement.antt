@@ -1,4 +1,5 @@
--- Words taken apart as clap takes them say what the definition has them say.
+-- Proofs that splitting the words as `clap` does gives the meaning that the definition gives. A
+-- *part* is an option with its value, or a positional argument.
 use Rattle.std.proofs.Common.{◌≡◌, ℕ, ◌++◌, ◌∷◌, ◌==◌, ◌&&◌, ◌||◌, List, [], Bool, true, false, not}
 use Rattle.std.proofs.Common.{Option, Some, None, map, nat_eq, refl, sym, ap, ◌∙◌, subst}
 use Rattle.std.proofs.Common.{true≢false, arith, if◌then◌else◌}
@@ -18,7 +19,7 @@ use Rattle.psi_words.proofs.Reading.{has_after, not_positional}
 
 -- ---- one word
 
--- what a word that begins with `--` is, by its name and value
+-- the kind of a word that begins with `--`, given its name and value
 abbrev pub word_by : List (List ℕ) → Option (List ℕ × Option (List ℕ)) → Word
 word_by names None = unknown
 word_by names (Some (name, None)) = if is_among name names then opened name else unknown
@@ -44,7 +45,7 @@ is_45 x is = grind arith
 not_45 : (x : ℕ) → (x == 45) ≡ false → nat_eq 45 x ≡ false
 not_45 x is = grind arith
 
--- after `--`
+-- the meaning of the words after `--`
 dashes_agree : (names : List (List ℕ)) (rest : List ℕ)
     → bytes_eq (45 ∷ 45 ∷ rest) (codes "--") ≡ false
     → word_of names (45 ∷ 45 ∷ rest) ≡ word_by names (long_of (45 ∷ 45 ∷ rest))
@@ -71,29 +72,29 @@ word_agrees names (x ∷ y ∷ rest) dashed other =
 
 -- ---- the meaning of parts
 
--- what parts say, if no two have one id
+-- the meaning of parts that all have different ids
 abbrev pub parsed_parts : List Part → ParsedWords
 parsed_parts [] = nothing
 parsed_parts (parsed name value ∷ ps) =
     record (parsed_parts ps) { options = (name, value) ∷ (parsed_parts ps).options }
 parsed_parts (plain word ∷ ps) = record (parsed_parts ps) { positional = Some word }
 
--- no two parts have one id
+-- all parts have different ids
 abbrev pub are_apart : List Part → Bool
 are_apart [] = true
 are_apart (p ∷ ps) = not (has_part (id_of p) ps) && are_apart ps
 
--- the same, or None if two have one id
+-- the meaning of parts, or `None` if two have the same id
 abbrev pub parts_say : List Part → Option ParsedWords
 parts_say ps = if are_apart ps then Some (parsed_parts ps) else None
 
--- the options among the parts have these names
+-- the options among the parts have names of the list
 abbrev pub AreKnown : List (List ℕ) → List Part → Type 0
 AreKnown names [] = ⊤
 AreKnown names (parsed name value ∷ ps) = (is_among name names ≡ true) × AreKnown names ps
 AreKnown names (plain word ∷ ps) = AreKnown names ps
 
--- a name among these isn't the positional's id
+-- a name of the list isn't the id of the positional argument
 pub free_name : (names : List (List ℕ)) (name : List ℕ) → is_among positional_id names ≡ false
     → is_among name names ≡ true → bytes_eq name positional_id ≡ false
 free_name names name free known =
@@ -163,7 +164,7 @@ say_plain names word ps free known =
 
 -- ---- the meaning of words
 
--- the parts say this, and their options have these names
+-- the parts have this meaning, and their options have names of the list
 abbrev pub Agrees : List (List ℕ) → Option (List Part) → Option ParsedWords → Type 0
 Agrees names None g = g ≡ None
 Agrees names (Some ps) g = AreKnown names ps × (g ≡ parts_say ps)
@@ -196,7 +197,7 @@ agrees_plainly names (word ∷ words) free =
     agrees_plain names word (Some (map plain words)) (parsed_from names suffix words) free
     (agrees_plainly names words free)
 
--- the words agree, if an option with one of the names may be pending
+-- the words have the right meaning, also after an option that waits for its value
 abbrev AllAgree : List (List ℕ) → List (List ℕ) → Type 0
 AllAgree names words = Agrees names (parts names None words) (parsed_from names at_word words)
     × ((name : List ℕ) → is_among name names ≡ true
@@ -259,7 +260,7 @@ all_agree names (word ∷ rest) free =
       value_parts names word rest (is_dashed word) refl free more,
     )
 
--- ---- parts fit if no two have one id
+-- ---- the parts are accepted if their ids differ
 
 same_both_ways : (xs ys : List ℕ) → bytes_eq xs ys ≡ bytes_eq ys xs
 same_both_ways xs ys = go (bytes_eq xs ys) (bytes_eq ys xs) refl refl
@@ -274,7 +275,7 @@ same_both_ways xs ys = go (bytes_eq xs ys) (bytes_eq ys xs) refl refl
         ∙ (ap (λ t. bytes_eq t ys) (same_text ys xs other) ∙ one)))
     go false false one other = one ∙ sym other
 
--- no part has the id of one before
+-- no part has the id of an earlier part
 abbrev are_new : List Part → List Part → Bool
 are_new before ps = list_all (λ p. not (has_part (id_of p) before)) ps
 
@@ -317,7 +318,7 @@ fits_is before (p ∷ ps) =
 apart_if : (ps : List Part) (b : Bool) → fits [] ps ≡ b → are_apart ps ≡ b
 apart_if ps b is = ap (λ d. d && are_apart ps) (sym (all_new ps)) ∙ (sym (fits_is [] ps) ∙ is)
 
--- if the parts don't fit, the words have no meaning
+-- if the parts aren't accepted, the words have no meaning
 pub refused_words : (names words : List (List ℕ)) → is_among positional_id names ≡ false
     → judged [] (parts names None words) ≡ false → parsed_from names at_word words ≡ None
 refused_words names words free unfit =
@@ -329,7 +330,7 @@ refused_words names words free unfit =
     go (Some ps) same unfit =
         same.1 ∙ ap (λ b. if b then Some (parsed_parts ps) else None) (apart_if ps false unfit)
 
--- if they fit, the words have their meaning
+-- if the parts are accepted, the words have the meaning of the parts
 pub accepted_words : (names words : List (List ℕ)) (ps : List Part)
     → is_among positional_id names ≡ false → parts names None words ≡ Some ps
     → judged [] (parts names None words) ≡ true

@@ -37,7 +37,7 @@ built_is names =
       subs = [];
     }) (filled_all names)
 
--- the parts fit if and only if clap's definition has no fault
+-- the parts are accepted exactly if `clap`'s definition gives no fault
 pub fault_is : (names words : List (List ℕ)) → is_among positional_id names ≡ false → AreTexts words
     → is_nil (fault_of (plain_app names) words) ≡ judged [] (parts names None words)
 fault_is names words free texts =
@@ -140,7 +140,7 @@ rows_said : (names : List (List ℕ)) (ps : List Part) → is_among positional_i
 rows_said names ps free known =
     rw (options_said names ps free known, positional_said names ps free known) refl
 
--- the rows that clap found are those of the parts
+-- the rows that `clap` found are the rows of the parts
 rows_found : (app : App) (names words : List (List ℕ)) (m : ArgMatches) → app ≡ plain_app names
     → is_among positional_id names ≡ false → judged [] (parts names None words) ≡ true
     → HasMatchesOf app words m
@@ -149,7 +149,7 @@ rows_found app names words m is free fit has =
     matches_by app names words m is has
     ∙ (matches_as names words ∙ (all_rows names words free).0 [] None false tt fit)
 
--- what clap found is what the words say
+-- the rows that `clap` found have the meaning of the words
 pub found_said : (app : App) (names words : List (List ℕ)) (m : ArgMatches) → app ≡ plain_app names
     → is_among positional_id names ≡ false → judged [] (parts names None words) ≡ true
     → HasMatchesOf app words m
@@ -168,7 +168,7 @@ found_said app names words m is free fit has = go (parts names None words) refl
         let same = sym (rows_said names ps free say.0) ∙ ap words_in (sym rows) in
         (say.1 ∙ ap Some same, subst AreValued (sym rows) (rows_valued ps))
 
--- if clap rejects them, the words have no meaning
+-- if `clap` rejects the words, they have no meaning
 pub refused_said : (app : App) (names words : List (List ℕ)) (e : Error) → app ≡ plain_app names
     → is_among positional_id names ≡ false → AreTexts words
     → (is_simple_and_free app ≡ true → HasKind (fault_of app words) e)
@@ -177,7 +177,7 @@ pub refused_said : (app : App) (names words : List (List ℕ)) (e : Error) → a
 refused_said app names words e is free texts fails other =
     refused_words names words free (refused_by app names words e is free texts fails other)
 
--- ---- the result of a look-up
+-- ---- the result of a lookup
 
 both_true : (a b : Bool) → a && b ≡ true → (a ≡ true) × (b ≡ true)
 both_true true b is = (refl, is)
@@ -199,7 +199,7 @@ row_valued name r rows true false (Some v) other here option is some rest =
 row_valued name r rows false true v other here option is some rest = rw (option, here) rest
 row_valued name r rows false false v other here option is some rest = rw (option, here) rest
 
--- a look-up by name finds the option's value
+-- a lookup by name finds the value of the option
 pub first_valued : (name : List ℕ) (rows : List Row) → bytes_eq name positional_id ≡ false
     → AreValued rows → first_of name rows ≡ option_value name (words_in rows)
 first_valued name [] other valued = refl

@@ -1,4 +1,4 @@
--- What a call read by a command's table is in range.
+-- Proofs that the values of a parsed command are in range.
 use Rattle.std.proofs.Common.{Option, Result, Ok, Err, IfOk}
 use Rattle.psi_base.specs.declared.event.Fault.{Fault}
 use Rattle.run_spec.specs.declared.command.Command.{Command}

@@ -1,4 +1,5 @@
--- The words taken apart as clap takes them: in their order, a positional by an id of its own.
+-- The parts of a command line, as `clap` splits the words: options with their values, and
+-- positional arguments, in their order.
 use Rattle.std.proofs.Common.{◌≡◌, ℕ, ◌++◌, ◌∷◌, ◌&&◌, List, [], Bool, true, false, not, Option}
 use Rattle.std.proofs.Common.{Some, None, map, if◌then◌else◌}
 use Rattle.std.specs.Prelude.{option_map, ⊤}
@@ -8,7 +9,7 @@ use Rattle.clap.specs.Lexer.{long_of}
 use Rattle.run_spec.specs.Words.{is_dashed, is_among}
 use Rattle.psi_words.specs.Clap.{positional_id}
 
--- an option with its value, or a word that is none
+-- an option with its value, or a positional argument
 pub data Part : Type 0 where
   parsed : List ℕ → List ℕ → Part
   plain : List ℕ → Part
@@ -21,11 +22,11 @@ abbrev pub text_of : Part → List ℕ
 text_of (parsed name value) = value
 text_of (plain word) = word
 
--- a part before the rest, or None if there is no rest
+-- a part before the other parts, or `None` if these are `None`
 abbrev pub then_part : Part → Option (List Part) → Option (List Part)
 then_part p rest = option_map (λ ps. p ∷ ps) rest
 
--- a long option ahead of the rest
+-- the parts after a long option, depending on its value
 abbrev pub then_long : List (List ℕ) → Option (List ℕ × Option (List ℕ))
     → (Option (List ℕ) → Option (List Part)) → Option (List Part)
 then_long names None next = None
@@ -44,26 +45,26 @@ parts names None (word ∷ rest) =
     then_long names (long_of word) (λ waiting. parts names waiting rest))
     else then_part (plain word) (parts names None rest)
 
--- one of the parts has this id
+-- at least one of the parts has this id
 abbrev pub has_part : List ℕ → List Part → Bool
 has_part id ps = list_any (λ p. bytes_eq (id_of p) id) ps
 
--- no part has the id of another or of one before
+-- all parts have different ids, which also differ from the ids of earlier parts
 abbrev pub fits : List Part → List Part → Bool
 fits before [] = true
 fits before (p ∷ ps) = not (has_part (id_of p) before) && fits (before ++ p ∷ []) ps
 
--- the words have parts, and these fit those before
+-- the words have parts, and these are accepted after the earlier parts
 abbrev pub judged : List Part → Option (List Part) → Bool
 judged before None = false
 judged before (Some ps) = fits before ps
 
--- each word is a text
+-- every word is UTF-8
 abbrev pub AreTexts : List (List ℕ) → Type 0
 AreTexts [] = ⊤
 AreTexts (word ∷ words) = (is_utf8 word ≡ true) × AreTexts words
 
--- the parts so far, and then the others
+-- the earlier parts, followed by the others
 abbrev pub gathered : List Part → Option (List Part) → List Part
 gathered before None = before
 gathered before (Some ps) = before ++ ps

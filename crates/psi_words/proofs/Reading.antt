@@ -19,7 +19,7 @@ use Rattle.psi_words.proofs.Turning.{positional_walked}
 use Rattle.psi_words.proofs.Turning.{assigned_turn, assigned_walked, open_turn}
 use Rattle.psi_words.proofs.Turning.{open_walked, open_held}
 
--- ---- the place of the positional
+-- ---- the index of the positional argument
 
 pub has_after : (id : List ℕ) (xs : List Part) (p : Part)
     → has_part id (xs ++ p ∷ []) ≡ has_part id xs || (bytes_eq (id_of p) id || false)
@@ -46,7 +46,7 @@ pub or_true : (b : Bool) → b || true ≡ true
 or_true true = refl
 or_true false = refl
 
--- whether the positional was given
+-- the positional argument was given
 abbrev pub has_positional : List Part → Option Part → Bool
 has_positional acc last = has_part positional_id acc || is_plain last
 
@@ -86,7 +86,7 @@ second_plain acc word (Some ps) has = rw has refl
 first_false : (a b : Bool) → a ≡ false → a && b ≡ false
 first_false a b e = ap (λ x. x && b) e
 
--- a word that goes to the positional
+-- a word that is a positional argument
 pub plain_reads : (names : List (List ℕ)) (word : List ℕ) (rest : List (List ℕ)) (t : Bool)
     (r : Option (List Part)) → is_among positional_id names ≡ false
     → ((h : Held) → turn_fault (top names) [] (at_word h idle t 1) word

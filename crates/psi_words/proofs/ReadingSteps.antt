@@ -1,4 +1,4 @@
--- Words read one by one.
+-- Proofs about parsing words one by one.
 use Rattle.std.proofs.Common.{◌≡◌, ℕ, ◌∷◌, ◌==◌, ◌&&◌, ◌||◌, List, [], Bool, true, false}
 use Rattle.std.proofs.Common.{Option, Some, None, map, refl, sym, ap, ◌∙◌, arith, true≢false, subst}
 use Rattle.std.proofs.Common.{is_some, if◌then◌else◌}
@@ -35,7 +35,7 @@ short_rest x y (z ∷ zs) true is at other none =
     let some : is_some (long_of (x ∷ y ∷ z ∷ zs)) ≡ true =
     rw (at, is) refl in absurd (true≢false (sym some ∙ ap is_some none))
 
--- a word that begins with a hyphen, and isn't `--` or a long option
+-- a word that begins with a hyphen, but is neither `--` nor a long option
 short_word : (names : List (List ℕ)) (word : List ℕ) (rows : List Row)
     (pending : Option (List ℕ × List (List ℕ))) (waiting : Waiting) (position : ℕ)
     → is_dashed word ≡ true → bytes_eq word (45 ∷ 45 ∷ []) ≡ false → long_of word ≡ None
@@ -160,7 +160,7 @@ word_reads names word rest true false free utf8 is_dashed is_other reads opens a
     ∙ ap (λ r. judged acc (then_last last r))
     (sym (parts_long names word rest (long_of word) is_dashed is_other refl))
 
--- ---- one more word after an option that waits
+-- ---- one more word after an option that waits for its value
 
 total_end : (names : List (List ℕ)) (w : Walk) → total names w [] ≡ end_fault names w.held
 unfolding walk_fault

@@ -24,7 +24,7 @@ use Rattle.psi_words.proofs.ReadingSteps.{parts_bare, parts_dashes, parts_long, 
 use Rattle.psi_words.proofs.Reading.{has_positional}
 use Rattle.psi_words.proofs.ReadingSteps.{parts_open_dashed}
 
--- the rows at the end
+-- the rows after the last word
 abbrev pub rows_end : List (List ℕ) → Walk → List (List ℕ) → List Row
 rows_end names w words =
     finished (built_rules names) (fold (walked (built_rules names) []) w words).held

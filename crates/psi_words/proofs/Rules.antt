@@ -4,7 +4,7 @@ use Rattle.clap.specs.Walk.{Rule, arg_by_short, arg_by_index}
 use Rattle.clap.specs.Simple.{built, filled, filled_from, with_index}
 use Rattle.psi_words.specs.Clap.{option_rule, positional_rule, plain_app}
 
--- what building makes of the rules
+-- the rule of an option after the command is built
 abbrev pub built_option : List ℕ → Rule
 built_option name = filled (option_rule name)
 

@@ -44,7 +44,7 @@ bare_other (x ∷ []) bare = go (x == 45) refl
     go false is = rw is refl
 bare_other (x ∷ y ∷ rest) bare = rw bare refl
 
--- ---- a word that is no flag
+-- ---- a positional argument
 
 pub and_false : (b : Bool) → b && false ≡ false
 and_false true = refl
@@ -76,7 +76,7 @@ pub bare_stray : (names : List (List ℕ)) (h : Held) (word : List ℕ) → is_d
 bare_stray names h word bare =
     rw (bare_other word bare, bare_long word bare, bare_short word bare, by_index_2 names) refl
 
--- the walk after a positional
+-- the state of the walk after a positional argument
 abbrev pub positional_walked : (names : List (List ℕ)) (h : Held) (t : Bool) (word : List ℕ) → Walk
 positional_walked names h t word =
     at_word (record (settled (built_rules names) h) { pending = Some (positional_id, word ∷ []) })
@@ -175,7 +175,7 @@ pub open_walked : (names : List (List ℕ)) (h : Held) (position : ℕ) (word n 
 unfolding walked
 open_walked names h position word n other is among = rw (other, is, by_long n names, among) refl
 
--- ---- a bundle of flags, of which the command has none
+-- ---- a bundle of flags, which the command doesn't have
 
 pub flags_turn : (names : List (List ℕ)) (h : Held) (y : ℕ) (rest : List ℕ) (x : ℕ)
     → slice_get (chars (y ∷ rest)) 0 ≡ Some x

@@ -45,7 +45,7 @@ pub either_false : (a b : Bool) → a || b ≡ false → (a ≡ false) × (b ≡
 either_false false b e = (refl, e)
 either_false true b e = (e, absurd (true≢false e))
 
--- a row that isn't there is left out, or put in, at the end
+-- changing the row of an id that no part has appends the rows `missing`
 row_kept : (id : List ℕ) (change : Row → List Row) (missing : List Row) (ps : List Part)
     → has_part id ps ≡ false → at_row id change missing (map row ps) ≡ map row ps ++ missing
 row_kept id change missing [] new = refl
@@ -216,7 +216,7 @@ end_is names acc last false known free new =
 
 -- ---- a word
 
--- the current place of the walk
+-- the state of the walk at the current word
 abbrev pub at_word : Held → Waiting → Bool → ℕ → Walk
 at_word h waiting trailing position =
     record {
@@ -233,11 +233,11 @@ is_plain None = false
 is_plain (Some (parsed n v)) = false
 is_plain (Some (plain w)) = true
 
--- the positional that comes next
+-- the index of the next positional argument
 abbrev pub place : List Part → Option Part → ℕ
 place acc last = if has_part positional_id acc || is_plain last then 2 else 1
 
--- what the words come to
+-- the result of the walk over all words
 abbrev pub total : List (List ℕ) → Walk → List (List ℕ) → Kinds
 total names w words =
     or_else (walk_fault (top names) [] w words)
