@@ -20,14 +20,12 @@ use Rattle.psi_counts.specs.Legal.{changes_from, added, taken}
 
 -- ---- what events change on a processor
 
--- the change that an event makes on processor `cpu` in the world `w`; `None` if there is no event,
--- or if the event doesn't touch the processor
+-- the change that an event makes on processor `cpu` in the world `w`, or `None` if it makes none
 abbrev pub change_by : ℕ → World → Option Event → Option Change
 change_by cpu w None = None
 change_by cpu w (Some event) = change_of w event cpu
 
--- the change that event `i` (numbered from 1) makes on processor `cpu`, in the world before the
--- event; `None` if the event doesn't touch the processor
+-- the change that event `i` (from 1) makes on processor `cpu`, or `None` if it doesn't touch it
 abbrev pub change_at : ℕ → List Event → ℕ → Option Change
 change_at cpu events i = change_by cpu (after (take (i - 1) events)) (slice_get events (i - 1))
 
@@ -49,13 +47,11 @@ plan_of cpu events = record { changes = changes_from cpu first_world events; par
 
 -- ---- the state after some changes
 
--- the sum of the counts that the first k changes add to the group in `slot`, for tasks in the group
--- or below it
+-- the sum of the counts that the first k changes add to the group in `slot`
 abbrev pub added_after : PlanView → ℕ → ℕ → Counts
 added_after plan slot k = added plan.parents slot (take k plan.changes)
 
--- the sum of the counts that the first k changes subtract from the group in `slot`, for tasks in
--- the group or below it
+-- the sum of the counts that the first k changes subtract from the group in `slot`
 abbrev pub taken_after : PlanView → ℕ → ℕ → Counts
 taken_after plan slot k = taken plan.parents slot (take k plan.changes)
 
@@ -74,8 +70,7 @@ less more fewer =
 abbrev pub counts_after : PlanView → ℕ → ℕ → Counts
 counts_after plan slot k = less (added_after plan slot k) (taken_after plan slot k)
 
--- The sum `taken` is at most the sum `added`, and their difference is at most 65,536, the limit of
--- live tasks.
+-- The sum `taken` is at most `added`, and the difference at most 65,536, the limit of live tasks.
 abbrev pub Leaves : ℕ → ℕ → Type 0
 Leaves taken added = (taken ≤ added) × (added ≤ taken + most_tasks)
 
@@ -95,14 +90,12 @@ FitsPlan plan = (slot k : ℕ) → k ≤ length plan.changes → LeavesFew (take
 abbrev pub current_after : PlanView → ℕ → Option (Slot × Bool)
 current_after plan k = slice_index_or (None ∷ map (λ (change : Change). change.current) plan.changes) k None
 
--- whether the accounting of the group in `slot` is on after `changes`; `on` is whether it was on
--- before them
+-- whether the group's accounting is on after `changes`, if `on` says whether it was before them
 abbrev pub on_from : ℕ → Bool → List Change → Bool
 on_from slot on [] = on
 on_from slot on (change ∷ changes) = on_from slot (on_with slot on change.account) changes
 
--- Whether the accounting of the group in `slot` is on after the first k changes. It is on at first,
--- and the last change that switches it decides.
+-- Whether accounting is on after the first k changes: as the last switch says, at first on.
 abbrev pub on_after : PlanView → ℕ → ℕ → Bool
 on_after plan slot k = on_from slot true (take k plan.changes)
 
@@ -132,16 +125,14 @@ abbrev pub irq_after : PlanView → ℕ → ℕ
 irq_after plan k = sum (map (λ (change : Change). change.irq) (take k plan.changes))
 
 -- Interrupts of a processor took no more time than passed: the interrupt time in the first k
--- changes is at most the time of change k, so it fits in 64 bits. The reason is that a change's
--- interrupts come after the previous change that has interrupt time.
+-- changes is at most the time of change k, so it fits in 64 bits.
 abbrev pub IrqsFit : PlanView → Type 0
 IrqsFit plan = (k : ℕ) → k ≤ length plan.changes → irq_after plan k ≤ last_change plan k
 
 -- The invariant of plans. A plan has at most 4,000,000 changes, the limit of a trace's events.
 -- Their times never decrease, and are at most 60,000,000 s, the longest trace. The counts and the
--- interrupt time are within their limits. Each change subtracts the counts of at most one task,
--- adds the counts of at most one task, and names existing slots. Each slot except the first has a
--- parent, which is an older slot.
+-- interrupt time are within their limits. A change subtracts and adds the counts of at most one task
+-- each, and names existing slots. The parent of each slot but the first is an older slot.
 pub record IsPlan (plan : PlanView) : Type 0 where
   pub few : length plan.changes ≤ most_events
   pub order : AreInOrder plan
@@ -185,9 +176,8 @@ planned_irq plan slot k = irq_over plan.parents slot true (take k plan.changes)
 -- ---- clocks of a slot
 
 -- `clock` is a clock of the group in `slot` after the first k changes of a plan: it is well-formed
--- (nine words), has the group's states, and gives the planned times. If changes since its start
--- left the states unchanged, the clock may have started before change k. So a slot can have several
--- clocks after the same changes.
+-- (nine words), has the group's states, and gives the planned times. It may have started before
+-- change k, if the changes since then left the states unchanged.
 pub record IsClock (clock : ClockView) (plan : PlanView) (slot k : ℕ) : Type 0 where
   pub within : k ≤ length plan.changes
   pub whole : IsWholeClock clock
@@ -220,16 +210,14 @@ pub record IsAside (plan : PlanView) (slot k : ℕ) (change : Change) : Type 0 w
 
 -- ---- laws
 
--- The changes of a processor come from the events that touch the processor, in order, each at the
--- time of its event.
+-- A processor's changes are those of the events that touch it, in order, each at its event's time.
 abbrev pub ChangesAreNumbered : Type 0
 ChangesAreNumbered = (cpu : ℕ) (events : List Event) →
     (map (λ change. Some change) (changes_from cpu first_world events) ≡ map (change_at cpu events) (changes_of cpu events))
     × (map (λ (change : Change). change.at) (changes_from cpu first_world events) ≡ map (moment_of events 0) (changes_of cpu events))
     × (length (changes_from cpu first_world events) ≡ length (changes_of cpu events))
 
--- The events up to the k-th change make exactly the first k changes, and end at the time of the
--- k-th change.
+-- The events up to the k-th change make exactly the first k changes, and end at its time.
 abbrev pub ChangesUntil : Type 0
 ChangesUntil = (cpu : ℕ) (events : List Event) (k : ℕ) → k ≤ length (changes_of cpu events) →
     (changes_from cpu first_world (until_change cpu events k) ≡ take k (changes_from cpu first_world events))
@@ -271,9 +259,8 @@ abbrev pub StallUpTo : Type 0
 StallUpTo = (limits : Limits) (events : List Event) → AreLegal limits first_world events → (state : State) (cpu slot at : ℕ) →
     stall state cpu slot (up_to events at) at ≡ stall state cpu slot (until_change cpu events (count_at cpu events at)) at
 
--- The number of a processor's changes up to a time (ns) follows from the times in its plan. The
--- number is at most the number of all changes, and the last change counted is at or before that
--- time.
+-- The number of a processor's changes up to a time (ns) follows from the times in its plan: the
+-- last change counted is at or before that time.
 abbrev pub CountsByPlan : Type 0
 CountsByPlan = (limits : Limits) (events : List Event) → AreLegal limits first_world events → (cpu at : ℕ) →
     (count_at cpu events at ≡ changes_up_to (plan_of cpu events) at) × (count_at cpu events at ≤ length (changes_of cpu events))
@@ -306,8 +293,7 @@ FollowedIsClock =
     → last_change plan k ≤ last_change plan (k + 1) → IsWholeClock next → ClockFollows one (last_change plan (k + 1)) next
     → ((state : State) → mask_holds next.mask state ≡ holds_after state plan slot (k + 1)) → IsClock next plan slot (k + 1)
 
--- A clock of a slot of a plan can be advanced to any time (ns) from the last change on, up to the
--- longest trace.
+-- A clock of a slot can be advanced to any time (ns) from the last change on.
 abbrev pub ClockIsInTime : Type 0
 ClockIsInTime =
     (clock : ClockView) (plan : PlanView) (slot k at : ℕ) → IsPlan plan → IsClock clock plan slot k → last_change plan k ≤ at
@@ -317,16 +303,14 @@ ClockIsInTime =
 abbrev pub EmptyIsPlan : Type 0
 EmptyIsPlan = IsPlan no_plan
 
--- If a change leaves a slot's states unchanged, each clock of the slot before the change is also a
--- clock of the slot after the change.
+-- If a change leaves a slot's states unchanged, the slot's earlier clocks are still its clocks.
 abbrev pub KeptIsClock : Type 0
 KeptIsClock =
     (clock : ClockView) (plan : PlanView) (slot k : ℕ) → IsClock clock plan slot k → k < length plan.changes
     → last_change plan k ≤ last_change plan (k + 1) →
     ((state : State) → holds_after state plan slot (k + 1) ≡ holds_after state plan slot k) → IsClock clock plan slot (k + 1)
 
--- If the plan's counts fit, the counts after a change are the counts before it, minus the counts
--- that the change subtracts, plus the counts that it adds.
+-- If the plan's counts fit, a change subtracts and adds its counts to those before it.
 abbrev pub CountsByChange : Type 0
 CountsByChange = (plan : PlanView) → FitsPlan plan → (slot k : ℕ) (change : Change) → slice_get plan.changes k ≡ Some change →
     Follows (counts_after plan slot k) (on_chain plan.parents slot change.minus) (on_chain plan.parents slot change.plus)
@@ -337,8 +321,7 @@ abbrev pub PlanCountsAreFew : Type 0
 PlanCountsAreFew =
     (plan : PlanView) → FitsPlan plan → (slot k : ℕ) → k ≤ length plan.changes → AreAtMost most_tasks (counts_after plan slot k)
 
--- Whether a group's accounting is on after a change follows from whether it was on before, and from
--- the change's switch of accounting.
+-- Whether accounting is on after a change follows from whether it was on before it.
 abbrev pub OnByChange : Type 0
 OnByChange = (plan : PlanView) (slot k : ℕ) (change : Change) → slice_get plan.changes k ≡ Some change →
     on_after plan slot (k + 1) ≡ on_with slot (on_after plan slot k) change.account
@@ -359,8 +342,7 @@ AsideStays =
     (state : State) (plan : PlanView) (slot k : ℕ) (change : Change) → slice_get plan.changes k ≡ Some change → IsAside plan slot k change →
     holds_after state plan slot (k + 1) ≡ holds_after state plan slot k
 
--- The number of changes up to `at` (ns) is k if change k is at or before `at` and change k + 1, if
--- it exists, is later.
+-- The number of changes up to `at` (ns) is k if change k is the last one at or before `at`.
 abbrev pub PlaceOfMoment : Type 0
 PlaceOfMoment =
     (plan : PlanView) → AreInOrder plan → (k at : ℕ) → k ≤ length plan.changes → last_change plan k ≤ at
@@ -379,15 +361,13 @@ ClockShowsPlanned =
     (clock : ClockView) (plan : PlanView) (slot k at : ℕ) → IsClock clock plan slot k → last_change plan k ≤ at
     → opened clock at ≡ planned plan slot k at
 
--- The planned times by the changes up to a time (ns) are the stall times of the events up to that
--- time.
+-- The planned times up to a time (ns) are the stall times of the events up to that time.
 abbrev pub PlannedUntil : Type 0
 PlannedUntil = (limits : Limits) (events : List Event) → AreLegal limits first_world events → (cpu slot at : ℕ) →
     planned (plan_of cpu events) slot (changes_up_to (plan_of cpu events) at) at
     ≡ map (λ state. stall state cpu slot (up_to events at) at) states
 
--- The planned times after k changes are the stall times that psi_spec's `times_after` defines for
--- the processor after k changes.
+-- The planned times after k changes are psi_spec's `times_after` for the processor.
 abbrev pub PlannedAfter : Type 0
 PlannedAfter = (limits : Limits) (events : List Event) → AreLegal limits first_world events → (cpu slot k at : ℕ) →
     k ≤ length (changes_of cpu events) → last_change (plan_of cpu events) k ≤ at →
@@ -399,26 +379,22 @@ PlannedAfter = (limits : Limits) (events : List Event) → AreLegal limits first
 abbrev pub NoPlannedIrq : Type 0
 NoPlannedIrq = (plan : PlanView) (slot : ℕ) → planned_irq plan slot 0 ≡ 0
 
--- Each change adds its interrupt time for the group to the planned interrupt time, if the group's
--- accounting is on before the change.
+-- Each change adds its interrupt time to a group's planned one, if the group's accounting was on.
 abbrev pub PlannedIrqByChange : Type 0
 PlannedIrqByChange = (plan : PlanView) (slot k : ℕ) (change : Change) → slice_get plan.changes k ≡ Some change →
     planned_irq plan slot (k + 1) ≡ planned_irq plan slot k + (if on_after plan slot k then irq_in plan.parents slot change else 0)
 
--- Planned interrupt time is at most the time of the last change, because the interrupts of one
--- processor don't overlap.
+-- Planned interrupt time is at most the last change's time: a processor's interrupts don't overlap.
 abbrev pub PlannedIrqFits : Type 0
 PlannedIrqFits = (plan : PlanView) → IrqsFit plan → (slot k : ℕ) → k ≤ length plan.changes → planned_irq plan slot k ≤ last_change plan k
 
--- The planned interrupt time after k changes is the interrupt time of the events up to the k-th
--- change.
+-- The planned interrupt time after k changes is that of the events up to the k-th change.
 abbrev pub PlannedIrqIsIrq : Type 0
 PlannedIrqIsIrq =
     (limits : Limits) (events : List Event) → AreLegal limits first_world events → (cpu slot k : ℕ) → k ≤ length (changes_of cpu events) →
     planned_irq (plan_of cpu events) slot k ≡ irq_time cpu slot (until_change cpu events k)
 
--- The planned interrupt time by the changes up to a time (ns) is the interrupt time of the events
--- up to that time.
+-- The planned interrupt time up to a time (ns) is that of the events up to it.
 abbrev pub PlannedIrqUntil : Type 0
 PlannedIrqUntil = (limits : Limits) (events : List Event) → AreLegal limits first_world events → (cpu slot at : ℕ) →
     planned_irq (plan_of cpu events) slot (changes_up_to (plan_of cpu events) at) ≡ irq_time cpu slot (up_to events at)

@@ -89,7 +89,7 @@ impl<'a> Model for PlainClocks<'a> {
 
 impl<'a> PlainClocks<'a> {
     /// Creates the clocks of a plan, before its first change. Precondition: the plan has `slots`
-    /// slots. Allocates everything up front.
+    /// slots. Allocates all of its memory at once.
     pub fn make(alloc: Global, plan: &'a Plan, slots: u32) -> Result<PlainClocks<'a>, NoMemory>
         requires { slots ≡ length plan.now.parents }
         ensures { IfOk result (λ clocks. clocks ≡ record { plan = plan.now; made = 0 }) }

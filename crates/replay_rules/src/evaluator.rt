@@ -38,7 +38,7 @@ impl Model for Evaluator {
 
 impl Evaluator {
     /// Creates an evaluator of these rules, before the first evaluation of the trace of `plans`.
-    /// Allocates everything up front.
+    /// Allocates all of its memory at once.
     pub(crate) fn make(alloc: Global, plans: &Plans, rules: Rules) -> Result<Evaluator, NoMemory>
         ensures { IfOk result (λ evaluator. (trace : Trace) (timing : Timing) →
             IsPlanned plans.now trace timing → HasRead evaluator trace rules.rules []) }

@@ -39,7 +39,7 @@ impl Model for Judge {
 
 impl Judge {
     /// Creates a judge of these rules for the trace of `plans`, before the first tick. `interval`
-    /// is the time between evaluations (ns). Allocates everything up front, and nothing if there
+    /// is the time between evaluations (ns). Allocates all memory at once, and none if there
     /// are no rules.
     pub fn make(
         alloc: Global,

@@ -54,7 +54,7 @@ fn parents_of(alloc: Global, lives: &[GroupLife]) -> Result<Vec<Option<Slot>>, N
 
 impl SideWatch {
     /// Creates the watch of the groups before any side: no memory, no preference, no task.
-    /// Allocates everything up front.
+    /// Allocates all of its memory at once.
     ///
     /// `lives` has all groups that the trace ever creates, by slot.
     pub fn make(alloc: Global, lives: &[GroupLife]) -> Result<SideWatch, NoMemory>

@@ -41,7 +41,8 @@ impl Model for SlotClocks {
 }
 
 impl SlotClocks {
-    /// Creates the clocks of `slots` slots, before the first change. Allocates everything up front.
+    /// Creates the clocks of `slots` slots, before the first change. Allocates all of its memory at
+    /// once.
     pub fn make(alloc: Global, slots: u32) -> Result<SlotClocks, NoMemory>
         ensures { IfOk result (λ clocks. clocks ≡ first_clocks slots) }
     {

@@ -41,7 +41,7 @@ fn no_scans(alloc: Global, slots: u32) -> Result<Vec<Option<u64>>, NoMemory>
     Ok(vec![in alloc; None; slots as usize]?)
 }
 
-// Returns the sizes with `newest` in front, and without the fifth.
+// Returns the sizes with `newest` first, and without the fifth.
 fn suffix(newest: u64, sizes: Sizes) -> Sizes
     requires newest { newest ≤ 2 ^ 60 }
     requires within { AreSizes sizes }
