@@ -1,4 +1,4 @@
--- Samples of all processors, in order.
+-- Proofs about samples of all processors, taken in order.
 use Rattle.std.proofs.Common.{◌≡◌, ⊎_elim, ◌⊎◌, inl, inr, ℕ, zero, suc, ◌+◌, ◌<◌, ◌≤◌, Bool, true, false, List, [], ◌∷◌, ◌++◌, length, get_or, set, sym, refl, ap, ◌∙◌, subst, arith, eqb, Some}
 use Rattle.std.specs.Prelude.{slice_get}
 use Rattle.std.proofs.lemmas.Bool.{eqb-false, eqb-true}
@@ -11,14 +11,14 @@ use Rattle.observer_log.specs.declared.entry.Entry.{Entry}
 use Rattle.observer_log.specs.Watch.{HasLooked, HasSampled, IsTakenBy, WatcherView, named_by, no_reader, reader_at}
 use Rattle.observe_core.specs.Observing.{AreTaken, HaveLooked, last_at, no_sample}
 
--- an entry of a list with one more at its end
+-- an entry of a list with `x` appended is an entry of the list, or `x`
 at_push : (xs : List Entry) (x : Entry) (k : ℕ) (y : Entry) → slice_get (xs ++ x ∷ []) k ≡ Some y → (slice_get xs k ≡ Some y) ⊎ ((k ≡ length xs) × (x ≡ y))
 at_push [] x zero y e = inr (refl, (let same : x ≡ y = cc in same))
 at_push [] x (suc k) y e = absurd (cc)
 at_push (z ∷ xs) x zero y e = inl e
 at_push (z ∷ xs) x (suc k) y e = ⊎_elim (λ a. inl a) (λ (a : (k ≡ length xs) × (x ≡ y)). inr (ap suc a.0, a.1)) (at_push xs x k y e)
 
--- the place of an existing entry is less than the length
+-- the index of an existing entry is below the length
 at_below : (xs : List Entry) (k : ℕ) (y : Entry) → slice_get xs k ≡ Some y → k < length xs
 at_below [] k y e = absurd (cc)
 at_below (x ∷ xs) zero y e = omega arith
@@ -53,7 +53,7 @@ seen_push readers new k r taken e inside many are seen before cpu entry at =
     (ap (λ (l : List ReaderEnd). (reader_at l k).knows.seen) are ∙ ap (λ (z : ReaderEnd). z.knows.seen) (get_or-set_same readers k r no_reader inside) ∙ seen ∙ ap (λ (z : Entry). z.count) last.1))
     (at_push taken e cpu entry at)
 
--- one more sample
+-- the relation `HaveLooked` after one more sample
 pub looked_more : (slot : ℕ) (lasts : List Sample) (k count : ℕ) (first old new : WatcherView) → HaveLooked slot lasts k first old → HasLooked k slot count old new → count ≡ (last_at lasts k).count → k < length first.readers → HaveLooked slot lasts (k + 1) first new
 looked_more slot lasts k count first old new all one last inside =
     let within : k < length old.readers = let e : length old.readers ≡ length first.readers = all.readers_are in omega (arith, e, inside) in
@@ -70,7 +70,7 @@ looked_more slot lasts k count first old new all one last inside =
       later = λ q past. ap (λ l. reader_at l q) one.sampled.are ∙ (get_or-set_other old.readers k q one.sampled.reader _ (λ e. omega (arith, e, past)) ∙ all.later q (omega (arith, past)));
     }
 
--- no sample yet
+-- the relation `HaveLooked` before the first sample
 pub looked_none : (slot : ℕ) (lasts : List Sample) (watcher : WatcherView) → HaveLooked slot lasts 0 watcher watcher
 looked_none slot lasts watcher = record {
   observer_is = refl;
@@ -88,6 +88,6 @@ looked_none slot lasts watcher = record {
   later = λ cpu past. refl;
 }
 
--- the last sample at a place
+-- the last sample that is found for a processor is its last sample
 pub last_found : (lasts : List Sample) (place : ℕ) (last : Sample) → last ≡ get_or lasts place last → place < length lasts → last.count ≡ (last_at lasts place).count
 last_found lasts place last there below = ap (λ (s : Sample). s.count) (there ∙ get_or_default lasts place last no_sample below)

@@ -1,4 +1,4 @@
--- The lines of states, in order.
+-- Proofs about the lines of board states, in order.
 use Rattle.std.proofs.Common.{◌≡◌, ℕ, zero, suc, ◌+◌, ◌<◌, List, [], ◌∷◌, ◌++◌, length, take, drop, get_or, refl, sym, ap, ◌∙◌, arith, subst, append_assoc}
 use Rattle.std.proofs.lemmas.List.{append-nil}
 use Rattle.observer_log.specs.declared.board.BoardState.{BoardState}

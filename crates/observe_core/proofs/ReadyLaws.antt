@@ -1,4 +1,4 @@
--- A watcher is prepared processor by processor, and observers in order.
+-- Proofs that a watcher is prepared processor by processor, and observers in order.
 use Rattle.std.proofs.Common.{◌≡◌, ◌⊎◌, inl, inr, ⊎_elim, ℕ, zero, suc, ◌+◌, ◌<◌, ◌≤◌, max, List, [], ◌∷◌, ◌++◌, length, get_or, set, refl, sym, ap, ◌∙◌, subst, arith, eqb, Option, Some}
 use Rattle.std.proofs.lemmas.List.{get_or-set_other, get_or-set_same, length-set}
 use Rattle.plan_laws.specs.Plan.{IsClock, PlanView}
@@ -28,11 +28,11 @@ prepared_none made watcher = record {
 pub either_next : (cpu k : ℕ) → cpu < k + 1 → (cpu < k) ⊎ (cpu ≡ k)
 either_next cpu k below = grind (arith, below)
 
--- a notified reader has seen all changes that were made
+-- a reader that was shown the number of changes has seen exactly these
 seen_met : (made : ℕ) (old new : ReaderView) → old.seen ≤ made → new.seen ≡ max old.seen made → new.seen ≡ made
 seen_met made old new before is = is ∙ grind (arith, before)
 
--- one more processor
+-- the watcher is prepared on one more processor
 pub prepared_more : (made : ℕ → ℕ) (k : ℕ) (first old new : WatcherView) → ArePreparedChanges made k first old → HasMet k (made k) old new → k < length first.readers → ArePreparedChanges made (k + 1) first new
 prepared_more made k first old new all one inside =
     let many : length old.readers ≡ length first.readers = all.readers_are in
@@ -87,7 +87,8 @@ lasts_more plans slot made k lasts last all inside count clock =
 
 -- ---- lists, element by element
 
--- a property of all elements before a place and at that place, if only that element changed
+-- the relation `R` holds up to and including a place, if it held before that place and only that
+-- element changed
 pub each_next : {X : Type 0} → (R : ℕ → X → X → Type 0) (start now : List X) (place : ℕ) (x : X) → place < length now → ((k : ℕ) (d : X) → k < place → R k (get_or start k d) (get_or now k d)) → ((d : X) → R place (get_or start place d) x)
     → (k : ℕ) (d : X) → k < place + 1 → R k (get_or start k d) (get_or (set now place x) k d)
 each_next R start now place x inside before here k d below =
@@ -99,7 +100,7 @@ each_next R start now place x inside before here k d below =
 pub left_next : {X : Type 0} → (start now : List X) (place : ℕ) (x : X) → ((k : ℕ) (d : X) → place ≤ k → get_or now k d ≡ get_or start k d) → (k : ℕ) (d : X) → place + 1 ≤ k → get_or (set now place x) k d ≡ get_or start k d
 left_next start now place x left k d suffix = get_or-set_other now place k x d (λ same. omega (arith, same, suffix)) ∙ left k d (omega (arith, suffix))
 
--- one more element at the end
+-- appending an element leaves the earlier elements unchanged
 push_at : {X : Type 0} → (xs : List X) (x : X) (k : ℕ) (d : X) → k < length xs → get_or (xs ++ x ∷ []) k d ≡ get_or xs k d
 push_at [] x k d below = absurd (omega (arith, below))
 push_at (y ∷ xs) x zero d below = refl

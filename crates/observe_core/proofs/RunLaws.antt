@@ -1,4 +1,4 @@
--- The results of reading a trace, observing it and writing, as a run and its status.
+-- Proofs about the status of a run, by the results of reading a trace, observing it and writing.
 use Rattle.std.proofs.Common.{◌≡◌, ◌≢◌, ◌⊎◌, inl, inr, ℕ, ◌<◌, ◌≤◌, List, arith, refl, sym, ap, ◌∙◌, subst, Option, None, Some, Ok, Err}
 use Rattle.std.specs.Prelude.{IsErrOf, Result}
 use Rattle.std.specs.Io.KnownBytes.{Appends, Keeps}
@@ -25,7 +25,7 @@ use Rattle.observe_core.specs.Results.{IsPlannedFor, IsStatusOf, WritesObserved}
 
 -- ---- a trace that was read
 
--- it is planned for
+-- the plans that were read represent a trace that may be replayed with observers
 pub planned_for : (plans : PlansView) (number : ℕ) (path : List ℕ) (known : Option (List ℕ)) → (read : PlansRead plans number observed_tick_length known) → IsPlannedFor plans read.trace number path
 planned_for plans number path known read = record {
   numbered = read.numbered;
@@ -40,7 +40,7 @@ planned_for plans number path known read = record {
   };
 }
 
--- and taken
+-- the trace that was read is the trace of the request
 pub takes_trace : (request : Request) (files : Option Files) (plans : PlansView) (number : ℕ) → (read : PlansRead plans number observed_tick_length (content_of files request.trace)) → TakesRequestedTrace request files read.trace
 takes_trace request files plans number read = record {
   cpus = read.counted;
@@ -49,7 +49,7 @@ takes_trace request files plans number read = record {
   read = read.read;
 }
 
--- its end is at most the last possible time
+-- the end of the trace is at most the last possible time
 pub finish_early : (plans : PlansView) (trace : Trace) (number : ℕ) (path : List ℕ) → IsPlannedFor plans trace number path → plans.finish ≤ last_moment
 finish_early plans trace number path is =
     let legal = legal_after (limits_of observed_tick_length trace.cpus) trace.events is.planned.accepted.legal in
@@ -57,7 +57,7 @@ finish_early plans trace number path is =
 
 -- ---- counts
 
--- the counts of a shelf are unchanged if nothing failed there
+-- the counts of a shelf are unchanged if no read failed
 counts_same : (before now : RunCounts) (result : ObserveStatus) → now.shelf.faults ≡ before.shelf.faults → now.shelf.absent ≡ before.shelf.absent
     → (result ≡ status.ReadFault → ⊥) → (result ≡ status.NoFile → ⊥) → RisesWhere (result ≡ status.WriteFault) before.writes now.writes → ObserverFailuresAreCounted before now result
 counts_same before now result faults absent no_read no_file writes = record {
@@ -66,7 +66,7 @@ counts_same before now result faults absent no_read no_file writes = record {
   writes = writes;
 }
 
--- all counts are unchanged if nothing was done
+-- all counts are unchanged if neither a read nor a write failed
 pub none_counted : (counts : RunCounts) (result : ObserveStatus) → (result ≡ status.ReadFault → ⊥) → (result ≡ status.NoFile → ⊥) → (result ≡ status.WriteFault → ⊥) → ObserverFailuresAreCounted counts counts result
 none_counted counts result no_read no_file no_write = counts_same counts counts result refl refl no_read no_file (stays (result ≡ status.WriteFault) counts.writes counts.writes no_write refl)
 
@@ -130,7 +130,7 @@ runs_refused request files before now had (fault.NoMemory _) result refused lack
       counts = counts_same before now (status.NoMemory no_memory) (causes.faults_same (λ e. cc e)) (causes.absent_same (λ e. cc e)) (λ e. cc e) (λ e. cc e) (stays _ before.writes now.writes (λ e. cc e) writes);
     })
 
--- ---- where reading stops
+-- ---- the end of reading
 
 -- if a trace was observed, no line was rejected, and no read failed
 pub observed_stops : (request : Request) (files : Option Files) (bytes_read read_now : ℕ) (trace : Trace) (before now : ℕ) (had has : Option (List ℕ)) (result : ObserveStatus) → WritesObserved request trace before now had has result → StopsObserving request files bytes_read read_now result
@@ -143,7 +143,7 @@ observed_stops request files bytes_read read_now trace before now had has status
 observed_stops request files bytes_read read_now trace before now had has status.ReadFault wrote = absurd wrote.1.2
 observed_stops request files bytes_read read_now trace before now had has (status.Trace line why) wrote = absurd wrote.1.2
 
--- if it couldn't be read, the run stops where the reads stop
+-- if the trace couldn't be read, the run stops reading at the rejected line
 pub refused_stops : (request : Request) (files : Option Files) (bytes_read read_now : ℕ) (found : TraceFault) (result : ObserveStatus) → StopsAtRefusal {A = Unit {0}} observed_tick_length (content_of files request.trace) bytes_read read_now (Err found)
     → IsStatusOf found result → StopsObserving request files bytes_read read_now result
 refused_stops request files bytes_read read_now (fault.Refused refusal) result stops is = subst (StopsObserving request files bytes_read read_now) (sym is) (omega (arith, stops))
@@ -165,21 +165,21 @@ observed_order request log log_now trace before now had has status.NoFile reads 
 observed_order request log log_now trace before now had has status.ReadFault reads wrote = absurd wrote.1.2
 observed_order request log log_now trace before now had has (status.Trace line why) reads wrote = reads
 
--- if it couldn't be read, the status reports why
+-- if the trace couldn't be read, the status reports the failed or rejected read
 pub refused_order : (request : Request) (log log_now : List ReadCall) (found : TraceFault) (result : ObserveStatus) → ReadsFile request.trace 0 log log_now (shelf_fault found) → IsStatusOf found result → ReadsTraceInOrder request log log_now result
 refused_order request log log_now (fault.Refused refusal) result reads is = subst (ReadsTraceInOrder request log log_now) (sym is) reads
 refused_order request log log_now fault.NoFile result reads is = subst (ReadsTraceInOrder request log log_now) (sym is) reads
 refused_order request log log_now fault.ReadFault result reads is = subst (ReadsTraceInOrder request log log_now) (sym is) reads
 refused_order request log log_now (fault.NoMemory _) result reads is = subst (ReadsTraceInOrder request log log_now) (sym is) reads
 
--- nothing was done, because memory ran out
+-- memory ran out before any file was read
 pub runs_lacking : (request : Request) (files : Option Files) (counts : RunCounts) (had : Option (List ℕ)) → Observes request files counts counts had had (status.NoMemory no_memory)
 runs_lacking request files counts had = record {
   ends = keeps_same had;
   counts = none_counted counts (status.NoMemory no_memory) (λ e. cc e) (λ e. cc e) (λ e. cc e);
 }
 
--- ---- what a status says
+-- ---- conclusions from a status
 
 -- words that are a request don't end with Usage
 pub not_usage : (request : Request) (files : Option Files) (old new : Option (List ℕ)) (result : ObserveStatus) → ObservingEnds request files old new result → result ≡ status.Usage → ⊥

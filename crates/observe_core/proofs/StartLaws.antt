@@ -1,5 +1,5 @@
--- A replay and its observers before the first tick, and the observers' properties that stay to the
--- end.
+-- Proofs about a replay and its observers before the first tick, and about properties of observers
+-- that never change.
 use Rattle.std.proofs.Common.{◌≡◌, ℕ, ◌<◌, List, [], length, refl, sym, ◌∙◌, subst, arith, Option, Some}
 use Rattle.std.specs.Prelude.{slice_index_or}
 use Rattle.std.specs.List.{All}
@@ -21,7 +21,7 @@ use Rattle.observe_core.proofs.TickLaws.{observed_first}
 abbrev pub setting_of : PlansView → ReplayView → TableId → Trace → List ℕ → Setting
 setting_of plans replay board trace path = record { plans = plans; rows = replay.crew.rows; board = board; trace = trace; timing = timing_on path; path = path }
 
--- samples are requested
+-- a replay with observers requests samples
 pub some_requested : (options : Options) (path : List ℕ) → options ≡ options_on (Some path) → 0 < requested_by (watch_of options)
 some_requested options path is = subst (λ (o : Options). 0 < requested_by (watch_of o)) (sym is) (omega arith)
 
@@ -37,7 +37,7 @@ reached_first options replay plans board trace version path is same planned new 
       watch = refl;
     }
 
--- n new observers have observed nothing yet, if creating them left the replay unchanged
+-- new observers have observed nothing, if creating them left the replay unchanged
 pub begun : (options : Options) (old new : ReplayView) (plans : PlansView) (board : TableId) (trace : Trace) (version : ℕ) (path : List ℕ) (observers : List ObserverView) (count : ℕ) → options ≡ options_on (Some path) → old.plans ≡ plans
     → IsPlannedFor plans trace version path → ((trace : Trace) → IsPlanned plans trace (timing_of options) → version_of version ≡ trace.version → IsReplay old trace (timing_of options) [] 0) → new ≡ old → length observers ≡ count
     → ((set : Setting) → MayBegin set old → set.board ≡ board → (number : ℕ) (d : ObserverView) → number < count → IsNew set number (slice_index_or observers number d)) → IsObserved (setting_of plans old board trace path) new observers 0
@@ -47,7 +47,7 @@ begun options old new plans board trace version path observers count is same pla
     let may : MayBegin set old = record { plans_are = same; rows_are = refl } in
     subst (λ (replay : ReplayView). IsObserved set replay observers 0) (sym stays) (observed_first set old observers reached (λ k d below. each set may refl k d (omega (arith, below, many))))
 
--- all are on the board, each has one part, and its share counts its entries
+-- each observer reads the board, has one part of the ledger, and its share counts its entries
 pub boards_are : (set : Setting) (i : ℕ) (observers : List ObserverView) → HaveObserved set i observers → All (λ (observer : ObserverView). observer.pass.board ≡ set.board) observers
 boards_are set i observers all = λ k d below. (all k d below).placed.board_is
 

@@ -1,4 +1,4 @@
--- An observer's samples of one interval, after its earlier samples.
+-- Proofs about an observer's samples of one interval, which follow its earlier samples.
 use Rattle.std.proofs.Common.{◌≡◌, ◌⊎◌, inl, inr, ⊎_elim, ℕ, zero, suc, ◌+◌, ◌-◌, ◌<◌, ◌≤◌, Bool, true, false, List, [], ◌∷◌, ◌++◌, length, map, refl, sym, ap, ◌∙◌, subst, arith, rules, Option, None, Some}
 use Rattle.std.specs.Prelude.{cond, filter, slice_get}
 use Rattle.std.specs.List.{flat_map, range_with_len}
@@ -18,7 +18,7 @@ use Rattle.observe_core.specs.Driving.{AreLasts, AreOn, HasTaken, ArePreparedCha
 
 -- ---- lists
 
--- the samples that were due, and those due after them
+-- samples that were due, followed by samples that were due after them
 done_append : (dues more : List Due) (looks others : List Look) → AreDone dues looks → AreDone more others → AreDone (dues ++ more) (looks ++ others)
 done_append [] more [] others first rest = rest
 done_append [] more (look ∷ looks) others first rest = absurd first
@@ -64,7 +64,7 @@ due_more set i =
     ∙ ap (λ (dues : List Due). due_until set i ++ dues) (append-nil (due_in set (1 + i)))
     ∙ ap (λ (n : ℕ). due_until set i ++ due_in set n) here
 
--- a list has an entry at each place
+-- there is an entry at each index below the length
 there : (entries : List Entry) (k : ℕ) → k < length entries → (entry : Entry) × (slice_get entries k ≡ Some entry)
 there [] k below = absurd (omega (arith, below))
 there (entry ∷ entries) zero below = (entry, refl)
@@ -72,7 +72,7 @@ there (entry ∷ entries) (suc k) below = there entries k (omega (arith, below))
 
 -- ---- one interval
 
--- the entries were taken on consecutive processors, starting with this one
+-- the entries are samples of consecutive processors, starting with processor `k`
 abbrev AreFrom : ℕ → PlansView → ℕ → List Sample → ℕ → List Entry → Type 0
 AreFrom observer plans slot lasts k taken =
     (j : ℕ) (entry : Entry) → slice_get taken j ≡ Some entry → IsTakenBy observer plans (k + j) slot (last_at lasts (k + j)).count entry
@@ -103,7 +103,7 @@ from_on observer plans slot lasts k (entry ∷ taken) from within =
       from_on observer plans slot lasts (k + 1) taken (from_rest observer plans slot lasts k entry taken from) (omega (arith, within)),
     )
 
--- they are the samples that are due
+-- these entries are the samples that are due
 from_done : (observer : ℕ) (plans : PlansView) (slot : ℕ) (lasts : List Sample) (least : ℕ → ℕ) (k : ℕ) (taken : List Entry) → AreFrom observer plans slot lasts k taken
     → ((cpu : ℕ) → cpu < k + length taken → least cpu ≤ (last_at lasts cpu).count)
     → AreDone (map (λ cpu. record { cpu = cpu; slot = slot; least = least cpu }) (range_with_len k (length taken))) (looks_of taken)
@@ -114,15 +114,15 @@ from_done observer plans slot lasts least k (entry ∷ taken) from low =
     let later = first.later in
     (first.cpu_is, first.slot_is, omega (arith, least_here, later), from_done observer plans slot lasts least (k + 1) taken (from_rest observer plans slot lasts k entry taken from) (λ cpu below. low cpu (omega (arith, below))))
 
--- the sample is from the processor
+-- a look that `is_of` accepts for a processor is from that processor
 of_cpu : (observer cpu : ℕ) (look : Look) → is_of observer cpu look ≡ true → look.cpu ≡ cpu
 of_cpu observer cpu look is = grind (arith, is)
 
--- if an entry has this observer and processor, it is chosen
+-- a look of this observer and processor is accepted by `is_of`
 is_chosen : (observer cpu : ℕ) (look : Look) → look.observer ≡ observer → look.cpu ≡ cpu → is_of observer cpu look ≡ true
 is_chosen observer cpu look by on = grind (arith, by, on)
 
--- no entry is from a processor that isn't among theirs
+-- there is no entry for a processor below the first one
 from_none : (observer : ℕ) (plans : PlansView) (slot : ℕ) (lasts : List Sample) (cpu k : ℕ) (taken : List Entry) → AreFrom observer plans slot lasts k taken → (cpu < k) ⊎ (k + length taken ≤ cpu) → counts_by observer cpu (looks_of taken) ≡ []
 from_none observer plans slot lasts cpu k [] from out = refl
 from_none observer plans slot lasts cpu k (entry ∷ taken) from out =
@@ -138,7 +138,7 @@ from_none observer plans slot lasts cpu k (entry ∷ taken) from out =
         ap (λ b. map (λ (look : Look). look.count) (cond b (look_of entry ∷ filter (is_of observer cpu) (looks_of taken)) (filter (is_of observer cpu) (looks_of taken)))) is
         ∙ rest
 
--- exactly one entry is from each of their processors
+-- there is exactly one entry for each of the sampled processors
 from_one : (observer : ℕ) (plans : PlansView) (slot : ℕ) (lasts : List Sample) (cpu k : ℕ) (taken : List Entry) (found : Entry) → AreFrom observer plans slot lasts k taken → (j : ℕ) → k + j ≡ cpu → slice_get taken j ≡ Some found → counts_by observer cpu (looks_of taken) ≡ found.count ∷ []
 from_one observer plans slot lasts cpu k [] found from j place at = absurd (let no : ⊥ = cc at in no)
 from_one observer plans slot lasts cpu k (entry ∷ taken) found from zero place at =
@@ -171,7 +171,7 @@ pub record Took (set : Setting) (slot number : ℕ) (made : ℕ → ℕ) (lasts 
   pub lasts_are : AreLasts set.plans slot made (length lasts) lasts
   pub looked : HaveLooked slot lasts (length lasts) mid new
 
--- the entries that were taken then
+-- the entries that the watcher took in the interval
 took_from : (set : Setting) (slot number : ℕ) (made : ℕ → ℕ) (lasts : List Sample) (old mid new : WatcherView) (took : Took set slot number made lasts old mid new) → AreFrom number set.plans slot lasts 0 took.looked.taken
 took_from set slot number made lasts old mid new took = λ j entry at.
     let same : j ≡ 0 + j = omega arith in
@@ -209,7 +209,7 @@ rise_more set i slot number made lasts old mid new took cpu rise =
     (subst (λ reader. RiseWithin 0 (counts_by number cpu (looks_of old.own)) reader.knows.seen) (sym same) rise)))
     (let case : (cpu < length lasts) ⊎ (length lasts ≤ cpu) = grind arith in case)
 
--- the samples due at the tick were taken
+-- the samples that were due at the tick have been taken
 done_more : (set : Setting) (i slot number : ℕ) (made : ℕ → ℕ) (lasts : List Sample) (old mid new : WatcherView) (took : Took set slot number made lasts old mid new)
     → slot_in set (i + 1) ≡ Some slot → length set.plans.plans ≡ set.trace.cpus → ((cpu : ℕ) → cpu < set.trace.cpus → made cpu ≡ changes_until set.trace set.timing.length cpu i)
     → AreDone (due_in set (i + 1)) (looks_of took.looked.taken)
@@ -228,7 +228,7 @@ done_more set i slot number made lasts old mid new took here cpus reached =
     subst (λ (s : Option ℕ). AreDone (due_at set.trace set.timing.length (i + 1) s) (looks_of taken)) (sym here)
     (subst (λ (n : ℕ). AreDone (map (λ cpu. record { cpu = cpu; slot = slot; least = changes_until set.trace set.timing.length cpu (i + 1 - 1) }) (range_with_len 0 n)) (looks_of taken)) all due)
 
--- What an observer has taken after one more tick, at which it watched.
+-- the samples of an observer after one more tick at which it watched a slot
 pub taken_more : (set : Setting) (i slot number : ℕ) (made : ℕ → ℕ) (lasts : List Sample) (old mid new : WatcherView) → Took set slot number made lasts old mid new
     → slot_in set (i + 1) ≡ Some slot → length set.plans.plans ≡ set.trace.cpus → ((cpu : ℕ) → cpu < set.trace.cpus → made cpu ≡ changes_until set.trace set.timing.length cpu i)
     → HasTaken set i number old.readers old.own → HasTaken set (i + 1) number new.readers new.own
@@ -248,7 +248,7 @@ taken_more set i slot number made lasts old mid new took here cpus reached was =
           (rise_more set i slot number made lasts old mid new took cpu (was.rise cpu));
     }
 
--- after one more tick at which the path isn't live, as before
+-- a tick at which the path isn't live adds no sample
 pub taken_still : (set : Setting) (i number : ℕ) (watcher : WatcherView) → slot_in set (i + 1) ≡ None → HasTaken set i number watcher.readers watcher.own → HasTaken set (i + 1) number watcher.readers watcher.own
 taken_still set i number watcher none was =
     let no_more : due_in set (i + 1) ≡ [] = ap (due_at set.trace set.timing.length (i + 1)) none in
@@ -260,7 +260,7 @@ taken_still set i number watcher none was =
       rise = was.rise;
     }
 
--- before the first tick
+-- before the first tick an observer has taken no sample
 pub taken_none : (set : Setting) (number : ℕ) (watcher : WatcherView) → watcher.own ≡ [] → HasTaken set 0 number watcher.readers watcher.own
 taken_none set number watcher none =
     subst (HasTaken set 0 number watcher.readers) (sym none) (record {

@@ -1,4 +1,4 @@
--- The text printed for entries is the text of samples that observers may have taken.
+-- Proofs that the text printed for entries is the text of samples that observers may have taken.
 use Rattle.std.proofs.Common.{◌≡◌, ◌⊎◌, ⊎_elim, ℕ, zero, suc, ◌+◌, ◌-◌, ◌<◌, ◌≤◌, Bool, true, false, List, [], ◌∷◌, ◌++◌, length, get_or, map, refl, sym, ap, ◌∙◌, subst, arith, rules, Option, None, Some}
 use Rattle.std.specs.Prelude.{cond, filter, slice_get, slice_index_or, codes, decimal, ◌==◌}
 use Rattle.std.specs.List.{flat_map, range_with_len}
@@ -30,7 +30,7 @@ use Rattle.observe_core.specs.Printed.{end_line, entry_line, printed, state_line
 
 -- ---- times of changes
 
--- events are numbered from 1
+-- all these event numbers are at least a number
 abbrev AreAbove : ℕ → List ℕ → Type 0
 AreAbove low [] = Unit {0}
 AreAbove low (number ∷ numbers) = (low ≤ number) × AreAbove low numbers
@@ -135,7 +135,7 @@ text_is plans trace timing observers entries states planned on last many =
     ∙ ap (λ (n : ℕ). flat_map (sample_line trace) (looks_of entries) ++ flat_map (board_line trace timing) (range_with_len 0 observers) ++ end_line plans.finish n) (sym (length-looks entries))
     ∙ ap (λ (finish : ℕ). flat_map (sample_line trace) (looks_of entries) ++ flat_map (board_line trace timing) (range_with_len 0 observers) ++ end_line finish (length (looks_of entries))) planned.represents.finish
 
--- ---- whose samples they are
+-- ---- the samples of each observer
 
 looks_by-of : (number : ℕ) (entries : List Entry) → looks_by number (looks_of entries) ≡ looks_of (by number entries)
 looks_by-of number [] = refl
@@ -169,7 +169,7 @@ counts_own observer cpu (look ∷ looks) = go (look.observer == observer) refl (
         ∙ rest
         ∙ sym (ap (λ b. counts_by observer cpu (cond b (look ∷ looks_by observer looks) (looks_by observer looks))) is)
 
--- the counts rise, whether or not the first entry is chosen
+-- the counts never decrease, whether or not the first entry is from the observer and processor
 abbrev Rises : ℕ → ℕ → ℕ → Entry → List Entry → Bool → ℕ → Type 0
 Rises observer cpu low entry own b top =
     RiseWithin low (map (λ (look : Look). look.count) (cond b (look_of entry ∷ filter (is_of observer cpu) (looks_of own)) (filter (is_of observer cpu) (looks_of own)))) top
@@ -230,14 +230,14 @@ are_own set i observers all = λ number.
     (λ (past : length observers ≤ number). subst (AreBy number) (sym (list_past (lists_of observers) number (let many = length-map observers (λ (observer : ObserverView). observer.watcher.own) in omega (arith, past, many)))) tt)
     (either number (length observers))
 
--- every entry of them is on the plans
+-- every entry of these lists is on the plans
 lists_on : (set : Setting) (i : ℕ) (observers : List ObserverView) → HaveObserved set i observers → (number : ℕ) → AreOn set.plans (list_of (lists_of observers) number)
 lists_on set i observers all number =
     ⊎_elim (λ (below : number < length observers). subst (AreOn set.plans) (sym (list_is observers number below)) (all number no_observer below).taken.on)
     (λ (past : length observers ≤ number). subst (AreOn set.plans) (sym (list_past (lists_of observers) number (let many = length-map observers (λ (observer : ObserverView). observer.watcher.own) in omega (arith, past, many)))) tt)
     (either number (length observers))
 
--- an observer's samples among all are those of its list
+-- the samples of an observer in the whole list are the samples of its own list
 own_looks : (lists : List (List Entry)) (entries : List Entry) → ((observer : ℕ) → by observer entries ≡ list_of lists observer) → (number : ℕ) → looks_by number (looks_of entries) ≡ looks_of (list_of lists number)
 own_looks lists entries same number = looks_by-of number entries ∙ ap looks_of (same number)
 
@@ -261,7 +261,7 @@ are_observed set observers entries planned all same =
           (either number (length observers)));
     }
 
--- ---- the states that they read last
+-- ---- the board states that the observers read last
 
 last_shown : (trace : Trace) (timing : Timing) (i : ℕ) (states : List BoardState) (state : BoardState) → AreShown trace timing i states → IsLast states state → state ≡ state_at trace timing i
 last_shown trace timing i states state shown last =
@@ -275,7 +275,7 @@ states_last trace timing board [] shown last = tt
 states_last trace timing board (state ∷ states) shown last =
     (last_shown trace timing (tick_count trace timing) board state shown (last 0 state (omega arith)), states_last trace timing board states shown (λ k d below. last (suc k) d (omega (arith, below))))
 
--- ---- the whole
+-- ---- the whole text
 
 -- The printed text is the text of an observed trace.
 pub whole_text : (set : Setting) (observers : List ObserverView) (entries : List Entry) (board states : List BoardState) → IsPlanned set.plans set.trace set.timing → HaveObserved set (tick_count set.trace set.timing) observers

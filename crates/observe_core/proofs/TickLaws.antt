@@ -1,4 +1,4 @@
--- Observers during a replay, from tick to tick.
+-- Proofs about observers during a replay, from tick to tick.
 use Rattle.std.proofs.Common.{◌≡◌, ⊎_elim, ℕ, ◌+◌, ◌<◌, ◌≤◌, false, zero, suc, List, [], ◌∷◌, ◌++◌, drop, length, get_or, take, refl, sym, ap, ◌∙◌, subst, arith, Option, None, Some}
 use Rattle.std.specs.Prelude.{slice_get, slice_index_or}
 use Rattle.std.specs.List.{All}
@@ -25,13 +25,13 @@ use Rattle.observe_core.specs.Driving.{AreLasts, AreReady, AreShown, AreWhole, H
 use Rattle.observe_core.proofs.ReadyLaws.{either_next}
 use Rattle.observe_core.proofs.TakenLaws.{Took, taken_more, taken_none, taken_still}
 
--- ---- a replay that was reached
+-- ---- the replay after some ticks
 
--- it is a replay
+-- a replay that has reached tick `i` is a replay of some trace
 pub some_replay : (set : Setting) (i : ℕ) (replay : ReplayView) → IsReached set replay i → IsSomeReplay replay
 some_replay set i replay is = (set.trace, set.timing, [], i, is.replayed)
 
--- it may advance if a tick remains
+-- the replay can advance if a tick remains
 pub can_pass : (set : Setting) (i : ℕ) (replay : ReplayView) → IsReached set replay i → i < tick_count set.trace set.timing → IsTickLeft replay
 can_pass set i replay is left = (set.trace, set.timing, [], i, is.replayed, left)
 
@@ -39,15 +39,15 @@ can_pass set i replay is left = (set.trace, set.timing, [], i, is.replayed, left
 pub as_many : (set : Setting) (i : ℕ) (replay : ReplayView) → IsReached set replay i → length set.plans.plans ≡ set.trace.cpus
 as_many set i replay is = ap (λ (plans : PlansView). length plans.plans) (sym is.plans_are) ∙ is.replayed.planned.represents.each
 
--- at most 64
+-- there are at most 64 plans
 pub few_plans : (set : Setting) (i : ℕ) (replay : ReplayView) → IsReached set replay i → length set.plans.plans ≤ 64
 few_plans set i replay is = let counted = is.replayed.planned.counted.1 in let each = as_many set i replay is in omega (arith, counted, each)
 
--- its clocks made the changes up to the last tick
+-- the clocks of each processor have made exactly the changes up to the last tick
 pub made_until : (set : Setting) (i : ℕ) (replay : ReplayView) → IsReached set replay i → (cpu : ℕ) → cpu < set.trace.cpus → made_by replay.crew cpu ≡ changes_until set.trace set.timing.length cpu i
 made_until set i replay is = (by_tick_is replay.crew replay.live set.trace set.timing i (record { path = set.path; count = 1 }) is.watch is.replayed.watching).1
 
--- each plan has the groups
+-- each plan has an entry for each group
 pub plan_groups : (set : Setting) (i : ℕ) (replay : ReplayView) → IsReached set replay i → (cpu : ℕ) → cpu < length set.plans.plans → length (plan_at set.plans cpu).parents ≡ length set.plans.lives
 plan_groups set i replay is = λ cpu below.
     let on = is.replayed.ahead.not_past.on_plans in
@@ -62,7 +62,7 @@ pub slot_found : (set : Setting) (i : ℕ) (replay : ReplayView) (slot : Option 
 slot_found set i replay slot is found =
     sym (found ∙ ap (λ (watch : Option LiveWatch). watched_at set.trace (watched_path watch) (tick_moment set.timing.length (i + 1))) is.watch)
 
--- after its next tick it is at the state after that tick
+-- after its next tick the replay has reached tick i + 1
 pub reached_next : (set : Setting) (i : ℕ) (old new : ReplayView) → IsReached set old i → i < tick_count set.trace set.timing → HasPassed old new → IsReached set new (i + 1)
 reached_next set i old new is left passed = record {
   plans_are = passed.plans_are ∙ is.plans_are;
@@ -73,7 +73,7 @@ reached_next set i old new is left passed = record {
 
 -- ---- one observer
 
--- it may be prepared
+-- an observer can be prepared for the slot
 pub may_ready : (set : Setting) (i number slot : ℕ) (replay : ReplayView) (observer : ObserverView) → IsReached set replay i → IsPlaced set number observer → slot < length replay.plans.lives → MayReady replay slot observer.watcher observer.lasts
 may_ready set i number slot replay observer is placed inside =
     let plans : set.plans ≡ replay.plans = sym is.plans_are in
@@ -89,7 +89,7 @@ may_ready set i number slot replay observer is placed inside =
       lasts_are = placed.lasts_are ∙ many;
     }
 
--- and then watch the slot
+-- a prepared observer can watch the slot
 pub can_watch : (set : Setting) (i number slot : ℕ) (replay : ReplayView) (old mid : ObserverView) → IsReached set replay i → IsPlaced set number old → slot < length replay.plans.lives
     → IsReady replay.plans slot (made_by replay.crew) old mid → CanWatch set.board slot mid
 can_watch set i number slot replay old mid is placed inside ready =
@@ -122,7 +122,7 @@ can_watch set i number slot replay old mid is placed inside ready =
       };
     }
 
--- the samples that it took, if it watched
+-- the samples that the observer took in the interval
 took : (set : Setting) (i number slot : ℕ) (replay : ReplayView) (old mid new : ObserverView) → IsReached set replay i → IsPlaced set number old → IsReady replay.plans slot (made_by replay.crew) old mid
     → HasWatched slot mid new → new.failed ≡ false → Took set slot number (made_by replay.crew) mid.lasts old.watcher mid.watcher new.watcher
 took set i number slot replay old mid new is placed ready watched whole = record {
@@ -134,7 +134,7 @@ took set i number slot replay old mid new is placed ready watched whole = record
   looked = watched.looked whole;
 }
 
--- it is still placed
+-- the constant properties of the observer still hold
 placed_next : (set : Setting) (number slot : ℕ) (replay : ReplayView) (old mid new : ObserverView) → IsPlaced set number old → IsReady replay.plans slot (made_by replay.crew) old mid → HasWatched slot mid new → new.failed ≡ false → IsPlaced set number new
 placed_next set number slot replay old mid new placed ready watched whole =
     let looked = watched.looked whole in
@@ -152,7 +152,7 @@ placed_next set number slot replay old mid new placed ready watched whole =
       whole = whole;
     }
 
--- and its share counts its entries
+-- the observer's share still counts its entries
 counted_next : (slot : ℕ) (plans : PlansView) (made : ℕ → ℕ) (old mid new : ObserverView) → IsReady plans slot made old mid → HasWatched slot mid new → new.failed ≡ false → IsCounted old → IsCounted new
 counted_next slot plans made old mid new ready watched whole was = λ stood.
     let looked = watched.looked whole in
@@ -164,7 +164,7 @@ counted_next slot plans made old mid new ready watched whole was = λ stood.
     let taken = looked.taken_are.many in
     omega (arith, before, added, amount, same, own, taken)
 
--- after one more tick, at which it watched
+-- the observer has taken the samples due at one more tick, at which it watched
 observed_next : (set : Setting) (i number slot : ℕ) (replay : ReplayView) (old mid new : ObserverView) → IsReached set replay i → slot_in set (i + 1) ≡ Some slot → HasObserved set i number old
     → IsReady replay.plans slot (made_by replay.crew) old mid → HasWatched slot mid new → new.failed ≡ false → HasObserved set (i + 1) number new
 observed_next set i number slot replay old mid new is here was ready watched whole = record {
@@ -176,16 +176,16 @@ observed_next set i number slot replay old mid new is here was ready watched who
 
 -- ---- all observers
 
--- the first elements of a list are those that were written over them
+-- overwriting a prefix with `new` gives a list that begins with `new`
 pub written_back : {X : Type 0} (xs new : List X) (n : ℕ) → n ≡ length new → take n (new ++ drop (length new) xs) ≡ new
 written_back xs new n size = rw size (take-append_seam new (drop (length new) xs))
 
--- all may be prepared
+-- all observers can be prepared for the slot
 pub all_may_ready : (set : Setting) (i slot : ℕ) (replay : ReplayView) (observers : List ObserverView) → IsObserved set replay observers i → slot < length replay.plans.lives
     → All (λ (observer : ObserverView). MayReady replay slot observer.watcher observer.lasts) observers
 all_may_ready set i slot replay observers is inside = λ k d below. may_ready set i k slot replay (get_or observers k d) is.reached (is.observed k d below).placed inside
 
--- and then watch
+-- all prepared observers can watch the slot
 pub all_can_watch : (set : Setting) (i slot : ℕ) (replay : ReplayView) (old mid : List ObserverView) → IsObserved set replay old i → slot < length replay.plans.lives → AreReady replay.plans slot (made_by replay.crew) old mid
     → All (CanWatch set.board slot) mid
 all_can_watch set i slot replay old mid is inside ready = λ k d below.
@@ -193,7 +193,7 @@ all_can_watch set i slot replay old mid is inside ready = λ k d below.
     let before : k < length old = omega (arith, below, many) in
     can_watch set i k slot replay (get_or old k d) (get_or mid k d) is.reached (is.observed k d before).placed inside (ready.each k d before)
 
--- after one more tick, at which all watched
+-- all observers have taken the samples due at one more tick, at which they watched
 pub watched_next : (set : Setting) (i slot : ℕ) (replay passed : ReplayView) (old mid new : List ObserverView) → IsObserved set replay old i → i < tick_count set.trace set.timing → slot_in set (i + 1) ≡ Some slot
     → AreReady replay.plans slot (made_by replay.crew) old mid → HasPassed replay passed → HaveAllWatched slot mid new → AreWhole new → IsObserved set passed new (i + 1)
 watched_next set i slot replay passed old mid new is left here ready has all whole = record {
@@ -206,7 +206,7 @@ watched_next set i slot replay passed old mid new is left here ready has all who
       observed_next set i k slot replay (get_or old k d) (get_or mid k d) (get_or new k d) is.reached here (is.observed k d before) (ready.each k d before) (all.each k d between) (whole k d below);
 }
 
--- after one more tick, at which the path isn't live
+-- all observers have taken the samples due at one more tick, at which the path isn't live
 pub passed_next : (set : Setting) (i : ℕ) (replay passed : ReplayView) (observers : List ObserverView) → IsObserved set replay observers i → i < tick_count set.trace set.timing → slot_in set (i + 1) ≡ None → HasPassed replay passed → IsObserved set passed observers (i + 1)
 passed_next set i replay passed observers is left none has = record {
   reached = reached_next set i replay passed is.reached left has;
@@ -217,7 +217,7 @@ passed_next set i replay passed observers is left none has = record {
   };
 }
 
--- new observers have observed nothing
+-- new observers have taken the samples due before the first tick, that is none
 pub observed_first : (set : Setting) (replay : ReplayView) (observers : List ObserverView) → IsReached set replay 0 → ((k : ℕ) (d : ObserverView) → k < length observers → IsNew set k (slice_index_or observers k d)) → IsObserved set replay observers 0
 observed_first set replay observers is new = record {
   reached = is;
@@ -230,7 +230,7 @@ observed_first set replay observers is new = record {
 
 -- ---- the board
 
--- it shows the first state before the first tick
+-- before the first tick the board has shown the first state
 first_shown : (trace : Trace) (timing : Timing) (k : ℕ) → k ≤ 0 → slice_get (first_state ∷ []) k ≡ Some (state_at trace timing k)
 first_shown trace timing zero within = refl
 first_shown trace timing (suc k) within = absurd (omega (arith, within))
@@ -250,7 +250,7 @@ state_before [] state k below = absurd (omega (arith, below))
 state_before (first ∷ states) state zero below = refl
 state_before (first ∷ states) state (suc k) below = state_before states state k (omega (arith, below))
 
--- and the state of the next tick after the others
+-- the board shows the state of the next tick after the earlier states
 pub shown_next : (trace : Trace) (timing : Timing) (i tick events : ℕ) (old new : List BoardState) → AreShown trace timing i old → tick ≡ i + 1 → events ≡ signals_until trace timing (i + 1) → new ≡ old ++ record { tick = tick; events = events; kills = 0 } ∷ []
     → AreShown trace timing (i + 1) new
 shown_next trace timing i tick events old new shown ticks signals is =

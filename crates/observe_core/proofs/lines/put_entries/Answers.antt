@@ -7,7 +7,8 @@ use Rattle.observer_log.specs.declared.entry.Entry.{Entry}
 use Rattle.observe_core.specs.Printed.{entry_line}
 use Rattle.observe_core.proofs.lines.put_entries.Goals as goal
 
--- the entries before the failed entry, and a prefix of it, are a prefix of all
+-- if a write fails, the lines of the earlier entries and a prefix of the failed line are a prefix
+-- of all lines
 pub returns-in_err-put_entry-clause-bytes : goal.returns-in_err-put_entry-clause-bytes
 returns-in_err-put_entry-clause-bytes g c =
     let d : Entry = c.entry-item.result in

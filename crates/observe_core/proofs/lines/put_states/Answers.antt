@@ -8,7 +8,8 @@ use Rattle.observe_core.proofs.lines.put_states.Goals as goal
 abbrev first_state : BoardState
 first_state = record { tick = 0; events = 0; kills = 0 }
 
--- the lines before the failed line, and a prefix of it, are a prefix of all
+-- if a write fails, the lines of the earlier states and a prefix of the failed line are a prefix of
+-- all lines
 pub returns-in_err-put_state-clause-bytes : goal.returns-in_err-put_state-clause-bytes
 returns-in_err-put_state-clause-bytes g c =
     PutsAll-failed _ _ _ _ c.from_residual.ensures.0
