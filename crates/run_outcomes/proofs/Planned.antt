@@ -1,4 +1,4 @@
--- The plans of a trace that is to be replayed.
+-- Proofs about the plans of a trace that is to be replayed.
 use Rattle.std.proofs.Common.{ℕ, ◌≤◌, List, arith, refl, subst}
 use Rattle.psi_base.specs.declared.event.Event.{Event}
 use Rattle.psi_spec.specs.Grammar.{Version}
@@ -12,7 +12,7 @@ use Rattle.replay_rules.specs.Planned.{IsPlanned}
 use Rattle.trace_file.specs.Reads.{trace_with}
 use Rattle.run_outcomes.specs.Writes.{IsToReplay}
 
--- a planned trace that is accepted at the options' length of a tick is to be replayed with these
+-- a planned trace that is accepted with the tick length of the options can be replayed with these
 -- options
 pub to_replay : (planner : PlannerView) (options : Options) (cpus : ℕ) (events : List Event) → HasTaken planner (limits_of (of_ms options.tick_ms) cpus) events → IsAccepted (limits_of (of_ms options.tick_ms) cpus) events
     → 1 ≤ options.tick_ms → options.tick_ms ≤ 60000 → 1 ≤ options.interval_s → options.interval_s ≤ 3600 → IsWithin 1 64 options.workers → IsToReplay planner options (limits_of (of_ms options.tick_ms) cpus) events

@@ -1,4 +1,4 @@
--- The results of reading a trace and writing a text, as a run.
+-- Proofs about the status of a run, by the results of reading a trace and writing a text.
 use Rattle.std.proofs.Common.{◌≡◌, ℕ, List, [], arith, refl, sym, ap, ◌∙◌, subst, inl, inr, Option, None, Some, Ok, Err}
 use Rattle.std.specs.Prelude.{IsErrOf, IsSome}
 use Rattle.std.specs.Io.KnownBytes.{Keeps}
@@ -59,12 +59,12 @@ takes_trace command name files version cpus events reads named among counted kno
   read = λ bytes known. reads bytes ∙ ap or_refused_trace (read bytes (subst (λ n. content_of files n ≡ Some bytes) (same_name command (source_of command) name known.0 named known.1) known.2));
 }
 
--- each version is in the list of all
+-- the list of all versions has each version
 every : (version : Version) → IsAmong version versions
 every One = inl refl
 every Two = inr (inl refl)
 
--- a trace of any version, if the command accepts all versions
+-- a command that accepts all versions takes a trace of any version
 pub takes_any : (command : Command) (name : List ℕ) (files : Option Files) (version : Version) (cpus : ℕ) (events : List Event) → Reads command → source_name command ≡ Some name → versions_of command ≡ versions → IsCpuCount cpus
     → AreKnown (verbs_of version) events → IsAccepted (limits_of (tick_length command) cpus) events
     → ((bytes : List ℕ) → content_of files name ≡ Some bytes → trace_of (accepts_of command) bytes ≡ Ok (trace_with version cpus events))
@@ -82,7 +82,7 @@ counts_written before now result faults absent no_read no_file writes = record {
   writes = writes;
 }
 
--- ---- the rules came first
+-- ---- rules that were read before the trace
 
 -- rulesets are those of a command that names the same files of rules
 pub takes_events : (command : Command) (named drop_in : Option (List ℕ)) (files : Option Files) (rules : List Rule) → rules_name command ≡ named → drop_in_name command ≡ drop_in → RulesOption named drop_in files rules → TakesRules command files rules
@@ -102,7 +102,7 @@ no_events files = record {
   drop_in_held = λ name is. absurd (let no : ⊥ = cc is in no);
 }
 
--- the same if the options of a replay name no file
+-- a command whose options name no file has no rulesets
 pub empty_read : (named drop_in : Option (List ℕ)) (files : Option Files) → named ≡ None → drop_in ≡ None → RulesOption named drop_in files []
 empty_read named drop_in files none over = subst (λ n. RulesOption n drop_in files []) (sym none) (subst (λ d. RulesOption None d files []) (sym over) (no_events files))
 
@@ -166,7 +166,7 @@ runs_supposed name options files before now had has trace rules _ takes bytes_re
 
 -- ---- a file that couldn't be read
 
--- nothing was done
+-- memory ran out before anything was done
 pub runs_lacking : (command : Command) (files : Option Files) (counts : RunCounts) (had : Option (List ℕ)) → Runs command files counts counts had had (status.NoMemory no_memory)
 runs_lacking command files counts had = record {
   ends = keeps_same had;
@@ -177,7 +177,7 @@ runs_lacking command files counts had = record {
 pub is_named : (command : Command) (which : Which) (name : List ℕ) → file_of command which ≡ Some name → IsSome (file_of command which)
 is_named command which name named = subst IsSome (sym named) refl
 
--- a read failed
+-- the status if a read failed
 pub read_failed : (command : Command) (files : Option Files) (before now : RunCounts) (had : Option (List ℕ)) → ReadsFiles command → Increased before.shelf.faults now.shelf.faults → now.shelf.absent ≡ before.shelf.absent → now.writes ≡ before.writes
     → Runs command files before now had had status.ReadFault
 read_failed command files before now had reads increased absent writes = record {
@@ -189,7 +189,7 @@ read_failed command files before now had reads increased absent writes = record 
   };
 }
 
--- out of memory
+-- the status if memory ran out
 pub out_of_memory_at : (command : Command) (files : Option Files) (before now : RunCounts) (had : Option (List ℕ)) → now.shelf.faults ≡ before.shelf.faults → now.shelf.absent ≡ before.shelf.absent → now.writes ≡ before.writes
     → Runs command files before now had had (status.NoMemory no_memory)
 out_of_memory_at command files before now had faults absent writes = record {
@@ -197,7 +197,7 @@ out_of_memory_at command files before now had faults absent writes = record {
   counts = counts_written before now (status.NoMemory no_memory) faults absent (λ is. cc is) (λ is. cc is.1) (stays _ before.writes now.writes (λ is. cc is) writes);
 }
 
--- counts if a name was missing
+-- the counts if a file was missing
 pub missed_counts : (which : Which) (before now : RunCounts) → now.shelf.faults ≡ before.shelf.faults → Increased before.shelf.absent now.shelf.absent → now.writes ≡ before.writes → FailuresAreCounted before now (status.NoFile which)
 missed_counts which before now faults increased writes = record {
   faults = stays _ before.shelf.faults now.shelf.faults (λ is. cc is) faults;
@@ -205,7 +205,7 @@ missed_counts which before now faults increased writes = record {
   writes = stays _ before.writes now.writes (λ is. cc is) writes;
 }
 
--- a trace that can't be read, after rules that were
+-- the status if the rules were read, but the trace couldn't be
 pub runs_refused : {T : Type 0} → (command : Command) (name : List ℕ) (files : Option Files) (before now : RunCounts) (had : Option (List ℕ)) (rules : List Rule) (found : TraceFault) (result : Status)
     → Reads command → trace_name command ≡ Some name → RulesOption (rules_name command) (drop_in_name command) files rules → ((bytes : List ℕ) → content_of files name ≡ Some bytes → RefusalOf found (trace_of (accepts_of command) bytes)) → (IsAbsent files name → ShowsNothing {A = Unit {0}} (Err found))
     → (IsErrOf {T = T} (Err found) fault.NoFile → content_of files name ≡ None)

@@ -1,4 +1,4 @@
--- The order in which runs read their files.
+-- Proofs about the order in which a run reads its files.
 use Rattle.std.proofs.Common.{◌≡◌, ℕ, List, [], ◌∷◌, ◌++◌, refl, sym, subst, Option, None, Some}
 use Rattle.outside.specs.Outside.{Files}
 use Rattle.outside.specs.Reads.{ReadCall, ReadsEach, ReadsFile}
@@ -31,7 +31,7 @@ written_order command files log log_now text before now had has status.WriteFaul
 written_order command files log log_now text before now had has (status.NoMemory _) reads wrote = reads
 written_order command files log log_now text before now had has _ reads wrote = absurd wrote
 
--- the same for the output of `whatif` for a trace
+-- if the output of `whatif` was written, all files were read in order
 pub supposed_order : (command : Command) (files : Option Files) (log log_now : List ReadCall) (trace : Trace) (timing : Timing) (rules : List Rule) (before now : ℕ) (had has : Option (List ℕ)) (result : Status) → ReadsEach (names_in_order command) log log_now
     → WritesLast trace timing rules before now had has result → ReadsInOrder command files log log_now result
 supposed_order command files log log_now trace timing rules before now had has status.Done reads wrote = reads
@@ -42,14 +42,14 @@ supposed_order command files log log_now trace timing rules before now had has _
 
 -- ---- files that were read
 
--- files of rules were read, and then the trace or the ftrace text
+-- the files of rules were read first, and then the trace or the ftrace text
 pub rules_then : (command : Command) (name : List ℕ) (before middle now : List ReadCall) → source_name command ≡ Some name
     → ReadsEach (names_of_rules (rules_name command) (drop_in_name command)) before middle → ReadsFile name 0 middle now None → ReadsEach (names_in_order command) before now
 rules_then command name before middle now named rules reads =
     let names = names_of_rules (rules_name command) (drop_in_name command) in
     subst (λ source. ReadsEach (names ++ listed source) before now) (sym named) (files_then names (name ∷ []) before middle now rules (file_stops name [] middle now reads))
 
--- files of rules were read, and then a trace up to a fault
+-- the files of rules were read first, and then the trace up to a fault
 pub trace_order : (command : Command) (name : List ℕ) (files : Option Files) (rules : List Rule) (before middle now : List ReadCall) (found : TraceFault) (result : Status) → trace_name command ≡ Some name → source_name command ≡ Some name
     → RulesOption (rules_name command) (drop_in_name command) files rules → ReadsEach (names_of_rules (rules_name command) (drop_in_name command)) before middle → ReadsFile name 0 middle now (shelf_fault found) → IsStatusOf found result
     → ReadsInOrder command files before now result
@@ -70,6 +70,6 @@ printed_order name drop_in files before now text writes writes_now had has resul
 
 -- ---- no read
 
--- memory ran out, and nothing was read
+-- memory ran out before any file was read
 pub stopped_order : (command : Command) (files : Option Files) (log : List ReadCall) → ReadsInOrder command files log log (status.NoMemory no_memory)
 stopped_order command files log = none_read (names_in_order command) log

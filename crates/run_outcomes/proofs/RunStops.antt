@@ -1,4 +1,4 @@
--- Where runs stop reading.
+-- Proofs about the place at which a run stops reading.
 use Rattle.std.proofs.Common.{◌≡◌, ℕ, ◌+◌, ◌-◌, ◌≤◌, List, length, take, refl, sym, ap, ◌∙◌, subst, arith, Option, Some, Ok, Err, true≢false}
 use Rattle.std.specs.Prelude.{Result, is_some}
 use Rattle.outside.specs.Outside.{Files, content_of}
@@ -26,14 +26,14 @@ use Rattle.run_outcomes.proofs.RunLaws.{Reads, same_name}
 
 -- ---- a text that was written
 
--- if a text was to be written, no line was rejected, and no read failed
+-- if a text was written, no line was rejected and no read failed
 pub written_stops : (command : Command) (files : Option Files) (bytes_read read_now : ℕ) (text : List ℕ) (before now : ℕ) (had has : Option (List ℕ)) (result : Status) → WritesText text before now had has result → StopsAtRefusal command files bytes_read read_now result
 written_stops command files bytes_read read_now text before now had has status.Done wrote = tt
 written_stops command files bytes_read read_now text before now had has status.WriteFault wrote = tt
 written_stops command files bytes_read read_now text before now had has (status.NoMemory _) wrote = tt
 written_stops command files bytes_read read_now text before now had has _ wrote = absurd wrote
 
--- the same for the output of `whatif` for a trace
+-- if the output of `whatif` was written, no line was rejected and no read failed
 pub supposed_stops : (command : Command) (files : Option Files) (bytes_read read_now : ℕ) (trace : Trace) (timing : Timing) (rules : List Rule) (before now : ℕ) (had has : Option (List ℕ)) (result : Status) → WritesLast trace timing rules before now had has result
     → StopsAtRefusal command files bytes_read read_now result
 supposed_stops command files bytes_read read_now trace timing rules before now had has status.Done wrote = tt
@@ -44,11 +44,11 @@ supposed_stops command files bytes_read read_now trace timing rules before now h
 
 -- ---- an incomplete line
 
--- the line is also incomplete in fewer bytes
+-- a line that is incomplete in a prefix of the bytes is incomplete in a shorter prefix
 pub fewer_read : (line few more : ℕ) (bytes : List ℕ) → few ≤ more → length (parts_at 10 (take more bytes)) ≤ line → IsNotWhole line few bytes
 fewer_read line few more bytes fewer within = omega (arith, within, count-prefix bytes few more fewer)
 
--- every line is incomplete in no bytes
+-- in an empty prefix every line is incomplete
 pub none_read : (line count : ℕ) (bytes : List ℕ) → count ≡ 0 → 1 ≤ line → IsNotWhole line count bytes
 unfolding parts_at
 none_read line count bytes none first = subst (λ n. IsNotWhole line n bytes) (sym none) first
@@ -62,7 +62,7 @@ refused_at (Err refusal) why is =
     let same : status.Trace refusal.line refusal.cause ≡ why = cc is in
     (refusal, refl, ap refused_line (sym same))
 
--- how far is read, after files of rules
+-- the bound on the bytes read from the trace holds after files of rules were read, too
 suffix : (bytes_read middle read_now before line : ℕ) → middle ≤ bytes_read + before → read_now ≤ middle + furthest line → read_now ≤ bytes_read + (before + most_until line)
 suffix bytes_read middle read_now before line first then = omega (arith, first, then)
 
@@ -100,7 +100,7 @@ line_from_one (words.Stress shape workers) name bytes why named is = first_refus
 line_from_one (words.Rules file drop_in) name bytes why named is = first_refused _ why (trace-line (accepts_of (words.Rules file drop_in)) bytes) is
 line_from_one (words.Whatif trace options) name bytes why named is = first_refused _ why (trace-line (accepts_of (words.Whatif trace options)) bytes) is
 
--- a read of files of rules fails before anything is read of a trace
+-- if reading the files of rules fails, no byte of the trace is read
 pub rules_stop : (command : Command) (name : List ℕ) (files : Option Files) (bytes_read read_now : ℕ) → rules_name command ≡ Some name → read_now ≤ bytes_read + rules_read command files → StopsAtRefusal command files bytes_read read_now status.ReadFault
 rules_stop command name files bytes_read read_now named within = λ bytes why known refuses.
     none_read (refused_line why) (read_now - (bytes_read + rules_read command files)) bytes (omega (arith, within)) (line_from_one command name bytes why named refuses)
