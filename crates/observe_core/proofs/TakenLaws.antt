@@ -122,7 +122,7 @@ of_cpu observer cpu look is = grind (arith, is)
 is_chosen : (observer cpu : ℕ) (look : Look) → look.observer ≡ observer → look.cpu ≡ cpu → is_of observer cpu look ≡ true
 is_chosen observer cpu look by on = grind (arith, by, on)
 
--- there is no entry for a processor below the first one
+-- there is no entry for a processor outside the sampled range
 from_none : (observer : ℕ) (plans : PlansView) (slot : ℕ) (lasts : List Sample) (cpu k : ℕ) (taken : List Entry) → AreFrom observer plans slot lasts k taken → (cpu < k) ⊎ (k + length taken ≤ cpu) → counts_by observer cpu (looks_of taken) ≡ []
 from_none observer plans slot lasts cpu k [] from out = refl
 from_none observer plans slot lasts cpu k (entry ∷ taken) from out =

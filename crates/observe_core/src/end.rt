@@ -73,7 +73,7 @@ pub(crate) fn ordered<'a, L: Ledger>(
     ensures own { IfOk result (λ entries. (observer : ℕ) →
         by observer entries.items ≡ list_of own.now observer) }
 {
-    // The journal has exactly the entries that the shares count.
+    // The journal has as many entries as the shares count.
     journal.audit(all);
     journal.order(own)
 }

@@ -1,4 +1,5 @@
 //! Writes the output: the lines of samples and of board states, and the last line.
+//! Messages for the error stream are in `note`.
 ghost use Rattle.std.specs.Prelude.{◌≤◌, length};
 ghost use Rattle.std.specs.List.{flat_map};
 ghost use Rattle.outside.specs.Outside.{HasCause, SameInner};

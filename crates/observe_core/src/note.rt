@@ -1,4 +1,5 @@
-//! Writes the messages of statuses.
+//! Writes the messages of statuses, for the error stream.
+//! A run that succeeds has no message.
 ghost use Rattle.std.specs.Prelude.{◌≡◌};
 ghost use Rattle.outside.specs.Outside.{HasCause};
 ghost use Rattle.outside.specs.Calls.{PutsAll};

@@ -1,4 +1,5 @@
 //! Runs a request: reads the trace, observes it and writes the samples.
+//! The words of the request have been parsed before.
 ghost use Rattle.std.specs.Prelude.{◌≡◌, ◌+◌, ◌*◌, ◌/◌, ◌≤◌, ◌<◌, [], length};
 ghost use Rattle.outside.specs.Outside.{HasCause};
 ghost use Rattle.outside.specs.Calls.{PutsAll};

@@ -1,4 +1,5 @@
 //! Creates the observers of a replay, with a reader for each processor.
+//! No thread is started here.
 ghost use Rattle.std.specs.Prelude.{◌≡◌, ◌<◌, ℕ, Some, IfOk, length, slice_index_or};
 ghost use Rattle.replay_ticks.specs.Replays.{IsSomeReplay};
 ghost use Rattle.replay_workers.specs.Crew.{AreInRows, row_at};

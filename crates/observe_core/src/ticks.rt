@@ -1,4 +1,5 @@
 //! Replays all ticks with observers, and publishes each tick on the board.
+//! A single tick is in `interval`.
 ghost use Rattle.std.specs.Prelude.{◌≡◌, None, IfOk, ◌∷◌, [], length};
 ghost use Rattle.run_spec.specs.Replay.{tick_count};
 ghost use Rattle.observer_log.specs.Board.{first_state};

@@ -1,4 +1,5 @@
 //! Parses the words of the command line.
+//! No file is opened here.
 ghost use Rattle.std.specs.Prelude.{◌≡◌, IfOk, IfSome, MatchResult, Some, map, string_bytes};
 ghost use Rattle.observe_spec.specs.Words.{is_trace_name, request_of};
 ghost use Rattle.run_spec.specs.Words.{number_within};
