@@ -8,8 +8,8 @@ const MOST_TICKS: &str = "psitrace 1 cpus=50\n5000000000000 end\n";
 
 const ONE_TICK_MORE: &str = "psitrace 1 cpus=50\n5002000000000 end\n";
 
-/// A trace with so many ticks that two observers of one processor would take two samples more than
-/// the limit.
+/// A trace long enough that two observers of one processor would take two samples more than the
+/// limit.
 const TWO_SAMPLES_MORE: &str = "psitrace 1 cpus=1\n1000002000000000 end\n";
 
 /// A trace with a hundredth of the ticks of `MOST_TICKS`.
