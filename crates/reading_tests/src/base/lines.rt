@@ -142,7 +142,7 @@ fn lines_have_no_513_bytes(rt: HostRuntime) {
     }
 }
 
-// Checks the results of four calls with reads of two bytes, one of which fails.
+// Checks the results of four calls with reads of two bytes, if read `fails` fails.
 fn fails_once(rt: &impl Abort, alloc: Global, fails: u64, wanted: &str) {
     for lends in &[false, true] {
         let mut shelf = shelf_of(rt, alloc, "abc\nde\n", 2, fails);
