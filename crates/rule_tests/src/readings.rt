@@ -1,4 +1,5 @@
-//! The parts of which tests build readings: hosts, groups and their lives.
+//! Parts for building readings in tests: hosts, groups and their lives.
+//! The tests add the values that matter to them.
 use detectors::{GroupReading, HostReading};
 use pressure_spec::QUANTITIES;
 use psi_base::{Ns, Path, Preference, Slot};

@@ -75,8 +75,8 @@ fn below_root(rt: &impl Abort, alloc: Global) -> Patterns {
     Patterns::read(alloc, "*").expect(rt, "patterns")
 }
 
-/// An action that chooses a child of the root by size or growth: one with at least half of all
-/// memory, or one that grew by at least 1.25.
+/// An action that chooses a child of the root by size or growth: a child with at least half of all
+/// memory, or a child that grew by a factor of at least 1.25.
 fn size_or_growth(rt: &impl Abort, alloc: Global, percentile: u32, recursive: bool) -> Action {
     Action::SizeOrGrowth {
         cgroup: below_root(rt, alloc),
