@@ -133,7 +133,7 @@ pub record IsOpen (limits : Limits) (at : ℕ) (v : World) : Type 0 where
   pub going : v.ended ≡ false
   pub early : at ≤ limits.latest
 
--- the same world, with no line counted
+-- the same world, but the number of lines and the last time are 0
 abbrev fresh : World → World
 fresh v = record v { lines = 0; last = 0 }
 
