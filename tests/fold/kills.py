@@ -18,6 +18,7 @@ from typing import Any, NamedTuple
 from fold.common import Settled, folded, printed, window_of
 from harness import must, must_be
 from shared.program import TOP
+from shared.stored import tool
 from shared.traces import MS, Maker
 
 from .replays import FOLDERS, TEXTS, both_of, both_of_folder, names_of
@@ -32,10 +33,11 @@ KILL = re.compile("kill [0-9]+ ruleset=([0-9]+) ")
 
 
 class Found(NamedTuple):
-    """The number of compared replays, the number of their kill lines, and each difference: its
-    replay, and both lines.
+    """The numbers of random rulesets, of compared replays and of their kill lines, and each
+    difference: its replay, and both lines.
     """
 
+    rulesets: int
     replays: int
     kills: int
     differing: list[str]
@@ -86,13 +88,14 @@ def compare(program: str, what: str, traces: tuple[str, str], rules: list[list[A
                 replays, kills = replays + 1, kills + len(wanted)
                 if wanted != found:
                     differing.append(f"{what}, tick {tick // MS} ms: {difference(rulesets, wanted, found)}")
-    return Found(replays, kills, differing)
+    return Found(sum(map(len, rules)), replays, kills, differing)
 
 
 def total(parts: Iterator[Found]) -> Found:
     """The sums of all parts."""
     found = list(parts)
-    return Found(sum(it.replays for it in found), sum(it.kills for it in found), [line for it in found for line in it.differing])
+    rulesets, replays, kills = (sum(it[at] for it in found) for at in range(3))
+    return Found(rulesets, replays, kills, [line for it in found for line in it.differing])
 
 
 def random_traces(program: str, numbers: range, count: int) -> Iterator[Found]:
@@ -135,15 +138,36 @@ def rules_of(trace: str, draw: random.Random) -> list[Any]:
     return list(rules)
 
 
-def recordings(program: str, names: list[str], count: int) -> Iterator[Found]:
-    """Compares stored recordings, or those in other folders, folded into windows of a second, with
-    `count` random rules each, at ticks of 1 and 2 s.
+def pair_of(name: str) -> tuple[bytes, bytes]:
+    """The trace of a stored recording, of a recording's folder or of a file, and the trace folded
+    into windows of a second.
+    """
+    if os.path.isdir(name):
+        return both_of_folder(name)
+    if not os.path.exists(name):
+        return both_of(name)
+    with open(name, "rb") as file:
+        plain = file.read()
+    return plain, tool("fold", "-", "--window=1", given=plain).output
+
+
+def recordings(
+    program: str, names: list[str], count: int, windows: tuple[int, ...] = (1,)
+) -> Iterator[Found]:
+    """Compares stored recordings, or those in other folders and files, folded into windows of these
+    lengths (s), with `count` random rules each, at ticks of one window and of two.
     """
     for name in names:
-        plain, made = (it.decode() for it in (both_of_folder(name) if os.path.isdir(name) else both_of(name)))
-        draw = random.Random(name)
-        rules = [rules_of(plain, draw) for _ in range(count)]
-        yield compare(program, name, (plain, made), rules, [SECOND, 2 * SECOND])
+        plain, made = pair_of(name)
+        rules, draw = [], random.Random(name)
+        for _ in range(count):
+            rules.append(rules_of(plain.decode(), draw))
+        for window in windows:
+            if window > 1:
+                made = tool("fold", "-", f"--window={window}", given=plain).output
+            ticks = [window * SECOND, 2 * window * SECOND]
+            what = f"{name}, windows of {window} s"
+            yield compare(program, what, (plain.decode(), made.decode()), rules, ticks)
 
 
 def stored() -> list[str]:
