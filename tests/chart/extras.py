@@ -11,6 +11,7 @@ from chart.near import NEAR, must_be_near
 from harness import must, must_be
 from shared.outputs import run, story
 
+from .boxes import must_fit
 from .drawn import LEFT, RIGHT, SVG, Drawn, Element, compare, compare_paths, drawn_of, inner, number_at, scale_of
 from shared.printed import AVERAGES, Printed
 
@@ -179,6 +180,37 @@ def check_labels_cover_nothing(program: str) -> None:
                     is_over = any(left <= one <= right and top <= other <= bottom for one, other in steps)
                     must(not is_over, f"a curve of {group} goes through {text} at {limit} %")
     must(shown > 15, f"there are labels: {shown}")
+
+
+# Groups with long names, of which two differ only at their ends.
+CUSTOMER = "/customers.slice/a-long-name-of-a-customer-and-a-namespace.slice"
+LONG_NAMES = (f"{CUSTOMER}/kubepods-burstable-pod4fd3c2b1.slice", f"{CUSTOMER}/kubepods-burstable-pod4fd3c2b2.slice")
+LONG_TRACE = "\n".join([
+    "psitrace 1 cpus=1", "0 host 1073741824 0 0", "0 group /customers.slice", f"0 group {CUSTOMER}",
+    *(f"0 group {it}" for it in LONG_NAMES), *(f"0 fork {number} {it} 0" for number, it in enumerate(LONG_NAMES, 1)),
+    *(f"0 trigger {it} memory some 100000 1000000" for it in LONG_NAMES), "0 switch 0 1 idle", "0 stall 1",
+    *(f"1000000000 mem {it} 1073741824 1048576 0" for it in LONG_NAMES), "50000000000 switch 0 2 iowait", "50000000000 stall 2",
+    "70000000000 end", "",
+])  # fmt: skip
+
+
+def check_texts_fit(program: str) -> None:
+    """No text is outside of the picture, and none covers another one, however long names are."""
+    rules = rules_of(name="a ruleset whose name says all that it does, when, and why")
+    action = {"name": "kill_by_memory_size_or_growth", "args": {"cgroup": "*/*/*"}}
+    rules["rulesets"][0].update(detectors=[["stalls", pressure("*/*/*", "20")]], actions=[action])
+    with tempfile.TemporaryDirectory() as folder:
+        trace, file = f"{folder}/long.trace", f"{folder}/rules.json"
+        with open(trace, "w", encoding="ascii") as text, open(file, "w", encoding="ascii") as other:
+            text.write(LONG_TRACE)
+            json.dump(rules, other)
+        printed = run([program, "replay", trace, "--rules", file, "--report-s", "2"])
+        must(b"kill " in printed and b"event " in printed, "there are kills and events")
+        for number in (1, 2, 3, 4):
+            for words in ((), ("--start=2026-11-28T13:58:12Z",)):
+                drawn = Drawn(drawn_of(printed, f"--top={number}", f"--trace={trace}", f"--rules={file}", *words))
+                must_fit(f"--top={number} {words}", drawn.svg)
+    must_fit("the story", Drawn(drawn_of(story(program), "--top=3", "--rules=examples/runaway.json")).svg)
 
 
 def memory_replay(program: str) -> bytes:

@@ -11,13 +11,16 @@ import subprocess
 import tempfile
 from collections.abc import Iterator
 from contextlib import contextmanager
+from xml.etree import ElementTree
 
+from chart.boxes import must_fit
+from chart.extras import LONG_TRACE
 from report.browser import Page, browser_path, flags, opened_browser
 from shared.printed import Printed
 from harness import must, must_be
 from shared.outputs import run
 
-from .pages import data_of, read, story
+from .pages import data_of, page_of, read, story
 
 SECOND = 10**9
 TAB, RIGHT, ESCAPE, PLUS, SPACE = ("Tab", 9), ("ArrowRight", 39), ("Escape", 27), ("+", 187), (" ", 32)
@@ -204,6 +207,56 @@ def check_breaks_on_paper(program: str) -> None:
         for element, style, count in (("table", "breakInside", 5), ("h3", "breakAfter", 1), ("caption", "breakAfter", 5)):
             found = page.value(f"[...document.querySelectorAll('{element}')].map((it) => getComputedStyle(it).{style})")
             must(len(found) >= count and set(found) == {"avoid"}, f"{style} of {element}: {found}")
+
+
+def check_texts_of_pictures_fit(program: str) -> None:
+    """No text of a picture is outside of it or covers another one, on a large screen, on paper and
+    on a phone, also with long names.
+    """
+    with tempfile.TemporaryDirectory() as folder:
+        with open(os.path.join(folder, "long.trace"), "w", encoding="ascii") as file:
+            file.write(LONG_TRACE)
+        long = page_of(program, "long.trace", folder=folder)
+    for name, page in (("the story", story(program)), ("long names", long)):
+        pictures = re.findall(rb"(?s)<svg .*?</svg>", page)
+        must(len(pictures) > 8, f"{name} has pictures: {len(pictures)}")
+        for number, picture in enumerate(pictures):
+            svg = ElementTree.fromstring(picture.replace(b"<svg ", b'<svg xmlns="http://www.w3.org/2000/svg" ', 1))
+            if svg.get("class") != "strip":
+                must_fit(f"picture {number} of {name}", svg)
+            if not svg.get("class"):
+                must_fit(f"picture {number} of {name} on a phone", svg, is_phone=True)
+
+
+def rules_of_style(page: bytes, medium: str) -> dict[str, str]:
+    """The declarations for a medium on a page, by selector."""
+    (style,) = re.findall(r"(?s)<style>(.*?)</style>", page.decode())[:1]
+    found, start = {}, style.index(f"@media {medium} {{") + len(f"@media {medium} {{")
+    end = next(at for at in range(start, len(style)) if style[start : at + 1].count("}") > style[start : at + 1].count("{"))
+    for selectors, declarations in re.findall(r"([^{}]+)\{([^{}]*)\}", style[start:end]):
+        for one in selectors.split(","):
+            found[one.strip()] = found.get(one.strip(), "") + declarations
+    return found
+
+
+def check_breaks_without_a_browser(program: str) -> None:
+    """The style for paper forbids breaks within tables and after headings, and each heading is
+    followed by what it is about.
+    """
+    style = rules_of_style(story(program), "print")
+    for selector, declaration in (
+        ("table", "break-inside: avoid"), ("tr", "break-inside: avoid"), (".pictures figure", "break-inside: avoid"),
+        ("caption", "break-after: avoid"), ("h2", "break-after: avoid"), ("h3", "break-after: avoid"),
+    ):  # fmt: skip
+        must(declaration in style.get(selector, ""), f"{selector} on paper: {style.get(selector)}")
+    page = read(story(program))
+    for parent in [page, *page.find("main"), *page.find("section"), *page.find("div")]:
+        nodes = [it for it in parent.children if not isinstance(it, str)]
+        for heading, other in zip(nodes, [*nodes[1:], None]):
+            if heading.tag in ("h2", "h3"):
+                must(other is not None and other.tag not in ("h1", "h2"), f"after '{heading.text()}' comes what it is about")
+    tables = [it for it in page.find("table") if it.find("caption")]
+    must(len(tables) > 5, f"tables have captions: {len(tables)}")
 
 
 def check_scales_that_differ(program: str) -> None:

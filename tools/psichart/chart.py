@@ -16,7 +16,19 @@ from .axes import TimeAxis
 from .marks import ROW, Mark, Moment, marks_of, place
 from .panels import MemoryPanel, Panel, PressurePanel
 from .replay import Gone, Replay
-from .svg import LEFT, RIGHT, STYLE, STYLE_BESIDE, WIDTH, Element, add, counted, decimal, short
+from .svg import (
+    LEFT,
+    RIGHT,
+    STYLE,
+    STYLE_BESIDE,
+    TITLE_LETTER,
+    WIDTH,
+    Element,
+    add,
+    counted,
+    decimal,
+    short,
+)
 from .thresholds import memory_thresholds, pressure_thresholds
 
 NAMES = {
@@ -33,9 +45,10 @@ FLAT_HEIGHT = 30
 # The height of a second row of the legend, if two replays are drawn.
 LEGEND_ROW = 20
 AVERAGES = ("10 s", "60 s", "300 s")
-# The most groups in a title, and the most characters of a title that names the killer.
+# The most groups in a title; the most characters of their paths together, and of the whole title.
 TITLED = 3
-TITLE_ROOM = 100
+PATHS_ROOM = 60
+TITLE_ROOM = int((WIDTH - 32) / TITLE_LETTER)
 
 
 class Place(NamedTuple):
@@ -72,7 +85,7 @@ class Chart:
     def __init__(self, wanted: Wanted) -> None:
         self.wanted, self.replay, self.axis = wanted, wanted.replay, wanted.axis
         self.shown = wanted.names.shown
-        self.heading = self.title(60 // min(TITLED, len(self.replay.groups)))
+        self.heading = self.fitting_title()
         self.marks = marks_of(
             filter(lambda it: self.axis.holds(it.moment), self.moments()), self.axis.x
         )
@@ -100,7 +113,7 @@ class Chart:
     def panel(self, resource: str, path: str) -> list[Panel]:
         rules, samples = self.wanted.rules, self.wanted.samples
         name = NAMES[resource] + (
-            f" of {short(self.shown(path), 80)}" if len(self.replay.groups) > 1 else ""
+            f" of {self.shown(path)}" if len(self.replay.groups) > 1 else ""
         )
         if resource != "use":
             thresholds = pressure_thresholds(rules, path, resource)
@@ -166,6 +179,12 @@ class Chart:
             if len(title + self.killers()) <= max(most, TITLE_ROOM)
             else title
         )
+
+    def fitting_title(self) -> str:
+        """The title with the longest paths that fit into the picture."""
+        most = PATHS_ROOM // min(TITLED, len(self.replay.groups))
+        titles = [self.title(it) for it in range(most, most // 2, -1)]
+        return next((it for it in titles if len(it) <= TITLE_ROOM), short(titles[-1], TITLE_ROOM))
 
     def killers(self) -> str:
         """The killers: a ruleset's name, or the number of rulesets, if the rules are known."""

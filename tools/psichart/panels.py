@@ -12,13 +12,16 @@ from .axes import TimeAxis, byte_step, share_step, told_bytes
 from .replay import Replay, Series
 from .svg import (
     LEFT,
+    NAME_LETTER,
     RIGHT,
+    SMALL_LETTER,
     Element,
     Point,
     add,
     add_line,
     counted,
     decimal,
+    short,
     thinned,
     thinned_steps,
 )
@@ -29,6 +32,12 @@ LEAST_SHARE = 100
 LEAST_BYTES = 1024**2
 # An average that began at 0 is meaningful after this number of its periods.
 SETTLED = 3
+# The left end of a panel's name, and the gap between the name and what is to the right of it
+# (pixels).
+NAME_LEFT, NAME_GAP = 16, 12
+# The legend of a memory panel: how far it begins from the right end, and the width of each entry
+# (pixels), also if its letters are twice as large, as on a phone.
+MEMORY_LEGEND, MEMORY_ENTRY = 246, 140
 # The number of characters that fit to the left of a panel.
 COUNT_ROOM = 17
 
@@ -57,6 +66,8 @@ class Panel:
 
     def __init__(self, name: str, axis: TimeAxis, thresholds: list[Threshold]) -> None:
         self.name, self.axis, self.thresholds = name, axis, thresholds
+        # What follows the name in small letters, and the most characters of the name.
+        self.remark, self.longest = "", 1000
 
     def most(self) -> int:
         """The least value at its upper edge."""
@@ -69,6 +80,22 @@ class Panel:
     def has_events(self) -> bool:
         """Whether it has ticks for events."""
         return False
+
+    def name_end(self) -> float:
+        """How far the name may extend to the right (pixels)."""
+        return RIGHT
+
+    def draw_name(self, panel: Element, y: float) -> None:
+        """Draws the name, shortened if it doesn't fit; its tooltip has all of it."""
+        room = self.name_end() - NAME_LEFT - NAME_GAP
+        if self.remark:
+            room -= NAME_GAP + SMALL_LETTER * len(self.remark)
+        shown = short(self.name, min(int(room / NAME_LETTER), self.longest))
+        text = add(panel, "text", shown, class_="name", x=NAME_LEFT, y=y)
+        if shown != self.name:
+            add(text, "title", self.name)
+        if self.remark:
+            add(text, "tspan", self.remark, class_="small", dx=NAME_GAP)
 
     def step(self, most: int) -> int:
         raise NotImplementedError
@@ -88,7 +115,7 @@ class Panel:
         step = self.apart(most)
         frame = Frame(top, height, -(-most // step) * step)
         panel = add(svg, "g", class_=f"panel {self.kind}")
-        add(panel, "text", self.name, class_="name", x=16, y=top - 13)
+        self.draw_name(panel, top - 13)
         middle = top + height / 2
         turn = f"rotate(-90 44 {decimal(middle)})"
         add(panel, "text", self.of_what, class_="small", x=44, y=middle, text_anchor="middle",
@@ -216,14 +243,20 @@ class PressurePanel(Panel):
     def draw_inside(self, panel: Element, frame: Frame) -> None:
         for curves in self.curves:
             curves.draw(panel, frame)
-        climbing = [it for it in AVERAGES if self.curves[0].does_climb(it)]
-        if climbing:
-            text = (
-                f"thin: {' and '.join(climbing)} only climb{'s' if len(climbing) == 1 else ''} from"
-                " 0, where the trace begins"
-            )
-            add(panel, "text", text, class_="small", x=RIGHT, y=frame.top - 13, text_anchor="end")
+        if self.caveat():
+            add(panel, "text", self.caveat(), class_="small", x=RIGHT, y=frame.top - 13,
+                text_anchor="end")  # fmt: skip
         self.draw_events(panel, frame.bottom + 5)
+
+    def caveat(self) -> str:
+        """Which averages only climb from 0, to the right of the name."""
+        climbing = [it for it in AVERAGES if self.curves[0].does_climb(it)]
+        verb = "climbs" if len(climbing) == 1 else "climb"
+        averages = " and ".join(climbing)
+        return f"thin: {averages} only {verb} from 0, where the trace begins" if climbing else ""
+
+    def name_end(self) -> float:
+        return RIGHT - SMALL_LETTER * len(self.caveat())
 
     def draw_events(self, panel: Element, top: float) -> None:
         for row, (level, moments) in enumerate(zip(LEVELS, self.events[0])):
@@ -271,6 +304,9 @@ class MemoryPanel(Panel):
             inside = [it._replace(moment=self.axis.start) for it in before] + inside
         return inside + [it._replace(moment=end) for it in inside[-1:]]
 
+    def name_end(self) -> float:
+        return RIGHT - MEMORY_LEGEND
+
     def most(self) -> int:
         used = (max(it.memory, it.swap) for samples in self.lives for it in samples)
         return max(LEAST_BYTES, max(used, default=0), *(it.level for it in self.thresholds))
@@ -283,7 +319,8 @@ class MemoryPanel(Panel):
 
     def draw_inside(self, panel: Element, frame: Frame) -> None:
         for place, what in enumerate(("memory", "swap") if self.has_swap else ("memory",)):
-            look, x, y = f"series {what}-use", RIGHT - 194 + 106 * place, frame.top - 17
+            look = f"series {what}-use"
+            x, y = self.name_end() + MEMORY_ENTRY * place, frame.top - 17
             add(panel, "polyline", class_=look,
             points=f"{decimal(x)},{decimal(y)} {decimal(x + 32)},{decimal(y)}")  # fmt: skip
             add(panel, "text", what, x=x + 38, y=y + 4)

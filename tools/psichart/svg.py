@@ -12,10 +12,13 @@ Point = tuple[float, float]
 WIDTH = 960
 LEFT = 112
 RIGHT = 936
-# The largest width of a character: in monospace fonts of 11 pixels, and in other fonts of 12
-# pixels.
+# The largest average width of characters: in monospace fonts of 11 pixels; in other fonts of 11
+# and 12 pixels; and in bold ones of 13 (names of panels) and 16 (titles).
 MONOSPACE = 6.7
+SMALL_LETTER = 6.6
 LETTER = 7.2
+NAME_LETTER = 7.8
+TITLE_LETTER = 9.6
 
 # The colours are those of Okabe and Ito, which colour-blind people can distinguish, some of them
 # darker or lighter to suit the background.

@@ -5,7 +5,7 @@ from typing import Iterator, NamedTuple, Optional
 
 from psireplay.rules import Plugin, Rules, Ruleset, size
 
-from .svg import LEFT, RIGHT, Element, Point, add, short
+from .svg import LEFT, RIGHT, SMALL_LETTER, Element, Point, add, short
 
 # What each detector of pressure compares: the average whose colour its line has, and its
 # description.
@@ -13,9 +13,7 @@ WATCHED = {
     "pressure_above": ("avg10", "full over 10 s"),
     "pressure_rising_beyond": ("avg60", "full over 60 s and over 10 s"),
 }
-# The largest width of a label's character (pixels); the free space around a label, and its distance
-# from its line.
-NOTE_LETTER = 6.6
+# The free space around a label, and its distance from its line (pixels).
 NEXT_TO = 2.0
 ABOVE, BELOW = -5.0, 14.0
 
@@ -132,7 +130,7 @@ class Label(NamedTuple):
     anchor: str
 
     def box(self) -> Box:
-        width = NOTE_LETTER * len(self.text)
+        width = SMALL_LETTER * len(self.text)
         left = self.x - {"start": 0.0, "middle": width / 2, "end": width}[self.anchor]
         return Box(
             left - NEXT_TO, left + width + NEXT_TO, self.y - 10 - NEXT_TO, self.y + 2 + NEXT_TO

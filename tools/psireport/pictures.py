@@ -25,6 +25,9 @@ HEIGHT = 132
 WHOLE = 10_000
 # Room above a picture's name for texts of kills, and below it for the numbers of the time.
 TOP, BOTTOM = 8, 22
+# The most characters of a picture's name that fit on a phone, whose letters are twice as large; a
+# memory picture has a legend to the right of its name.
+LONGEST, LONGEST_OF_MEMORY = 60, 42
 # Below a picture's values stand the ticks of events.
 EVENTS = 16
 # A strip is so wide and high, whatever it is stretched to.
@@ -51,7 +54,7 @@ class Figure(Chart):
             mark.row = None
         self.unnamed = self.unnamed if has_labels else []
         rows = max((mark.row + 1 for mark in self.marks if mark.row is not None), default=0)
-        self.marks_top = TOP
+        self.marks_top = TOP + (ROW if self.unnamed else 0)
         self.marks_bottom = self.marks_top + ROW * rows
         self.top = self.marks_bottom + 12 + NAME_ROOM
         self.height = FLAT_HEIGHT if self.panels[0].is_flat() else HEIGHT
@@ -76,20 +79,21 @@ class Figure(Chart):
         if self.wanted.recorded:
             self.draw_supposed()
         panel = self.panels[0]
+        panel.remark = self.scale_remark(panel)
+        panel.longest = LONGEST_OF_MEMORY if panel.kind == USE else LONGEST
         panel.draw(self.svg, self.top, self.height, panel.most())
         self.draw_marks()
         for caption in [it for it in self.svg if it.get("class") == "small"]:
             self.svg.remove(caption)
-        self.mark_scale(panel)
         return self.svg
 
-    def mark_scale(self, panel: Panel) -> None:
+    def scale_remark(self, panel: Panel) -> str:
         """Says that the scale ends below 100 percent, since the picture beside it may end
         elsewhere.
         """
-        name = self.svg.find("g/text[@class='name']")
-        if name is not None and panel.kind != USE and not panel.is_flat() and self.most() < WHOLE:
-            add(name, "tspan", f"scale to {decimal(self.most() / 100)} %", class_="small", dx=12)
+        if panel.kind == USE or panel.is_flat() or self.most() >= WHOLE:
+            return ""
+        return f"scale to {decimal(self.most() / 100)} %"
 
     def has_events(self) -> bool:
         """Whether any picture has some: the legend is that of all."""
