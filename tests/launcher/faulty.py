@@ -29,6 +29,8 @@ FAULTY = (
     (("gen", *GEN), 1, "gen takes --events too"),
     (("whatif", "t"), 1, "whatif takes --rules too"),
     (("replay", "t", "--tick-ms"), 1, "--tick-ms takes a value"),
+    (("replay", "t", "--report-s", "1", "--report-s=2"), 1, "--report-s may be given once"),
+    (("replay", "t", "--drop-in", "t"), 1, "replay takes --rules too"),
     (("replay", "none"), 4, "no trace none: names count from the folder in which the command runs"),
     (("replay", "--", "--rules"), 4, "no trace --rules: names count from the folder in which the command runs"),
     (("replay", "t", "--rules", "none"), 4, "no rules file none: names count from the folder in which the command runs"),
@@ -37,9 +39,19 @@ FAULTY = (
     (("check", "r"), 5, "the trace r is a recording: tools/psitrace r > FILE makes a trace of it"),
 )
 FAULTLESS = (
-    ("replay", "-", "--rules", "t", "--tick-ms=x"), ("check", "t", "--tick-ms", "--rules"), ("gen", *GEN, "--events", "1"),
-    ("whatif", "--rules=t", "--", "t"), ("import", "t", "--cpus", "0"), ("rules", "t"), ("replay", "--live", "none", "t"),
+    ("gen", *GEN, "--events", "1"), ("whatif", "--rules=t", "--", "t"), ("import", "t", "--cpus", "0"), ("rules", "t"),
+    ("replay", "--live", "none", "t"), ("rules", "-", "--drop-in", "t"),
 )  # fmt: skip
+# Values that the program judges: what is said after its own message.
+VALUES = (
+    (("replay", "-", "--rules", "t", "--tick-ms=x"), "--tick-ms takes a whole number such as 2, not 'x'"),
+    (("check", "t", "--tick-ms", "--rules"), "--tick-ms takes a whole number such as 2, not '--rules'"),
+    (("replay", "t", "--report-s", "2s"), "--report-s takes a whole number such as 2, not '2s'"),
+    (("replay", "t", "--report-s", "-1"), "--report-s takes a whole number such as 2, not '-1'"),
+    (("replay", "t", "--interval-s="), "--interval-s takes a whole number such as 2, not ''"),
+    (("replay", "t", "--live", "x", "--live-count", "07"), "--live-count takes a whole number such as 2, not '07'"),
+    (("replay", "t", "--rules", "-"), "--rules takes a file's name: standard input is for the trace"),
+)
 
 
 def make_files(place: str) -> None:
@@ -59,7 +71,7 @@ def check_faulty_words(room: str) -> None:
     make_files(place)
     for words, status, hint in FAULTY:
         must_be(f"{words} without a program", copy.run(*words, place=place), (status, "", f"psi_oomd: {hint}\n"))
-    for words in FAULTLESS:
+    for words in (*FAULTLESS, *(words for words, _ in VALUES)):
         must_be(f"{words} are for the program", copy.run(*words, place=place)[0], 70)
     copy.give_program("echo own >&2")
     for words, _, hint in FAULTY:
@@ -67,6 +79,9 @@ def check_faulty_words(room: str) -> None:
         must_be(f"{words} beside a program", copy.run(*words, place=place), (7, said, f"own\npsi_oomd: {hint}\n"))
     for words in FAULTLESS:
         must_be(f"{words} beside a program", copy.run(*words, place=place), (7, "".join(f"<{it}>\n" for it in words), "own\n"))
+    for words, hint in VALUES:
+        said = "".join(f"<{word}>\n" for word in words)
+        must_be(f"{words} beside a program", copy.run(*words, place=place), (7, said, f"own\npsi_oomd: {hint}\n"))
     other = Copy(room, "psi_observe")
     must_be("two words", other.run("t", "1", place=place), (1, "", "psi_observe: psi_observe takes three words: TRACE OBSERVERS PATH\n"))
     missing = "psi_observe: no trace none: names count from the folder in which the command runs\n"

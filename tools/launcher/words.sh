@@ -108,8 +108,9 @@ look_at_file() {
     fi
 }
 
-# Looks at an option by its name: fails if the command has no such option.
+# Looks at an option by its name: fails if the command has no such option, or has it already.
 look_at_option() {
+    case $found in *" $1 "*) word_fault "$1 may be given once"; return 1 ;; esac
     case " $options " in *" $1 "*) return 0 ;; esac
     kind="option"
     # shellcheck disable=SC2086 -- options are words
@@ -117,11 +118,14 @@ look_at_option() {
     return 1
 }
 
-# Looks at the value of an option, which for two of them is a file.
+# Looks at the value of an option, which is a file, a path or a number. The program judges numbers.
 look_at_value() {
-    case $1 in
-    --rules) look_at_file "$2" 'rules file' ;;
-    --drop-in) look_at_file "$2" 'drop-in file' ;;
+    case $1,$2 in
+    --rules,- | --drop-in,-) hint '' "$1 takes a file's name: standard input is for the trace" ;;
+    --rules,*) look_at_file "$2" 'rules file' ;;
+    --drop-in,*) look_at_file "$2" 'drop-in file' ;;
+    --live,*) ;;
+    *, | *,0?* | *,*[!0-9]*) hint '' "$1 takes a whole number such as 2, not '$2'" ;;
     esac
 }
 
@@ -158,6 +162,7 @@ look_at_rest() {
 look_at_counts() {
     [ -z "$option" ] || { word_fault "$option takes a value"; return; }
     missing=''
+    case $command$found in replay*" --drop-in "*) needed='--rules' ;; esac
     for word in $needed; do
         case $found in *" $word "*) ;; *) missing="$missing $word" ;; esac
     done
