@@ -2,7 +2,7 @@
 from __future__ import annotations
 
 from collections.abc import Callable, Sequence
-from typing import Optional
+from typing import Optional, TypeVar
 
 from psicli.times import seconds
 from psinames.known import Known
@@ -18,6 +18,7 @@ MS = 10**6
 TOP = 10
 HEAD = 22
 NONE = "no task"
+Row = TypeVar("Row", Figures, Part)
 
 
 def three(ns: int) -> str:
@@ -54,16 +55,17 @@ def columns(rows: list[list[str]], indent: str = "") -> list[str]:
     return [indent + "  ".join(row).rstrip() for row in cells]
 
 
-def without_same(found: list[Figures], shown: Callable[[Figures], object]) -> list[Figures]:
-    """The rows without those of groups for which the same is shown as for a group right below them:
-    all that they have is of that one.
+def without_same(found: Sequence[Row], shown: Callable[[Row], object]) -> list[Row]:
+    """The rows without those of groups whose values all come from one group right below them, which
+    has the same.
     """
     by_group = {it.group: it for it in found}
     hidden = {
         above
         for it in found
-        if (above := it.group.parent) and above in by_group and shown(it) == shown(by_group[above])
-    }
+        if it.group and (above := it.group.parent) and above in by_group
+        and shown(it) == shown(by_group[above])
+    }  # fmt: skip
     return [it for it in found if it.group not in hidden]
 
 
@@ -163,14 +165,14 @@ class Teller:
         first = (
             f"and {where} {three(whole)} s: of that, tasks of these groups {did} at the same time"
         )
-        return [first, *self.parts(it.group, parts, whole, "")]
+        return [first, *self.parts(it.group, without_same(parts, lambda it: it.time), whole, "")]
 
     def growth(self, it: Figures, growing: list[Figures]) -> list[str]:
         """Whose memory grew in that time, and for whom pages were scanned."""
         if not growing:
             return []
         rows = [["", "grown", "pages scanned"]]
-        for other in growing[: self.top]:
+        for other in without_same(growing, lambda it: it.growth)[: self.top]:
             assert other.growth
             rows.append(
                 [
