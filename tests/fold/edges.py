@@ -119,6 +119,16 @@ def check_when_whatif_is_exact(program: str) -> None:
         must("named\n" in done.said or "of them:" in done.said, f"at 0 nothing moves yet: {done.said}")
 
 
+def check_victims_that_are_no_groups(_: str) -> None:
+    """A pattern that matches no group is reported, and promises nothing."""
+    trace = MOVES.format("/w").replace("3000000000 move", "0 move").encode()
+    for patterns, missing, is_exact in (("/nosuch", ["/nosuch"], False), ("v,x/*", ["x/*"], True), ("/,w", [], True)):
+        done = tool("fold", "-", "--window=2", f"--victims={patterns}", given=trace)
+        found = [line for line in done.said.splitlines() if "matches the victims' pattern" in line]
+        must_be(f"the patterns of {patterns}", found, [f"fold: no group of the trace matches the victims' pattern '{it}'" for it in missing])
+        must_be(f"whether whatif is exact, with {patterns}", "`whatif` is exact" in done.said, is_exact)
+
+
 def check_limits_of_folding(program: str) -> None:
     """Too many tasks for a trace, and a folded trace that is longer than the original, are reported
     by their status.

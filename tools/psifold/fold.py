@@ -52,13 +52,15 @@ class Counts:
 class Outcome:
     """The result of folding: the counts; the time (ns) up to which the trace is written; the number
     of kills up to which it is exact, None if for any; how many tasks came to the victims' groups or
-    moved from one of them later, and when the last did (ns).
+    moved from one of them later, and when the last did (ns); and the victims' patterns that match
+    no group.
     """
 
     counts: Counts
     written: int
     whole: int | None
     changes: Changes
+    unmatched: list[str]
 
 
 class Fold:
@@ -100,7 +102,10 @@ class Fold:
 
     def outcome(self) -> Outcome:
         """The outcome of the lines so far."""
-        return Outcome(self.counts, self.written, self.victims.whole, self.world.changes)
+        return Outcome(
+            self.counts, self.written, self.victims.whole, self.world.changes,
+            self.victims.unmatched(),
+        )  # fmt: skip
 
     # ------------------------------------------------------------ lines
 

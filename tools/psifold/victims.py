@@ -83,6 +83,11 @@ class Victims:
             self.known[path] = any(victim.matches(path) for victim in self.wanted)
         return self.known[path]
 
+    def unmatched(self) -> list[str]:
+        """The patterns that matched no group so far."""
+        paths = {"/", *self.known}
+        return [it.pattern for it in self.wanted if not any(map(it.matches, paths))]
+
     def removals(self, world: FoldWorld) -> list[tuple[int, ...]]:
         """The sets of groups to exclude: each group alone, then sets of two, of three and so on, as
         long as all sets of one size fit. A set doesn't contain a group and its ancestor: the

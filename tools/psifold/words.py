@@ -80,6 +80,7 @@ def folding_lines(folding: Folding, outcome: Outcome) -> list[str]:
         ),
         ROUNDING,
         whatif_line(folding, outcome),
+        *(f"no group of the trace matches the victims' pattern '{it}'" for it in outcome.unmatched),
         *longer_lines(outcome.counts),
     ]
 
@@ -101,7 +102,7 @@ def longer_lines(counts: Counts) -> list[str]:
 
 def whatif_line(folding: Folding, outcome: Outcome) -> str:
     """How far `whatif` is exact."""
-    if not folding.victims:
+    if len(outcome.unmatched) == len(folding.victims):
         return (
             "after the first kill `whatif` is near, and not exact: --victims or --rules say who"
             " might be killed"
