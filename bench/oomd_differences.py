@@ -94,7 +94,7 @@ def at_last(self: Killer, look: Look, path: str, candidates: list[object]) -> li
 def remembered(self: Engine, now: int) -> None:
     """Evaluates once, and then stores each group's sizes."""
     OWN_LOOK(self, now)
-    for path, group in self.machine.world.groups.items():
+    for path, group in self.machine.world.live.items():
         HISTORY.setdefault(group, []).append(self.machine.current(path))
 
 

@@ -19,7 +19,7 @@ from psioomd.faults import Refused
 from psioomd.machine import Extras, Machine
 from psioomd.numbers import BadNumber, float32, signed32, size, stof, stoi
 from psioomd.patterns import Patterns
-from psisystemd.world import Host
+from psireplay.groups import Host
 
 GIB = 1 << 30
 KILL = plugin(GROWTH, "a")

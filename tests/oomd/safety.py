@@ -54,7 +54,7 @@ def check_the_files_name_no_process(room: Room) -> None:
 
 def files_of(room: Room) -> dict[str, str]:
     machine = Machine(Extras(), NO_HOST)
-    machine.world.make(0, "/a")
+    machine.world.take(0, "group", ["/a"])
     return dict(Files(room.path, machine).written)
 
 

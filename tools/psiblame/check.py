@@ -5,8 +5,8 @@ from collections.abc import Iterable
 
 from psicli.fault import Fault
 from psicli.status import Status
+from psireplay.groups import Group
 
-from .groups import Group
 from .sums import Sums
 from .trace import Stalls, States
 

@@ -11,12 +11,12 @@ from psicli.status import Status
 from psicli.values import whole_number
 from psinames.known import Known, add_names, add_times, known_of, span_in
 from psinames.tasks import Tasks
+from psireplay.groups import Group
 from psireplay.sampled import refuse_sampled
-from psireplay.trace_end import groups_of
+from psireplay.trace import event_in, groups_of
 
 from .check import must_add_up
 from .figures import DEEPEST, Asker
-from .groups import Group
 from .runners import Runners
 from .sums import Stretches
 from .text import as_text
@@ -123,21 +123,21 @@ def walked(given: Given, lines: Lines, asked: Asked, told: Stalls, known: Known)
         lines.cpus, Stretches(asked.start, asked.to), Named(given.groups, False), victims, runners
     )
     for piece in lines.pieces():
-        walk.take(piece)
+        for line in piece:
+            walk.take(*event_in(line))
         if walk.entries() > MOST_ENTRIES:
             walk.fold()
-    must_add_up(walk.stretches.done, walk.groups.live.values(), lines.cpus, told)
+    must_add_up(walk.stretches.done, walk.live.values(), lines.cpus, told)
     return walk
 
 
 def asked_groups(given: Given, walk: Walk) -> list[Group]:
     """The groups that the words name, each once."""
-    groups, victims = walk.groups, walk.victims.numbers
-    found = dict.fromkeys(group for word in given.groups for group in groups.named(word))
+    found = dict.fromkeys(group for word in given.groups for group in walk.named(word))
     for group in found:
-        if group.number in victims:
+        if group.number in walk.victims.numbers:
             raise Fault(
-                f"--victim {given.victim} is {groups.name(group)} or above it: without it there is"
+                f"--victim {given.victim} is {walk.name(group)} or above it: without it there is"
                 " no such group"
             )
     return list(found)
@@ -154,10 +154,10 @@ def work(given: Given) -> str:
         asked = asked_time(given, lines, known)
         walk = walked(given, lines, asked, told, known)
     if given.victim is not None:
-        walk.groups.named(given.victim)
+        walk.named(given.victim)
     asker = Asker(walk, asked.cpus, given.depth, asked.to)
     found = [asker.figures(group) for group in asked_groups(given, walk)]
-    return (as_json if given.is_json else as_text)(walk.groups, found, asker.table(), asked, known)
+    return (as_json if given.is_json else as_text)(walk, found, asker.table(), asked, known)
 
 
 def blame() -> int:

@@ -8,8 +8,8 @@ from typing import NamedTuple, Optional
 
 from psinames.lives import Life
 from psinames.tasks import Share
+from psireplay.groups import Group
 
-from .groups import Group
 from .memory import Growth
 from .overlap import Pairs
 from .processor import NOBODY
@@ -62,6 +62,16 @@ class Figures(NamedTuple):
         return bool(self.ran or self.worst or self.growth)
 
 
+def depth(group: Group) -> int:
+    """The number of components of its path."""
+    return group.path.count("/") if group.parent else 0
+
+
+def at_depth(group: Group, most: int) -> Group:
+    """The group, or the one above it that has this number of components, if it has more."""
+    return next(it for it in group.line() if depth(it) <= most)
+
+
 def longest_first(times: Mapping[Optional[Group], int]) -> list[Part]:
     found = [Part(group, time) for group, time in times.items() if time]
     return sorted(found, key=lambda it: (-it.time, it.group.number if it.group else NOBODY))
@@ -73,7 +83,7 @@ class Asker:
     """
 
     def __init__(self, walk: Walk, cpus: int, depth: int, to: int) -> None:
-        self.groups, self.runners, self.victims = walk.groups, walk.runners, walk.victims.numbers
+        self.groups, self.runners, self.victims = walk.all, walk.runners, walk.victims.numbers
         self.sums, self.cpus, self.depth, self.to = walk.stretches.asked, cpus, depth, to
         sums = self.sums
         self.ran = collections.defaultdict[Group, collections.Counter[Optional[Life]]](
@@ -130,7 +140,7 @@ class Asker:
         )
         for number, time in runners.items():
             runner = self.runners.all[number] if number != NOBODY else None
-            times[runner.group.at_depth(self.depth) if runner else None][
+            times[at_depth(runner.group, self.depth) if runner else None][
                 runner.life if runner else None
             ] += time
         found = longest_first({group: lives.total() for group, lives in times.items()})
@@ -141,7 +151,7 @@ class Asker:
     def beside(self, group: Group, pairs: Pairs) -> list[Part]:
         """Who was in the state at the same time. Those above the group always are."""
         others = {
-            self.groups.all[other]: time
+            self.groups[other]: time
             for (asked, other), time in pairs.items()
             if asked == group.number
         }
@@ -149,11 +159,11 @@ class Asker:
             {
                 it: time
                 for it, time in others.items()
-                if it.depth() <= self.depth and not group.is_below(it)
+                if depth(it) <= self.depth and not group.is_below(it)
             }
         )
 
     def table(self) -> list[Figures]:
         """All groups down to the depth, the worst first."""
-        found = [self.figures(group) for group in self.groups.all if group.depth() <= self.depth]
+        found = [self.figures(group) for group in self.groups if depth(group) <= self.depth]
         return sorted(found, key=lambda it: (-it.worst, it.group.number))

@@ -2,14 +2,15 @@
 from __future__ import annotations
 
 import collections
-from typing import Iterable, Optional
+from collections.abc import Iterable
+from typing import Optional
 
 from psinames.lives import Life
+from psireplay import world
+from psireplay.groups import Group
 
-from .groups import Group
 from .overlap import Overlap
 
-READY, RUNNING, ASLEEP, IOWAIT = range(4)
 # The number of the runner if no task runs.
 NOBODY = -1
 # In a row, how long (ns) it was going on.
@@ -20,18 +21,17 @@ ALONE = 1 << 40
 Row = collections.defaultdict[int, int]
 
 
-class Task:
-    """A task: its number in the trace, its group, its processor, what it does, for whom it counts
-    if that is known, and the number of this runner in its group.
+class Task(world.Task):
+    """A task, with the process or thread for which it counts if that is known, and the number of
+    this runner in its group.
     """
 
-    __slots__ = ("pid", "group", "processor", "at", "is_stalled", "life", "runner")
+    __slots__ = ("life", "runner")
 
     def __init__(
-        self, pid: bytes, group: Group, processor: Processor, life: Optional[Life], runner: int
+        self, pid: str, group: Group, cpu: int, life: Optional[Life], runner: int
     ) -> None:
-        self.pid, self.group, self.processor = pid, group, processor
-        self.at, self.is_stalled = READY, False
+        super().__init__(pid, group, cpu)
         self.life, self.runner = life, runner
 
 
@@ -67,14 +67,10 @@ class Held:
             if counts[group] > 1:
                 counts[group] -= 1
             else:
-                self.drop(group, now)
-
-    def drop(self, group: int, now: int) -> None:
-        """The group has none any more, or its account is off."""
-        if self.counts.pop(group, 0):
-            self.sums[group] += now - self.since.pop(group)
-            if self.overlap:
-                self.overlap.end(group, now)
+                del counts[group]
+                self.sums[group] += now - self.since.pop(group)
+                if self.overlap:
+                    self.overlap.end(group, now)
 
     def taken(self, now: int) -> Row:
         """The sums up to a moment, from which on they are counted anew."""
@@ -123,23 +119,15 @@ class Processor:
                 row[group] += length
 
     def add(self, task: Task) -> None:
-        """The task is ready here from now on. It is `count`, without a call for each of so many
-        events.
-        """
+        """The task is ready here from now on."""
         ready = self.ready
-        for group in task.group.chain:
-            ready[group] = ready.get(group, 0) + 1
-
-    def count(self, chain: Iterable[int]) -> None:
-        """These groups have a ready task more."""
-        ready = self.ready
-        for group in chain:
+        for group in task.group.counted:
             ready[group] = ready.get(group, 0) + 1
 
     def remove(self, task: Task) -> None:
-        """It is so no more."""
+        """The task isn't ready here from now on."""
         ready = self.ready
-        for group in task.group.chain:
+        for group in task.group.counted:
             if ready[group] > 1:
                 ready[group] -= 1
             else:
@@ -149,13 +137,6 @@ class Processor:
         """The task runs from now on, or none."""
         self.task = task
         self.row = self.rows[task.runner if task else NOBODY]
-
-    def drop(self, group: int, now: int) -> None:
-        """The group is in no state from now on."""
-        self.pass_time(now)
-        self.ready.pop(group, None)
-        self.io.drop(group, now)
-        self.memory.drop(group, now)
 
     def taken(self, now: int) -> Rows:
         """The rows up to a moment, from which on they are counted anew."""
@@ -180,13 +161,13 @@ class WatchedProcessor(Processor):
         super().__init__(number, io, memory)
 
     def add(self, task: Task) -> None:
-        self.count(task.group.chain)
+        super().add(task)
         if task.group.number not in self.victims:
             self.others += 1
             self.run(self.task)
 
     def remove(self, task: Task) -> None:
-        Processor.remove(self, task)
+        super().remove(task)
         if task.group.number not in self.victims:
             self.others -= 1
             self.run(self.task)

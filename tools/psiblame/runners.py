@@ -5,8 +5,7 @@ from typing import NamedTuple, Optional
 
 from psinames.lives import Life
 from psinames.tasks import Tasks
-
-from .groups import Group
+from psireplay.groups import Group
 
 
 class Runner(NamedTuple):
@@ -24,7 +23,7 @@ class Runners:
         self.all: list[Runner] = []
         self.numbers: dict[Runner, int] = {}
 
-    def life(self, pid: bytes, now: int) -> Optional[Life]:
+    def life(self, pid: str, now: int) -> Optional[Life]:
         """For whom a task counts that was created at this time (ns)."""
         return self.tasks.runner(int(pid), now)
 

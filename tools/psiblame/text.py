@@ -7,9 +7,9 @@ from typing import Optional, TypeVar
 from psicli.times import seconds
 from psinames.known import Known
 from psinames.tasks import Share, shares_text
+from psireplay.groups import Group, Groups
 
 from .figures import Figures, Part
-from .groups import Group, Groups
 from .told import Asked
 
 MS = 10**6

@@ -8,9 +8,9 @@ from typing import Any, NamedTuple, Optional
 from psinames.clock import wall_text
 from psinames.known import Known
 from psinames.tasks import Share
+from psireplay.groups import Groups
 
 from .figures import Figures, Part
-from .groups import Groups
 
 
 class Asked(NamedTuple):

@@ -17,6 +17,7 @@ from psicli.fault import Fault
 from psicli.status import ProgramStatus
 from psireplay.kinds import folder_told, why_refused
 from psireplay.program import ADVICE, LAUNCHER, built_program, program_path
+from psireplay.trace import cpus_in, end_in
 
 STALL = re.compile(
     r"stall cpu=([0-9]+) (\S+) ([0-9]+) [0-9]+ ([0-9]+) [0-9]+ ([0-9]+) [0-9]+ [0-9]+(?: [0-9]+)?\n"
@@ -98,19 +99,17 @@ class Lines:
 
     def __init__(self, file: str) -> None:
         self.file, self.size = open(file, "rb"), os.path.getsize(file)
-        self.cpus = int(self.file.readline().partition(b"cpus=")[2])
-        begin = self.file.tell()
-        self.file.seek(max(0, self.size - 64))
-        self.end = int(self.file.read().split(b"\n")[-2].split(b" ")[0])
-        self.file.seek(begin)
+        self.end = end_in(self.file) or 0
+        self.file.seek(0)
+        self.cpus = cpus_in(self.file) or 0
 
-    def pieces(self) -> Iterator[list[bytes]]:
-        """The event lines, many at a time. On a terminal it is shown how far they are."""
+    def pieces(self) -> Iterator[list[str]]:
+        """The event lines, many at a time. A terminal shows how many were read."""
         shown = time.monotonic()
         is_shown = sys.stderr.isatty()
         with self.file:
             while lines := self.file.readlines(PIECE):
-                yield lines
+                yield b"".join(lines).decode("ascii").splitlines()
                 if is_shown and time.monotonic() > shown + OFTEN:
                     shown = time.monotonic()
                     print(

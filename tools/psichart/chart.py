@@ -121,11 +121,8 @@ class Chart:
             return [PressurePanel(name, self.axis, thresholds, replays, path, resource)]
         if not samples:
             return []
-        return [
-            MemoryPanel(
-                name, self.axis, memory_thresholds(rules, path, samples.host), samples.lives[path]
-            )
-        ]
+        thresholds = memory_thresholds(rules, path, samples.host.memory if samples.host else None)
+        return [MemoryPanel(name, self.axis, thresholds, samples.lives[path])]
 
     def places_of(self) -> list[Place]:
         """The positions of the panels, one below the other; those without pressure are low."""

@@ -20,7 +20,7 @@ from psireplay.replaying import TRACE_HELP, replayed
 from psireplay.rules import Rules, unmatched
 from psireplay.samples import Samples
 from psireplay.stalls import ranked
-from psireplay.trace_end import end_of
+from psireplay.trace import end_of
 
 from .axes import time_axis
 from .chart import Chart, Wanted

@@ -76,7 +76,7 @@ def asked_of(readings: Sequence[dict[File, Totals]], clocks: Clocks, start: int)
         number = clocks.number_at(path, max(it.moment for it in ends.values()) - start)
         if number is None:
             continue
-        made = clocks.lives[number][0]
+        made = clocks.all[number].made
         spans, machine = {}, {}
         for resource, after in ends.items():
             before = Totals(made + start, 0, 0)

@@ -9,9 +9,12 @@ from __future__ import annotations
 
 from array import array
 from bisect import bisect_right
-from collections.abc import Callable, Iterable, Sequence
+from collections import defaultdict
+from collections.abc import Iterable, Sequence
 
-from psiworld.groups import ROOT, parent_of
+from psireplay.groups import Group
+from psireplay.world import ASLEEP, IOWAIT, READY, RUNNING, World, Task
+from psireplay.trace import event_in
 
 # The states, by their bits.
 IO_SOME, IO_FULL, MEMORY_SOME, MEMORY_FULL, CPU_SOME, CPU_FULL, NONIDLE = (
@@ -20,10 +23,15 @@ IO_SOME, IO_FULL, MEMORY_SOME, MEMORY_FULL, CPU_SOME, CPU_FULL, NONIDLE = (
 STATES = 7
 # The states that hold, by mask.
 HELD = [tuple(state for state in range(STATES) if mask >> state & 1) for mask in range(1 << STATES)]
-# The counts of a group's tasks on a processor.
-WAITING, STALLED, READY, READY_STALLED = range(4)
-# The state of a task that left its processor, by the word of the trace.
-BLOCKED = {"sleep": "S", "iowait": "D"}
+# The counts of a group's tasks on a processor: those that wait for IO, are in a memory stall, are
+# ready (including the running one), and are both. A task is counted in these, by what it does and
+# whether it is in a memory stall.
+COUNTS = 4
+PLACES: dict[tuple[int, bool], tuple[int, ...]] = {
+    (ASLEEP, False): (), (ASLEEP, True): (1,), (IOWAIT, False): (0,), (IOWAIT, True): (0, 1),
+    (READY, False): (2,), (READY, True): (1, 2, 3),
+    (RUNNING, False): (2,), (RUNNING, True): (1, 2, 3),
+}  # fmt: skip
 
 
 class Clock:
@@ -35,7 +43,7 @@ class Clock:
     __slots__ = ("counts", "moments", "masks")
 
     def __init__(self, made: int) -> None:
-        self.counts = [0, 0, 0, 0]
+        self.counts = [0] * COUNTS
         self.moments = array("q", (made,))
         self.masks = bytearray(1)
 
@@ -69,172 +77,65 @@ def mask_of(counts: Sequence[int], runs: bool, stalls: bool) -> int:
     return mask
 
 
-class Task:
-    """A task: its group's number, its processor, whether it is asleep (S), waits for IO (D), or is
-    ready or running (R), and whether it is in a memory stall.
-    """
-
-    __slots__ = ("group", "processor", "state", "is_stalled")
-
-    def __init__(self, group: int, processor: int) -> None:
-        self.group, self.processor, self.state, self.is_stalled = group, processor, "R", False
-
-
-class Clocks:
-    """The clocks of a whole trace, computed from its lines. Groups are numbered in the order of
-    their creation, the root is 0.
+class Clocks(World[Task]):
+    """The clocks of a whole trace, computed from its lines. A group's clocks are those with its
+    number.
     """
 
     def __init__(self, lines: Iterable[str]) -> None:
-        self.now = 0
-        # For each group: the groups from it up to the root, and its first and last time (None:
-        # until the end).
-        self.chains: list[tuple[int, ...]] = [(0,)]
-        self.lives: list[tuple[int, int | None]] = [(0, None)]
-        self.numbers: dict[str, int] = {ROOT: 0}
-        self.incarnations: dict[str, list[int]] = {ROOT: [0]}
-        self.off: set[int] = set()
-        self.tasks: dict[str, Task] = {}
-        self.runs: dict[int, Task] = {}
+        super().__init__(Task)
+        # The clocks of each group, by processor, and those that change at the present time.
         self.clocks: list[dict[int, Clock]] = [{}]
-        acts: dict[str, Callable[..., None]] = {
-            "group": self.group, "rmgroup": self.rmgroup, "fork": self.fork, "wake": self.wake,
-            "switch": self.switch,
-            "stall": self.stall, "unstall": self.unstall, "migrate": self.wake, "move": self.move,
-            "pressure": self.pressure,
-        }  # fmt: skip
+        self.changed = defaultdict[int, set[int]](set)
         for line in lines:
-            words = line.split()
-            if int(words[0]) < self.now:
-                raise ValueError("time goes back")
-            self.now = int(words[0])
-            act = acts.get(words[1])
-            if act:
-                act(*words[2:])
+            self.take(*event_in(line))
+        self.pass_to(self.now)
 
-    # ------------------------------------------------------------ groups
-
-    def group(self, path: str) -> None:
-        """A group is created."""
-        number = len(self.chains)
-        self.chains.append((number, *self.chains[self.numbers[parent_of(path)]]))
-        self.lives.append((self.now, None))
+    def made(self, group: Group) -> None:
         self.clocks.append({})
-        self.numbers[path] = number
-        self.incarnations.setdefault(path, []).append(number)
-
-    def rmgroup(self, path: str) -> None:
-        """A group is removed."""
-        number = self.numbers.pop(path)
-        self.lives[number] = (self.lives[number][0], self.now)
 
     def number_at(self, path: str, moment: int) -> int | None:
         """The number of the group that has this path at a time (ns), if any."""
-        for number in reversed(self.incarnations.get(path, ())):
-            made, gone = self.lives[number]
-            if made <= moment:
-                return number if gone is None or moment <= gone else None
+        for group in reversed([it for it in self.all if it.path == path]):
+            if group.made <= moment:
+                is_live = group.removed is None or moment <= group.removed
+                return group.number if is_live else None
         return None
-
-    def pressure(self, path: str, word: str) -> None:
-        """A group's accounting is switched."""
-        number = self.numbers[path]
-        (self.off.discard if word == "on" else self.off.add)(number)
-        for processor in self.clocks[number]:
-            self.tell(processor, (number,))
-
-    # ------------------------------------------------------------ tasks
 
     def clock(self, group: int, processor: int) -> Clock:
         """The group's clock on this processor."""
         clocks = self.clocks[group]
         if processor not in clocks:
-            clocks[processor] = Clock(self.lives[group][0])
+            clocks[processor] = Clock(self.all[group].made)
         return clocks[processor]
 
     def count(self, task: Task, step: int) -> None:
-        """Counts the task (1), or stops counting it (-1), in its group and the ancestors."""
-        is_ready = task.state == "R"
-        waits = task.state == "D"
-        for group in self.chains[task.group]:
-            counts = self.clock(group, task.processor).counts
-            if waits:
-                counts[WAITING] += step
-            if is_ready:
-                counts[READY] += step
-            if task.is_stalled:
-                counts[STALLED] += step
-                if is_ready:
-                    counts[READY_STALLED] += step
-
-    def tell(self, processor: int, groups: Iterable[int]) -> None:
-        """Stores the groups' present states on the processor."""
-        running = self.runs.get(processor)
-        above = self.chains[running.group] if running else ()
-        stalls = running is not None and running.is_stalled
+        """Counts the task (1), or stops counting it (-1), in its groups."""
+        processor, groups = task.cpu, task.group.counted
+        places = PLACES[task.state, task.is_stalled]
         for group in groups:
-            clock = self.clock(group, processor)
-            clock.put(
-                self.now, 0 if group in self.off else mask_of(clock.counts, group in above, stalls)
-            )
+            clock = self.clocks[group].get(processor) or self.clock(group, processor)
+            counts = clock.counts
+            for place in places:
+                counts[place] += step
+        self.changed[processor].update(groups)
 
-    def fork(self, label: str, path: str, processor: str) -> None:
-        """A task is created, ready."""
-        task = self.tasks[label] = Task(self.numbers[path], int(processor))
-        self.count(task, 1)
-        self.tell(task.processor, self.chains[task.group])
-
-    def wake(self, label: str, processor: str) -> None:
-        """A task is ready on a processor: it was blocked, or ready elsewhere."""
-        task, before = self.tasks[label], self.tasks[label].processor
+    def leave(self, task: Task) -> None:
         self.count(task, -1)
-        task.processor, task.state = int(processor), "R"
+
+    def enter(self, task: Task) -> None:
         self.count(task, 1)
-        chain = self.chains[task.group]
-        self.tell(task.processor, chain)
-        if before != task.processor:
-            self.tell(before, chain)
 
-    def move(self, label: str, path: str) -> None:
-        """A task moves to another group."""
-        task = self.tasks[label]
-        before = self.chains[task.group]
-        self.count(task, -1)
-        task.group = self.numbers[path]
-        self.count(task, 1)
-        self.tell(task.processor, {*before, *self.chains[task.group]})
-
-    def stall(self, label: str) -> None:
-        """A task enters a memory stall."""
-        self.set_stall(self.tasks[label], True)
-
-    def unstall(self, label: str) -> None:
-        """A task leaves its memory stall."""
-        self.set_stall(self.tasks[label], False)
-
-    def set_stall(self, task: Task, is_stalled: bool) -> None:
-        """Sets whether a task is in a memory stall."""
-        self.count(task, -1)
-        task.is_stalled = is_stalled
-        self.count(task, 1)
-        self.tell(task.processor, self.chains[task.group])
-
-    def switch(self, place: str, following: str, how: str) -> None:
-        """The running task leaves a processor; another one runs, or none."""
-        processor = int(place)
-        touched: set[int] = set()
-        leaving = self.runs.pop(processor, None)
-        if leaving:
-            touched.update(self.chains[leaving.group])
-            if how != "preempt":
-                self.count(leaving, -1)
-                if how in BLOCKED:
-                    leaving.state = BLOCKED[how]
-                    self.count(leaving, 1)
-        if following != "0":
-            self.runs[processor] = self.tasks[following]
-            touched.update(self.chains[self.tasks[following].group])
-        self.tell(processor, touched)
+    def pass_to(self, moment: int) -> None:
+        """Stores the states that hold from `now` on, if they changed."""
+        for processor, groups in self.changed.items():
+            running = self.running.get(processor)
+            above = running.group.counted if running else ()
+            stalls = running is not None and running.is_stalled
+            for group in groups:
+                clock = self.clock(group, processor)
+                clock.put(self.now, mask_of(clock.counts, group in above, stalls))
+        self.changed.clear()
 
     # ------------------------------------------------------------ what the clocks say
 

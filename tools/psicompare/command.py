@@ -21,7 +21,6 @@ end of the recording.
 """
 from __future__ import annotations
 
-import os
 import subprocess
 from collections.abc import Callable, Iterable, Iterator, Sequence
 from functools import partial
@@ -41,6 +40,7 @@ from psiread.recording import read_recording
 from psiread.source import Source, Unreadable
 from psireplay.program import named_program
 from psireplay.sampled import refusal, sampled
+from psireplay.trace import end_in
 
 from .agreement import Growth, asked_of, growths_of, sampling_of
 from .clocks import Clocks
@@ -151,15 +151,12 @@ def end_of(trace: str) -> int:
         )
     try:
         with open(trace, "rb") as file:
-            file.seek(0, os.SEEK_END)
-            file.seek(max(0, file.tell() - 64))
-            words = file.read().split(b"\n")[-2].split(b" ")
-    except (OSError, IndexError) as fault:
-        text = kind_of_file(trace) or getattr(fault, "strerror", None)
-        raise Unreadable(f"{trace}: {text or 'this is no trace'}") from None
-    if len(words) != 2 or words[1] != b"end" or not words[0].isdigit():
+            end = end_in(file)
+    except OSError as fault:
+        raise Unreadable(f"{trace}: {kind_of_file(trace) or fault.strerror}") from None
+    if end is None:
         raise Unreadable(f"{trace}: {kind_of_file(trace) or 'it has no end line'}")
-    return int(words[0])
+    return end
 
 
 def replayed(trace: str, tick_ms: int) -> str:

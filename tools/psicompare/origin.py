@@ -5,17 +5,15 @@ times of the recording's.
 from __future__ import annotations
 
 import os
-import re
-from collections.abc import Iterator
 
 from psicli.times import seconds_to_ms
 from psiread.events import Attach, GroupMade, Switch
 from psiread.kinds import is_trace
 from psiread.source import Source, Unreadable
+from psireplay.trace import cpus_in, events_of, groups_of
 from psirec.layout import escaped_path
 from psiworld.groups import ROOT, prefixes_of
 
-HEADER = re.compile("psitrace [12] cpus=([1-9][0-9]?)")
 # The time (ns) by which a trace may exceed the rest of its recording: --to doesn't round, so this
 # is hardly ever used.
 SLACK = 10**9
@@ -31,11 +29,11 @@ def must_be_in_order(folder: str, trace: str) -> None:
         raise Unreadable(f"the words are swapped: compare {trace} {folder}")
 
 
-def lines_of(trace: str) -> Iterator[str]:
-    """The lines of a trace."""
+def processors_of(trace: str) -> int:
+    """The number of a trace's processors; 0 if it has no header."""
     try:
-        with open(trace, encoding="ascii", errors="replace") as file:
-            yield from file
+        with open(trace, "rb") as file:
+            return cpus_in(file) or 0
     except OSError as fault:
         raise Unreadable(f"{trace}: {fault.strerror}") from None
 
@@ -44,9 +42,7 @@ def must_be_of(source: Source, trace: str, start: int, length: int, lead_in: int
     """Rejects a trace with a different number of processors, with groups that the recording doesn't
     have, or that is longer than the rest of the recording from `start`. Times are ns.
     """
-    lines = lines_of(trace)
-    header = HEADER.match(next(lines, ""))
-    processors = int(header[1]) if header else 0
+    processors = processors_of(trace)
     if processors < source.processors or (processors > source.processors and not lead_in):
         raise Unreadable(
             other(trace, f"it has {processors} processors, and the recording {source.processors}")
@@ -62,14 +58,12 @@ def must_be_of(source: Source, trace: str, start: int, length: int, lead_in: int
                 ),
             )
         )
-    known = groups_of(source)
-    for line in lines:
-        words = line.split()
-        if words[1:2] == ["group"] and words[2] not in known:
-            raise Unreadable(other(trace, f"the recording has no group {words[2]}"))
+    unknown = groups_of(trace) - groups_in(source)
+    if unknown:
+        raise Unreadable(other(trace, f"the recording has no group {min(unknown)}"))
 
 
-def groups_of(source: Source) -> set[str]:
+def groups_in(source: Source) -> set[str]:
     """All groups that a recording names, and their ancestors."""
     made = {
         escaped_path(event.path)
@@ -90,11 +84,10 @@ def must_have_switches_of(source: Source, trace: str, start: int, lead_in: int) 
     """
     moments = {event.moment - start for event in source.events if isinstance(event, Switch)}
     found = count = 0
-    for line in lines_of(trace):
-        moment, _, rest = line.partition(" ")
-        if rest.startswith("switch ") and int(moment) > lead_in:
+    for moment, verb, _ in events_of(trace):
+        if verb == "switch" and moment > lead_in:
             count += 1
-            found += int(moment) in moments
+            found += moment in moments
     if found < LEAST_SHARE * count:
         why = f"{found} of its {count} switches are at times of the recording's"
         raise Unreadable(

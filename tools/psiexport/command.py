@@ -21,7 +21,7 @@ from psinames.known import Known, add_names, add_times, known_of, span_in
 from psireplay.lines import End, Line, read
 from psireplay.replaying import TRACE_HELP, add_report, replayed
 from psireplay.rules import Rules
-from psireplay.trace_end import end_of
+from psireplay.trace import end_of
 
 from .rows import COLUMNS, KINDS, Exporter, Row, selected
 

@@ -10,7 +10,7 @@ from psioomd.configuration import PluginUse
 from psioomd.faults import Refused
 from psioomd.numbers import BadNumber, signed32, size, stof, stoi, unsigned
 from psioomd.patterns import Patterns
-from psisystemd.world import Host
+from psireplay.groups import Host
 
 KIB = 1 << 10
 

@@ -22,12 +22,12 @@ from psioomd.emulation import (
     Run,
     first_host,
     first_samples,
-    lines_at,
     raise_refusal,
     replay_words,
     ticks_of,
 )
 from psicli.fault import Fault
+from psireplay.trace import Events
 from psicli.times import SECOND, seconds
 from psicli.wording import quoted
 from psioomd.sandbox import PATIENCE, SANDBOXES, Sandbox, sandbox
@@ -153,21 +153,19 @@ class Looks:
 
     def __init__(self, run: Run, files: Files, printed: Iterator[bytes]) -> None:
         self.run, self.files = run, files
-        self.lines = lines_at(run.trace)
-        self.line = next(self.lines, None)
+        self.events = Events(run.trace)
         self.ticks = ticks_of(printed, run.interval)
         self.warm = run.warm // run.interval
         self.take(0)
         if run.warm:
-            for line in first_samples(run.trace):
-                files.machine.world.take(*line)
+            for event in first_samples(run.trace):
+                files.machine.world.take(*event)
         files.update()
 
     def take(self, moment: int) -> None:
-        """Takes the trace's lines up to a time (ns)."""
-        while self.line and self.line[0] <= moment:
-            self.files.machine.world.take(*self.line)
-            self.line = next(self.lines, None)
+        """Takes the trace's events up to a time (ns)."""
+        for event in self.events.until(moment):
+            self.files.machine.world.take(*event)
 
     def times(self) -> Iterator[int]:
         """The times (ns) of the looks; when one is returned, its files are written."""

@@ -13,18 +13,19 @@ from psicli.times import SECOND
 from psioomd.configuration import Configuration, configuration
 from psioomd.engine import Engine, engine
 from psioomd.machine import NO_HOST, Averages, Extras, Machine, Pressure
+from psireplay.groups import Groups, Host
+from psireplay.world import World, Task
+from psireplay.trace import Event, Events, events_of
 from psireplay.lines import Report, read
 from psirules.program import Program, Refusal
 from psirules.rules_file import bytes_of
 from psirules.sampling import must_have_scans
-from psisystemd.world import Host, World, lines_of
 
 TICK_MS = 1000
 """A tick that divides every interval, so that oomd's looks are ticks."""
 RESOURCES = {b"io\n", b"memory\n"}
 UPTIME = 10**6 * SECOND
 """How long the machine was up at the start of the trace (ns), unless it is said."""
-Line = tuple[int, str, list[str]]
 
 
 @dataclass(frozen=True)
@@ -82,24 +83,20 @@ def ticks_of(printed: Iterable[bytes], interval: int) -> Iterator[Tick]:
             yield Tick(moment, found)
 
 
-def lines_at(trace: str) -> Iterator[Line]:
-    """The lines of a trace."""
-    with open(trace, "rb") as file:
-        yield from lines_of(file)
-
-
 def first_host(trace: str) -> Host:
     """The first sample of the host, which is taken as its state from the start."""
-    for _, verb, fields in lines_at(trace):
-        if verb == "host":
-            return Host(*map(int, fields))
+    groups = Groups()
+    for event in events_of(trace):
+        groups.take(*event)
+        if groups.host:
+            return groups.host
     return NO_HOST
 
 
-def first_samples(trace: str) -> Iterator[Line]:
-    """The first `mem` line of each group that is live at the start."""
+def first_samples(trace: str) -> Iterator[Event]:
+    """The first `mem` event of each group that is live at the start."""
     live, seen = {"/"}, set()
-    for moment, verb, fields in lines_at(trace):
+    for moment, verb, fields in events_of(trace):
         if verb == "group" and moment == 0:
             live.add(fields[0])
         elif verb == "mem" and fields[0] in live and fields[0] not in seen:
@@ -107,28 +104,25 @@ def first_samples(trace: str) -> Iterator[Line]:
             yield 0, verb, fields
 
 
-def warm_up(it: Engine, run: Run, world: World) -> None:
+def warm_up(it: Engine, run: Run, world: World[Task]) -> None:
     """Lets oomd look before the trace begins, at the machine of its first samples."""
-    for line in first_samples(run.trace):
-        world.take(*line)
+    for event in first_samples(run.trace):
+        world.take(*event)
     count = run.warm // run.interval
     for number in range(1, count + 1):
         it.look((number - count) * run.interval * SECOND)
 
 
 def decide(it: Engine, run: Run, ticks: Iterator[Tick]) -> None:
-    """Takes the trace's lines and the looks in order of time."""
-    world, lines = it.machine.world, lines_at(run.trace)
-    line = next(lines, None)
-    while line and line[0] == 0:
-        world.take(*line)
-        line = next(lines, None)
+    """Takes the trace's events and the looks in order of time."""
+    world, events = it.machine.world, Events(run.trace)
+    for event in events.until(0):
+        world.take(*event)
     if run.warm:
         warm_up(it, run, world)
     for tick in ticks:
-        while line and line[0] <= tick.moment:
-            world.take(*line)
-            line = next(lines, None)
+        for event in events.until(tick.moment):
+            world.take(*event)
         it.machine.take_pressure(tick.reports)
         it.look(tick.moment)
 

@@ -24,7 +24,7 @@ from psioomd.machine import Machine
 from psioomd.numbers import BadNumber, stoi
 from psioomd.outcome import Act, Decision, Fired, Source
 from psioomd.plugin import Look, Pauses, Plugin, Result
-from psisystemd.world import Group, Host
+from psireplay.groups import Group, Host
 
 DEFAULT_DELAY = 15
 DECAY = 4.0
@@ -240,7 +240,7 @@ class Engine:
             return
         self.looks, self.last = self.looks + 1, now
         self.machine.refresh()
-        groups = self.machine.world.groups.items()
+        groups = self.machine.world.live.items()
         before, current = self.average, self.machine.current
         share = (DECAY - 1) / DECAY
         self.average = {

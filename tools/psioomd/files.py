@@ -6,7 +6,7 @@ import shutil
 
 from psioomd.machine import KIB, Averages, Machine
 from psioomd.patterns import ROOT
-from psisystemd.world import Group
+from psireplay.groups import Group
 
 MOUNT = "/sys/fs/cgroup"
 """Where oomd believes the groups to be: the order of equal groups depends on these names."""
@@ -69,7 +69,7 @@ class Files:
 
     def update(self) -> None:
         """Writes what changed since the last time."""
-        live = self.machine.world.groups
+        live = self.machine.world.live
         gone = [path for path, it in self.groups.items() if live.get(path) is not it]
         for path in sorted(gone, key=len, reverse=True):
             self.remove(path)

@@ -6,7 +6,8 @@ from __future__ import annotations
 from dataclasses import dataclass, field
 
 from psioomd.patterns import ROOT, Patterns
-from psisystemd.world import Group, Host, Sample, World
+from psireplay.groups import Group, Host, Sample
+from psireplay.world import World, Task
 
 KIB = 1 << 10
 NO_SAMPLE = Sample(0, 0, 0)
@@ -44,7 +45,7 @@ class Machine:
     """The groups and the memory at one time. `totals` is the host at oomd's start."""
 
     def __init__(self, extras: Extras, totals: Host) -> None:
-        self.world = World()
+        self.world = World(Task)
         self.extras, self.totals = extras, totals
         self.pressures: dict[Group, Pressure] = {}
         self.matched: dict[Patterns, list[str]] = {}
@@ -52,14 +53,14 @@ class Machine:
 
     def refresh(self) -> None:
         """Discards what was computed for the previous look."""
-        paths = sorted(self.world.groups)
+        paths = sorted(self.world.live)
         if paths != self.paths:
             self.paths, self.matched = paths, {}
 
     def take_pressure(self, reports: dict[str, Pressure]) -> None:
         """Stores the pressure at a tick, for groups that are live."""
         for path, pressure in reports.items():
-            group = self.world.groups.get(path)
+            group = self.world.live.get(path)
             if group:
                 self.pressures[group] = pressure
 
@@ -73,7 +74,7 @@ class Machine:
         return self.matched[patterns]
 
     def group(self, path: str) -> Group:
-        return self.world.groups[path]
+        return self.world.live[path]
 
     def sample(self, path: str) -> Sample:
         return self.group(path).sample or NO_SAMPLE

@@ -9,7 +9,7 @@ from typing import TYPE_CHECKING, Any
 from psicli.times import SECOND
 from psioomd.configuration import PluginUse
 from psioomd.machine import Machine
-from psisystemd.world import Group
+from psireplay.groups import Group
 
 if TYPE_CHECKING:
     from psioomd.outcome import Victim

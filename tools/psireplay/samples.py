@@ -1,11 +1,14 @@
 """The samples of memory that a trace has of some groups."""
 from __future__ import annotations
 
+import contextlib
 from typing import NamedTuple, Optional
 
 from psicli.fault import Fault
 
+from .groups import Group, Groups
 from .program import CheckedTrace
+from .trace import event_in
 
 
 class Sample(NamedTuple):
@@ -25,41 +28,30 @@ class Life:
         self.end: Optional[int] = None
 
 
-class Samples:
-    """The samples of these groups, by path and by life, and the machine's memory in bytes as it was
-    last reported.
-    """
+class Samples(Groups):
+    """The samples of these groups, by path and by life, and the host's last sample."""
 
     def __init__(self, name: str, groups: list[str], end: int) -> None:
         """Reads a trace, which must end at this time (ns)."""
+        super().__init__()
         self.lives: dict[str, list[Life]] = {path: [Life()] for path in groups}
-        self.host: Optional[int] = None
         trace = CheckedTrace(name)
         for line in trace.lines():
-            self.take(line)
+            # The program rejects a malformed line, which is an error at the end.
+            with contextlib.suppress(LookupError, TypeError, ValueError):
+                self.take(*event_in(line.decode("latin-1")))
         if trace.end != end:
             raise Fault(
                 f"{name} ends at {trace.end} ns, and the replay at {end} ns: give the trace of this"
                 " replay"
             )
 
-    def take(self, line: bytes) -> None:
-        """Takes a line. What isn't one of a trace is passed over: the program refuses it."""
-        moment, verb, fields = (*line.split(b" ", 2), b"", b"")[:3]
-        if verb not in (b"mem", b"host", b"rmgroup"):
-            return
-        words = fields.decode("latin-1").split()
-        try:
-            if verb == b"host":
-                self.host = int(words[0])
-            elif words[0] not in self.lives:
-                return
-            elif verb == b"mem":
-                self.lives[words[0]][-1].samples.append(
-                    Sample(int(moment), int(words[1]), int(words[2]))
-                )
-            else:
-                self.lives[words[0]][-1].end = int(moment)
-                self.lives[words[0]].append(Life())
-        except (IndexError, ValueError):
-            return
+    def play_mem(self, path: str, memory: str, swap: str, scanned: str) -> None:
+        super().play_mem(path, memory, swap, scanned)
+        if path in self.lives:
+            self.lives[path][-1].samples.append(Sample(self.now, int(memory), int(swap)))
+
+    def removed(self, group: Group) -> None:
+        if group.path in self.lives:
+            self.lives[group.path][-1].end = self.now
+            self.lives[group.path].append(Life())

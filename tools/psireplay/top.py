@@ -17,7 +17,7 @@ from psinames.tasks import busiest, shares_text
 from .lines import LEVELS
 from .replaying import replayed
 from .stalls import RANKED, Stalls, ranked
-from .trace_end import end_of
+from .trace import end_of
 
 ABOUT = """\
 Lists which groups stalled most in a trace, or in the output of `psi_oomd replay` or `whatif`.

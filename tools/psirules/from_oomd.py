@@ -13,12 +13,12 @@ from psioomd.engine import engine
 from psioomd.machine import Extras, Machine
 from psioomd.numbers import stof, stoi
 from psioomd.patterns import split, without_braces
+from psireplay.groups import Host
 from psirules.forms import MOST_BYTES, MOST_PATTERNS, size_text
 from psirules.oomd_notes import AT_ZERO, SWAP, WAITS
 from psirules.patterns import is_pattern
 from psirules.plugins import ACTIONS, DETECTORS
 from psirules.to_oomd import RECURSES, print_made
-from psisystemd.world import Host
 
 ABOUT = """Prints rules for psi_oomd that are nearest to what oomd 0.5.0 does by the configuration
 FILE. Each argument is read as oomd reads it (a size without a letter counts MiB, a

@@ -1,7 +1,6 @@
 """tools/rules suggest: which thresholds and durations catch incidents and spare quiet days."""
 import argparse
 import contextlib
-import os
 from collections.abc import Iterator
 from dataclasses import dataclass
 
@@ -11,6 +10,7 @@ from psicli.status import Status
 from psicli.times import SECOND, seconds
 from psicli.wording import quoted
 from psireplay.sampled import sampled
+from psireplay.trace import end_of
 from psirules import by_oomd, by_systemd, expectations, ranges, telling
 from psirules.expectations import Expectation, First, NoKillBefore
 from psirules.explain import PSI_OOMD
@@ -32,7 +32,6 @@ each incident. Ranges are found by bisection if a lower value can't make a first
 has only lines `first` and `no kill before`, else on a grid; the answer says which. With --by, RULES
 is as for `rules explain`."""
 STATUS = "The status is 0 if there are such values, 1 if not, and 2 if something couldn't be run."
-TAIL = 64
 
 
 @dataclass(frozen=True)
@@ -100,17 +99,6 @@ class Judge:
             verdict = wanted.verdict(kills, self.subject.rules)
             if not verdict.holds:
                 yield kind_of(wanted, kills), f"{wanted.text}: {verdict.told}"
-
-
-def end_of(trace: str) -> int:
-    """The length of a trace in whole seconds, from its last line."""
-    try:
-        with open(trace, "rb") as file:
-            file.seek(max(0, os.fstat(file.fileno()).st_size - TAIL))
-            words = file.read().split(b"\n")[-2].split(b" ")
-        return int(words[0]) // SECOND + 1
-    except (OSError, IndexError, ValueError):
-        return 0  # the replay reports what is wrong with it
 
 
 @dataclass(frozen=True)
@@ -289,7 +277,8 @@ def run(given: argparse.Namespace) -> int:
             program, given.by, given.file, given.interval_s, given.systemd, groups, files
         )
         check_wanted(task, judged, given.want)
-        knobs = list(judged.knobs(max(map(end_of, [*given.incidents, *given.quiet]), default=0)))
+        longest = max(end_of(it, 0) // SECOND + 1 for it in task.traces.names)
+        knobs = list(judged.knobs(longest))
         if not knobs:
             raise Fault(
                 f"{given.file} has no threshold in percent and no duration of a detector that"

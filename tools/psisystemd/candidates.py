@@ -3,9 +3,10 @@ from __future__ import annotations
 
 from collections.abc import Iterable, Iterator
 
+from psireplay.groups import Group, Sample
+from psireplay.world import World, Task
 from psisystemd.settings import Settings
 from psisystemd.told import Candidate
-from psisystemd.world import Group, Sample, World
 from psiworld.groups import ROOT
 
 
@@ -47,13 +48,15 @@ def preference(group: Group, settings: Settings, above: str) -> str:
     return settings.preference(group.path, group.preference)
 
 
-def candidates_of(world: World, settings: Settings, watched: Iterable[str]) -> dict[str, Group]:
+def candidates_of(
+    world: World[Task], settings: Settings, watched: Iterable[str]
+) -> dict[str, Group]:
     """The candidates of all watched groups that can be read, by their paths."""
     found = (
         it
         for path in watched
-        if path in world.groups
-        for it in leaves(world.groups[path], settings)
+        if path in world.live
+        for it in leaves(world.live[path], settings)
     )
     return {it.path: it for it in found if memory_of(it)}
 

@@ -10,11 +10,12 @@ from collections.abc import Iterable
 from dataclasses import dataclass, replace
 
 from psicli.times import SECOND, seconds
+from psireplay.groups import Group
+from psireplay.world import World, Task
 from psisystemd.candidates import candidates_of, gathered, is_avoided, memory_of
 from psisystemd.settings import Settings
 from psisystemd.told import MEMORY_PRESSURE, SWAP, Candidate, Course, Decision, size
 from psisystemd.values import WHOLE, percent
-from psisystemd.world import Group, World
 from psiworld.groups import ROOT
 
 SWAP_INTERVAL = 150 * SECOND // 1000
@@ -50,14 +51,14 @@ class Scans:
         self.totals: dict[Group, int] = {}
         self.risen: dict[Group, int] = {}
 
-    def take(self, now: int, world: World) -> None:
+    def take(self, now: int, world: World[Task]) -> None:
         """Takes the present samples."""
         if world.samples == self.samples:
             return
         self.samples = world.samples
         self.moments = (self.moments[1], now)
         before, self.totals, self.risen = self.totals, {}, {}
-        for group in world.groups.values():
+        for group in world.live.values():
             sample = memory_of(group)
             if sample:
                 self.totals[group] = sample.scanned
@@ -73,7 +74,7 @@ class Scans:
 class PressureRule:
     """The rule for memory pressure."""
 
-    def __init__(self, world: World, settings: Settings) -> None:
+    def __init__(self, world: World[Task], settings: Settings) -> None:
         self.world, self.settings = world, settings
         self.looks: dict[str, Look] = {}
         self.lost: set[Group] = set()
@@ -121,7 +122,7 @@ class PressureRule:
         until it is created again.
         """
         before, self.looks = self.looks, {}
-        for path, group in self.world.groups.items():
+        for path, group in self.world.live.items():
             watched = self.settings.watched(path)
             if not watched.pressure:
                 continue
@@ -206,7 +207,7 @@ class PressureRule:
 class SwapRule:
     """The rule for swap."""
 
-    def __init__(self, world: World, settings: Settings) -> None:
+    def __init__(self, world: World[Task], settings: Settings) -> None:
         self.world, self.settings = world, settings
         self.samples = 0
         self.is_told = False
@@ -225,8 +226,8 @@ class SwapRule:
     def look(self, now: int) -> list[Decision]:
         """The decisions at `now` (ns)."""
         self.samples = self.world.samples
-        watched = [path for path in self.world.groups if self.settings.watched(path).swap]
-        host, root = self.world.host, self.world.groups[ROOT].sample
+        watched = [path for path in self.world.live if self.settings.watched(path).swap]
+        host, root = self.world.host, self.world.live[ROOT].sample
         self.was_watched = self.was_watched or bool(watched)
         self.is_absent = host is not None and host.swap == 0
         if not watched or not host or not host.swap or not root:
@@ -260,14 +261,14 @@ class SwapRule:
         return [] if was_told and self.is_told else [decision]
 
 
-def chosen(world: World, decision: Decision) -> Decision:
+def chosen(world: World[Task], decision: Decision) -> Decision:
     """The decision with the first candidate that isn't skipped as the victim. If that group has no
     tasks, nothing is killed, and no other candidate is tried.
     """
     first: Candidate | None = next((it for it in decision.candidates if not it.passed_over), None)
     if not first:
         return replace(decision, why=f"{decision.why}; but there is no candidate")
-    if not world.groups[first.path].has_tasks():
+    if not world.live[first.path].has_tasks():
         return replace(
             decision,
             why=f"{decision.why}; but in {first.path}, which it would choose, nothing runs",
@@ -279,7 +280,7 @@ class Engine:
     """Both rules over a trace."""
 
     def __init__(self, settings: Settings) -> None:
-        self.world = World()
+        self.world = World(Task)
         self.pressure, self.swap = PressureRule(self.world, settings), SwapRule(
             self.world, settings
         )
@@ -296,7 +297,7 @@ class Engine:
             self.next_look = -(-until // SWAP_INTERVAL) * SWAP_INTERVAL
 
     def take(self, moment: int, verb: str, fields: list[str]) -> None:
-        """Takes a line of the trace. Checks before its time don't see it."""
+        """Takes an event of the trace. Checks before its time don't see it."""
         self.look_at_swap(moment)
         self.world.take(moment, verb, fields)
 

@@ -5,6 +5,7 @@ from __future__ import annotations
 
 import contextlib
 import itertools
+import math
 import shutil
 import sys
 import tempfile
@@ -14,11 +15,11 @@ from dataclasses import dataclass
 from psicli.fault import Fault
 from psicli.wording import listed
 from psireplay.lines import Report, read
+from psireplay.trace import Events
 from psirules.program import Kill, Program, Refusal
 from psisystemd.engine import Engine
 from psisystemd.settings import Settings
 from psisystemd.told import MEMORY_PRESSURE, SWAP, Decision
-from psisystemd.world import lines_of
 from psiworld.groups import ROOT
 
 LOOK_MS = 1000
@@ -78,18 +79,14 @@ def seconds_of(printed: Iterable[bytes], settings: Settings) -> Iterator[Second]
 
 
 def decide(engine: Engine, trace: str, seconds: Iterator[Second]) -> None:
-    """Takes the trace's lines and the checks, merged by time."""
-    with open(trace, "rb") as file:
-        lines = lines_of(file)
-        line = next(lines, None)
-        for second in seconds:
-            while line and line[0] <= second.moment:
-                engine.take(*line)
-                line = next(lines, None)
-            engine.look_at_pressure(second.moment, second.averages)
-        while line:
-            engine.take(*line)
-            line = next(lines, None)
+    """Takes the trace's events and the checks, merged by time."""
+    events = Events(trace)
+    for second in seconds:
+        for event in events.until(second.moment):
+            engine.take(*event)
+        engine.look_at_pressure(second.moment, second.averages)
+    for event in events.until(math.inf):
+        engine.take(*event)
 
 
 def replayed(program: Program, trace: str, settings: Settings, threads: int) -> Engine:

@@ -85,11 +85,11 @@ MEASURES = {
 
 
 def preference(now: Evaluation, path: str) -> int:
-    return PREFERENCES.index(now.world.groups[path].preference)
+    return PREFERENCES.index(now.world.live[path].preference)
 
 
 def has_task(now: Evaluation, path: str) -> bool:
-    return now.world.groups[path].has_tasks()
+    return now.world.live[path].has_tasks()
 
 
 def compared(
@@ -124,7 +124,7 @@ def behind(now: Evaluation, path: str, victim: str, value: int, most: int) -> st
 
 
 def wish_of(now: Evaluation, path: str) -> str:
-    wish = now.world.groups[path].preference
+    wish = now.world.live[path].preference
     return "" if wish == "none" else wish
 
 
@@ -256,7 +256,7 @@ def step_to(plugin: Plugin, now: Evaluation, paths: list[str], victim: str) -> O
 
 def choice(number: int, plugin: Plugin, now: Evaluation, victim: Optional[str]) -> Choice:
     """What an action did at an evaluation, given its victim."""
-    paths = sorted(path for path in now.world.groups if plugin.covers(path))
+    paths = sorted(path for path in now.world.live if plugin.covers(path))
     if victim is None:
         return Choice(number, plugin.name, None, *nobody(plugin, now, paths))
     found: list[Candidate] = []
@@ -264,7 +264,7 @@ def choice(number: int, plugin: Plugin, now: Evaluation, victim: Optional[str]) 
         chosen = step_to(plugin, now, paths, victim)
         found += candidates(plugin, now, paths, chosen)
         is_last = chosen is None or chosen == victim
-        children = [] if is_last else now.world.groups[chosen or ""].children.values()
+        children = [] if is_last else now.world.live[chosen or ""].children.values()
         paths = sorted(it.path for it in children)
     return Choice(number, plugin.name, victim, "", found)
 

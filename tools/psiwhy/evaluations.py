@@ -6,8 +6,10 @@ from __future__ import annotations
 import itertools
 from collections.abc import Iterable, Iterator
 
+from psireplay.groups import Group, Sample
+from psireplay.world import World, Task
+from psireplay.trace import Events
 from psireplay.lines import Report, read
-from psisystemd.world import Group, Sample, World, lines_of
 
 from .judged import Asked
 
@@ -22,7 +24,7 @@ class Evaluation:
     `scans` the scan counts at the evaluation before.
     """
 
-    def __init__(self, world: World) -> None:
+    def __init__(self, world: World[Task]) -> None:
         self.moment = 0
         self.world = world
         self.full: dict[tuple[str, str, str], int] = {}
@@ -39,7 +41,7 @@ class Evaluation:
 
     def remember(self) -> None:
         """Stores what the next evaluation compares with."""
-        groups = self.world.groups.values()
+        groups = self.world.live.values()
         self.scans = {group: self.sample(group).scanned for group in groups}
         self.sizes = {
             group: [self.sample(group).memory, *self.sizes.get(group, [])][:REMEMBERED]
@@ -51,7 +53,7 @@ class Evaluation:
         return group.sample or NO_SAMPLE
 
     def at(self, path: str) -> Sample:
-        return self.sample(self.world.groups[path])
+        return self.sample(self.world.live[path])
 
     def pressure(self, path: str, resource: str) -> int:
         """The sum of full pressure over 10 s and 60 s, in hundredths of a percent."""
@@ -59,7 +61,7 @@ class Evaluation:
 
     def rise(self, path: str) -> int:
         """The pages scanned since the evaluation before; 0 if the group wasn't live then."""
-        group = self.world.groups[path]
+        group = self.world.live[path]
         scanned = self.sample(group).scanned
         return max(0, scanned - self.scans.get(group, scanned))
 
@@ -67,25 +69,21 @@ class Evaluation:
         """The growth as a fraction: the size over the mean of earlier sizes. The denominator is 0
         if there are none.
         """
-        group = self.world.groups[path]
+        group = self.world.live[path]
         past = self.sizes.get(group, [])
         return self.sample(group).memory * len(past), sum(past)
 
 
 def evaluations(printed: Iterable[bytes], asked: Asked) -> Iterator[Evaluation]:
     """The evaluations of a replay with a report at each. Each is valid until the next is taken."""
-    world = World()
+    world = World(Task)
     found = Evaluation(world)
     reports = (it for it in read(printed) if isinstance(it, Report))
-    with open(asked.trace, "rb") as file:
-        lines = lines_of(file)
-        line = next(lines, None)
-        for moment, of_moment in itertools.groupby(reports, key=lambda it: it.moment):
-            if not asked.is_due(moment):
-                continue
-            while line and line[0] <= moment:
-                world.take(*line)
-                line = next(lines, None)
+    events = Events(asked.trace)
+    for moment, of_moment in itertools.groupby(reports, key=lambda it: it.moment):
+        if asked.is_due(moment):
+            for event in events.until(moment):
+                world.take(*event)
             found.take(moment, list(of_moment))
             yield found
             found.remember()

@@ -4,9 +4,11 @@ from __future__ import annotations
 from typing import Any, Iterable, NamedTuple, Optional
 
 from psicli.times import SECOND, seconds
+from psireplay.groups import Group as TraceGroup
+from psireplay.groups import Groups
 from psireplay.lines import Report, read
-from psireplay.program import opened
 from psireplay.rules import Plugin, argument, size
+from psireplay.trace import Events
 
 Looked = dict[str, "Group"]
 # The detectors of pressure, each with the seconds over which its average is.
@@ -33,40 +35,34 @@ class Nearest(NamedTuple):
 
 
 class Memory:
-    """The samples of a trace, of groups by path and of the host, up to a moment that goes on."""
+    """The last samples of groups and of the host at an evaluation, and the pages that groups had
+    scanned at the one before.
+    """
 
     def __init__(self, trace: str) -> None:
-        self.now: dict[str, tuple[int, int]] = {}
-        self.before: dict[str, int] = {}
-        self.host: Optional[tuple[int, int, int]] = None
-        with opened(trace) as file:
-            self.lines = [
-                line for line in file if line.split(b" ", 2)[1] in (b"mem", b"host", b"rmgroup")
-            ]
-        self.place = 0
+        self.groups, self.events = Groups(), Events(trace)
+        self.before: dict[TraceGroup, int] = {}
 
-    def go_to(self, moment: int, live: Iterable[str]) -> None:
-        """Takes the samples up to an evaluation (ns); at the one before these groups were live."""
-        self.before = {path: self.now.get(path, (0, 0))[1] for path in live}
-        while self.place < len(self.lines):
-            at, verb, *fields = self.lines[self.place].decode("latin-1").split()
-            if int(at) > moment:
-                return
-            self.place += 1
-            if verb == "mem":
-                self.now[fields[0]] = int(fields[1]), int(fields[3])
-            elif verb == "host":
-                self.host = int(fields[0]), int(fields[1]), int(fields[2])
-            else:
-                self.now.pop(fields[0], None)
-                self.before.pop(fields[0], None)
+    def go_to(self, moment: int) -> None:
+        """Takes the events up to the next evaluation (ns)."""
+        self.before = {group: scanned(group) for group in self.groups.live.values()}
+        for event in self.events.until(moment):
+            self.groups.take(*event)
 
     def memory(self, path: str) -> Optional[int]:
-        return self.now[path][0] if path in self.now else None
+        """The bytes of a live group's last sample, if there is one."""
+        sample = self.groups.live[path].sample
+        return sample.memory if sample else None
 
     def rise(self, path: str) -> int:
-        pages = self.now.get(path, (0, 0))[1]
-        return max(0, pages - self.before.get(path, pages))
+        """The pages scanned since the evaluation before; 0 if the group wasn't live then."""
+        group = self.groups.live[path]
+        return max(0, scanned(group) - self.before.get(group, scanned(group)))
+
+
+def scanned(group: TraceGroup) -> int:
+    """The pages that a group had scanned at its last sample."""
+    return group.sample.scanned if group.sample else 0
 
 
 class Watch:
@@ -86,9 +82,10 @@ class Watch:
         """Looks at an evaluation."""
         name = self.plugin.name
         if name == "swap_free":
-            self.lacks_swap = bool(memory.host and not memory.host[1])
-            if memory.host and memory.host[1]:
-                self.take(-100 * 100 * memory.host[2] // memory.host[1], moment, "")
+            host = memory.groups.host
+            self.lacks_swap = bool(host and not host.swap)
+            if host and host.swap:
+                self.take(-100 * 100 * host.swap_free // host.swap, moment, "")
             return
         values = {
             path: self.value(group) for path, group in groups.items() if self.plugin.covers(path)
@@ -260,7 +257,7 @@ def watch(
     def look() -> None:
         nonlocal groups
         if reports and reports[0].moment in due:
-            memory.go_to(reports[0].moment, groups)
+            memory.go_to(reports[0].moment)
             groups = groups_of(reports, memory)
             for it in watches:
                 it.look(reports[0].moment, groups, memory)
@@ -272,4 +269,4 @@ def watch(
                 reports = []
             reports.append(line)
     look()
-    return memory.host[0] if memory.host else None
+    return memory.groups.host.memory if memory.groups.host else None

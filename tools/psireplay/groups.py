@@ -1,0 +1,185 @@
+"""The groups of a trace, as its events create and remove them, with their last samples of memory.
+"""
+from __future__ import annotations
+
+from collections.abc import Callable, Iterator
+from typing import NamedTuple
+
+from psicli.fault import Fault
+from psicli.status import Status
+from psicli.wording import suggested
+from psiworld.groups import ROOT, parent_of
+
+
+class Sample(NamedTuple):
+    """A `mem` line: bytes of memory and of swap, and pages scanned so far."""
+
+    memory: int
+    swap: int
+    scanned: int
+
+
+class Host(NamedTuple):
+    """A `host` line, in bytes."""
+
+    memory: int
+    swap: int
+    swap_free: int
+
+
+class Group:
+    """A group from its creation to its removal (`made` and `removed`, ns). Groups have numbers in
+    the order of their creation, and the root is 0; `life` counts the groups that had this path.
+    `counted` has the numbers of those groups, of this one and all above, whose accounting is on: a
+    task of this group counts in these.
+    """
+
+    __slots__ = (
+        "path", "number", "parent", "life", "made", "removed", "is_accounted", "counted",
+        "children", "tasks", "preference", "sample", "scanned_by_removed",
+    )  # fmt: skip
+
+    def __init__(self, path: str, number: int, parent: Group | None, life: int, made: int) -> None:
+        self.path, self.number, self.parent = path, number, parent
+        self.life, self.made = life, made
+        self.removed: int | None = None
+        self.is_accounted = True
+        self.children: dict[str, Group] = {}
+        self.tasks = 0
+        self.preference = "none"
+        self.sample: Sample | None = None
+        # The pages that removed groups below it had scanned: they remain in its count.
+        self.scanned_by_removed = 0
+        self.find_counted()
+
+    def find_counted(self) -> None:
+        """Finds the groups whose accounting is on; those above this one must be up to date."""
+        above: tuple[int, ...] = self.parent.counted if self.parent else ()
+        self.counted: tuple[int, ...] = (self.number, *above) if self.is_accounted else above
+
+    def line(self) -> Iterator[Group]:
+        """The group and all above, up to the root."""
+        group: Group | None = self
+        while group:
+            yield group
+            group = group.parent
+
+    def is_below(self, top: Group) -> bool:
+        """Whether it is this group or below it."""
+        return any(group is top for group in self.line())
+
+    def whole_sample(self) -> Sample | None:
+        """Its last sample. A group without a sample of its own has the sum of its children's, since
+        the kernel also counts children in their parent; None if they have none either.
+        """
+        if self.sample or self.path == ROOT:
+            return self.sample
+        below = [it for it in (child.whole_sample() for child in self.children.values()) if it]
+        if not below:
+            return None
+        scanned = self.scanned_by_removed + sum(it.scanned for it in below)
+        return Sample(sum(it.memory for it in below), sum(it.swap for it in below), scanned)
+
+    def has_tasks(self) -> bool:
+        """Whether it or a descendant has a task."""
+        return self.tasks > 0 or any(child.has_tasks() for child in self.children.values())
+
+
+class Groups:
+    """All groups so far, by number, and the live ones by path; how many had each path; the last
+    sample of the host, and the number of samples so far. Events are taken in order of their times:
+    `now` is the last one's (ns). Tools extend the methods `pass_to`, `made` and `removed`.
+    """
+
+    def __init__(self) -> None:
+        self.now = 0
+        self.all = [Group(ROOT, 0, None, 1, 0)]
+        self.live = {ROOT: self.all[0]}
+        self.counts = {ROOT: 1}
+        self.host: Host | None = None
+        self.samples = 0
+        self.plays: dict[str, Callable[..., None]] = {
+            "group": self.play_group, "rmgroup": self.play_rmgroup, "prefer": self.play_prefer,
+            "mem": self.play_mem, "host": self.play_host, "pressure": self.play_pressure,
+        }  # fmt: skip
+
+    def take(self, moment: int, verb: str, fields: list[str]) -> None:
+        """Takes an event at a time (ns). Verbs that change nothing here are skipped."""
+        if moment != self.now:
+            if moment < self.now:
+                raise ValueError("time goes back")
+            self.pass_to(moment)
+            self.now = moment
+        play = self.plays.get(verb)
+        if play:
+            play(*fields)
+
+    def pass_to(self, moment: int) -> None:
+        """Time passes to a later one (ns), at which the next event is; nothing changed since `now`.
+        """
+
+    def made(self, group: Group) -> None:
+        """A group was created."""
+
+    def removed(self, group: Group) -> None:
+        """A group was removed."""
+
+    # ------------------------------------------------------------ verbs
+
+    def play_group(self, path: str) -> None:
+        life = self.counts[path] = self.counts.get(path, 0) + 1
+        parent = self.live[parent_of(path)]
+        group = Group(path, len(self.all), parent, life, self.now)
+        self.all.append(group)
+        self.live[path] = parent.children[path] = group
+        self.made(group)
+
+    def play_rmgroup(self, path: str) -> None:
+        group = self.live.pop(path)
+        group.removed = self.now
+        if group.parent:
+            del group.parent.children[path]
+            sample = group.whole_sample()
+            scanned = sample.scanned if sample else group.scanned_by_removed
+            group.parent.scanned_by_removed += scanned
+        self.removed(group)
+
+    def play_prefer(self, path: str, preference: str) -> None:
+        self.live[path].preference = preference
+
+    def play_mem(self, path: str, memory: str, swap: str, scanned: str) -> None:
+        self.live[path].sample = Sample(int(memory), int(swap), int(scanned))
+        self.samples += 1
+
+    def play_host(self, memory: str, swap: str, swap_free: str) -> None:
+        self.host = Host(int(memory), int(swap), int(swap_free))
+        self.samples += 1
+
+    def play_pressure(self, path: str, word: str) -> None:
+        group = self.live[path]
+        group.is_accounted = word == "on"
+        # A group is created after its parent, so this order updates parents first.
+        for other in self.all[group.number :]:
+            if other.is_below(group):
+                other.find_counted()
+
+    # ------------------------------------------------------------ names
+
+    def name(self, group: Group) -> str:
+        """The path; if several groups had it, with `#` and the number of this one among them. No
+        path has a `#`.
+        """
+        return group.path if self.counts[group.path] == 1 else f"{group.path}#{group.life}"
+
+    def named(self, word: str) -> list[Group]:
+        """The groups with this path, or the group that PATH#N names. It is a Fault if there never
+        was one.
+        """
+        path, _, life = word.partition("#")
+        found = [it for it in self.all if it.path == path and (not life or str(it.life) == life)]
+        if not found:
+            had = suggested(word, [self.name(it) for it in self.all])
+            raise Fault(
+                f"no group {word} ever lived in the trace, which has {had}", Status.NO_GROUP
+            )
+        return found

@@ -1,0 +1,91 @@
+"""The file of a trace: its header, its end, its groups and its events. It isn't checked here."""
+from __future__ import annotations
+
+import io
+import mmap
+import os
+import re
+from collections.abc import Iterator
+from typing import IO
+
+from .program import opened
+from .sampled import MOST_BYTES, mark_in
+
+HEADER = re.compile(rb"psitrace [12] cpus=([1-9][0-9]?)\n")
+END = re.compile(rb"(?:\A|\n)([0-9]{1,19}) end\n\Z")
+GROUP = re.compile(rb"^[0-9]+ group (\S+)$", re.MULTILINE)
+# At least the bytes of a header and of a last line.
+SHORT = 64
+# The end of a file that doesn't end like a trace: the program rejects it later.
+UNKNOWN = 2**63
+# An event: its time in ns, its verb, and the verb's fields.
+Event = tuple[int, str, list[str]]
+
+
+def cpus_in(file: IO[bytes]) -> int | None:
+    """The number of processors by the header, which is read here; None if it isn't one."""
+    found = HEADER.fullmatch(file.readline(SHORT))
+    return int(found[1]) if found else None
+
+
+def end_in(file: IO[bytes]) -> int | None:
+    """The end of a trace in ns; None if the file doesn't end like a trace."""
+    size = file.seek(0, os.SEEK_END)
+    file.seek(max(0, size - SHORT))
+    found = END.search(file.read())
+    return int(found[1]) if found else None
+
+
+def end_of(trace: str, unknown: int = UNKNOWN) -> int:
+    """The end of a trace in ns; `unknown` if the file can't be read, or doesn't end like one."""
+    try:
+        with open(trace, "rb") as file:
+            end = end_in(file)
+    except OSError:
+        return unknown
+    return unknown if end is None else end
+
+
+def groups_in(number: int) -> set[str]:
+    """The groups that a trace ever has, with the root and without those of a mark; the file is open
+    under this number.
+    """
+    with mmap.mmap(number, 0, access=mmap.ACCESS_READ) as data:
+        found = GROUP.findall(data, len(mark_in(data[:MOST_BYTES])))
+    return {"/", *(path.decode("latin-1") for path in found)}
+
+
+def groups_of(trace: str) -> set[str]:
+    """The groups that the trace in a file ever has; only the root if it can't be read."""
+    try:
+        with open(trace, "rb") as file:
+            return groups_in(file.fileno())
+    except (OSError, ValueError):
+        return {"/"}
+
+
+def event_in(line: str) -> Event:
+    """The event of a line after the header."""
+    moment, verb, *fields = line.split()
+    return int(moment), verb, fields
+
+
+def events_of(trace: str) -> Iterator[Event]:
+    """The events of the trace in a file."""
+    with io.TextIOWrapper(opened(trace), "latin-1", newline="\n") as file:
+        next(file, None)
+        yield from map(event_in, file)
+
+
+class Events:
+    """The events of the trace in a file, up to one time after another."""
+
+    def __init__(self, trace: str) -> None:
+        self.events = events_of(trace)
+        self.following = next(self.events, None)
+
+    def until(self, moment: float) -> Iterator[Event]:
+        """The next events up to this time (ns)."""
+        while self.following and self.following[0] <= moment:
+            yield self.following
+            self.following = next(self.events, None)
